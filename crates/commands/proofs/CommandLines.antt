@@ -72,6 +72,7 @@ module _ (words : TheWords) (name : TheWord) (rows : List Row) (fits : fault_of 
   -- words that give an order ask for it
   pub order_asks : (o : Order) → IsOrdered (GivesAs name rows) o → Asks words o
   order_asks (order.Format file pages admin) has = (has.0, gives_of _ has.1, has.2, has.3)
+  order_asks (order.Copy file new pages) has = (has.0, gives_of _ has.1, has.2)
   order_asks (order.Run file script) has = gives_of _ has
   order_asks (order.RunMemory admin script) has = (gives_of _ has.0, has.1)
   order_asks (order.Serve file port connections idle) has = (has.0, has.1, has.2, gives_of _ has.3, has.4, has.5, has.6)
@@ -101,6 +102,7 @@ asks_by : (words : TheWords) (e : Error) (r : Result Order UsageFault) → HasKi
 asks_by words e (Ok order.Help) kinds read = subst (λ k. EndsReading k words) read (among words e kinds (λ m. let bad : kind.OutOfMemory ≡ kind.DisplayHelp = sym m ∙ read in cc))
 asks_by words e (Ok order.Version) kinds read = subst (λ k. EndsReading k words) read (among words e kinds (λ m. let bad : kind.OutOfMemory ≡ kind.DisplayVersion = sym m ∙ read in cc))
 asks_by words e (Ok (order.Format file pages admin)) kinds read = absurd read
+asks_by words e (Ok (order.Copy file new pages)) kinds read = absurd read
 asks_by words e (Ok (order.Run file script)) kinds read = absurd read
 asks_by words e (Ok (order.RunMemory admin script)) kinds read = absurd read
 asks_by words e (Ok (order.Serve file port connections idle)) kinds read = absurd read

@@ -35,6 +35,7 @@ lent_word word = option_map (λ w. w.now) word
 -- the words that a command is given
 pub data Given : Type 0 where
   Format : (file pages admin : TheWord) → Given
+  Copy : (file new pages : TheWord) → Given
   Run : (file script : TheWord) → Given
   RunMemory : (admin script : TheWord) → Given
   Serve : (file port connections : TheWord) (idle : Option TheWord) → Given
@@ -44,6 +45,7 @@ pub data Given : Type 0 where
 
 abbrev pub command_of : Given → TheWord
 command_of (Format file pages admin) = codes "format"
+command_of (Copy file new pages) = codes "copy"
 command_of (Run file script) = codes "run"
 command_of (RunMemory admin script) = codes "run"
 command_of (Serve file port connections idle) = codes "serve"
@@ -61,6 +63,7 @@ pub record IsFlag (value : Option TheWord) (given : Bool) : Type 0 where
 -- `describe` has a role or none, and `--json` or not
 abbrev pub HasWords : List Row → Given → Type 0
 HasWords rows (Format file pages admin) = (first_of (codes "file") rows ≡ Some file) × (first_of (codes "pages") rows ≡ Some pages) × (first_of (codes "admin") rows ≡ Some admin)
+HasWords rows (Copy file new pages) = (first_of (codes "file") rows ≡ Some file) × (first_of (codes "new") rows ≡ Some new) × (first_of (codes "pages") rows ≡ Some pages)
 HasWords rows (Run file script) = (first_of (codes "memory") rows ≡ None) × (first_of (codes "first") rows ≡ Some file) × (first_of (codes "second") rows ≡ Some script)
 HasWords rows (RunMemory admin script) = (first_of (codes "memory") rows ≡ Some admin) × (first_of (codes "first") rows ≡ Some script) × (first_of (codes "second") rows ≡ None)
 HasWords rows (Serve file port connections idle) = (first_of (codes "file") rows ≡ Some file) × (first_of (codes "port") rows ≡ Some port) × (first_of (codes "socket") rows ≡ None) × (first_of (codes "connections") rows ≡ Some connections) × (first_of (codes "idle") rows ≡ idle)
@@ -107,6 +110,7 @@ IsRoleName (Some name) = IsName name
 -- those that the system takes
 abbrev pub IsOrdered : (Given → Type 0) → Order → Type 0
 IsOrdered G (order.Format file pages admin) = (number : TheWord) × G (Format file.now number admin.now) × IsNumberFor Pages number pages × IsName admin.now
+IsOrdered G (order.Copy file new pages) = (number : TheWord) × G (Copy file.now new.now number) × IsNumberFor Pages number pages
 IsOrdered G (order.Run file script) = G (Run file.now script.now)
 IsOrdered G (order.RunMemory admin script) = G (RunMemory admin.now script.now) × IsName admin.now
 IsOrdered G (order.Serve file port connections idle) = (number count : TheWord) × (limit : Option TheWord) × G (Serve file.now number count limit) × IsNumberFor Port number port × IsNumberFor Connections count connections × IsIdleFor limit idle
@@ -137,6 +141,7 @@ path_in _ = None
 
 abbrev pub number_in : NumberOption → Given → Option TheWord
 number_in Pages (Format file pages admin) = Some pages
+number_in Pages (Copy file new pages) = Some pages
 number_in Port (Serve file port connections idle) = Some port
 number_in Connections (Serve file port connections idle) = Some connections
 number_in Connections (ServeSocket file socket connections idle) = Some connections

@@ -28,6 +28,12 @@ pub enum Order<'a> {
         pages: u32,
         admin: &'a str,
     },
+    /// `copy FILE NEW --pages N`: copies the database in FILE to NEW, a new file of N pages.
+    Copy {
+        file: &'a str,
+        new: &'a str,
+        pages: u32,
+    },
     /// `run FILE SCRIPT`: runs the file SCRIPT over the database in FILE.
     Run {
         file: &'a str,
@@ -125,7 +131,7 @@ impl fmt::Display for UsageFault<'_> {
 }
 
 /// The order that the words after the program's name give, as `clap` reads them: one of the commands
-/// `format`, `run`, `serve`, `check` and `describe` with its words and options, each given once; or a
+/// `format`, `copy`, `run`, `serve`, `check` and `describe` with its words and options, each given once; or a
 /// flag for help or the version. Words that give none are refused: by `Grammar`, `Form`, `Serving`, `Number`,
 /// `Path` or `Name`.
 /// `Memory` may come of any words.
@@ -165,6 +171,7 @@ fn read_given<'a>(name: &str, given: &ArgMatches<'a>) -> Result<Order<'a>, Usage
 {
     match name {
         "format" => read_format(given),
+        "copy" => read_copy(given),
         "run" => read_run(given),
         "serve" => read_serve(given),
         "check" => read_check(given),
@@ -195,6 +202,27 @@ fn read_format<'a>(given: &ArgMatches<'a>) -> Result<Order<'a>, UsageFault<'a>>
         return Err(UsageFault::Name(admin));
     }
     Ok(Order::Format { file, pages, admin })
+}
+
+/// The order that the words after `copy` give.
+fn read_copy<'a>(given: &ArgMatches<'a>) -> Result<Order<'a>, UsageFault<'a>>
+    ensures asked { IfOk result (IsOrdered (GivesAs (codes "copy") (rows_of (found_of given.now)))) }
+    ensures refused { IfErr result (IsUnfit (GivesAs (codes "copy") (rows_of (found_of given.now)))) }
+{
+    let Some(file) = given.get_str("file") else {
+        return Err(UsageFault::Form);
+    };
+    let Some(new) = given.get_str("new") else {
+        return Err(UsageFault::Form);
+    };
+    let Some(word) = given.get_str("pages") else {
+        return Err(UsageFault::Form);
+    };
+    let option = NumberOption::Pages;
+    let Some(pages) = option.read(word) else {
+        return Err(UsageFault::Number { option, word });
+    };
+    Ok(Order::Copy { file, new, pages })
 }
 
 /// The order that the words after `run` give.

@@ -2,7 +2,7 @@
 
 ghost use Rattle.std.specs.Prelude.{IfOk};
 ghost use Rattle.clap.specs.Words.{new_app};
-ghost use Rattle.commands.specs.CommandGrammar.{HasBelow, IsArg, IsCommand, word_rule, option_rule, format_app, run_app, serve_app, check_app, describe_app, flag_rule, bare_app, program_app};
+ghost use Rattle.commands.specs.CommandGrammar.{HasBelow, IsArg, IsCommand, word_rule, option_rule, format_app, copy_app, run_app, serve_app, check_app, describe_app, flag_rule, bare_app, program_app};
 
 use crate::texts::{USAGE, VERSION_NUMBER};
 use clap::{Arg, ArgAction, Command};
@@ -16,7 +16,8 @@ pub(crate) fn program_command<'a>(alloc: Global) -> Result<Command<'a>, AllocErr
     let command = with_below(command, run_command(alloc))?;
     let command = with_below(command, serve_command(alloc))?;
     let command = with_below(command, check_command(alloc))?;
-    with_below(command, describe_command(alloc))
+    let command = with_below(command, describe_command(alloc))?;
+    with_below(command, copy_command(alloc))
 }
 
 /// The command with this one below it, where that was made.
@@ -89,6 +90,16 @@ fn describe_command<'a>(alloc: Global) -> Result<Command<'a>, AllocError>
         .arg(word(alloc, "file", "FILE", true))?
         .arg(word(alloc, "role", "ROLE", false))?
         .arg(flag(alloc, "json"))
+}
+
+/// `copy FILE NEW --pages N`.
+fn copy_command<'a>(alloc: Global) -> Result<Command<'a>, AllocError>
+    ensures { IfOk result (IsCommand copy_app) }
+{
+    command(alloc, "copy")
+        .arg(word(alloc, "file", "FILE", true))?
+        .arg(word(alloc, "new", "NEW", true))?
+        .arg(option(alloc, "pages", "N", true))
 }
 
 /// A command of this name, without words.

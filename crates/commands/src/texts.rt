@@ -8,6 +8,7 @@ pub const USAGE: &str = "guarddb format FILE --pages N --admin NAME
        guarddb serve FILE --socket PATH --connections K [--idle SECONDS]
        guarddb check FILE
        guarddb describe FILE [ROLE] [--json]
+       guarddb copy FILE NEW --pages N
        guarddb < SCRIPT";
 
 /// What `--help` prints.
@@ -20,6 +21,7 @@ Usage: guarddb format FILE --pages N --admin NAME
        guarddb serve FILE --socket PATH --connections K [--idle SECONDS]
        guarddb check FILE
        guarddb describe FILE [ROLE] [--json]
+       guarddb copy FILE NEW --pages N
        guarddb < SCRIPT
 
 Commands:
@@ -53,6 +55,11 @@ Commands:
           ROLE what that role may do to each table and column, and which policies apply to it.
           With --json it prints JSON. FILE is not written, of format 1 neither
           Example: guarddb describe shop.db bob
+  copy FILE NEW --pages N
+          Copies the database in FILE to NEW, a new file of N pages, N from 64 to 65536: a
+          backup, a larger file or a smaller one. FILE is not written, of format 1 neither, and
+          others may read it meanwhile. A NEW that is there already is left as it is
+          Example: guarddb copy shop.db backup.db --pages 256
   (none)  Runs the script on standard input over an empty database in memory, whose one
           role is the superuser root
           Example: printf 'open s root\\ns: SELECT 1 + 2\\n' | guarddb

@@ -3,8 +3,8 @@ use Rattle.std.proofs.Common.{◌≤◌, ◌∙◌, ℕ, List, inl, inr, arith, 
 use Rattle.std.proofs.lemmas.Bool.{cases_lt}
 use Rattle.sector_device.specs.declared.device.Device.{Ghosts}
 use Rattle.systems.specs.Places.{ThePlace}
-use Rattle.systems.specs.Systems.{HasDevice, IsOpen, IsSame, IsSameBut, IsSameButAt, Rose, SystemState}
-use Rattle.file_commands.specs.Files.{ChangesDevice}
+use Rattle.systems.specs.Systems.{HasDevice, IsOpen, IsReadable, IsReading, IsSame, IsSameBut, IsSameButAt, Rose, SystemState}
+use Rattle.file_commands.specs.Files.{ChangesDevice, ReadsDevice}
 
 -- a count that rose between two others
 pub rose_between : (a b c d : ℕ) → a ≤ b → b ≤ c → c ≤ d → Rose b c → Rose a d
@@ -78,3 +78,10 @@ module _ {D L : Type 0} where
   closed_again g path device left old mid new named is_open opening closed closing is =
       let still = opening.faithful is in
       record { opened = named; closed = closed still is_open; others = but_joined path old mid new opening (closing still) }
+
+  -- what was opened to be read and then closed
+  pub released_again : (g : Ghosts D) (path : List ℕ) (device left : D) (old mid new : SystemState D L) → IsReadable old path device → IsReading mid path → IsSameBut path old mid
+      → (mid.faithful → IsReading mid path → IsReadable new path left) → (mid.faithful → IsSameBut path mid new) → old.faithful → ReadsDevice g old path device left new
+  released_again g path device left old mid new named is_reading opening closed closing is =
+      let still = opening.faithful is in
+      record { opened = named; closed = closed still is_reading; others = but_joined path old mid new opening (closing still) }

@@ -1,5 +1,6 @@
 mod Blank
 pub mod Changes
+mod Copied
 mod Served
 mod OnlyRead
 mod Taken

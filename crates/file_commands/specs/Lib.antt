@@ -1,4 +1,6 @@
 pub mod Commands
+pub mod CopyFaults
+pub mod Copying
 pub mod Faults
 pub mod Files
 pub mod Formatting

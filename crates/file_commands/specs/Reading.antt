@@ -5,6 +5,7 @@ use Rattle.sector_device.specs.declared.device.Device.{Ghosts}
 use Rattle.store.specs.declared.fault.Fault.{Fault}
 use Rattle.store.specs.declared.fault.Fault.TheVariants.{Memory, Device, Damaged}
 use Rattle.store.specs.Store.{Contents}
+use Rattle.systems.specs.declared.access.Access.TheVariants.{Read}
 use Rattle.systems.specs.Systems.{SystemState}
 use Rattle.abstract_database.specs.Database.{Database}
 use Rattle.stored_database.specs.Definitions.{Definitions}
@@ -16,7 +17,7 @@ use Rattle.device_databases.specs.Databases.{HoldsDatabase, IsUnwritten}
 use Rattle.device_databases.specs.Openings.{StandsIn}
 use Rattle.file_commands.specs.declared.fault.CommandFault.{CommandFault}
 use Rattle.file_commands.specs.Faults.{of_opening}
-use Rattle.file_commands.specs.Files.{ChangesDevice, IsNotOpened}
+use Rattle.file_commands.specs.Files.{IsNotOpened, ReadsDevice}
 
 -- ---- what contents define
 
@@ -73,7 +74,7 @@ module _ {D L : Type 0} (g : Ghosts D) (old : SystemState D L) (path : List ℕ)
   pub record IsReadAt (result : Result Definitions OpenFault) (new : SystemState D L) : Type 0 where
     pub device : D
     pub left : D
-    pub changes : old.faithful → ChangesDevice g old path device left new
+    pub changes : old.faithful → ReadsDevice g old path device left new
     pub reads : old.faithful → ReadsOn (g.state device) result (g.state left)
 
   -- what it holds was refused
@@ -85,4 +86,4 @@ module _ {D L : Type 0} (g : Ghosts D) (old : SystemState D L) (path : List ℕ)
   -- the definitions of the database in the file; or it was not opened, or what it holds was refused
   abbrev pub ReadsFile : Result Definitions CommandFault → SystemState D L → Type 0
   ReadsFile (Ok definitions) new = IsReadAt (Ok definitions) new
-  ReadsFile (Err fault) new = IsNotOpened g old path fault new ⊎ IsUnreadAt fault new
+  ReadsFile (Err fault) new = IsNotOpened g old path Read fault new ⊎ IsUnreadAt fault new

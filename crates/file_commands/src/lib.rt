@@ -1,14 +1,18 @@
-//! Commands over a database that a path of a system names: it is made, checked, run over and served.
+//! Commands over a database that a path of a system names: it is made, copied, checked, read, run over and served.
 #![tactic(auto)]
 
+mod copy_fault;
 mod fault;
+mod file_copies;
 mod format;
 mod opened;
 mod reading;
 mod run;
 mod serve;
 
+pub use copy_fault::CopyFault;
 pub use fault::CommandFault;
+pub use file_copies::copy_file;
 pub use format::format_file;
 pub use opened::CommandEnd;
 pub use reading::read_file;

@@ -14,7 +14,7 @@ use server::server::Server;
 use std::alloc::Global;
 use std::io;
 use std::io::Write;
-use systems::System;
+use systems::{Access, System};
 
 /// How a command over a file ended, and whether standard error took the line that says that the file
 /// was migrated, where it was owed one.
@@ -49,7 +49,7 @@ pub(crate) fn open_database_in<Y: System, X: Decide + Drop>(
 ) -> Result<Opened<Y::Device, X>, CommandFault>
     ensures { OpensAt Y.Device.Device (Y.state system.old) path.now result (Y.state system.new) }
 {
-    let device = match system.open(path) {
+    let device = match system.open(path, Access::Write) {
         Ok(device) => device,
         Err(fault) => return Err(CommandFault::from(fault)),
     };

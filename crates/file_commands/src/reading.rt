@@ -13,10 +13,11 @@ use opening::{OpeningFault, read_under};
 use sector_device::Device;
 use std::alloc::Global;
 use store::{Fault, Store};
-use systems::System;
+use systems::{Access, System};
 
 /// Reads the definitions of the database in the file at `path`, and checks all of its records. Not one
-/// sector of the file is written, of a file of format 1 neither. The file is closed then.
+/// sector of the file is written, of a file of format 1 neither. Others may read it meanwhile. The
+/// file is closed then.
 ///
 /// The faults are those of `System::open`; and `WrongSize`, `NotADatabase` and `Damaged`, which name
 /// the first fault that stands in the file. `Full` and `Number` never come.
@@ -28,7 +29,7 @@ pub fn read_file<Y: System>(
     ensures { ReadsFile Y.Device.Device (Y.state system.old) path.now result
         (Y.state system.new) }
 {
-    let device = match system.open(path) {
+    let device = match system.open(path, Access::Read) {
         Ok(device) => device,
         Err(fault) => return Err(CommandFault::from(fault)),
     };

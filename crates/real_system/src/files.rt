@@ -1,32 +1,37 @@
-//! Devices over files of the system that one process at a time has open.
+//! Devices over files of the system that are locked, and the names of new files.
 
 use sector_device::{FileDevice, FileFault, SystemCause, SystemFile};
-use std::fs::{File, OpenOptions, TryLockError};
+use std::fs::{self, File, OpenOptions, TryLockError};
 use std::io;
+use std::path::Path;
 use std::rt::Files;
-use systems::OpenPathFault;
+use systems::{Access, OpenPathFault};
 
-/// A device over the file at `path`, which is opened to be read and written and locked: a file that
-/// another process has opened so is refused, and this one stays locked until the device is dropped.
-/// The device has no sectors unless the file's length is a whole number of pages, 65,536 at most.
+/// A device over the file at `path`, which is opened and locked. To be read it is opened beside others
+/// that read it, and no write of the device succeeds. To be written it is opened by this process
+/// alone. It stays locked until the device is dropped. The device has no sectors unless the file's
+/// length is a whole number of pages, 65,536 at most.
 ///
-/// `Missing`: there is no file of that name. `InUse`: another process holds the lock. `Device`: the
-/// system does not open the file, lock it or give its length. `Memory`: it does not since an
-/// allocation failed.
+/// `Missing`: there is no file of that name. `InUse`: another process holds a lock that does not go
+/// with this one. `Device`: the system does not open the file, lock it or give its length. `Memory`:
+/// it does not since an allocation failed.
 pub(crate) fn open_file(
     rt: &impl Files<File = File>,
     path: &str,
+    access: Access,
 ) -> Result<FileDevice<SystemFile>, OpenPathFault> {
-    let mut options = OpenOptions::new();
-    options.read(true).write(true);
-    let file = match options.open(rt, path) {
+    let file = match open_with(rt, path, access) {
         Ok(file) => file,
         Err(error) if error.kind() == io::ErrorKind::NotFound => {
             return Err(OpenPathFault::Missing);
         }
         Err(error) => return Err(system_fault(&error)),
     };
-    match file.try_lock() {
+    let locked = match access {
+        Access::Read => file.try_lock_shared(),
+        Access::Write => file.try_lock(),
+    };
+    match locked {
         Ok(()) => {}
         Err(TryLockError::WouldBlock) => return Err(OpenPathFault::InUse),
         Err(TryLockError::Error(error)) => return Err(system_fault(&error)),
@@ -36,6 +41,74 @@ pub(crate) fn open_file(
         Err(FileFault::Memory) => Err(OpenPathFault::Memory),
         Err(FileFault::Device(cause)) => Err(OpenPathFault::Device(cause)),
         Err(FileFault::Exists) => Err(OpenPathFault::Device(SystemCause::Other)),
+    }
+}
+
+// Opens what stands at a path. What is no plain file is opened to be written too, also where it is
+// only to be read: the system refuses that of a folder, and does not wait for a writer of a pipe.
+fn open_with(rt: &impl Files<File = File>, path: &str, access: Access) -> io::Result<File> {
+    let is_written = match access {
+        Access::Read => !fs::metadata(rt, path)?.is_file(),
+        Access::Write => true,
+    };
+    let mut options = OpenOptions::new();
+    options.read(true).write(is_written);
+    options.open(rt, path)
+}
+
+/// Whether there is something of this name, be it a link to nothing. A path without a byte can name
+/// nothing, which is an error.
+pub(crate) fn is_there(rt: &impl Files<File = File>, path: &str) -> io::Result<bool> {
+    if path.is_empty() {
+        return Err(io::Error::from(io::ErrorKind::NotFound));
+    }
+    match fs::symlink_metadata(rt, path) {
+        Ok(_found) => Ok(true),
+        Err(error) if error.kind() == io::ErrorKind::NotFound => Ok(false),
+        Err(error) => Err(error),
+    }
+}
+
+/// Gives the file at `from` the name `to`, in the same folder, in place of its own. Nothing is ever
+/// replaced: `Exists` where there is something of the name `to`. The file has its new name on the
+/// disk before it loses the other, so a stop leaves one of them or both. After an error it has the
+/// old one alone, as far as the system takes the new one away.
+pub(crate) fn rename_new(
+    rt: &impl Files<File = File>,
+    from: &str,
+    to: &str,
+) -> Result<(), FileFault> {
+    match fs::hard_link(rt, from, to) {
+        Ok(()) => {}
+        Err(error) if error.kind() == io::ErrorKind::AlreadyExists => {
+            return Err(FileFault::Exists);
+        }
+        Err(error) => return Err(new_fault(&error)),
+    }
+    match leave_name(rt, from, to) {
+        Ok(()) => Ok(()),
+        Err(error) => {
+            let _ = fs::remove_file(rt, to);
+            Err(new_fault(&error))
+        }
+    }
+}
+
+// Brings the second name of a file to the disk, and takes the first away.
+fn leave_name(rt: &impl Files<File = File>, from: &str, to: &str) -> io::Result<()> {
+    let folder = match Path::new(to).parent() {
+        Some(folder) if !folder.as_str().is_empty() => folder.as_str(),
+        _ => ".",
+    };
+    File::open(rt, folder)?.sync_all()?;
+    fs::remove_file(rt, from)
+}
+
+// The fault of a call of the system on a new file.
+fn new_fault(error: &io::Error) -> FileFault {
+    match error.kind() {
+        io::ErrorKind::OutOfMemory => FileFault::Memory,
+        _ => FileFault::Device(SystemCause::of(error)),
     }
 }
 

@@ -1,6 +1,6 @@
 //! The system of a machine.
 
-use crate::files::open_file;
+use crate::files::{is_there, open_file, rename_new};
 use crate::listening::PlaceListener;
 use crate::socket::{FileId, file_at, remove_made};
 use crate::streams::StandardStreams;
@@ -12,7 +12,7 @@ use std::io;
 use std::net::{Net, TcpListener, TcpStream};
 use std::rt::Files;
 use std::time::{Clock, Duration};
-use systems::{OpenPathFault, Place, System, TextFault};
+use systems::{Access, OpenPathFault, Place, System, TextFault};
 
 /// The files, the ports and the sockets of a machine. No contract can know what they do, so none
 /// promises anything here: `faithful` is met by no system of a machine. That this one does what
@@ -78,8 +78,22 @@ impl<
         }
     }
 
-    fn open(&mut self, path: &str) -> Result<FileDevice<SystemFile>, OpenPathFault> {
-        match open_file(self.rt, path) {
+    fn has_name(&mut self, path: &str) -> Result<bool, SystemCause> {
+        match is_there(self.rt, path) {
+            Ok(is) => Ok(is),
+            Err(error) => {
+                self.failures = self.failures.saturating_add(1);
+                Err(SystemCause::of(&error))
+            }
+        }
+    }
+
+    fn open(
+        &mut self,
+        path: &str,
+        access: Access,
+    ) -> Result<FileDevice<SystemFile>, OpenPathFault> {
+        match open_file(self.rt, path, access) {
             Err(OpenPathFault::Device(cause)) => {
                 self.failures = self.failures.saturating_add(1);
                 Err(OpenPathFault::Device(cause))
@@ -107,6 +121,23 @@ impl<
             Err(error) => {
                 self.failures = self.failures.saturating_add(1);
                 Err(SystemCause::of(&error))
+            }
+        }
+    }
+
+    fn rename(
+        &mut self,
+        from: &str,
+        to: &str,
+        device: FileDevice<SystemFile>,
+    ) -> Result<(), (FileDevice<SystemFile>, FileFault)> {
+        match rename_new(self.rt, from, to) {
+            Ok(()) => Ok(()),
+            Err(fault) => {
+                if let FileFault::Device(_) = fault {
+                    self.failures = self.failures.saturating_add(1);
+                }
+                Err((device, fault))
             }
         }
     }

@@ -1,10 +1,11 @@
 -- What a run does from a system that is the same as an earlier one, it does from that one.
-use Rattle.std.proofs.Common.{◌≤◌, ◌∙◌, ℕ, Bool, List, Result, Ok, Err, inl, inr, sym, arith}
+use Rattle.std.proofs.Common.{◌≤◌, ◌∙◌, ℕ, Bool, List, Result, Ok, Err, inl, inr, ap, sym, arith}
 use Rattle.std.specs.Prelude.{MatchResult}
 use Rattle.sector_device.specs.declared.device.Device.{Ghosts}
 use Rattle.systems.specs.declared.fault.OpenPathFault.{OpenPathFault}
 use Rattle.systems.specs.declared.fault.OpenPathFault.TheVariants.{Missing, InUse, Memory, Device}
-use Rattle.systems.specs.Systems.{IsSame, SystemState}
+use Rattle.systems.specs.declared.access.Access.TheVariants.{Write}
+use Rattle.systems.specs.Systems.{At, IsHeldFrom, IsSame, SystemState, is_shared}
 use Rattle.abstract_database.specs.Runs.{ReadingRelation}
 use Rattle.script_runs.specs.declared.run.ScriptEnd.{ScriptEnd}
 use Rattle.script_runs.specs.declared.sink.Sink.{Ghosts as SinkGhosts}
@@ -24,9 +25,15 @@ module _ (X : Type 0) {D L K : Type 0} (g : Ghosts D) (k : SinkGhosts K) (Reads 
       let changes = it (was.faithful is) in
       record { opened = sym (was.devices path) ∙ changes.opened; closed = changes.closed; others = same_then_but path old mid new was changes.others }
 
-  stands_from : (why : OpenPathFault) (new : SystemState D L) → mid.failures ≤ new.failures → IsSame old mid → StandsAt why mid path new → StandsAt why old path new
+  held_from : IsSame old mid → IsHeldFrom Write mid path → IsHeldFrom Write old path
+  held_from was (inl here) = inl (sym (was.devices path) ∙ here)
+  held_from was (inr (inl reading)) = inr (inl (sym (was.devices path) ∙ reading))
+  held_from was (inr (inr (inl taken))) = inr (inr (inl (sym (was.devices path) ∙ taken)))
+  held_from was (inr (inr (inr shared))) = inr (inr (inr (shared.0, sym (ap (λ (a : At D). is_shared a) (was.devices path)) ∙ shared.1)))
+
+  stands_from : (why : OpenPathFault) (new : SystemState D L) → mid.failures ≤ new.failures → IsSame old mid → StandsAt Write why mid path new → StandsAt Write why old path new
   stands_from Missing new counted was it = sym (was.names path) ∙ it
-  stands_from InUse new counted was it = elim it [ inl here ↦ inl (sym (was.devices path) ∙ here) | inr taken ↦ inr (sym (was.devices path) ∙ taken) ]
+  stands_from InUse new counted was it = held_from was it
   stands_from Memory new counted was it = tt
   stands_from (Device cause) new counted was it = rose_between old.failures mid.failures new.failures new.failures counts counted (omega arith) it
 

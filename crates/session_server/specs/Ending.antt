@@ -71,6 +71,8 @@ fault_name fault.Number = codes "Number"
 fault_name fault.WrongSize = codes "WrongSize"
 fault_name fault.NotADatabase = codes "NotADatabase"
 fault_name fault.Exists = codes "Exists"
+fault_name fault.Partial = codes "Exists"
+fault_name (fault.NoRoom pages) = codes "Full"
 fault_name fault.InUse = codes "InUse"
 fault_name (fault.Net cause) = codes "Net"
 fault_name (fault.Script why) = codes "Script"
@@ -86,7 +88,9 @@ reason_text fault.Full = codes "of format 1, with no room for its records in for
 reason_text fault.Number = codes "of format 1, with no commit number left to bring it to format 2"
 reason_text fault.WrongSize = codes "not 64 to 65536 pages of 4096 bytes, or not as many as it was made with"
 reason_text fault.NotADatabase = codes "not a database; 'guarddb format' makes one in a new file"
-reason_text fault.Exists = codes "the name is taken; 'guarddb format' makes a new file"
+reason_text fault.Exists = codes "the name is taken; this command makes a new file"
+reason_text fault.Partial = codes "a copy is made there, or was stopped; once none is made it can be removed"
+reason_text (fault.NoRoom pages) = codes "the database does not fit in " ++ (decimal pages ++ codes " pages; take more")
 reason_text fault.InUse = codes "another process has it open"
 reason_text (fault.Net cause) = cause_text cause
 reason_text (fault.Script (script.Unread cause)) = cause_text cause
@@ -97,6 +101,7 @@ reason_text fault.Output = codes "closed, or it takes no more"
 -- the file or the place
 abbrev pub subject_text : Subject → List ℕ
 subject_text (subject.Named name) = name.now
+subject_text (subject.Partial name) = name.now ++ codes ".partial"
 subject_text (subject.Port port) = codes "127.0.0.1:" ++ decimal port
 
 -- the program's name, a text, and a newline

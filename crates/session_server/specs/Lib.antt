@@ -1,3 +1,4 @@
+pub mod Copying
 pub mod Describing
 pub mod Ending
 pub mod Printing

@@ -33,6 +33,7 @@ use Rattle.session_server.specs.declared.ending.Exit.{Exit}
 use Rattle.session_server.specs.declared.ending.Subject.{Subject}
 use Rattle.session_server.specs.declared.ending.Subject.TheVariants as subject
 use Rattle.session_server.specs.Ending.{caller_status, ending_of, ending_of_serving, name_message, fault_of_command, fault_status, Exits, ExitsAfter, HasTold}
+use Rattle.session_server.specs.Copying.{Copies}
 use Rattle.session_server.specs.Describing.{Describes}
 use Rattle.session_server.specs.Printing.{EndsBy, IsPrinted, Prints}
 use Rattle.session_server.specs.Running.{IsNotRun, RunsOverNew}
@@ -192,12 +193,14 @@ pub record Serves (X : Type 0) {D L C : Type 0} (g : Ghosts D) (c : SinkGhosts C
 -- ---- what a command does
 
 -- `X` decides events, `g` is what is said of the devices of files, `k` of the sink that takes answers, `c` of the sinks of connections,
--- and `listening` of listeners. The script that was named was run over the database that was named, or why not was told; a
--- database in a file was made, checked, described or served; or a text was printed
-module _ (X : Type 0) {D L K C : Type 0} (g : Ghosts D) (k : SinkGhosts K) (c : SinkGhosts C) (Reads : ReadingRelation) (listening : L → Option Listening) (old : SystemState D L) where
+-- `listening` of listeners and `state` of systems. The script that was named was run over the database that was named, or why not was told; a
+-- database in a file was made, copied, checked, described or served; or a text was printed
+module _ (X : Type 0) {D L K C S : Type 0} (g : Ghosts D) (k : SinkGhosts K) (c : SinkGhosts C) (Reads : ReadingRelation) (listening : L → Option Listening) (state : S → SystemState D L) (old : SystemState D L) where
   abbrev pub IsPerformed : Order → Exit → SystemState D L → K → K → Known → Known → Type 0
   IsPerformed (order.Format file pages admin) exit new out_before out_after err_before err_after =
       DoesFormat g k old (subject.Named file) file.now pages admin.now exit new out_before out_after err_before err_after
+  IsPerformed (order.Copy file target pages) exit new out_before out_after err_before err_after =
+      Copies g state old file target pages exit new (k.held out_before) (k.held out_after) err_before err_after
   IsPerformed (order.Run file script) exit new out_before out_after err_before err_after =
       RunsOver X g k Reads old (subject.Named file) file.now (subject.Named script) script.now exit new out_before out_after err_before err_after
   IsPerformed (order.RunMemory admin script) exit new out_before out_after err_before err_after =

@@ -41,6 +41,10 @@ pub enum ProgramFault {
     NotADatabase,
     /// There is something of the name of a new file already.
     Exists,
+    /// There is something of the name that a copy has until it is whole.
+    Partial,
+    /// The database to be copied does not fit in so many pages.
+    NoRoom(u32),
     /// Another process has the file open.
     InUse,
     /// The port or the socket cannot be bound, for this cause, or a connection cannot be taken.
@@ -65,7 +69,8 @@ impl fmt::Display for ProgramFault {
             ProgramFault::Number => write!(f, "Number"),
             ProgramFault::WrongSize => write!(f, "WrongSize"),
             ProgramFault::NotADatabase => write!(f, "NotADatabase"),
-            ProgramFault::Exists => write!(f, "Exists"),
+            ProgramFault::Exists | ProgramFault::Partial => write!(f, "Exists"),
+            ProgramFault::NoRoom(_) => write!(f, "Full"),
             ProgramFault::InUse => write!(f, "InUse"),
             ProgramFault::Net(_) => write!(f, "Net"),
             ProgramFault::Script(_) => write!(f, "Script"),
@@ -108,7 +113,14 @@ impl fmt::Display for Reason {
                 )
             }
             ProgramFault::Exists => {
-                write!(f, "the name is taken; 'guarddb format' makes a new file")
+                write!(f, "the name is taken; this command makes a new file")
+            }
+            ProgramFault::Partial => write!(
+                f,
+                "a copy is made there, or was stopped; once none is made it can be removed"
+            ),
+            ProgramFault::NoRoom(pages) => {
+                write!(f, "the database does not fit in {pages} pages; take more")
             }
             ProgramFault::InUse => write!(f, "another process has it open"),
             ProgramFault::Net(cause) => write!(f, "{cause}"),
@@ -127,6 +139,8 @@ impl fmt::Display for Reason {
 pub enum Subject<'a> {
     /// A file, a script or a socket, by its path.
     Named(&'a str),
+    /// The file of a copy that is not whole, by the path of the copy.
+    Partial(&'a str),
     /// A port of 127.0.0.1.
     Port(u16),
 }
@@ -137,6 +151,7 @@ impl fmt::Display for Subject<'_> {
     fn fmt<W: fmt::Write>(&self, f: &mut fmt::Formatter<W>) -> fmt::Result {
         match self {
             Subject::Named(name) => write!(f, "{name}"),
+            Subject::Partial(name) => write!(f, "{name}.partial"),
             Subject::Port(port) => write!(f, "127.0.0.1:{port}"),
         }
     }

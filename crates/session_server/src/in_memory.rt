@@ -29,7 +29,7 @@ pub fn perform_in_memory<X: Decide + Drop, K: TakesText, E: Write>(
     ensures faithful { (system_state system.old).faithful }
     ensures performed { IsPerformed X ⟦<HistoryDevice as Device>⟧ K.Sink
         ⟦<FrameSink<Vec<u8>> as Sink>⟧ X.Reads ⟦<MemListener as Listen>⟧.listening
-        (system_state system.old) order.now result (system_state system.new) out.old out.new
+        system_state (system_state system.old) order.now result (system_state system.new) out.old out.new
         (E.contents err.old) (E.contents err.new) }
 {
     perform(system, alloc, decider, order, out, err)

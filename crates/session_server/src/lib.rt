@@ -3,6 +3,7 @@
 
 mod describing;
 pub mod ending;
+mod file_copies;
 pub mod in_memory;
 mod printing;
 pub mod program;

@@ -5,6 +5,7 @@ ghost use Rattle.session_server.specs.Program.{ending_of_server, place_subject, 
 
 use crate::describing::describe;
 use crate::ending::{Ending, Exit, ProgramFault, Subject, exit_after, exit_with};
+use crate::file_copies::copy;
 use crate::printing::{print_for, print_text};
 use crate::runs::{run_over_file, run_read_in_memory};
 use crate::usage::report_usage;
@@ -43,6 +44,9 @@ const CHECKED: &str = "ok CHECK\n";
 /// and is of format 2 now, `err` is told so once it is opened; that `err` does not take this line is
 /// no fault. `serve` also tells on `err` where it listens, and how it ended.
 ///
+/// `copy` writes nothing to the file either, and a copy is there only once it is whole. A copy that was
+/// made stays where `out` fails.
+///
 /// `describe` writes nothing to the file. Where the database has no role of the name that is asked
 /// for, the fault is `NoRole`.
 ///
@@ -59,13 +63,14 @@ pub fn perform<Y: System, X: Decide + Drop, K: TakesText, E: Write>(
     err: &mut E,
 ) -> Exit
     ensures { IsPerformed X Y.Device.Device K.Sink Y.Listener.Sink.Sink X.Reads Y.Listener.listening
-        (Y.state system.old) order.now result (Y.state system.new) out.old out.new
+        Y.state (Y.state system.old) order.now result (Y.state system.new) out.old out.new
         (E.contents err.old) (E.contents err.new) }
 {
     match order {
         Order::Format { file, pages, admin } => {
             format_for(system, alloc, *file, *pages, *admin, out, err)
         }
+        Order::Copy { file, new, pages } => copy(system, alloc, *file, *new, *pages, out, err),
         Order::Run { file, script } => {
             run_over_file(system, alloc, decider, *file, *script, out, err)
         }

@@ -4,7 +4,7 @@ use Rattle.sector_device.specs.declared.history.HistoryDevice.{HistoryDevice}
 use Rattle.systems.specs.declared.entries.Content.{Content}
 use Rattle.systems.specs.declared.entries.Content.TheVariants as content
 use Rattle.systems.specs.declared.entries.Entry.{Entry}
-use Rattle.systems.specs.Systems.{At, Absent, Free, Open, Taken}
+use Rattle.systems.specs.Systems.{At, Absent, Free, Shared, Open, Reading, Taken}
 
 -- what the first entry of this name is
 abbrev pub content_of : List Entry → List ℕ → Option Content
@@ -15,7 +15,9 @@ content_of (entry ∷ entries) path = if bytes_eq (string_bytes entry.path) path
 abbrev pub device_in : Option Content → At HistoryDevice
 device_in None = Absent
 device_in (Some (content.Device device)) = Free device
+device_in (Some (content.Shared device)) = Shared device
 device_in (Some content.Open) = Open
+device_in (Some content.Reading) = Reading
 device_in (Some content.Taken) = Taken
 device_in (Some (content.Text text)) = Absent
 device_in (Some content.Removed) = Absent
@@ -24,7 +26,9 @@ device_in (Some content.Removed) = Absent
 abbrev pub text_in : Option Content → Option (List ℕ)
 text_in None = None
 text_in (Some (content.Device device)) = None
+text_in (Some (content.Shared device)) = None
 text_in (Some content.Open) = None
+text_in (Some content.Reading) = None
 text_in (Some content.Taken) = None
 text_in (Some (content.Text text)) = Some text.items
 text_in (Some content.Removed) = None
@@ -33,7 +37,9 @@ text_in (Some content.Removed) = None
 abbrev pub is_something : Option Content → Bool
 is_something None = false
 is_something (Some (content.Device device)) = true
+is_something (Some (content.Shared device)) = true
 is_something (Some content.Open) = true
+is_something (Some content.Reading) = true
 is_something (Some content.Taken) = true
 is_something (Some (content.Text text)) = true
 is_something (Some content.Removed) = false

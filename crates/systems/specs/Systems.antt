@@ -2,13 +2,18 @@
 use Rattle.std.specs.Prelude.{◌≡◌, ◌≢◌, ◌<◌, ◌⊎◌, ◌*◌, ◌^◌, ◌-◌, ℕ, Bool, true, false, List, replicate, Option, Some}
 use Rattle.storage_sizes.specs.Sizes.{sector_size}
 use Rattle.sector_device.specs.Device.{DeviceState}
+use Rattle.systems.specs.declared.access.Access.{Access}
+use Rattle.systems.specs.declared.access.Access.TheVariants.{Read, Write}
 use Rattle.systems.specs.Places.{ThePlace, TheSocket}
 
--- what is at a path, or at a place: none; this one, which nobody has open; one that this program has open; or one that somebody else has open
+-- What is at a path, or at a place: none; this one, which nobody has open; this one, which others have open to read it; one that this
+-- program has open; one that it has open to read it; or one that somebody else has open. Places are not shared, and not read
 pub data At (T : Type 0) : Type 0 where
   Absent : At T
   Free : T → At T
+  Shared : T → At T
   Open : At T
+  Reading : At T
   Taken : At T
 
 -- A system at one moment.
@@ -32,13 +37,47 @@ pub record SystemState (D L : Type 0) : Type 1 where
 abbrev pub HasDevice : {D L : Type 0} → SystemState D L → List ℕ → D → Type 0
 HasDevice s path device = s.devices path ≡ Free device
 
--- this program has the device of this path open
+-- this path names this device, as it is now, and nobody has it open to write it
+abbrev pub IsReadable : {D L : Type 0} → SystemState D L → List ℕ → D → Type 0
+IsReadable s path device = HasDevice s path device ⊎ (s.devices path ≡ Shared device)
+
+-- this program has the device of this path open, to read and to write it
 abbrev pub IsOpen : {D L : Type 0} → SystemState D L → List ℕ → Type 0
 IsOpen s path = s.devices path ≡ Open
+
+-- it has it open to read it
+abbrev pub IsReading : {D L : Type 0} → SystemState D L → List ℕ → Type 0
+IsReading s path = s.devices path ≡ Reading
+
+-- others have the device of this path open to read it
+abbrev pub is_shared : {T : Type 0} → At T → Bool
+is_shared Absent = false
+is_shared (Free device) = false
+is_shared (Shared device) = true
+is_shared Open = false
+is_shared Reading = false
+is_shared Taken = false
+
+abbrev pub IsShared : {D L : Type 0} → SystemState D L → List ℕ → Type 0
+IsShared s path = is_shared (s.devices path) ≡ true
 
 -- somebody else has the device of this path open
 abbrev pub IsInUse : {D L : Type 0} → SystemState D L → List ℕ → Type 0
 IsInUse s path = s.devices path ≡ Taken
+
+-- this path names this device, and it may be opened so
+abbrev pub MayOpen : {D L : Type 0} → Access → SystemState D L → List ℕ → D → Type 0
+MayOpen Read s path device = IsReadable s path device
+MayOpen Write s path device = HasDevice s path device
+
+-- this program has the device of this path open so
+abbrev pub IsOpenFor : {D L : Type 0} → Access → SystemState D L → List ℕ → Type 0
+IsOpenFor Read s path = IsReading s path
+IsOpenFor Write s path = IsOpen s path
+
+-- this program has the device of this path open, or somebody else has; or others read it, and it was to be written
+abbrev pub IsHeldFrom : {D L : Type 0} → Access → SystemState D L → List ℕ → Type 0
+IsHeldFrom access s path = IsOpen s path ⊎ IsReading s path ⊎ IsInUse s path ⊎ ((access ≡ Write) × IsShared s path)
 
 -- there is something of this name, or nothing
 abbrev pub IsNamed : {D L : Type 0} → SystemState D L → List ℕ → Type 0
@@ -79,6 +118,14 @@ pub record IsSameBut {D L : Type 0} (changed : List ℕ) (old new : SystemState 
   pub devices : (path : List ℕ) → path ≢ changed → new.devices path ≡ old.devices path
   pub texts : (path : List ℕ) → path ≢ changed → new.texts path ≡ old.texts path
   pub names : (path : List ℕ) → path ≢ changed → new.is_named path ≡ old.is_named path
+  pub listeners : (place : ThePlace) → new.listeners place ≡ old.listeners place
+
+-- all is as it was but for what these two paths name
+pub record IsSameButBoth {D L : Type 0} (one other : List ℕ) (old new : SystemState D L) : Type 0 where
+  pub faithful : old.faithful → new.faithful
+  pub devices : (path : List ℕ) → path ≢ one → path ≢ other → new.devices path ≡ old.devices path
+  pub texts : (path : List ℕ) → path ≢ one → path ≢ other → new.texts path ≡ old.texts path
+  pub names : (path : List ℕ) → path ≢ one → path ≢ other → new.is_named path ≡ old.is_named path
   pub listeners : (place : ThePlace) → new.listeners place ≡ old.listeners place
 
 -- all is as it was but for what this place hears and, of a socket, whether its file is there: so no device and no text has changed at any path

@@ -1,7 +1,7 @@
 //! The names of a system in memory, and what each names.
 
-ghost use Rattle.std.specs.Prelude.{◌≡◌, ◌≢◌, ◌<◌, ℕ, List, Some, None, IfSome, IfNone, OnOk, OnErr, option_copied, position, bytes_eq, string_bytes};
-ghost use Rattle.systems.specs.Entries.{content_of};
+ghost use Rattle.std.specs.Prelude.{◌≡◌, ◌≢◌, ◌<◌, true, false, ℕ, List, Some, None, IfSome, IfNone, OnOk, OnErr, option_copied, position, bytes_eq, string_bytes};
+ghost use Rattle.systems.specs.Entries.{content_of, is_something};
 
 use sector_device::HistoryDevice;
 use std::alloc::{AllocError, Global};
@@ -12,8 +12,12 @@ use std::mem;
 pub enum Content {
     /// A device, which nobody has open.
     Device(HistoryDevice),
+    /// A device that others have open to read it.
+    Shared(HistoryDevice),
     /// A device that this program has open.
     Open,
+    /// A device that this program has open to read it.
+    Reading,
     /// A device that somebody else has open.
     Taken,
     /// A text of these bytes.
@@ -61,22 +65,75 @@ pub(crate) fn find_content<'a>(entries: &'a [Entry], path: &str) -> Option<&'a C
     }
 }
 
-/// Adds an open device of a name of which there is no entry. An error: an allocation failed.
-pub(crate) fn add_open(
+/// Whether there is something of this name.
+pub(crate) fn is_named(entries: &[Entry], path: &str) -> bool
+    ensures { result ≡ is_something (content_of entries.now path.now) }
+{
+    match find_content(entries, path) {
+        None | Some(Content::Removed) => false,
+        Some(_) => true,
+    }
+}
+
+/// Whether this program has the device of this name open, to read and to write it.
+pub(crate) fn is_open(entries: &[Entry], path: &str) -> bool
+    ensures { result ≡ true → content_of entries.now path.now ≡ Some Content.Open }
+{
+    match find_content(entries, path) {
+        Some(Content::Open) => true,
+        _ => false,
+    }
+}
+
+/// Gives a content the name `to`, of which there is nothing, in place of the open device `from`.
+pub(crate) fn rename_open(entries: &mut Vec<Entry>, from: &str, to: &str, content: Content)
+    requires open { content_of entries.old.items from.now ≡ Some Content.Open }
+    requires free { content_of entries.old.items to.now ≡ Some Content.Removed }
+    ensures to { content_of entries.new.items to.now ≡ Some content }
+    ensures from { content_of entries.new.items from.now ≡ Some Content.Removed }
+    ensures others { (p : List ℕ) → p ≢ from.now → p ≢ to.now
+        → content_of entries.new.items p ≡ content_of entries.old.items p }
+{
+    let _ = exchange(entries, from, Content::Removed);
+    let _ = exchange(entries, to, content);
+}
+
+/// Adds an entry of a name of which there is none. An error: an allocation failed.
+pub(crate) fn add(
     alloc: Global,
     entries: &mut Vec<Entry>,
     path: &str,
+    content: Content,
 ) -> Result<(), AllocError>
     requires { content_of entries.old.items path.now ≡ None }
-    ensures new { OnOk result (content_of entries.new.items path.now ≡ Some Content.Open) }
+    ensures new { OnOk result (content_of entries.new.items path.now ≡ Some content) }
     ensures others { (p : List ℕ) → p ≢ path.now
         → content_of entries.new.items p ≡ content_of entries.old.items p }
     ensures kept { OnErr result (entries.new.items ≡ entries.old.items) }
 {
     let entry = Entry {
         path: String::from_str(alloc, path)?,
-        content: Content::Open,
+        content,
     };
     entries.push(entry)?;
     Ok(())
+}
+
+/// Adds an entry of a name of which there is nothing, where it has none. An error: an allocation
+/// failed.
+pub(crate) fn add_removed(
+    alloc: Global,
+    entries: &mut Vec<Entry>,
+    path: &str,
+) -> Result<(), AllocError>
+    requires { is_something (content_of entries.old.items path.now) ≡ false }
+    ensures removed { OnOk result (content_of entries.new.items path.now ≡ Some Content.Removed) }
+    ensures others { (p : List ℕ) → p ≢ path.now
+        → content_of entries.new.items p ≡ content_of entries.old.items p }
+    ensures kept { OnErr result (entries.new.items ≡ entries.old.items) }
+{
+    match find_content(entries.as_slice(), path) {
+        Some(_) => Ok(()),
+        None => add(alloc, entries, path, Content::Removed),
+    }
 }

@@ -2,6 +2,7 @@
 //! name. With it stands a system in memory.
 #![tactic(auto)]
 
+mod access;
 mod entries;
 mod fault;
 mod listener;
@@ -9,6 +10,7 @@ mod memory;
 mod place;
 mod system;
 
+pub use access::Access;
 pub use entries::{Content, Entry};
 pub use fault::{OpenPathFault, TextFault};
 pub use listener::{MemListener, MemReader};

@@ -3,7 +3,10 @@
 ghost use Rattle.std.specs.Prelude.{◌≡◌};
 ghost use Rattle.systems.specs.Memory.{memory_state};
 
-use crate::entries::{Content, Entry, add_open, exchange, find_content};
+use crate::access::Access;
+use crate::entries::{
+    Content, Entry, add, add_removed, exchange, find_content, is_named, is_open, rename_open,
+};
 use crate::fault::{OpenPathFault, TextFault};
 use crate::listener::MemListener;
 use crate::place::Place;
@@ -67,31 +70,55 @@ impl System for MemSystem {
                 Err(_) => Err(TextFault::Memory),
             },
             None | Some(Content::Removed) => Err(TextFault::Missing),
-            Some(Content::Device(_) | Content::Open | Content::Taken) => {
+            Some(
+                Content::Device(_)
+                | Content::Shared(_)
+                | Content::Open
+                | Content::Reading
+                | Content::Taken,
+            ) => {
                 self.failures = self.failures.saturating_add(1);
                 Err(TextFault::Device(SystemCause::Other))
             }
         }
     }
 
-    fn open(&mut self, path: &str) -> Result<HistoryDevice, OpenPathFault> {
+    fn has_name(&mut self, path: &str) -> Result<bool, SystemCause> {
+        Ok(is_named(self.entries.as_slice(), path))
+    }
+
+    fn open(&mut self, path: &str, access: Access) -> Result<HistoryDevice, OpenPathFault> {
         match find_content(self.entries.as_slice(), path) {
             None | Some(Content::Removed) => Err(OpenPathFault::Missing),
-            Some(Content::Open | Content::Taken) => Err(OpenPathFault::InUse),
+            Some(Content::Open | Content::Reading | Content::Taken) => Err(OpenPathFault::InUse),
             Some(Content::Text(_)) => {
                 self.failures = self.failures.saturating_add(1);
                 Err(OpenPathFault::Device(SystemCause::Other))
             }
-            Some(Content::Device(_)) => match exchange(&mut self.entries, path, Content::Open) {
-                Some(Content::Device(device)) => Ok(device),
-                _ => Err(OpenPathFault::Memory),
+            Some(Content::Shared(_)) => match access {
+                Access::Read => match exchange(&mut self.entries, path, Content::Reading) {
+                    Some(Content::Shared(device)) => Ok(device),
+                    _ => Err(OpenPathFault::Memory),
+                },
+                Access::Write => Err(OpenPathFault::InUse),
+            },
+            Some(Content::Device(_)) => match access {
+                Access::Read => match exchange(&mut self.entries, path, Content::Reading) {
+                    Some(Content::Device(device)) => Ok(device),
+                    _ => Err(OpenPathFault::Memory),
+                },
+                Access::Write => match exchange(&mut self.entries, path, Content::Open) {
+                    Some(Content::Device(device)) => Ok(device),
+                    _ => Err(OpenPathFault::Memory),
+                },
             },
         }
     }
 
+    // Who else has read the device meanwhile has ended.
     fn close(&mut self, path: &str, device: HistoryDevice) {
         match exchange(&mut self.entries, path, Content::Device(device)) {
-            None | Some(Content::Open) => {}
+            None | Some(Content::Open | Content::Reading) => {}
             Some(other) => {
                 let _ = exchange(&mut self.entries, path, other);
             }
@@ -103,7 +130,7 @@ impl System for MemSystem {
             return Err(FileFault::Memory);
         };
         match find_content(self.entries.as_slice(), path) {
-            None => match add_open(self.alloc, &mut self.entries, path) {
+            None => match add(self.alloc, &mut self.entries, path, Content::Open) {
                 Ok(()) => Ok(device),
                 Err(_) => Err(FileFault::Memory),
             },
@@ -128,6 +155,27 @@ impl System for MemSystem {
                 Err(SystemCause::Other)
             }
         }
+    }
+
+    fn rename(
+        &mut self,
+        from: &str,
+        to: &str,
+        device: HistoryDevice,
+    ) -> Result<(), (HistoryDevice, FileFault)> {
+        if is_named(self.entries.as_slice(), to) {
+            return Err((device, FileFault::Exists));
+        }
+        if !is_open(self.entries.as_slice(), from) {
+            self.failures = self.failures.saturating_add(1);
+            return Err((device, FileFault::Device(SystemCause::Other)));
+        }
+        match add_removed(self.alloc, &mut self.entries, to) {
+            Ok(()) => {}
+            Err(_) => return Err((device, FileFault::Memory)),
+        }
+        rename_open(&mut self.entries, from, to, Content::Device(device));
+        Ok(())
     }
 
     fn bind<'p>(

@@ -1,9 +1,10 @@
 //! What names the files and the places of a program: those of a machine, or a few in memory.
 
-ghost use Rattle.std.specs.Prelude.{◌≡◌, ◌≢◌, None, ◌≤◌, ◌⊎◌, ◌*◌, ℕ, List, IfOk, IfErr, OnOk, OnErr};
+ghost use Rattle.std.specs.Prelude.{◌≡◌, ◌≢◌, None, ◌≤◌, ◌*◌, ℕ, List, IfOk, IfErr, OnOk, OnErr};
 ghost use Rattle.systems.specs.Places.{ThePlace, the_place, IsOfKind, IsBoundFor};
-ghost use Rattle.systems.specs.Systems.{At, Absent, SystemState, HasDevice, IsOpen, IsInUse, IsNamed, IsUnnamed, HasText, Hears, IsBound, Rose, IsSame, IsSameBut, IsSameButAt, HoldsZeros};
+ghost use Rattle.systems.specs.Systems.{At, Absent, SystemState, HasDevice, IsHeldFrom, IsOpen, IsOpenFor, IsReadable, IsReading, MayOpen, IsNamed, IsUnnamed, HasText, Hears, IsBound, Rose, IsSame, IsSameBut, IsSameButAt, IsSameButBoth, HoldsZeros};
 
+use crate::access::Access;
 use crate::fault::{OpenPathFault, TextFault};
 use crate::place::Place;
 use connections::listen::Listen;
@@ -44,21 +45,31 @@ pub trait System {
             → fault ≢ TextFault.Memory → Rose (state self.old).failures (state self.new).failures) }
         ensures same { (state self.old).faithful → IsSame (state self.old) (state self.new) };
 
-    /// Opens the device of a path, and locks it, until it is closed.
+    /// Whether there is something of this name. An error: the system does not say.
+    fn has_name(&mut self, path: &str) -> Result<bool, SystemCause>
+        ensures counts { (state self.old).failures ≤ (state self.new).failures }
+        ensures said { (state self.old).faithful
+            → IfOk result (λ is. (state self.old).is_named path.now ≡ is) }
+        ensures cause { OnErr result (Rose (state self.old).failures (state self.new).failures) }
+        ensures same { (state self.old).faithful → IsSame (state self.old) (state self.new) };
+
+    /// Opens the device of a path, and locks it, until it is closed: to be read, beside others that
+    /// read it, or to be read and written, by nobody else.
     ///
-    /// `Missing`: there is nothing of that name. `InUse`: this program or another has it open.
-    /// `Memory`: an allocation failed. `Device`: the system does not open or lock it.
-    fn open(&mut self, path: &str) -> Result<Self::Device, OpenPathFault>
+    /// `Missing`: there is nothing of that name. `InUse`: this program has it open, or another has
+    /// it open to write it, or another reads it and it was to be written. `Memory`: an allocation
+    /// failed. `Device`: the system does not open or lock it.
+    fn open(&mut self, path: &str, access: Access) -> Result<Self::Device, OpenPathFault>
         ensures counts { (state self.old).failures ≤ (state self.new).failures }
         ensures opened { (state self.old).faithful → IfOk result
-            (λ device. HasDevice (state self.old) path.now device) }
+            (λ device. MayOpen access (state self.old) path.now device) }
         ensures open { (state self.old).faithful → IfOk result
-            (λ device. IsOpen (state self.new) path.now) }
+            (λ device. IsOpenFor access (state self.new) path.now) }
         ensures missing { (state self.old).faithful → IfErr result
             (λ fault. fault ≡ OpenPathFault.Missing → IsUnnamed (state self.old) path.now) }
         ensures in_use { (state self.old).faithful → IfErr result
             (λ fault. fault ≡ OpenPathFault.InUse
-            → IsOpen (state self.old) path.now ⊎ IsInUse (state self.old) path.now) }
+            → IsHeldFrom access (state self.old) path.now) }
         ensures cause { IfErr result (λ fault. (cause : SystemCause)
             → fault ≡ OpenPathFault.Device cause
             → Rose (state self.old).failures (state self.new).failures) }
@@ -67,11 +78,14 @@ pub trait System {
         ensures kept { (state self.old).faithful
             → OnErr result (IsSame (state self.old) (state self.new)) };
 
-    /// Closes the device that was opened or made at a path, which is then there as it was left.
+    /// Closes the device that was opened or made at a path, which is then there as it was left. Of one
+    /// that was opened to be read it may be that others read it.
     fn close(&mut self, path: &str, device: Self::Device)
         ensures counts { (state self.old).failures ≤ (state self.new).failures }
         ensures closed { (state self.old).faithful → IsOpen (state self.old) path.now
             → HasDevice (state self.new) path.now device }
+        ensures released { (state self.old).faithful → IsReading (state self.old) path.now
+            → IsReadable (state self.new) path.now device }
         ensures others { (state self.old).faithful
             → IsSameBut path.now (state self.old) (state self.new) };
 
@@ -112,6 +126,36 @@ pub trait System {
         ensures others { (state self.old).faithful
             → IsSameBut path.now (state self.old) (state self.new) };
 
+    /// Gives the device that was made at `from` the name `to`, of which there was nothing, in place of
+    /// `from`, and closes it. A stop leaves nothing of the name `to`, or the device as it was left; of
+    /// `from` it may leave it too.
+    ///
+    /// After an error all is as it was: the device is open, and handed back. `Exists`: there is
+    /// something of the name `to`. `Memory`: an allocation failed. `Device`: the system does not
+    /// rename it.
+    fn rename(
+        &mut self,
+        from: &str,
+        to: &str,
+        device: Self::Device,
+    ) -> Result<(), (Self::Device, FileFault)>
+        ensures counts { (state self.old).failures ≤ (state self.new).failures }
+        ensures renamed { (state self.old).faithful → IsOpen (state self.old) from.now
+            → OnOk result (HasDevice (state self.new) to.now device) }
+        ensures gone { (state self.old).faithful → IsOpen (state self.old) from.now
+            → OnOk result (IsUnnamed (state self.new) from.now) }
+        ensures new { (state self.old).faithful
+            → OnOk result (IsUnnamed (state self.old) to.now) }
+        ensures exists { (state self.old).faithful → IfErr result
+            (λ it. it.1 ≡ FileFault.Exists → IsNamed (state self.old) to.now) }
+        ensures cause { IfErr result (λ it. (cause : SystemCause) → it.1 ≡ FileFault.Device cause
+            → Rose (state self.old).failures (state self.new).failures) }
+        ensures others { (state self.old).faithful
+            → IsSameButBoth from.now to.now (state self.old) (state self.new) }
+        ensures kept { (state self.old).faithful
+            → OnErr result (IsSame (state self.old) (state self.new)) }
+        ensures handed_back { IfErr result (λ it. it.0 ≡ device) };
+
     /// Binds a place, and answers who listens there and which place that is. A connection may be
     /// idle for so long. An error: the system does not bind it.
     fn bind<'p>(
@@ -145,7 +189,7 @@ pub trait System {
 
     /// The devices of a faithful system are faithful.
     ghost faithful_devices: { (system : Self) (path : List ℕ) (device : Self.Device)
-        → (state system).faithful → HasDevice (state system) path device
+        → (state system).faithful → IsReadable (state system) path device
         → (Self.Device.state device).faithful };
 
     /// A path of which there is nothing names no device.

@@ -3,8 +3,20 @@ use Rattle.std.proofs.lemmas.Result.{IfErr-weaker, IfOk-weaker}
 use Rattle.clap.specs.Words.{app_of, found_of, rows_of}
 use Rattle.commands.specs.CommandGrammar.{program_app}
 use Rattle.commands.specs.CommandLine.{lent_words}
-use Rattle.commands.proofs.CommandLines.{parsed_fits, met_command, order_asks, order_refuses}
+use Rattle.commands.proofs.CommandLines.{error_read, parsed_fits, met_command, order_asks, order_refuses}
 use Rattle.commands.proofs.command.read_command.Goals as goal
+
+pub returns-in-Err-clause-asked : goal.returns-in-Err-clause-asked
+returns-in-Err-clause-asked c =
+    let words = lent_words c.args.words.now in
+    let by : app_of c.in-Ok.command ≡ program_app = search rules in
+    (error_read (app_of c.in-Ok.command) words words c.try_get_matches_from.result c.in-Err.error c.read_error.result by refl c.in-Err.is c.try_get_matches_from.ensures.kinds c.read_error.ensures).0
+
+pub returns-in-Err-clause-refused : goal.returns-in-Err-clause-refused
+returns-in-Err-clause-refused c =
+    let words = lent_words c.args.words.now in
+    let by : app_of c.in-Ok.command ≡ program_app = search rules in
+    (error_read (app_of c.in-Ok.command) words words c.try_get_matches_from.result c.in-Err.error c.read_error.result by refl c.in-Err.is c.try_get_matches_from.ensures.kinds c.read_error.ensures).1
 
 pub returns-in-Some-clause-asked : goal.returns-in-Some-clause-asked
 returns-in-Some-clause-asked c =

@@ -1,6 +1,6 @@
 use Rattle.std.proofs.lemmas.Result.{IfOk-weaker}
 use Rattle.clap.specs.Words.{with_subcommand}
-use Rattle.commands.specs.CommandGrammar.{IsCommand, bare_app, format_app, run_app, serve_app, check_app, describe_app}
+use Rattle.commands.specs.CommandGrammar.{IsCommand, bare_app, format_app, run_app, serve_app, check_app, describe_app, copy_app}
 use Rattle.commands.proofs.BuiltCommands.{with_one_below}
 use Rattle.commands.proofs.grammar.program_command.Goals as goal
 
@@ -14,4 +14,6 @@ returns c =
     let serves : IsCommand (with_subcommand three serve_app.top) c.in_ok-command-3.command = with_one_below three serve_app c.in_ok-command-2.command c.serve_command.result c.in_ok-command-3.command runs c.serve_command.ensures c.in_ok-command-3.ensures in
     let four = with_subcommand three serve_app.top in
     let checks : IsCommand (with_subcommand four check_app.top) c.in_ok-command-4.command = with_one_below four check_app c.in_ok-command-3.command c.check_command.result c.in_ok-command-4.command serves c.check_command.ensures c.in_ok-command-4.ensures in
-    IfOk-weaker c.with_below-5.result _ _ (λ command h. with_one_below (with_subcommand four check_app.top) describe_app c.in_ok-command-4.command c.describe_command.result command checks c.describe_command.ensures h) c.with_below-5.ensures
+    let five = with_subcommand four check_app.top in
+    let describes : IsCommand (with_subcommand five describe_app.top) c.in_ok-command-5.command = with_one_below five describe_app c.in_ok-command-4.command c.describe_command.result c.in_ok-command-5.command checks c.describe_command.ensures c.in_ok-command-5.ensures in
+    IfOk-weaker c.with_below-6.result _ _ (λ command h. with_one_below (with_subcommand five describe_app.top) copy_app c.in_ok-command-5.command c.copy_command.result command describes c.copy_command.ensures h) c.with_below-6.ensures

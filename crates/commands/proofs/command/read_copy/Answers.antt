@@ -1,0 +1,28 @@
+use Rattle.std.proofs.Common.{rules, codes, refl}
+use Rattle.clap.specs.Words.{found_of, rows_of}
+use Rattle.commands.specs.declared.number.NumberOption.TheVariants.{Pages}
+use Rattle.commands.specs.CommandLine.{Copy, HasWords}
+use Rattle.commands.specs.Numbers.{IsNumberFor, NoNumberFor}
+use Rattle.commands.proofs.GivenWords.{got_word, no_word, no_copy}
+use Rattle.commands.proofs.command.read_copy.Goals as goal
+
+pub returns-in_default-clause-refused : goal.returns-in_default-clause-refused
+returns-in_default-clause-refused c = no_copy (rows_of (found_of c.args.given.now)) (λ file new pages has. no_word (found_of c.args.given.now) (codes "file") c.get_str.result c.get_str.ensures file (search rules) has.0)
+
+pub returns-in_default-get_str-clause-refused : goal.returns-in_default-get_str-clause-refused
+returns-in_default-get_str-clause-refused c = no_copy (rows_of (found_of c.args.given.now)) (λ file new pages has. no_word (found_of c.args.given.now) (codes "new") c.get_str-2.result c.get_str-2.ensures new (search rules) has.1)
+
+pub returns-in_default-get_str-2-clause-refused : goal.returns-in_default-get_str-2-clause-refused
+returns-in_default-get_str-2-clause-refused c = no_copy (rows_of (found_of c.args.given.now)) (λ file new pages has. no_word (found_of c.args.given.now) (codes "pages") c.get_str-3.result c.get_str-3.ensures pages (search rules) has.2)
+
+pub returns-in_default-read-clause-refused : goal.returns-in_default-read-clause-refused
+returns-in_default-read-clause-refused c =
+    let words : HasWords (rows_of (found_of c.args.given.now)) (Copy c.in-Some.file.now c.in-Some-get_str.new.now c.in-Some-get_str-2.word.now) = (got_word (found_of c.args.given.now) (codes "file") c.get_str.result c.get_str.ensures c.in-Some.file c.in-Some.is, got_word (found_of c.args.given.now) (codes "new") c.get_str-2.result c.get_str-2.ensures c.in-Some-get_str.new c.in-Some-get_str.is, got_word (found_of c.args.given.now) (codes "pages") c.get_str-3.result c.get_str-3.ensures c.in-Some-get_str-2.word c.in-Some-get_str-2.is) in
+    let none : NoNumberFor Pages c.in-Some-get_str-2.word.now = search rules in
+    (Copy c.in-Some.file.now c.in-Some-get_str.new.now c.in-Some-get_str-2.word.now, record { named = refl; words = words }, refl, none)
+
+pub returns-clause-asked : goal.returns-clause-asked
+returns-clause-asked c =
+    let words : HasWords (rows_of (found_of c.args.given.now)) (Copy c.in-Some.file.now c.in-Some-get_str.new.now c.in-Some-get_str-2.word.now) = (got_word (found_of c.args.given.now) (codes "file") c.get_str.result c.get_str.ensures c.in-Some.file c.in-Some.is, got_word (found_of c.args.given.now) (codes "new") c.get_str-2.result c.get_str-2.ensures c.in-Some-get_str.new c.in-Some-get_str.is, got_word (found_of c.args.given.now) (codes "pages") c.get_str-3.result c.get_str-3.ensures c.in-Some-get_str-2.word c.in-Some-get_str-2.is) in
+    let number : IsNumberFor Pages c.in-Some-get_str-2.word.now c.in-Some-read.pages = search rules in
+    (c.in-Some-get_str-2.word.now, record { named = refl; words = words }, number)

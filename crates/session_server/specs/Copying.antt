@@ -1,0 +1,46 @@
+-- What the program does for `copy`.
+use Rattle.std.specs.Prelude.{◌≡◌, ℕ, List, codes, Result, Ok, Err}
+use Rattle.std.specs.Borrow.{Bor}
+use Rattle.sector_device.specs.declared.device.Device.{Ghosts}
+use Rattle.script_runs.specs.ScriptRun.{Known}
+use Rattle.systems.specs.Systems.{SystemState}
+use Rattle.file_commands.specs.declared.copy_fault.CopyFault.{CopyFault}
+use Rattle.file_commands.specs.declared.copy_fault.CopyFault.TheVariants as copy
+use Rattle.file_commands.specs.Copying.{CopiesFile}
+use Rattle.session_server.specs.declared.ending.ProgramFault.{ProgramFault}
+use Rattle.session_server.specs.declared.ending.ProgramFault.TheVariants as fault
+use Rattle.session_server.specs.declared.ending.Ending.{Ending}
+use Rattle.session_server.specs.declared.ending.Ending.TheVariants as ending
+use Rattle.session_server.specs.declared.ending.Exit.{Exit}
+use Rattle.session_server.specs.declared.ending.Subject.{Subject}
+use Rattle.session_server.specs.declared.ending.Subject.TheVariants as subject
+use Rattle.session_server.specs.Ending.{Exits, fault_of_command}
+use Rattle.session_server.specs.Printing.{IsPrinted}
+
+-- the fault of a copy to so many pages
+abbrev pub fault_of_copy : ℕ → CopyFault → ProgramFault
+fault_of_copy pages (copy.File f) = fault_of_command f
+fault_of_copy pages (copy.New f) = fault_of_command f
+fault_of_copy pages copy.Partial = fault.Partial
+fault_of_copy pages copy.Full = fault.NoRoom pages
+
+-- what the end of a copy is about: the file, where that was refused; else the new one, or what it is called until it is whole
+abbrev pub copy_subject : Bor (List ℕ) → Bor (List ℕ) → Result (Unit {0}) CopyFault → Subject
+copy_subject file new (Ok x) = subject.Named new
+copy_subject file new (Err (copy.File f)) = subject.Named file
+copy_subject file new (Err (copy.New f)) = subject.Named new
+copy_subject file new (Err copy.Partial) = subject.Partial new
+copy_subject file new (Err copy.Full) = subject.Named new
+
+-- where the copy was made that was printed; else its fault is the end, and nothing was
+abbrev pub IsCopyAnswered : Result (Unit {0}) CopyFault → ℕ → Known → Ending → Known → Type 0
+IsCopyAnswered (Ok x) pages before e after = IsPrinted (codes "ok COPY\n") before e after
+IsCopyAnswered (Err f) pages before e after = (e ≡ ending.Fault (fault_of_copy pages f)) × (after ≡ before)
+
+-- the database in the file was copied to a new file, or why not was told; `state` is what a system is at one moment
+pub record Copies {D L S : Type 0} (g : Ghosts D) (state : S → SystemState D L) (old : SystemState D L) (file target : Bor (List ℕ)) (pages : ℕ) (exit : Exit) (new : SystemState D L) (out_before out_after err_before err_after : Known) : Type 0 where
+  pub copied : Result (Unit {0}) CopyFault
+  pub copies : CopiesFile g state old file.now target.now pages copied new
+  pub ending : Ending
+  pub answered : IsCopyAnswered copied pages out_before ending out_after
+  pub ends : Exits (copy_subject file target copied) ending exit err_before err_after

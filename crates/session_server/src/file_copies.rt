@@ -1,0 +1,68 @@
+//! What the program does for `copy`.
+
+ghost use Rattle.std.specs.Prelude.{◌≡◌};
+ghost use Rattle.session_server.specs.Copying.{Copies, IsCopyAnswered, copy_subject, fault_of_copy};
+
+use crate::ending::{Ending, Exit, ProgramFault, Subject, exit_with};
+use crate::printing::print_text;
+use file_commands::{CopyFault, copy_file};
+use script_runs::sink::Sink;
+use script_runs::text_sink::TakesText;
+use sector_device::Device;
+use std::alloc::Global;
+use std::io::Write;
+use systems::System;
+
+/// What `copy` prints where it has copied a database.
+const COPIED: &str = "ok COPY\n";
+
+/// Copies the database in a file to a new file of so many pages, and says so, or tells why not.
+pub(crate) fn copy<Y: System, K: TakesText, E: Write>(
+    system: &mut Y,
+    alloc: Global,
+    file: &str,
+    new: &str,
+    pages: u32,
+    out: &mut K,
+    err: &mut E,
+) -> Exit
+    ensures { Copies Y.Device.Device Y.state (Y.state system.old) file.entry new.entry pages result
+        (Y.state system.new) (K.held out.old) (K.held out.new) (E.contents err.old)
+        (E.contents err.new) }
+{
+    let copied = copy_file(system, alloc, file, new, pages);
+    let ending = end_of_copy(copied, pages, out);
+    exit_with(ending, subject_of_copy(copied, file, new), err)
+}
+
+// How a copy ended: where it was made, that is printed.
+fn end_of_copy<K: TakesText>(copied: Result<(), CopyFault>, pages: u32, out: &mut K) -> Ending
+    ensures { IsCopyAnswered copied pages (K.held out.old) result (K.held out.new) }
+{
+    match copied {
+        Ok(()) => print_text(COPIED, out),
+        Err(fault) => Ending::Fault(program_fault(fault, pages)),
+    }
+}
+
+// The fault of a copy to so many pages.
+fn program_fault(fault: CopyFault, pages: u32) -> ProgramFault
+    ensures { result ≡ fault_of_copy pages fault }
+{
+    match fault {
+        CopyFault::File(fault) | CopyFault::New(fault) => ProgramFault::from(fault),
+        CopyFault::Partial => ProgramFault::Partial,
+        CopyFault::Full => ProgramFault::NoRoom(pages),
+    }
+}
+
+// What the end of a copy is about: the file, where that was refused; else the new one.
+fn subject_of_copy<'a>(copied: Result<(), CopyFault>, file: &'a str, new: &'a str) -> Subject<'a>
+    ensures { result ≡ copy_subject file.entry new.entry copied }
+{
+    match copied {
+        Err(CopyFault::File(_)) => Subject::Named(file),
+        Err(CopyFault::Partial) => Subject::Partial(new),
+        Ok(()) | Err(CopyFault::New(_) | CopyFault::Full) => Subject::Named(new),
+    }
+}
