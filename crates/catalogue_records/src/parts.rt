@@ -12,7 +12,7 @@ use std::alloc::Global;
 use store::Fault;
 
 /// What bytes hold several of, one after the other.
-pub trait Part {
+pub trait RecordPart {
     /// What the bytes spell.
     type Item: Drop;
 
@@ -32,7 +32,7 @@ pub trait Part {
 #[derive(Drop)]
 pub struct EndedName;
 
-impl Part for EndedName {
+impl RecordPart for EndedName {
     type Item = Name;
 
     ghost use Rattle.sql_types.specs.Name.{IsUtf8Name};
@@ -49,7 +49,7 @@ impl Part for EndedName {
 
 /// So many items with which these bytes begin, and the bytes after them. Memory: an allocation
 /// failed. Damaged: they do not begin with so many items.
-pub fn parts_at<'a, P: Part>(
+pub fn parts_at<'a, P: RecordPart>(
     alloc: Global,
     count: u8,
     bytes: &'a [u8],

@@ -9,7 +9,7 @@ ghost use Rattle.catalogue_records.specs.Decoding.{Decodes, DecodesFront};
 ghost use Rattle.catalogue_records.specs.Parts.{HasName, IsStoredLayout, IsTableAlone, key_bytes};
 
 use crate::bytes::{bit_of, decode_name, name_at};
-use crate::parts::{Part, parts_at};
+use crate::parts::{RecordPart, parts_at};
 use crate::walk::ItemReader;
 use byteorder::{BigEndian, ByteOrder};
 use sql_ast::columns::{Column, ColumnType, Columns};
@@ -84,7 +84,7 @@ impl ItemReader for TableReader {
 #[derive(Drop)]
 struct ColumnPart;
 
-impl Part for ColumnPart {
+impl RecordPart for ColumnPart {
     type Item = Column;
 
     ghost use Rattle.stored_database.specs.Spelling.{column_bytes};

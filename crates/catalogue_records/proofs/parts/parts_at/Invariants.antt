@@ -6,5 +6,5 @@ use Rattle.catalogue_records.proofs.parts.parts_at.Given as goal
 abbrev pub invariant-loop : goal.invariant-loop
 invariant-loop g l = record {
   counted : length l.items ≡ l.counter;
-  read : AreReadSoFar g.P.Part.IsValid g.P.Part.spell l.count l.fn.bytes l.items l.rest;
+  read : AreReadSoFar g.P.RecordPart.IsValid g.P.RecordPart.spell l.count l.fn.bytes l.items l.rest;
 }
