@@ -123,3 +123,45 @@ row_bytes = (
   6 ∷ 0 ∷ 0 ∷ 0 ∷ 1 ∷ 127 ∷ 255 ∷ 255 ∷ 255 ∷ 255 ∷ 255 ∷ 255 ∷ 255 ∷ [],
   1 ∷ 0 ∷ 0 ∷ 0 ∷ 0 ∷ 0 ∷ 0 ∷ 0 ∷ 5 ∷ 0 ∷ 2 ∷ 0 ∷ 2 ∷ codes "ab",
 )
+
+-- ---- the numbers that these leave out
+
+-- a table f of ann with FORCE alone: k BIGINT PRIMARY KEY
+abbrev pub f : TableDefinition
+f = record {
+  id = 258;
+  definition = record {
+    name = codes "f";
+    owner = codes "ann";
+    layout = record { columns = record { name = codes "k"; column_type = type.BigInt; not_null = true } ∷ []; key = 0 ∷ [] };
+    row_security = false;
+    forced = true;
+  };
+  descriptors = [];
+  policies = [];
+}
+
+abbrev pub f_bytes : Record
+f_bytes = (3 ∷ codes "f", 0 ∷ 0 ∷ 1 ∷ 2 ∷ codes "ann" ++ 0 ∷ 2 ∷ 1 ∷ 107 ∷ 0 ∷ 1 ∷ 1 ∷ 1 ∷ 0 ∷ [])
+
+-- what ann grants PUBLIC: DELETE
+abbrev pub delete_to_public : Descriptor
+delete_to_public = record { grantor = grantor.Role (codes "ann"); grantee = grantee.Public; table = codes "t"; action = action.Delete; column = None; grantable = false }
+
+abbrev pub delete_to_public_bytes : Record
+delete_to_public_bytes = (4 ∷ 0 ∷ 0 ∷ 0 ∷ 1 ∷ 4 ∷ 0 ∷ codes "ann" ++ 0 ∷ 0 ∷ [], 0 ∷ [])
+
+-- CREATE POLICY q ON t USING (true) WITH CHECK (false)
+abbrev pub q : Policy
+q = record {
+  table = codes "t";
+  name = codes "q";
+  kind = kind.Permissive;
+  command = command.All;
+  roles = roles.Public;
+  using = Some (record { text = codes "true"; expression = literal (Boolean true) });
+  check = Some (record { text = codes "false"; expression = literal (Boolean false) });
+}
+
+abbrev pub q_bytes : Record
+q_bytes = (5 ∷ 0 ∷ 0 ∷ 0 ∷ 1 ∷ codes "q", 1 ∷ 0 ∷ 0 ∷ 1 ∷ 0 ∷ 4 ∷ codes "true" ++ 1 ∷ 0 ∷ 5 ∷ codes "false")

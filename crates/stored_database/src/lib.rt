@@ -21,7 +21,7 @@ pub use databases::{
     shown_databases_are_described, stored_databases_are_whole, whole_databases_have_records,
 };
 pub use entries::{one_list_of_records, records_are_entries};
-pub use examples::records_by_the_byte;
+pub use examples::{numbers_by_the_byte, records_by_the_byte};
 pub use kinds::{
     free_numbers_have_no_records, keys_begin_with_their_kind, keys_have_one_kind,
     strays_stand_for_nothing,
