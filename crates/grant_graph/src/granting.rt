@@ -40,7 +40,7 @@ fn granted_again(
 
 /// The first descriptor of a merged list, and what is left to be merged.
 #[derive(Drop)]
-pub(crate) struct Step<'a> {
+pub(crate) struct MergeStep<'a> {
     first: Descriptor,
     old: &'a [Descriptor],
     new: &'a [Descriptor],
@@ -51,7 +51,7 @@ fn next_step<'a>(
     alloc: Global,
     old: &'a [Descriptor],
     new: &'a [Descriptor],
-) -> Result<Option<Step<'a>>, AllocError>
+) -> Result<Option<MergeStep<'a>>, AllocError>
     requires { Rising descriptor_cmp new.now }
     ensures { IfOk result (IsNextStep old.now new.now) }
 {
@@ -65,7 +65,7 @@ fn next_step<'a>(
             Ordering::Greater => (kept.try_copy(alloc)?, after, new),
         },
     };
-    Ok(Some(Step { first, old, new }))
+    Ok(Some(MergeStep { first, old, new }))
 }
 
 /// The descriptors with those that are granted.
