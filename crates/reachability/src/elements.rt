@@ -4,7 +4,7 @@ ghost use Rattle.reachability.specs.Reached.{AreReached, HaveKeysBelow, LeadsTo,
 ghost use Rattle.reachability.specs.Found.{Finds, IsMarked, IsQueueOf};
 ghost use Rattle.reachability.specs.Waiting.{Wait};
 
-use crate::found::Found;
+use crate::found::Visited;
 use crate::waiting::waiting;
 use std::alloc::{AllocError, Global};
 
@@ -18,12 +18,12 @@ pub struct Elements<'a> {
 }
 
 /// The starts are found.
-fn find_starts(alloc: Global, starts: &[bool]) -> Result<Found, AllocError>
+fn find_starts(alloc: Global, starts: &[bool]) -> Result<Visited, AllocError>
     ensures count { IfOk result (λ found. length found.marks.items ≡ length starts.now) }
     ensures queue { IfOk result (λ found. IsQueueOf found.marks.items found.queue.items) }
     ensures starts { IfOk result (λ found. (i : ℕ) → IsMarked found.marks.items i ↔ IsMarked starts.now i) }
 {
-    let mut found = Found::none(alloc, starts.len())?;
+    let mut found = Visited::none(alloc, starts.len())?;
     for element in 0..starts.len() {
         if starts[element] {
             found.add(element)?;
@@ -34,7 +34,7 @@ fn find_starts(alloc: Global, starts: &[bool]) -> Result<Found, AllocError>
 
 /// Finds the elements that an element leads to, by the lists of those that wait for each key.
 fn follow(
-    found: &mut Found,
+    found: &mut Visited,
     elements: &Elements<'_>,
     lists: &[Vec<usize>],
     element: usize,

@@ -7,20 +7,20 @@ use std::alloc::{AllocError, Global};
 /// The elements that are found so far: a mark for each element, and those that are marked in the order in which they
 /// were found.
 #[derive(Drop)]
-pub(crate) struct Found {
+pub(crate) struct Visited {
     marks: Vec<bool>,
     queue: Vec<usize>,
 }
 
-impl Found {
+impl Visited {
     /// None of so many elements is found.
-    pub(crate) fn none(alloc: Global, count: usize) -> Result<Found, AllocError>
+    pub(crate) fn none(alloc: Global, count: usize) -> Result<Visited, AllocError>
         ensures marks { IfOk result (λ found. found.marks.items ≡ replicate count false) }
         ensures queue { IfOk result (λ found. found.queue.items ≡ []) }
     {
         let marks = vec![in alloc; false; count]?;
         let queue = Vec::new(alloc);
-        Ok(Found { marks, queue })
+        Ok(Visited { marks, queue })
     }
 
     /// Finds an element, unless it is found already.

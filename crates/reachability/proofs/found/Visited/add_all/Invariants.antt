@@ -1,6 +1,6 @@
 use Rattle.std.proofs.Common.{◌≡◌, length}
 use Rattle.reachability.specs.Found.{Finds, IsAmongFirst, IsQueueOf}
-use Rattle.reachability.proofs.found.Found.add_all.Given as goal
+use Rattle.reachability.proofs.found.Visited.add_all.Given as goal
 
 abbrev pub invariant-loop-element : goal.invariant-loop-element
 invariant-loop-element l = record {

@@ -1,6 +1,6 @@
 use Rattle.std.proofs.Common.{◌≡◌, sym, ◌++◌, [], ◌∷◌}
 use Rattle.reachability.proofs.Queues.{queue_added}
-use Rattle.reachability.proofs.found.Found.add.Goals as goal
+use Rattle.reachability.proofs.found.Visited.add.Goals as goal
 
 pub returns-clause-queue : goal.returns-clause-queue
 returns-clause-queue c is =

@@ -1,6 +1,6 @@
 use Rattle.std.proofs.Common.{refl, ◌∙◌}
 use Rattle.reachability.proofs.Queues.{finds_more}
-use Rattle.reachability.proofs.found.Found.add_all.Goals as goal
+use Rattle.reachability.proofs.found.Visited.add_all.Goals as goal
 
 pub add-requires : goal.add-requires
 add-requires c = rw c.loop-element.invariant.count (c.requires c.loop-element.element-index 0 c.loop-element-test.true)
