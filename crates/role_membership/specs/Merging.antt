@@ -7,7 +7,7 @@ use Rattle.sql_ast.specs.declared.role.Membership.{Membership}
 use Rattle.abstract_database.specs.Lists.{TheName, Among, name_cmp, put}
 use Rattle.abstract_database.specs.Database.{membership_cmp}
 use Rattle.abstract_database.specs.Roles.{raised}
-use Rattle.role_membership.specs.declared.merge.Merge.{Merge}
+use Rattle.role_membership.specs.declared.merge.MembershipMerge.{MembershipMerge}
 
 -- the list with each of these put into it in order
 abbrev pub put_all : List Membership → List Membership → List Membership
@@ -21,7 +21,7 @@ abbrev pub texts : List (Bor TheName) → List TheName
 texts names = map (λ name. name.now) names
 
 -- the list that a merge stands for: what is merged, and what is still to come
-abbrev pub list_of : Merge → List Membership
+abbrev pub list_of : MembershipMerge → List Membership
 list_of m = m.merged.items ++ drop m.next m.memberships.now
 
 -- each of these stands before the membership

@@ -5,7 +5,7 @@ use sql_ast::role::Membership;
 
 /// A list that memberships are put into: what is merged so far, and the index of the membership that comes next.
 #[derive(Drop)]
-pub(crate) struct Merge<'a> {
+pub(crate) struct MembershipMerge<'a> {
     pub(crate) memberships: &'a [Membership],
     pub(crate) next: usize,
     pub(crate) merged: Vec<Membership>,

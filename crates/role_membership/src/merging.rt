@@ -10,7 +10,7 @@ ghost use Rattle.abstract_database.specs.Database.{membership_cmp};
 ghost use Rattle.abstract_database.specs.Roles.{memberships_of, raised};
 ghost use Rattle.role_membership.specs.Merging.{put_all, membership, texts, list_of, AreBefore, AreUpTo, AreOfRolesUpTo, AreOfRolesBefore};
 
-use crate::merge::Merge;
+use crate::merge::MembershipMerge;
 use sql_ast::role::Membership;
 use sql_types::name::Name;
 use sql_types::try_copy::TryCopy;
@@ -88,13 +88,13 @@ fn compare(role: &str, member: &str, other: &Membership) -> Ordering
     roles.then(members)
 }
 
-impl<'a> Merge<'a> {
+impl<'a> MembershipMerge<'a> {
     /// Nothing is merged yet.
-    fn new(alloc: Global, memberships: &'a [Membership]) -> Merge<'a>
+    fn new(alloc: Global, memberships: &'a [Membership]) -> MembershipMerge<'a>
         ensures list { list_of result ≡ memberships.now }
         ensures merged { result.merged.items ≡ [] }
     {
-        Merge {
+        MembershipMerge {
             memberships,
             next: 0,
             merged: Vec::new(alloc),
@@ -217,7 +217,7 @@ pub(crate) fn merged(
 {
     let each_role = distinct(alloc, roles)?;
     let each_member = distinct(alloc, members)?;
-    let mut merge = Merge::new(alloc, memberships);
+    let mut merge = MembershipMerge::new(alloc, memberships);
     for role in each_role.as_slice() {
         merge.put_each(alloc, role, each_member.as_slice(), admin)?;
     }

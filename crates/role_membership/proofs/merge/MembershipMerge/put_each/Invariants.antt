@@ -1,7 +1,7 @@
 use Rattle.std.proofs.Common.{◌≡◌, take, drop, map}
 use Rattle.abstract_database.specs.Lists.{TheName, Among}
 use Rattle.role_membership.specs.Merging.{put_all, membership, texts, list_of, AreBefore, AreOfRolesUpTo}
-use Rattle.role_membership.proofs.merge.Merge.put_each.Given as goal
+use Rattle.role_membership.proofs.merge.MembershipMerge.put_each.Given as goal
 
 abbrev pub invariant-loop-member : goal.invariant-loop-member
 invariant-loop-member l = record {

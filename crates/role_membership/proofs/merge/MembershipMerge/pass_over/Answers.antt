@@ -3,7 +3,7 @@ use Rattle.sql_ast.specs.declared.role.Membership.{Membership}
 use Rattle.std.proofs.lemmas.Option.{same_Some, slice_get-get_or, slice_get_within}
 use Rattle.role_membership.specs.Merging.{membership}
 use Rattle.role_membership.proofs.Puts.{put_equal, put_new}
-use Rattle.role_membership.proofs.merge.Merge.pass_over.Goals as goal
+use Rattle.role_membership.proofs.merge.MembershipMerge.pass_over.Goals as goal
 
 pub returns-then-not-is_next-clause-list : goal.returns-then-not-is_next-clause-list
 returns-then-not-is_next-clause-list c =

@@ -6,7 +6,7 @@ use Rattle.abstract_database.specs.Database.{membership_cmp}
 use Rattle.role_membership.specs.Merging.{membership}
 use Rattle.role_membership.proofs.Products.{of_append}
 use Rattle.role_membership.proofs.Puts.{drop_at, is_greater}
-use Rattle.role_membership.proofs.merge.Merge.pass_to.Goals as goal
+use Rattle.role_membership.proofs.merge.MembershipMerge.pass_to.Goals as goal
 
 pub returns-then-not-is_gt-clause-next : goal.returns-then-not-is_gt-clause-next
 returns-then-not-is_gt-clause-next c = λ admin n there.

@@ -5,7 +5,7 @@ use Rattle.abstract_database.specs.Lists.{put}
 use Rattle.abstract_database.specs.Roles.{raised}
 use Rattle.role_membership.specs.Merging.{membership}
 use Rattle.role_membership.proofs.Puts.{up_to_pushed}
-use Rattle.role_membership.proofs.merge.Merge.put.Goals as goal
+use Rattle.role_membership.proofs.merge.MembershipMerge.put.Goals as goal
 
 pub pass_over-has_option-requires-clause-before : goal.pass_over-has_option-requires-clause-before
 pass_over-has_option-requires-clause-before c = c.in_ok-pass_to.ensures.before c.args.admin c.requires.before

@@ -4,7 +4,7 @@ use Rattle.sql_ast.specs.declared.role.Membership.{Membership}
 use Rattle.abstract_database.specs.Database.{membership_cmp}
 use Rattle.role_membership.specs.Merging.{membership}
 use Rattle.role_membership.proofs.Puts.{is_equal}
-use Rattle.role_membership.proofs.merge.Merge.is_next.Goals as goal
+use Rattle.role_membership.proofs.merge.MembershipMerge.is_next.Goals as goal
 
 pub returns-then-self-clause-equal : goal.returns-then-self-clause-equal
 returns-then-self-clause-equal c = λ e.

@@ -7,7 +7,7 @@ use Rattle.role_membership.specs.Merging.{membership, texts, put_all, list_of}
 use Rattle.role_membership.proofs.Distinct.{at_index}
 use Rattle.role_membership.proofs.Products.{row_more}
 use Rattle.role_membership.proofs.Puts.{put_all_append, beyond, same_role, role_up_to}
-use Rattle.role_membership.proofs.merge.Merge.put_each.Goals as goal
+use Rattle.role_membership.proofs.merge.MembershipMerge.put_each.Goals as goal
 
 pub put-requires-clause-member : goal.put-requires-clause-member
 put-requires-clause-member c = c.requires.members _ (at_index c.args.members.now c.loop-member.member-index _ c.loop-member-test.true).among

@@ -1,6 +1,6 @@
 use Rattle.std.proofs.Common.{◌≡◌, ◌-◌, Bool, length}
 use Rattle.role_membership.specs.Merging.{membership, list_of, AreBefore}
-use Rattle.role_membership.proofs.merge.Merge.pass_to.Given as goal
+use Rattle.role_membership.proofs.merge.MembershipMerge.pass_to.Given as goal
 
 abbrev pub invariant-loop-self : goal.invariant-loop-self
 invariant-loop-self l = record {
