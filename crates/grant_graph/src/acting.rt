@@ -12,7 +12,7 @@ ghost use Rattle.grant_graph.specs.Keys.{now_of};
 ghost use Rattle.grant_graph.specs.Acting.{database_of, table_of, lent_names, least_with};
 
 use crate::keys::action_number;
-use role_membership::{Memberships, RoleSet, closure};
+use role_membership::{Memberships, RoleSet, closure, is_superuser};
 use sql_ast::privilege::{Descriptor, Grantee, Privilege};
 use sql_ast::role::Role;
 use sql_types::name::Name;
@@ -29,15 +29,6 @@ pub struct Grants<'a> {
     pub descriptors: &'a [Descriptor],
 }
 
-/// Whether a role of this name is a superuser. No role inherits it.
-fn is_superuser(roles: &[Role], name: &Name) -> bool
-    ensures { result ≡ list_any (λ r. is_role_named name.now r && r.attributes.superuser) roles.now }
-{
-    roles
-        .iter()
-        .any(|role| role.name == *name && role.attributes.superuser)
-}
-
 /// Whether a role acts as the owner: as a superuser, or since the owner is one of the roles that it is in.
 fn acts_as_owner(roles: &[Role], set: &RoleSet<'_>, role: &Name, owner: &Name) -> bool
     ensures { result ≡ (list_any (λ r. is_role_named role.now r && r.attributes.superuser) roles.now || has_name owner.now set.now) }
@@ -46,7 +37,7 @@ fn acts_as_owner(roles: &[Role], set: &RoleSet<'_>, role: &Name, owner: &Name) -
 }
 
 /// Whether what is granted on this column, or on the whole table, counts for the other.
-fn covers(granted: Option<usize>, column: Option<usize>) -> bool
+pub fn covers(granted: Option<usize>, column: Option<usize>) -> bool
     ensures { result ≡ covers granted column }
 {
     match (granted, column) {

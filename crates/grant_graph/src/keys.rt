@@ -14,7 +14,7 @@ pub(crate) type Right<'a> = (Option<&'a str>, &'a str, u8, Option<usize>);
 pub(crate) type Key<'a> = (&'a str, u8, Option<usize>, &'a str, &'a str);
 
 /// The number of an action.
-pub(crate) fn action_number(action: Action) -> u8
+pub fn action_number(action: Action) -> u8
     ensures { result ≡ number_of action }
 {
     match action {

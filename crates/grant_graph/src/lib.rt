@@ -9,8 +9,9 @@ mod marking;
 mod revoking;
 mod supports;
 
-pub use acting::{Grants, acting_grantor, acting_grantor_among};
+pub use acting::{Grants, acting_grantor, acting_grantor_among, covers};
 pub use granting::grant;
+pub use keys::action_number;
 pub use marking::without;
 pub use revoking::{Revoked, Taking, revocation, revoke};
 pub use supports::all_supported;
