@@ -89,3 +89,4 @@ pub mod Tenants
 pub mod UnseenRuns
 pub mod WholeTenants
 pub mod BeforeOthers
+pub mod ValueLemmas

@@ -23,3 +23,4 @@ pub mod Grants
 pub mod ColumnPrivileges
 pub mod Memberships
 pub mod Definitions
+pub mod Values

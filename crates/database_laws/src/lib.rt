@@ -16,5 +16,6 @@ pub mod runs;
 pub mod sessions;
 pub mod stages;
 pub mod tables;
+pub mod values;
 pub mod whole_databases;
 pub mod writes;
