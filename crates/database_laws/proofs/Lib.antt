@@ -90,3 +90,4 @@ pub mod UnseenRuns
 pub mod WholeTenants
 pub mod BeforeOthers
 pub mod ValueLemmas
+pub mod RowSecurityLemmas

@@ -24,3 +24,4 @@ pub mod ColumnPrivileges
 pub mod Memberships
 pub mod Definitions
 pub mod Values
+pub mod RowSecurity

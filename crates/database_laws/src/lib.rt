@@ -11,6 +11,7 @@ pub mod memberships;
 pub mod privileges;
 pub mod queries;
 pub mod rights;
+pub mod row_security;
 pub mod rows;
 pub mod runs;
 pub mod sessions;
