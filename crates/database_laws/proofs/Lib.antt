@@ -91,3 +91,4 @@ pub mod WholeTenants
 pub mod BeforeOthers
 pub mod ValueLemmas
 pub mod RowSecurityLemmas
+pub mod OpeningLemmas

@@ -25,3 +25,4 @@ pub mod Memberships
 pub mod Definitions
 pub mod Values
 pub mod RowSecurity
+pub mod Openings

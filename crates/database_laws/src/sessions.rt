@@ -3,7 +3,15 @@
 ghost use Rattle.database_laws.specs.HiddenRuns.{runs_are_alike, others_may_be_left_out};
 ghost use Rattle.database_laws.specs.OutOfSight.{unseen_by_others, unseen_by_all, unseen_events, others_are_not_noticed, apart_is_out_of_sight, tenants_are_out_of_sight};
 ghost use Rattle.database_laws.specs.TwoTenants.{MeetThePremises};
+ghost use Rattle.database_laws.specs.Openings.{only_logins_open, logins_are_authorized};
 ghost use Rattle.database_laws.specs.Sessions.{effects_are_no_refusals, other_sessions_stay, blocks_keep_their_role, only_the_holder_changes, others_see_the_committed, uncommitted_is_not_seen};
+
+/// A session is opened only for a role that has LOGIN itself, superusers too, and such a role is never
+/// refused with 28000 (PostgreSQL manual, CREATE ROLE).
+pub fn sessions_are_for_logins()
+    ensures only { only_logins_open }
+    ensures authorized { logins_are_authorized }
+{}
 
 /// What a statement answers once it takes effect is no refusal.
 pub fn effects_are_no_refusals()
