@@ -91,4 +91,5 @@ pub mod WholeTenants
 pub mod BeforeOthers
 pub mod ValueLemmas
 pub mod RowSecurityLemmas
+pub mod StoreRunLemmas
 pub mod OpeningLemmas

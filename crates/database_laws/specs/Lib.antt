@@ -25,4 +25,5 @@ pub mod Memberships
 pub mod Definitions
 pub mod Values
 pub mod RowSecurity
+pub mod StoreRuns
 pub mod Openings

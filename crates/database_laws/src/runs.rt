@@ -2,6 +2,7 @@
 
 ghost use Rattle.abstract_database.specs.Runs.{ReadingRelation, Stops};
 ghost use Rattle.database_laws.specs.HiddenRuns.{stores_are_alike, stores_go_alike};
+ghost use Rattle.database_laws.specs.StoreRuns.{long_texts_are_answered_for_their_length, full_machines_answer_openings, machines_answer_closes, commit_numbers_never_fall, stops_leave_what_was_answered};
 ghost use Rattle.database_laws.specs.Runs.{one_transition, one_run, machine_runs_join, store_runs_join, stores_make_transitions, stores_run_the_machine, refusals_over_a_store};
 
 /// What texts are read as.
@@ -45,4 +46,19 @@ pub fn stores_run_the_machine<R: Reader, S: Stopping>()
 pub fn stores_tell_sessions_what_they_see<R: Reader, S: Stopping, T: Stopping>()
     ensures event { stores_go_alike R.Reads S.Leave T.Leave }
     ensures run { stores_are_alike R.Reads S.Leave T.Leave }
+{}
+
+/// What needs nothing of the store is answered by the machine, whatever there is of memory, of space or
+/// of the device: a text that is too long, an opening beside 256 sessions, and each close.
+pub fn limits_come_before_the_store<R: Reader>()
+    ensures texts { long_texts_are_answered_for_their_length R.Reads }
+    ensures openings { full_machines_answer_openings R.Reads }
+    ensures closes { machines_answer_closes R.Reads }
+{}
+
+/// Over a run the number of the last commit never falls. After each of its events a stop leaves what has
+/// been answered, or where the device failed what was then under way.
+pub fn stores_keep_what_was_answered<R: Reader, S: Stopping>()
+    ensures numbers { commit_numbers_never_fall R.Reads S.Leave }
+    ensures stops { stops_leave_what_was_answered R.Reads S.Leave }
 {}
