@@ -32,7 +32,7 @@ module _ (db : Database) (role : TheName) (t : TableOf) (p : Privilege) where
   abbrev holders : List TheName
   holders = grant_option_holders db.descriptors t.name p
 
-  holder_of : (n : TheName) → Among n holders → HoldsGrantOption db n t.name p
+  pub holder_of : (n : TheName) → Among n holders → HoldsGrantOption db n t.name p
   holder_of n h =
       let from = of_flat_map (λ (d : Descriptor). role_of d.grantee) (filter (λ d. is_for t.name p d && d.grantable) db.descriptors) n h in
       let passed = of_filter (λ (d : Descriptor). is_for t.name p d && d.grantable) db.descriptors from.0 from.1 in

@@ -93,3 +93,4 @@ pub mod ValueLemmas
 pub mod RowSecurityLemmas
 pub mod StoreRunLemmas
 pub mod OpeningLemmas
+pub mod LeastGrantorLemmas

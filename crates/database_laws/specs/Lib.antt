@@ -27,3 +27,4 @@ pub mod Values
 pub mod RowSecurity
 pub mod StoreRuns
 pub mod Openings
+pub mod LeastGrantors

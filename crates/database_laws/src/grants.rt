@@ -1,6 +1,7 @@
 //! Laws of GRANT and REVOKE as statements.
 
 ghost use Rattle.database_laws.specs.Privileges.{revoked_set_is_the_old};
+ghost use Rattle.database_laws.specs.LeastGrantors.{holders_are_acting_grantors, acting_grantors_are_the_least};
 ghost use Rattle.database_laws.specs.Grants.{acting_grantors_may_grant, owners_are_acting_grantors, grants_give_what_they_name, grants_give_all_they_name, grants_take_nothing, restrict_takes_the_named, cascade_leaves_the_supported, revokes_leave_the_supported, refused_for_dependents, grants_warn, revokes_warn, revoke_undoes_grant};
 
 /// A privilege is granted by the owner of the table, or by one who holds a grant option for it
@@ -8,6 +9,13 @@ ghost use Rattle.database_laws.specs.Grants.{acting_grantors_may_grant, owners_a
 pub fn grantors_may_grant()
     ensures may { acting_grantors_may_grant }
     ensures owner { owners_are_acting_grantors }
+{}
+
+/// Where several roles may be the acting grantor it is the role itself, and else the least in byte order
+/// of those that it is in and that hold a grant option (PostgreSQL manual, GRANT: any of them).
+pub fn grantors_are_the_least()
+    ensures itself { holders_are_acting_grantors }
+    ensures least { acting_grantors_are_the_least }
 {}
 
 /// GRANT gives just what it names: a descriptor for each action on the table or on a column, and each
