@@ -1,12 +1,11 @@
 -- Steps that may be refused, traced to the one that refused.
-use Rattle.std.proofs.Common.{◌≡◌, ◌⊎◌, ◌&&◌, true, false, List, [], ◌∷◌, Some, None, Result, Ok, Err, refl, inl, inr}
+use Rattle.std.proofs.Common.{◌≡◌, ◌⊎◌, ◌&&◌, true, false, Some, None, Result, Ok, Err, refl, inl, inr}
 use Rattle.sql_types.specs.Row.{Row}
 use Rattle.sql_types.specs.declared.state.SqlState.{SqlState}
 use Rattle.sql_types.specs.declared.value.Value.TheVariants.{Null, Int, Text, Bool as Boolean}
 use Rattle.expressions.specs.Outcome.{Outcome}
-use Rattle.expressions.specs.Stages.{◌>>=◌, each}
-use Rattle.abstract_database.specs.Lists.{Among}
-use Rattle.abstract_database.specs.Expressions.{passing, when_true}
+use Rattle.expressions.specs.Stages.{◌>>=◌}
+use Rattle.abstract_database.specs.Expressions.{when_true}
 use Rattle.abstract_database.specs.Guards.{Guard}
 use Rattle.abstract_database.specs.Changes.{Chosen, choose}
 use Rattle.database_laws.specs.Visible.{is_met}
@@ -20,20 +19,6 @@ bind_err (Err c) go code e = inl cc
 pub first_err : {A B : Type 0} (r : Result A SqlState) (go : A → B) (code : SqlState) → (r >>= λ a. Ok (go a)) ≡ Err code → r ≡ Err code
 first_err (Ok a) go code e = cc
 first_err (Err c) go code e = cc
-
-pub each_err : {A B : Type 0} (f : A → Result B SqlState) (xs : List A) (code : SqlState) → each f xs ≡ Err code → (x : A) × Among x xs × (f x ≡ Err code)
-each_err f [] code e = cc
-each_err f (x ∷ xs) code e = elim (bind_err (f x) (λ y. each f xs >>= λ ys. Ok (y ∷ ys)) code e) [
-  | inl here ↦ (x, inl refl, here)
-  | inr later ↦ let found = each_err f xs code (first_err (each f xs) (λ ys. later.0 ∷ ys) code later.2) in (found.0, inr found.1, found.2)
-]
-
-pub passing_err : {A : Type 0} (p : A → Outcome) (xs : List A) (code : SqlState) → passing p xs ≡ Err code → (x : A) × Among x xs × (p x ≡ Err code)
-passing_err p [] code e = cc
-passing_err p (x ∷ xs) code e = elim (bind_err (p x) (λ v. passing p xs >>= λ ys. Ok (when_true v (x ∷ ys) ys)) code e) [
-  | inl here ↦ (x, inl refl, here)
-  | inr later ↦ let found = passing_err p xs code (first_err (passing p xs) (λ ys. when_true later.0 (x ∷ ys) ys) code later.2) in (found.0, inr found.1, found.2)
-]
 
 -- ---- guards, and rows that are chosen
 

@@ -68,6 +68,7 @@ pub mod ColumnLemmas
 pub mod ProductLemmas
 pub mod StageLemmas
 pub mod ErrorLemmas
+pub mod FirstLemmas
 pub mod CauseLemmas
 pub mod SelectCauses
 pub mod GrantorLemmas

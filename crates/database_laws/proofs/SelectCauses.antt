@@ -3,7 +3,7 @@ use Rattle.std.proofs.Common.{◌≡◌, ◌⊎◌, Bool, true, false, cond, len
 use Rattle.sql_types.specs.declared.state.SqlState.{SqlState}
 use Rattle.sql_types.specs.declared.state.SqlState.TheVariants.{NumericValueOutOfRange}
 use Rattle.sql_types.specs.declared.value.Value.{Value}
-use Rattle.sql_types.specs.declared.value.Value.TheVariants.{Null, Int, Text, Bool as Boolean}
+use Rattle.sql_types.specs.declared.value.Value.TheVariants.{Int}
 use Rattle.sql_types.specs.declared.answer.Answer.TheVariants as answer
 use Rattle.sql_ast.specs.declared.scope.ColumnIndex.{ColumnIndex}
 use Rattle.sql_ast.specs.declared.privilege.Action.TheVariants as action
@@ -13,56 +13,32 @@ use Rattle.sql_ast.specs.declared.statement.SelectList.TheVariants as list
 use Rattle.sql_ast.specs.Scope.{Table as ScopeTable}
 use Rattle.sql_ast.specs.Term.{Term}
 use Rattle.expressions.specs.Operators.{bigint, is_bigint}
-use Rattle.expressions.specs.Outcome.{Outcome, with_value}
-use Rattle.expressions.specs.Meaning.{UserNames, and_then}
+use Rattle.expressions.specs.Outcome.{Outcome}
+use Rattle.expressions.specs.Meaning.{UserNames}
 use Rattle.expressions.specs.Names.{resolved}
-use Rattle.expressions.specs.Stages.{each}
+use Rattle.expressions.specs.Stages.{◌>>=◌, each}
 use Rattle.expressions.proofs.Meanings.{resolved_means}
 use Rattle.abstract_database.specs.Lists.{Among}
 use Rattle.abstract_database.specs.Database.{TableOf, Database, rows_named}
-use Rattle.abstract_database.specs.Expressions.{cell_in, bound_value, all_of, passing}
+use Rattle.sql_types.specs.Row.{Row}
+use Rattle.sql_ast.specs.declared.expression.ColumnName.{ColumnName}
+use Rattle.sql_ast.specs.declared.statement.SortKey.{SortKey}
+use Rattle.abstract_database.specs.Expressions.{cell_in, bound_value, value_on, all_of, passing}
 use Rattle.abstract_database.specs.Guards.{guard, using_clause}
-use Rattle.abstract_database.specs.Queries.{tables_in, scope_of, conditions_of, keys_of, expressions_of, is_descending, BoundList, each_column, each_value, their_count, BoundKey, BoundQuery, bound_list, bound_condition, bound_key, bound_query, Combination, product, condition_value, keys_cmp, sorted, cut, Keyed, with_keys, ordered, all_columns, listed, Source, query}
+use Rattle.abstract_database.specs.Queries.{tables_in, scope_of, Condition, conditions_of, keys_of, limit_of, expressions_of, is_descending, BoundList, each_column, each_value, their_count, BoundKey, BoundQuery, bound_list, bound_condition, bound_key, bound_query, Combination, product, condition_value, keys_cmp, sorted, cut, Keyed, with_keys, ordered, all_columns, listed, Source, query}
 use Rattle.abstract_database.specs.Checks.{find_definition, checked_select}
 use Rattle.abstract_database.specs.Statements.{effect, source_of, selected, select}
 use Rattle.abstract_database.proofs.CheckLemmas.{select_checked}
-use Rattle.abstract_database.proofs.ResultLemmas.{ok_inside, bind_ok, each_from}
+use Rattle.abstract_database.proofs.ResultLemmas.{ok_inside, bind_ok, each_to}
+use Rattle.abstract_database.proofs.ValueTypes.{by_names}
 use Rattle.database_laws.specs.Visible.{visible_rows}
-use Rattle.database_laws.specs.Selections.{chosen}
-use Rattle.database_laws.specs.Refusals.{SelectFails, in_table_guard, in_condition, in_key, in_list, in_count}
-use Rattle.database_laws.proofs.QueryLemmas.{of_map, of_ordered}
-use Rattle.database_laws.proofs.SelectionLemmas.{visible_in, chosen_is, IsBoundFrom, bound_from}
-use Rattle.database_laws.proofs.ErrorLemmas.{bind_err, first_err, each_err, passing_err}
-
--- ---- ON and WHERE
-
-after_err : (x : Value) (p : Outcome) (code : SqlState) → and_then x p ≡ Err code → p ≡ Err code
-after_err (Boolean false) p code e = cc
-after_err (Boolean true) (Ok y) code e = cc
-after_err (Boolean true) (Err c) code e = cc
-after_err Null (Ok y) code e = cc
-after_err Null (Err c) code e = cc
-after_err (Int n) (Ok y) code e = cc
-after_err (Int n) (Err c) code e = cc
-after_err (Text t) (Ok y) code e = cc
-after_err (Text t) (Err c) code e = cc
-
-then_err : (o p : Outcome) (code : SqlState) → with_value o (λ v. and_then v p) ≡ Err code → (o ≡ Err code) ⊎ (p ≡ Err code)
-then_err (Ok x) p code e = inr (after_err x p code e)
-then_err (Err c) p code e = inl e
-
-all_after_err : (rest : List Outcome) (o : Outcome) (code : SqlState) → all_of (o ∷ rest) ≡ Err code → (x : Outcome) × Among x (o ∷ rest) × (x ≡ Err code)
-all_after_err [] o code e = (o, inl refl, e)
-all_after_err (p ∷ rest) o code e =
-    let found = all_after_err rest (with_value o (λ v. and_then v p)) code e in
-    elim found.1 [
-      | inl is ↦ elim (then_err o p code (is ∙ found.2)) [ inl h ↦ (o, inl refl, h) | inr h ↦ (p, inr (inl refl), h) ]
-      | inr later ↦ (found.0, inr (inr later), found.2)
-    ]
-
-all_err : (os : List Outcome) (code : SqlState) → all_of os ≡ Err code → (x : Outcome) × Among x os × (x ≡ Err code)
-all_err [] code e = cc
-all_err (o ∷ os) code e = all_after_err os o code e
+use Rattle.database_laws.specs.Selections.{chosen, sort_cmp, limit_for, shown}
+use Rattle.database_laws.specs.Refusals.{IsFirst, IsFailure, FailsInGuard, condition_outcome, ChoosesRows, FailsInKey, FailsInList, SelectFails, in_table_guard, in_condition, in_key, in_list, in_count}
+use Rattle.database_laws.proofs.QueryLemmas.{into_map}
+use Rattle.database_laws.proofs.ConcernLemmas.{each_bound}
+use Rattle.database_laws.proofs.SelectionLemmas.{visible_in, ordered_is, chosen_is, IsBoundFrom, bound_from}
+use Rattle.database_laws.proofs.ErrorLemmas.{bind_err, first_err}
+use Rattle.database_laws.proofs.FirstLemmas.{in_list_of, first_refused, first_failure, first_not_passed, first_of_map, first_said, passing_has_value, each_has_value, all_first}
 
 count_err : (b : Bool) (v : Value) (code : SqlState) → ◌≡◌ {A = Outcome} (cond b (Ok v) (Err NumericValueOutOfRange)) (Err code) → (b ≡ false) × (NumericValueOutOfRange ≡ code)
 count_err true v code e = cc
@@ -77,64 +53,130 @@ module _ (db : Database) (users : UserNames) (s : Select) (tables : List TableOf
   abbrev Fails : Type 0
   Fails = SelectFails db users s tables code
 
-  condition_cause : (c : Combination) → Among c (product (map (visible_rows db users) tables)) → condition_value users q.conditions c ≡ Err code → Fails
-  condition_cause c h e =
-      let o = all_err (map (bound_value users c) q.conditions) code e in
-      let term = of_map (bound_value users c) q.conditions o.0 o.1 in
-      let on = each_from (bound_condition scope) (conditions_of s.source) q.conditions b.conditions_are term.0 term.1 in
-      in_condition c on.0 code h on.1 (sym (resolved_means (take on.0.tables scope) (cell_in c) users on.0.term term.0 on.2) ∙ term.2 ∙ o.2)
+  abbrev visible : List Combination
+  visible = product (map (visible_rows db users) tables)
 
-  key_cause : (c : Combination) → Among c (chosen db users s tables) → with_keys users q.keys c ≡ Err code → Fails
-  key_cause c h e =
-      let f = λ (key : BoundKey). bound_value users c key.term in
-      let values = first_err (each f q.keys) (λ vs. record { keys = vs; combination = c }) code e in
-      let k = each_err f q.keys code values in
-      let from = each_from (bound_key scope) (keys_of s.source) q.keys b.keys_are k.0 k.1 in
-      let bound = λ (t : Term ColumnIndex). let x : BoundKey = record { term = t; descending = is_descending from.0.direction } in x in
-      let term = bind_ok (resolved scope from.0.value) (λ t. Ok (bound t)) k.0 from.2 in
-      in_key c from.0 code h from.1 (sym (resolved_means scope (cell_in c) users from.0.value term.0 term.1) ∙ ap f (ok_inside (bound term.0) k.0 term.2) ∙ k.2)
+  -- the outcome of ON and WHERE by their names
+  by_conditions : (c : Combination) → condition_value users q.conditions c ≡ condition_outcome scope users s c
+  by_conditions c = ap all_of (each_mapped (conditions_of s.source) q.conditions b.conditions_are) where
+    each_mapped : (conditions : List Condition) (bound : List (Term ColumnIndex)) → each (bound_condition scope) conditions ≡ Ok bound →
+        map (bound_value users c) bound ≡ map (λ on. value_on (take on.tables scope) users c on.term) conditions
+    each_mapped [] bound e = ap (map (bound_value users c)) (sym (ok_inside [] bound e))
+    each_mapped (on ∷ conditions) bound e =
+        let first = bind_ok (bound_condition scope on) (λ y. each (bound_condition scope) conditions >>= λ l. Ok (y ∷ l)) bound e in
+        let rest = bind_ok (each (bound_condition scope) conditions) (λ l. Ok (first.0 ∷ l)) bound first.2 in
+        ap (map (bound_value users c)) (sym (ok_inside (first.0 ∷ rest.0) bound rest.2))
+        ∙ ap (λ (o : Outcome). o ∷ map (bound_value users c) rest.0) (resolved_means (take on.tables scope) (cell_in c) users on.term first.0 first.1)
+        ∙ ap (λ (l : List Outcome). value_on (take on.tables scope) users c on.term ∷ l) (each_mapped conditions rest.0 rest.1)
 
-  order_cause : (limit : _) → ordered users q.keys limit (chosen db users s tables) ≡ Err code → Fails
-  order_cause limit e =
+  abbrev NoGuardIsFailing : Type 0
+  NoGuardIsFailing = (t : TableOf) → Among t tables → (row : Row) → Among row (rows_named db t.name) → FailsInGuard db users t row → ⊥
+
+  condition_cause : NoGuardIsFailing → passing (condition_value users q.conditions) visible ≡ Err code → Fails
+  condition_cause guards e =
+      let c = first_not_passed (condition_value users q.conditions) visible code e in
+      let on = all_first (λ (o : Condition). value_on (take o.tables scope) users c.0 o.term) code (conditions_of s.source) (sym (by_conditions c.0) ∙ c.2) in
+      in_condition c.0 on.0 code guards (first_said (condition_value users q.conditions) (condition_outcome scope users s) by_conditions c.0 visible c.1) on.1 on.2
+
+  -- the values of the sort keys by their names
+  abbrev key_value : Combination → SortKey → Outcome
+  key_value c key = value_on scope users c key.value
+
+  by_keys : (c : Combination) → each (λ (key : BoundKey). bound_value users c key.term) q.keys ≡ each (key_value c) (keys_of s.source)
+  by_keys c = each_bound (bound_key scope) (λ (key : BoundKey). bound_value users c key.term) (key_value c) same (keys_of s.source) q.keys b.keys_are where
+    same : (key : SortKey) (k : BoundKey) → bound_key scope key ≡ Ok k → bound_value users c k.term ≡ key_value c key
+    same key k e =
+        let made = λ (t : Term ColumnIndex). let x : BoundKey = record { term = t; descending = is_descending key.direction } in x in
+        let term = bind_ok (resolved scope key.value) (λ t. Ok (made t)) k e in
+        ap (λ (x : BoundKey). bound_value users c x.term) (sym (ok_inside (made term.0) k term.2)) ∙ resolved_means scope (cell_in c) users key.value term.0 term.1
+
+  no_key_fails : (c : Combination) (k : Keyed) → with_keys users q.keys c ≡ Ok k → FailsInKey scope users s c → ⊥
+  no_key_fails c k e fails =
+      let values = bind_ok (each (λ (key : BoundKey). bound_value users c key.term) q.keys) (λ vs. Ok (record { keys = vs; combination = c })) k e in
+      each_has_value (key_value c) (keys_of s.source) values.0 (sym (by_keys c) ∙ values.1) fails.0 fails.1 fails.2
+
+  key_cause_of : (c : Combination) → with_keys users q.keys c ≡ Err code → (key : SortKey) × IsFirst (λ k. IsFailure (key_value c k)) key (keys_of s.source) × (key_value c key ≡ Err code)
+  key_cause_of c e =
+      first_failure (key_value c) (keys_of s.source) code
+      (sym (by_keys c) ∙ first_err (each (λ (key : BoundKey). bound_value users c key.term) q.keys) (λ vs. record { keys = vs; combination = c }) code e)
+
+  order_cause : (limit : _) → ChoosesRows db users s tables → ordered users q.keys limit (chosen db users s tables) ≡ Err code → Fails
+  order_cause limit rows e =
       let keyed = first_err (each (with_keys users q.keys) (chosen db users s tables)) (λ ks. map (λ (k : Keyed). k.combination) (cut limit (sorted (λ a b. keys_cmp q.keys a.keys b.keys) ks))) code e in
-      let c = each_err (with_keys users q.keys) (chosen db users s tables) code keyed in
-      key_cause c.0 c.1 c.2
+      let c = first_refused (with_keys users q.keys) (FailsInKey scope users s) no_key_fails (chosen db users s tables) code
+      (λ x among refused. let key = key_cause_of x refused in (key.0, in_list_of (λ k. IsFailure (key_value x k)) (keys_of s.source) key.0 key.1, (code, key.2))) keyed in
+      let key = key_cause_of c.0 c.2 in
+      in_key c.0 key.0 code rows c.1 key.1 key.2
 
-  list_cause : (limit : _) (l : SelectList) (bl : BoundList) → s.list ≡ l → bound_list scope l ≡ Ok bl → listed users bl q.keys limit (chosen db users s tables) ≡ Err code → Fails
-  list_cause limit list.Asterisk bl is found e =
-      order_cause limit (first_err (ordered users q.keys limit (chosen db users s tables)) (map all_columns) code (ap (λ x. listed users x q.keys limit (chosen db users s tables)) (ok_inside each_column bl found) ∙ e))
-  list_cause limit (list.Expressions terms) bl is found e =
+  no_key_failed : (limit : _) (out : List Combination) → ordered users q.keys limit (chosen db users s tables) ≡ Ok out → (x : Combination) → Among x (chosen db users s tables) → FailsInKey scope users s x → ⊥
+  no_key_failed limit out e x h fails =
+      let keyed = bind_ok (each (with_keys users q.keys) (chosen db users s tables)) (λ ks. Ok (map (λ (k : Keyed). k.combination) (cut limit (sorted (λ a b. keys_cmp q.keys a.keys b.keys) ks)))) out e in
+      let at = each_to (with_keys users q.keys) (chosen db users s tables) keyed.0 keyed.1 x h in
+      no_key_fails x at.0 at.1 fails
+
+  list_cause : (limit : _) → limit ≡ limit_of s.source → ChoosesRows db users s tables → (l : SelectList) (bl : BoundList) → s.list ≡ l → bound_list scope l ≡ Ok bl → listed users bl q.keys limit (chosen db users s tables) ≡ Err code → Fails
+  list_cause limit limit_is chooses list.Asterisk bl is found e =
+      order_cause limit chooses (first_err (ordered users q.keys limit (chosen db users s tables)) (map all_columns) code (ap (λ x. listed users x q.keys limit (chosen db users s tables)) (ok_inside each_column bl found) ∙ e))
+  list_cause limit limit_is chooses (list.Expressions terms) bl is found e =
       let at = bind_ok (each (resolved scope) terms) (λ bound. Ok (each_value bound)) bl found in
       let f = λ (c : Combination). each (bound_value users c) at.0 in
+      let g = λ (c : Combination) (t : Term ColumnName). value_on scope users c t in
+      let named = λ (c : Combination). by_names scope users c terms at.0 at.1 in
+      let within = λ (t : Term ColumnName) (h : Among t terms). subst (λ x. Among t (expressions_of x)) (sym is) h in
       elim (bind_err (ordered users q.keys limit (chosen db users s tables)) (λ out. each f out) code (ap (λ x. listed users x q.keys limit (chosen db users s tables)) (ok_inside (each_value at.0) bl at.2) ∙ e)) [
-        | inl h ↦ order_cause limit h
-        | inr out ↦ let c = each_err f out.0 code out.2 in
-            let t = each_err (bound_value users c.0) at.0 code c.2 in
-            let from = each_from (resolved scope) terms at.0 at.1 t.0 t.1 in
-            in_list c.0 from.0 code (of_ordered users q.keys limit (chosen db users s tables) out.0 out.1 c.0 c.1) (subst (λ x. Among from.0 (expressions_of x)) (sym is) from.1)
-            (sym (resolved_means scope (cell_in c.0) users from.0 t.0 from.2) ∙ t.2)
+        | inl h ↦ order_cause limit chooses h
+        | inr out ↦
+            let c = first_refused f (FailsInList scope users s)
+            (λ x values ok fails. each_has_value (g x) terms values (sym (named x) ∙ ok) fails.0 (subst (λ y. Among fails.0 (expressions_of y)) is fails.1) fails.2) out.0 code
+            (λ x among refused. let t = first_failure (g x) terms code (sym (named x) ∙ refused) in (t.0, within t.0 (in_list_of (λ y. IsFailure (g x y)) terms t.0 t.1), (code, t.2))) out.2 in
+            let t = first_failure (g c.0) terms code (sym (named c.0) ∙ c.2) in
+            let order = ordered_is users q.keys scope (keys_of s.source) b.keys_are limit (chosen db users s tables) out.0 out.1 in
+            let cuts : cut limit (sorted (sort_cmp users s tables) (chosen db users s tables)) ≡ shown db users s tables =
+            ap (λ x. cut x (sorted (sort_cmp users s tables) (chosen db users s tables))) (limit_is ∙ ap (λ y. limit_for y (limit_of s.source)) (sym is)) in
+            in_list c.0 t.0 code chooses (no_key_failed limit out.0 out.1) (subst (λ l. IsFirst (FailsInList scope users s) c.0 l) (order ∙ cuts) c.1)
+            (subst (λ y. IsFirst (λ z. IsFailure (g c.0 z)) t.0 (expressions_of y)) (sym is) t.1) t.2
       ]
-  list_cause limit list.Count bl is found e =
+  list_cause limit limit_is chooses list.Count bl is found e =
       let n = length (chosen db users s tables) in
       let none = count_err (is_bigint (pos n)) (Int (pos n)) code
       (first_err (bigint (pos n)) (λ count. (count ∷ []) ∷ []) code (ap (λ x. listed users x q.keys limit (chosen db users s tables)) (ok_inside their_count bl found) ∙ e)) in
       subst (SelectFails db users s tables) none.1 (in_count is none.0)
 
-  guard_cause : each (λ (x : Source). passing x.guard x.rows) (map (source_of db users) tables) ≡ Err code → Fails
+  abbrev sources : List Source
+  sources = map (source_of db users) tables
+
+  abbrev FailsInSource : Source → Type 0
+  FailsInSource x = (r : Row) × Among r x.rows × IsFailure (x.guard r)
+
+  guard_cause : each (λ (x : Source). passing x.guard x.rows) sources ≡ Err code → Fails
   guard_cause e =
-      let x = each_err (λ (x : Source). passing x.guard x.rows) (map (source_of db users) tables) code e in
-      let t = of_map (source_of db users) tables x.0 x.1 in
-      let row = passing_err (guard db users t.0 action.Select using_clause) (rows_named db t.0.name) code (ap (λ (y : Source). passing y.guard y.rows) t.2 ∙ x.2) in
+      let x = first_refused (λ (x : Source). passing x.guard x.rows) FailsInSource (λ x rows ok fails. passing_has_value x.guard x.rows rows ok fails.0 fails.1 fails.2) sources code
+      (λ x among refused. let r = first_not_passed x.guard x.rows code refused in (r.0, in_list_of (λ y. IsFailure (x.guard y)) x.rows r.0 r.1, (code, r.2))) e in
+      let t = first_of_map (source_of db users) FailsInSource tables x.0 x.1 in
+      let row = first_not_passed (guard db users t.0 action.Select using_clause) (rows_named db t.0.name) code (ap (λ (y : Source). passing y.guard y.rows) t.2 ∙ x.2) in
       in_table_guard t.0 row.0 code t.1 row.1 row.2
 
-  query_cause : query (map (source_of db users) tables) users q ≡ Err code → Fails
-  query_cause e = elim (bind_err (each (λ (x : Source). passing x.guard x.rows) (map (source_of db users) tables)) _ code e) [
+  no_guard_fails : (v : List (List Row)) → each (λ (x : Source). passing x.guard x.rows) sources ≡ Ok v → NoGuardIsFailing
+  no_guard_fails v e t h row among fails =
+      let at = each_to (λ (x : Source). passing x.guard x.rows) sources v e (source_of db users t) (into_map (source_of db users) tables t h) in
+      passing_has_value (guard db users t action.Select using_clause) (rows_named db t.name) at.0 at.1 row among fails
+
+  query_cause : query sources users q ≡ Err code → Fails
+  query_cause e = elim (bind_err (each (λ (x : Source). passing x.guard x.rows) sources) _ code e) [
     | inl h ↦ guard_cause h
-    | inr v ↦ elim (bind_err (passing (condition_value users q.conditions) (product v.0)) (λ cs. listed users q.list q.keys q.limit cs) code v.2) [
-      | inl h ↦ let c = passing_err (condition_value users q.conditions) (product v.0) code h in
-          condition_cause c.0 (subst (λ l. Among c.0 (product l)) (visible_in db users tables v.0 v.1) c.1) c.2
-      | inr cs ↦ list_cause q.limit s.list q.list refl b.list_is (ap (listed users q.list q.keys q.limit) (sym (chosen_is db users s tables q b v.0 v.1 cs.0 cs.1)) ∙ cs.2)
-    ]
+    | inr v ↦
+        let guards = no_guard_fails v.0 v.1 in
+        let seen = visible_in db users tables v.0 v.1 in
+        elim (bind_err (passing (condition_value users q.conditions) (product v.0)) (λ cs. listed users q.list q.keys q.limit cs) code v.2) [
+          | inl h ↦ condition_cause guards (ap (λ l. passing (condition_value users q.conditions) (product l)) (sym seen) ∙ h)
+          | inr cs ↦
+              let chooses : ChoosesRows db users s tables = record {
+                guards = guards;
+                conditions = λ c h fails. passing_has_value (condition_value users q.conditions) visible cs.0 (ap (λ l. passing (condition_value users q.conditions) (product l)) (sym seen) ∙ cs.1) c h
+                    (fails.0, by_conditions c ∙ fails.1);
+              } in
+              list_cause q.limit b.limit_is chooses s.list q.list refl b.list_is (ap (listed users q.list q.keys q.limit) (sym (chosen_is db users s tables q b v.0 v.1 cs.0 cs.1)) ∙ cs.2)
+        ]
   ]
 
 pub select_cause : (db : Database) (users : UserNames) (s : Select) (tables : List TableOf) (code : SqlState) → each (λ r. find_definition db r.table) (tables_in s.source) ≡ Ok tables → select db users s ≡ Err code →

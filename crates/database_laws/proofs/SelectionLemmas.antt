@@ -210,7 +210,7 @@ module _ (users : UserNames) (keys : List BoundKey) where
       ap (λ c. each (λ (key : BoundKey). bound_value users c key.term) keys) x.combination ∙ x.values
 
   module _ (scope : List ScopeTable) (sorts : List SortKey) (bound : each (bound_key scope) sorts ≡ Ok keys) where
-    ordered_is : (limit : Option ℕ) (cs out : List Combination) → ordered users keys limit cs ≡ Ok out → out ≡ cut limit (sorted (combination_cmp scope users sorts) cs)
+    pub ordered_is : (limit : Option ℕ) (cs out : List Combination) → ordered users keys limit cs ≡ Ok out → out ≡ cut limit (sorted (combination_cmp scope users sorts) cs)
     ordered_is limit cs out e =
         let cmp = λ (a b : Keyed). keys_cmp keys a.keys b.keys in
         let f = λ (k : Keyed). k.combination in

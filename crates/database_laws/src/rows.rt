@@ -82,8 +82,9 @@ pub fn new_rows_have_the_values_given()
 
 /// A statement that passes its checks is refused only for a cause that rows give: a guard, a
 /// condition or a value that fails, a new row that no guard admits, and where all are admitted a
-/// null, a size or a key that stands twice; SELECT also for a count that is no BIGINT (PostgreSQL
-/// manual, CREATE POLICY; SQL:2016 Foundation, 4.18).
+/// null, a size or a key that stands twice; SELECT also for a count that is no BIGINT. Of several
+/// causes the first is told: rows in the order of their keys, of each row its guards, WHERE and its
+/// values in turn, values from the left (PostgreSQL manual, CREATE POLICY; SQL:2016 Foundation, 4.18).
 pub fn refusals_have_causes()
     ensures select { select_fails_for_cause }
     ensures insert { insert_fails_for_cause }
