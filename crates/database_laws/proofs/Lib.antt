@@ -92,6 +92,7 @@ pub mod WholeTenants
 pub mod BeforeOthers
 pub mod ValueLemmas
 pub mod RowSecurityLemmas
+pub mod CheckOrderLemmas
 pub mod StoreRunLemmas
 pub mod OpeningLemmas
 pub mod LeastGrantorLemmas

@@ -25,6 +25,7 @@ pub mod Memberships
 pub mod Definitions
 pub mod Values
 pub mod RowSecurity
+pub mod OrderOfChecks
 pub mod StoreRuns
 pub mod Openings
 pub mod LeastGrantors
