@@ -71,7 +71,7 @@ impl Frames {
         let before = self.held.len();
         self.held.extend_from_slice(piece)?;
         match read_events(self.alloc, &self.held) {
-            Ok(Batch { events, bad, end }) => {
+            Ok(FrameEvents { events, bad, end }) => {
                 drop_front(&mut self.held, end);
                 Ok(Fed { events, bad })
             }
@@ -93,14 +93,14 @@ impl Frames {
 
 // The events at the front of bytes, and where what follows them begins.
 #[derive(Drop)]
-struct Batch {
+struct FrameEvents {
     events: Vec<Event>,
     bad: bool,
     end: usize,
 }
 
 // Reads the events at the front of bytes.
-fn read_events(alloc: Global, bytes: &[u8]) -> Result<Batch, AllocError>
+fn read_events(alloc: Global, bytes: &[u8]) -> Result<FrameEvents, AllocError>
     ensures spelled { IfOk result (λ b. Spells bytes.now b.events.items b.bad (drop b.end bytes.now)) }
     ensures inside { IfOk result (λ b. b.end ≤ length bytes.now) }
 {
@@ -109,14 +109,14 @@ fn read_events(alloc: Global, bytes: &[u8]) -> Result<Batch, AllocError>
     loop {
         match next_frame(&bytes[end..]) {
             FrameView::Incomplete => {
-                return Ok(Batch {
+                return Ok(FrameEvents {
                     events,
                     bad: false,
                     end,
                 });
             }
             FrameView::Bad => {
-                return Ok(Batch {
+                return Ok(FrameEvents {
                     events,
                     bad: true,
                     end,
