@@ -1,9 +1,11 @@
 //! What holds of all streams of frames, whatever the program does.
 
-ghost use Rattle.std.specs.Prelude.{◌≡◌, ◌<◌, ◌++◌, ℕ, Bool, true, List, [], ◌∷◌, length, drop, slice_index, codes};
+ghost use Rattle.std.specs.Prelude.{◌≡◌, ◌<◌, ◌≤◌, ◌++◌, ℕ, Bool, true, false, List, [], ◌∷◌, length, take, drop, slice_index, codes};
+ghost use Rattle.sql_types.specs.declared.value.Value.TheVariants.{Null, Text, Bool as Boolean};
 ghost use Rattle.sql_types.specs.declared.event.Event.{Event};
 ghost use Rattle.sql_types.specs.declared.event.Event.TheVariants.{Open, Statement, Close};
-ghost use Rattle.wire.specs.Frame.{next_frame, incomplete, bad, whole, event_frame, HasFrame};
+ghost use Rattle.wire.specs.Frame.{next_frame, incomplete, bad, whole, event_frame, frame, HasFrame};
+ghost use Rattle.wire.specs.AnswerText.{field_text, row_text};
 ghost use Rattle.wire.specs.AnswerFrames.{answer_frames};
 ghost use Rattle.wire.specs.Stream.{Spells, Reading};
 
@@ -56,4 +58,25 @@ pub fn bad_frames()
     ensures front { next_frame (0 ∷ 0 ∷ 0 ∷ []) ≡ incomplete }
     ensures cut { next_frame (0 ∷ 0 ∷ 0 ∷ 5 ∷ 4 ∷ 0 ∷ 0 ∷ 0 ∷ []) ≡ incomplete }
     ensures widest { next_frame (0 ∷ 2 ∷ 0 ∷ 0 ∷ []) ≡ incomplete }
+{}
+
+/// An answer of up to 131,067 bytes is one frame. Of a longer one the first frame is full, with so many bytes,
+/// and what follows is framed as it would be by itself.
+pub fn long_answers()
+    ensures one { (session : ℕ) (text : List ℕ) → length text ≤ 131067
+        → answer_frames session text ≡ frame 4 session text }
+    ensures more { (session : ℕ) (text : List ℕ) → 131067 < length text
+        → answer_frames session text ≡ frame 4 session (take 131067 text)
+        ++ answer_frames session (drop 131067 text) }
+{}
+
+/// Fields byte by byte: a backslash, a tab, a newline and a carriage return after a backslash, each other
+/// byte as it is; null and booleans; and a row of two.
+pub fn field_bytes()
+    ensures escapes { field_text (Text (92 ∷ 9 ∷ 10 ∷ 13 ∷ 0 ∷ 65 ∷ 127 ∷ []))
+        ≡ 92 ∷ 92 ∷ 92 ∷ 116 ∷ 92 ∷ 110 ∷ 92 ∷ 114 ∷ 0 ∷ 65 ∷ 127 ∷ [] }
+    ensures null { field_text Null ≡ 92 ∷ 78 ∷ [] }
+    ensures yes { field_text (Boolean true) ≡ 116 ∷ [] }
+    ensures no { field_text (Boolean false) ≡ 102 ∷ [] }
+    ensures row { row_text (Null ∷ Text (65 ∷ []) ∷ []) ≡ 92 ∷ 78 ∷ 9 ∷ 65 ∷ 10 ∷ [] }
 {}
