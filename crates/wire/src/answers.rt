@@ -6,7 +6,7 @@ ghost use Rattle.wire.specs.Counts.{CountsFailure};
 ghost use Rattle.wire.specs.AnswerText.{answer_text, rows_text, row_text, fields_text, next_field, field_text, escaped, outcome_text, count_text};
 
 use crate::output::Output;
-use crate::text_sink::{Plain, TextSink};
+use crate::text_writer::{Plain, TextWriter};
 use itoa::Buffer;
 use sql_types::answer::Answer;
 use sql_types::items::Items;
@@ -36,7 +36,7 @@ pub fn write_answer<O: Output>(answer: &Answer, out: &mut O) -> io::Result<()>
 }
 
 // Prints the text of an answer into a sink.
-pub(crate) fn print_answer<S: TextSink, O: Output>(
+pub(crate) fn print_answer<S: TextWriter, O: Output>(
     answer: &Answer,
     sink: &mut S,
     out: &mut O,
@@ -58,7 +58,7 @@ pub(crate) fn print_answer<S: TextSink, O: Output>(
     }
 }
 
-fn print_done<S: TextSink, O: Output>(
+fn print_done<S: TextWriter, O: Output>(
     tag: Tag,
     count: &Option<u64>,
     warning: &Option<Warning>,
@@ -75,7 +75,7 @@ fn print_done<S: TextSink, O: Output>(
     sink.put(b"\n", out)
 }
 
-fn print_outcome<S: TextSink, O: Output>(
+fn print_outcome<S: TextWriter, O: Output>(
     warning: &Option<Warning>,
     sink: &mut S,
     out: &mut O,
@@ -90,7 +90,7 @@ fn print_outcome<S: TextSink, O: Output>(
     }
 }
 
-fn print_count<S: TextSink, O: Output>(
+fn print_count<S: TextWriter, O: Output>(
     count: &Option<u64>,
     sink: &mut S,
     out: &mut O,
@@ -108,7 +108,7 @@ fn print_count<S: TextSink, O: Output>(
     }
 }
 
-fn print_rows<S: TextSink, O: Output>(
+fn print_rows<S: TextWriter, O: Output>(
     rows: &Items<Items<Value>>,
     sink: &mut S,
     out: &mut O,
@@ -127,7 +127,7 @@ fn print_rows<S: TextSink, O: Output>(
     print_each_row(rows.as_slice(), sink, out)
 }
 
-fn print_each_row<S: TextSink, O: Output>(
+fn print_each_row<S: TextWriter, O: Output>(
     rows: &[Items<Value>],
     sink: &mut S,
     out: &mut O,
@@ -142,7 +142,7 @@ fn print_each_row<S: TextSink, O: Output>(
     Ok(())
 }
 
-fn print_row<S: TextSink, O: Output>(row: &[Value], sink: &mut S, out: &mut O) -> io::Result<()>
+fn print_row<S: TextWriter, O: Output>(row: &[Value], sink: &mut S, out: &mut O) -> io::Result<()>
     ensures taken { OnOk result (S.takes sink.old (O.contents out.old) (row_text row.now)
         sink.new (O.contents out.new)) }
     ensures counts { CountsFailure result (O.failures out.old) (O.failures out.new) }
@@ -151,7 +151,11 @@ fn print_row<S: TextSink, O: Output>(row: &[Value], sink: &mut S, out: &mut O) -
     sink.put(b"\n", out)
 }
 
-fn print_fields<S: TextSink, O: Output>(row: &[Value], sink: &mut S, out: &mut O) -> io::Result<()>
+fn print_fields<S: TextWriter, O: Output>(
+    row: &[Value],
+    sink: &mut S,
+    out: &mut O,
+) -> io::Result<()>
     ensures taken { OnOk result (S.takes sink.old (O.contents out.old) (fields_text row.now)
         sink.new (O.contents out.new)) }
     ensures counts { CountsFailure result (O.failures out.old) (O.failures out.new) }
@@ -165,7 +169,7 @@ fn print_fields<S: TextSink, O: Output>(row: &[Value], sink: &mut S, out: &mut O
     }
 }
 
-fn print_next_fields<S: TextSink, O: Output>(
+fn print_next_fields<S: TextWriter, O: Output>(
     values: &[Value],
     sink: &mut S,
     out: &mut O,
@@ -180,7 +184,7 @@ fn print_next_fields<S: TextSink, O: Output>(
     Ok(())
 }
 
-fn print_next_field<S: TextSink, O: Output>(
+fn print_next_field<S: TextWriter, O: Output>(
     value: &Value,
     sink: &mut S,
     out: &mut O,
@@ -193,7 +197,7 @@ fn print_next_field<S: TextSink, O: Output>(
     print_field(value, sink, out)
 }
 
-fn print_field<S: TextSink, O: Output>(value: &Value, sink: &mut S, out: &mut O) -> io::Result<()>
+fn print_field<S: TextWriter, O: Output>(value: &Value, sink: &mut S, out: &mut O) -> io::Result<()>
     ensures taken { OnOk result (S.takes sink.old (O.contents out.old) (field_text value.now)
         sink.new (O.contents out.new)) }
     ensures counts { CountsFailure result (O.failures out.old) (O.failures out.new) }
@@ -208,7 +212,7 @@ fn print_field<S: TextSink, O: Output>(value: &Value, sink: &mut S, out: &mut O)
 }
 
 // Three pieces of a text.
-fn put_three<S: TextSink, O: Output>(
+fn put_three<S: TextWriter, O: Output>(
     first: &[u8],
     second: &[u8],
     third: &[u8],
@@ -225,7 +229,7 @@ fn put_three<S: TextSink, O: Output>(
 }
 
 // Prints a text with its backslashes, tabs, newlines and carriage returns escaped.
-fn print_text<S: TextSink, O: Output>(text: &[u8], sink: &mut S, out: &mut O) -> io::Result<()>
+fn print_text<S: TextWriter, O: Output>(text: &[u8], sink: &mut S, out: &mut O) -> io::Result<()>
     ensures taken { OnOk result (S.takes sink.old (O.contents out.old) (flat_map escaped text.now)
         sink.new (O.contents out.new)) }
     ensures counts { CountsFailure result (O.failures out.old) (O.failures out.new) }
@@ -236,7 +240,7 @@ fn print_text<S: TextSink, O: Output>(text: &[u8], sink: &mut S, out: &mut O) ->
     Ok(())
 }
 
-fn print_byte<S: TextSink, O: Output>(byte: u8, sink: &mut S, out: &mut O) -> io::Result<()>
+fn print_byte<S: TextWriter, O: Output>(byte: u8, sink: &mut S, out: &mut O) -> io::Result<()>
     ensures taken { OnOk result (S.takes sink.old (O.contents out.old) (escaped byte)
         sink.new (O.contents out.new)) }
     ensures counts { CountsFailure result (O.failures out.old) (O.failures out.new) }

@@ -10,7 +10,7 @@ ghost use Rattle.wire.specs.Sinks.{held_text, HasTaken, taken_none, taken_joined
 
 use crate::answers::print_answer;
 use crate::output::Output;
-use crate::text_sink::TextSink;
+use crate::text_writer::TextWriter;
 use sql_types::answer::Answer;
 use std::alloc::{AllocError, Global};
 use std::io;
@@ -123,7 +123,7 @@ fn put_at(frame: &mut [u8], start: usize, piece: &[u8])
     frame[start..start + piece.len()].copy_from_slice(piece);
 }
 
-impl TextSink for FrameBuffer {
+impl TextWriter for FrameBuffer {
     ghost takes = { λ s before text t after. HasTaken s.session (held_text s.bytes.items s.used)
         before text t.session (held_text t.bytes.items t.used) after };
 

@@ -8,4 +8,4 @@ pub mod frames;
 pub mod input;
 pub mod laws;
 pub mod output;
-mod text_sink;
+mod text_writer;

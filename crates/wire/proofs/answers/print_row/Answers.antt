@@ -4,7 +4,7 @@ use Rattle.wire.proofs.Sinks.{then_taken}
 use Rattle.wire.proofs.answers.print_row.Goals as goal
 
 pub returns-clause-taken : goal.returns-clause-taken
-returns-clause-taken g c = then_taken g.S.TextSink.takes g.S.TextSink.takes_joined c.put.result _ _ _ _ _ _ _ _ _
+returns-clause-taken g c = then_taken g.S.TextWriter.takes g.S.TextWriter.takes_joined c.put.result _ _ _ _ _ _ _ _ _
     c.in_ok-print_fields.ensures.taken c.put.ensures.taken (search rules)
 
 pub returns-clause-counts : goal.returns-clause-counts

@@ -3,7 +3,7 @@ use Rattle.std.proofs.lemmas.List.{take-append-drop}
 use Rattle.wire.specs.Frame.{frame}
 use Rattle.wire.specs.Sinks.{held_text, appends_joined}
 use Rattle.wire.proofs.Sinks.{cut_on, held_length}
-use Rattle.wire.proofs.frame_buffer.FrameBufferTextSink.put.Goals as goal
+use Rattle.wire.proofs.frame_buffer.FrameBufferTextWriter.put.Goals as goal
 
 pub loop-self-preserved : goal.loop-self-preserved
 loop-self-preserved g c =

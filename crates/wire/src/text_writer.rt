@@ -9,7 +9,7 @@ use crate::output::Output;
 use std::io;
 
 // What takes a text piece by piece, and hands it on to an output in its own form.
-pub(crate) trait TextSink {
+pub(crate) trait TextWriter {
     // What taking a text does to the sink, and to the bytes that the output has taken before and after.
     ghost takes: { Self → Option (List ℕ) → List ℕ → Self → Option (List ℕ) → Type 0 };
 
@@ -32,7 +32,7 @@ pub(crate) trait TextSink {
 #[derive(Drop)]
 pub(crate) struct Plain;
 
-impl TextSink for Plain {
+impl TextWriter for Plain {
     ghost takes = { λ s before text t after. Appends before after text };
 
     ghost takes_none = { λ s written. appends_none written };

@@ -2,7 +2,7 @@ use Rattle.std.proofs.Common.{◌≡◌, ◌+◌, ◌++◌, ℕ, List, length}
 use Rattle.std.specs.Io.KnownBytes.{Appends}
 use Rattle.wire.specs.AnswerFrames.{answer_frames}
 use Rattle.wire.specs.Sinks.{held_text}
-use Rattle.wire.proofs.frame_buffer.FrameBufferTextSink.put.Given as goal
+use Rattle.wire.proofs.frame_buffer.FrameBufferTextWriter.put.Given as goal
 
 -- what was sent and what is held are the frames of what was held first and of the piece up to the rest
 abbrev pub invariant-loop-self : goal.invariant-loop-self
