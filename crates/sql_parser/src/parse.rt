@@ -19,9 +19,9 @@ use sql_types::state::Refusal;
 use std::alloc::Global;
 
 // The grammar in which tokens mean a statement: they spell it, and it keeps the rules of form.
-struct Statements;
+struct OneStatement;
 
-impl Grammar for Statements {
+impl Grammar for OneStatement {
     ghost use Rattle.sql_parser.specs.Forms.{Means, IsStatementWithinDepth};
 
     type Value = Statement;
@@ -57,5 +57,5 @@ pub fn parse(alloc: Global, text: &str) -> Result<Statement, Refusal>
     ensures policies { IfOk result HasConditionsAsWritten }
 {
     one_lexing();
-    parse_text::<Statements>(alloc, text)
+    parse_text::<OneStatement>(alloc, text)
 }

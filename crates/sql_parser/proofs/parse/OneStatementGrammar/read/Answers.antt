@@ -1,7 +1,7 @@
 use Rattle.std.proofs.Common.{rules}
 use Rattle.std.proofs.lemmas.Bool.{iff_false}
 use Rattle.sql_parser.proofs.Wholes.{means_none, means_one, means_unformed}
-use Rattle.sql_parser.proofs.parse.StatementsGrammar.read.Goals as goal
+use Rattle.sql_parser.proofs.parse.OneStatementGrammar.read.Goals as goal
 
 pub returns-in_err-statement : goal.returns-in_err-statement
 returns-in_err-statement c = let m = means_none {source = c.args.source.now} c.in_err-statement.ensures in search rules
