@@ -7,8 +7,12 @@ ghost use Rattle.copying.specs.Copying.{Fills, HasOutsized};
 
 use store::{Batch, EntryRef, Fault, MAX_KEY_LENGTH, MAX_VALUE_LENGTH, Map};
 
-// The records of one commit, at most: so few that their pages have room in memory.
-const BATCH_RECORDS: usize = 1_024;
+// The records of one commit, at most.
+const BATCH_RECORDS: usize = 65_536;
+
+// The bytes of keys and values of one commit: once there are so many, no record is added. So few commits are made, and the
+// records of one take no more memory than a few times the pages that a commit keeps there.
+const BATCH_BYTES: usize = 1 << 22;
 
 // Puts a record into a batch. Damaged: it is of no size that a store takes.
 fn put_record(batch: &mut Batch, entry: &EntryRef<'_>) -> Result<(), Fault>
@@ -27,11 +31,12 @@ fn put_record(batch: &mut Batch, entry: &EntryRef<'_>) -> Result<(), Fault>
     Ok(())
 }
 
-// Takes the first record ahead of a place into a batch. False: none is ahead.
+// Takes the first record ahead of a place into a batch, and its bytes from the room that is left. False: none is ahead.
 fn take_record<M: Map>(
     source: &mut M,
     place: &mut M::Place,
     batch: &mut Batch,
+    room: &mut usize,
 ) -> Result<bool, Fault>
     ensures preserved { M.preserved source.old source.new }
     ensures read { HasRead result (M.state source.old) (M.state source.new) }
@@ -45,7 +50,11 @@ fn take_record<M: Map>(
     if !source.step(place)? {
         return Ok(false);
     }
-    put_record(batch, &source.entry(place))?;
+    let found = source.entry(place);
+    *room = room
+        .saturating_sub(found.key.len())
+        .saturating_sub(found.value.len());
+    put_record(batch, &found)?;
     Ok(true)
 }
 
@@ -62,8 +71,12 @@ pub(crate) fn take_records<M: Map>(
     ensures damaged { (M.state source.old).sound → (records : Records) → M.ahead source.old place.old records
         → IfErr result (λ fault. fault ≡ Fault.Damaged → HasOutsized records) }
 {
+    let mut room = BATCH_BYTES;
     for _ in 0..BATCH_RECORDS {
-        if !take_record(source, place, batch)? {
+        if room == 0 {
+            return Ok(true);
+        }
+        if !take_record(source, place, batch, &mut room)? {
             return Ok(false);
         }
     }
