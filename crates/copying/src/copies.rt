@@ -1,10 +1,11 @@
 //! A copy of the records of a map.
 ghost use Rattle.std.specs.Prelude.{◌≡◌, ◌≢◌, ◌∷◌, [], Err, IfErr, IfOk, false};
 ghost use Rattle.store.specs.declared.fault.Fault.{Fault};
+ghost use Rattle.store.specs.declared.fault.StoreFault.{StoreFault};
 ghost use Rattle.store.specs.Readers.{HasRead};
 ghost use Rattle.store.specs.Records.{entries_where, is_from};
 ghost use Rattle.store.specs.Store.{KeepsHistory, OnlyReads};
-ghost use Rattle.copying.specs.declared.fault.CopyFault.TheVariants.{Read};
+ghost use Rattle.copying.specs.declared.fault.CopyFault.TheVariants.{Read, Write};
 ghost use Rattle.copying.specs.Copying.{Copies, Finishes, HasCopyCause, HasOutsized, mark, behind_mark, whole};
 
 use crate::fault::CopyFault;
@@ -68,6 +69,8 @@ pub fn copy_records<M: Map, S: Store>(
         (M.state source.new) (S.state target.old) (S.state target.new)) }
     ensures damaged { (M.state source.old).sound → IfErr result (λ fault. fault ≡ Read Fault.Damaged
         → HasOutsized (behind_mark (M.state source.old).map)) }
+    ensures works { (fault : StoreFault) → result ≡ Err (Write fault)
+        → (M.state source.new).has_failed ≡ (M.state source.old).has_failed }
 {
     let mut place = first_place(source)?;
     for _ in 0..MOST_COMMITS {
