@@ -4,3 +4,4 @@ pub mod Search
 pub mod Scratch
 pub mod Offsets
 pub mod Views
+pub mod Merge

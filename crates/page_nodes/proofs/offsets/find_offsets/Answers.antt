@@ -1,5 +1,4 @@
-use Rattle.std.proofs.Common.{◌≡◌, ℕ, ◌<◌, List, [], length, take, refl, sym, ◌∙◌, arith, subst}
-use Rattle.page_nodes.specs.Map.{Entry}
+use Rattle.std.proofs.Common.{ℕ, ◌<◌, [], length, sym, ◌∙◌, arith, subst}
 use Rattle.page_nodes.specs.Node.{zeros_after}
 use Rattle.page_nodes.specs.Offsets.{HasCellAt}
 use Rattle.page_nodes.proofs.Cells.{two_same}

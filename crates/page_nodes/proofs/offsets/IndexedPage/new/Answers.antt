@@ -1,8 +1,4 @@
-use Rattle.std.proofs.Common.{◌≡◌, Some, sym, ◌∙◌, arith, subst}
-use Rattle.std.proofs.lemmas.Bool.{false≢true}
-use Rattle.page_nodes.specs.declared.cell.NodeKind.{NodeKind}
-use Rattle.page_nodes.specs.Node.{zeros_after}
-use Rattle.page_nodes.specs.Offsets.{HasOffsets}
+use Rattle.std.proofs.Common.{◌≡◌, sym, ◌∙◌, arith}
 use Rattle.page_nodes.proofs.offsets.IndexedPage.new.Goals as goal
 use Rattle.page_nodes.proofs.offsets.IndexedPage.new.Goals.{in-Some, in-None}
 
