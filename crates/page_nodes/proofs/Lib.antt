@@ -6,4 +6,4 @@ pub mod Order
 pub mod Whole
 pub mod EndCut
 pub mod Starts
-mod Merging
+pub mod Merging
