@@ -22,6 +22,14 @@ texts_more f xs i d lt = sym (
     ∙ flat_map-append f (take i xs) (get_or xs i d ∷ [])
     ∙ ap (λ (w : List ℕ). flat_map f (take i xs) ++ w) (append-nil (f (get_or xs i d))))
 
+-- the text of one byte more, which is the byte alone
+pub plain_more : (f : ℕ → List ℕ) (xs : List ℕ) (i d : ℕ) → i < length xs → flat_map f (take i xs) ≡ take i xs → f (get_or xs i d) ≡ get_or xs i d ∷ [] → flat_map f (take (i + 1) xs) ≡ take (i + 1) xs
+plain_more f xs i d lt before plain =
+    sym (texts_more f xs i d lt)
+    ∙ ap (λ (w : List ℕ). w ++ f (get_or xs i d)) before
+    ∙ ap (λ (w : List ℕ). take i xs ++ w) plain
+    ∙ sym (take_more xs i d lt)
+
 -- the text of an item that was read there
 pub texts_read : {X : Type 0} (f : X → List ℕ) (xs : List X) (i : ℕ) (x read : X) → i < length xs → x ≡ get_or xs i x → read ≡ x → flat_map f (take i xs) ++ f read ≡ flat_map f (take (i + 1) xs)
 texts_read f xs i x read lt is same = ap (λ y. flat_map f (take i xs) ++ f y) (same ∙ is) ∙ texts_more f xs i x lt

@@ -1,6 +1,6 @@
 //! The text of an answer, as a script prints it and as frames will carry it.
 
-ghost use Rattle.std.specs.Prelude.{flat_map, OnOk, length, codes, ◌++◌, decimal};
+ghost use Rattle.std.specs.Prelude.{◌≡◌, false, flat_map, IsTrue, OnOk, length, codes, [], ◌∷◌, ◌++◌, decimal};
 ghost use Rattle.std.specs.Io.KnownBytes.{Appends};
 ghost use Rattle.wire.specs.Counts.{CountsFailure};
 ghost use Rattle.wire.specs.AnswerText.{answer_text, rows_text, row_text, fields_text, next_field, field_text, escaped, outcome_text, count_text};
@@ -228,8 +228,40 @@ fn put_three<S: TextWriter, O: Output>(
     sink.put(third, out)
 }
 
-// Prints a text with its backslashes, tabs, newlines and carriage returns escaped.
+// Prints a text with its backslashes, tabs, newlines and carriage returns escaped: in one piece, where it has none of them.
 fn print_text<S: TextWriter, O: Output>(text: &[u8], sink: &mut S, out: &mut O) -> io::Result<()>
+    ensures taken { OnOk result (S.takes sink.old (O.contents out.old) (flat_map escaped text.now)
+        sink.new (O.contents out.new)) }
+    ensures counts { CountsFailure result (O.failures out.old) (O.failures out.new) }
+{
+    if is_plain(text) {
+        sink.put(text, out)
+    } else {
+        print_bytes(text, sink, out)
+    }
+}
+
+// Whether a text is printed as it stands.
+fn is_plain(text: &[u8]) -> bool
+    ensures { IsTrue result → flat_map escaped text.now ≡ text.now }
+{
+    for byte in text {
+        if is_escaped(*byte) {
+            return false;
+        }
+    }
+    true
+}
+
+// Whether a byte is printed with a backslash before it.
+fn is_escaped(byte: u8) -> bool
+    ensures { result ≡ false → escaped byte ≡ byte ∷ [] }
+{
+    byte == b'\\' || byte == b'\t' || byte == b'\n' || byte == b'\r'
+}
+
+// Prints the bytes of a text, one by one.
+fn print_bytes<S: TextWriter, O: Output>(text: &[u8], sink: &mut S, out: &mut O) -> io::Result<()>
     ensures taken { OnOk result (S.takes sink.old (O.contents out.old) (flat_map escaped text.now)
         sink.new (O.contents out.new)) }
     ensures counts { CountsFailure result (O.failures out.old) (O.failures out.new) }

@@ -1,7 +1,7 @@
 use Rattle.std.proofs.Common.{◌∙◌}
 use Rattle.wire.specs.AnswerText.{escaped}
 use Rattle.wire.proofs.Sinks.{taken_on, texts_more}
-use Rattle.wire.proofs.answers.print_text.Goals as goal
+use Rattle.wire.proofs.answers.print_bytes.Goals as goal
 
 pub loop-byte-preserved : goal.loop-byte-preserved
 loop-byte-preserved g c = record {

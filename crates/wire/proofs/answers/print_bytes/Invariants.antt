@@ -1,6 +1,6 @@
 use Rattle.std.proofs.Common.{◌≡◌, take, flat_map}
 use Rattle.wire.specs.AnswerText.{escaped}
-use Rattle.wire.proofs.answers.print_text.Given as goal
+use Rattle.wire.proofs.answers.print_bytes.Given as goal
 
 abbrev pub invariant-loop-byte : goal.invariant-loop-byte
 invariant-loop-byte g l = record {
