@@ -5,3 +5,4 @@ pub mod Checkpoints
 pub mod InTurn
 pub mod Opened
 pub mod Replaying
+pub mod Guarding

@@ -4,3 +4,4 @@ pub mod MeaningLaws
 pub mod StoreLaws
 pub mod Reads
 pub mod Opening
+pub mod Guarded

@@ -6,7 +6,7 @@ use Rattle.sector_device.specs.Device.{DeviceState, timeline}
 use Rattle.sector_device.specs.declared.device.Device.{Ghosts}
 use Rattle.journal_chain.specs.Chain.{Entry, end_of}
 use Rattle.sector_journal.specs.Journals.{HoldsJournal}
-use Rattle.cow_pages.specs.Cow.{device_below, root_of}
+use Rattle.cow_pages.specs.Cow.{device_of, device_below, root_of}
 use Rattle.store.specs.Records.{Records, Changes, IsOrdered}
 use Rattle.store.specs.Store.{Contents, StoreState}
 use Rattle.transactions.specs.Views.{applied_all}
@@ -15,6 +15,10 @@ use Rattle.kv_store.specs.Contents.{contents_of}
 use Rattle.kv_store.specs.TreeStore.{IsSoundStore, pages_of}
 use Rattle.journal_store.specs.Meaning.{SpellBatches, IsJournalReadAs, journal_start, journal_room}
 use Rattle.journal_store.specs.declared.stores.JournalStore.{JournalStore}
+
+-- the device itself
+abbrev pub held_device : {D : Type 0} {g : Ghosts D} → JournalStore D g → D
+held_device s = device_of (pages_of s.store)
 
 -- the device below the pages
 abbrev pub device_under : {D : Type 0} {g : Ghosts D} → JournalStore D g → DeviceState

@@ -4,6 +4,7 @@
 
 mod commits;
 mod devices;
+mod guarded;
 mod laws;
 mod opening;
 mod reads;

@@ -20,6 +20,7 @@ pub(crate) const JOURNAL_ROOM: u16 = 6;
 
 /// A store of pages with a journal in the six sectors behind the root sectors, as its root says. A commit is a record of the journal as long
 /// as there is room: its batch waits in memory, under which the pages are read.
+#[derive(Drop)]
 pub struct JournalStore<D: Device> {
     pub(crate) store: TreeStore<D>,
     // The batches of all records of the root, merged.
@@ -35,13 +36,34 @@ pub struct JournalStore<D: Device> {
 }
 
 impl<D: Device> JournalStore<D> {
-    ghost use Rattle.journal_store.specs.Stores.{journal_state};
+    ghost use Rattle.journal_store.specs.Stores.{journal_state, held_device};
 
     /// Whether it has answered Device. Then it answers nothing else.
     pub fn has_failed(&self) -> bool
         ensures { result ≡ (journal_state self.now).has_failed }
     {
         self.store.has_failed()
+    }
+
+    /// The device below.
+    pub fn device(&self) -> &D
+        ensures { result.now ≡ held_device self.now }
+    {
+        self.store.device()
+    }
+
+    /// Gives the device back, as it is. What waits is in its journal.
+    pub fn into_device(self) -> D
+        ensures { result ≡ held_device self }
+    {
+        let JournalStore {
+            store,
+            waiting: _,
+            top: _,
+            end: _,
+            alloc: _,
+        } = self;
+        store.into_device()
     }
 }
 
