@@ -1,20 +1,19 @@
 //! Whether row security guards a table from a role, and which of its policies apply.
 
 ghost use Rattle.std.specs.Prelude.{◌≡◌, ◌&&◌, ◌||◌, not, map, filter, find, IfOk};
-ghost use Rattle.std.specs.List.{list_any};
-ghost use Rattle.abstract_database.specs.Lists.{has_name};
 ghost use Rattle.abstract_database.specs.Database.{is_role_named};
-ghost use Rattle.abstract_database.specs.Guards.{is_guarded, is_for_action as is_for, applicable};
+ghost use Rattle.abstract_database.specs.Guards.{is_guarded, applicable};
 ghost use Rattle.catalogue.specs.Policies.{policies_in};
-ghost use Rattle.policy_composer.specs.Formulas.{is_for_one, applies as apply};
+ghost use Rattle.policy_composer.specs.Formulas.{applies as apply};
 ghost use Rattle.policy_composer.specs.Guarding.{exempts};
 ghost use Rattle.descriptions.specs.Descriptions.{AreItsRoles, InEach};
 
 use catalogue::definitions::Catalogue;
 use catalogue::policy::CataloguePolicy;
 use catalogue::table::TableDefinition;
+use policy_composer::applies;
 use role_membership::RoleSet;
-use sql_ast::policy::{Policy, PolicyCommand, PolicyRoles};
+use sql_ast::policy::Policy;
 use sql_ast::privilege::Action;
 use sql_types::name::Name;
 use std::alloc::{AllocError, Global};
@@ -92,44 +91,4 @@ fn is_exempt(catalogue: &Catalogue, role: &Name) -> bool
         Some(role) => role.attributes.superuser || role.attributes.bypass_rls,
         None => false,
     }
-}
-
-/// Whether a policy applies to an action of a role that is in these roles.
-fn applies(policy: &Policy, roles: &RoleSet<'_>, action: Action) -> bool
-    ensures { result ≡ apply roles.now action policy.now }
-{
-    is_for_action(action, policy.command) && is_for_role(roles, &policy.roles)
-}
-
-/// Whether a policy for this command is for an action.
-fn is_for_action(action: Action, command: PolicyCommand) -> bool
-    ensures { result ≡ is_for action command }
-{
-    match command {
-        PolicyCommand::All => true,
-        PolicyCommand::Only(only) => matches!(
-            (action, only),
-            (Action::Select, Action::Select)
-                | (Action::Insert, Action::Insert)
-                | (Action::Update, Action::Update)
-                | (Action::Delete, Action::Delete)
-        ),
-    }
-}
-
-/// Whether a policy for these roles concerns one of the roles that a role is in.
-fn is_for_role(roles: &RoleSet<'_>, concerned: &PolicyRoles) -> bool
-    ensures { result ≡ is_for_one roles.now concerned.now }
-{
-    match concerned {
-        PolicyRoles::Public => true,
-        PolicyRoles::Only(names) => has_one(roles, names.as_slice()),
-    }
-}
-
-/// Whether one of these names is that of one of the roles.
-fn has_one(roles: &RoleSet<'_>, names: &[Name]) -> bool
-    ensures { result ≡ list_any (λ name. has_name name roles.now) names.now }
-{
-    names.iter().any(|name| roles.contains(name))
 }

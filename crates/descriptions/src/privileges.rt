@@ -4,16 +4,15 @@ ghost use Rattle.std.specs.Prelude.{◌≡◌, ◌&&◌, map, filter, IfOk};
 ghost use Rattle.std.specs.List.{list_any};
 ghost use Rattle.std.specs.Option.{option_map};
 ghost use Rattle.abstract_database.specs.Lists.{has_name};
-ghost use Rattle.abstract_database.specs.Database.{action_number as number_of};
-ghost use Rattle.abstract_database.specs.Privileges.{is_for, covers as covers_column, has_privilege, acting_grantor as grantor_of};
+ghost use Rattle.abstract_database.specs.Privileges.{is_for, has_privilege, acting_grantor as grantor_of};
 ghost use Rattle.grant_graph.specs.Keys.{now_of};
 ghost use Rattle.descriptions.specs.Descriptions.{AreItsRoles, InEach, given_to, is_one};
 
 use catalogue::definitions::Catalogue;
 use catalogue::table::TableDefinition;
-use grant_graph::{Grants, acting_grantor_among};
+use grant_graph::{Grants, acting_grantor_among, action_number, covers};
 use role_membership::RoleSet;
-use sql_ast::privilege::{Action, Descriptor, Grantee, Privilege};
+use sql_ast::privilege::{Descriptor, Grantee, Privilege};
 use sql_types::name::Name;
 use std::alloc::{AllocError, Global};
 
@@ -121,28 +120,5 @@ fn concerns(roles: &RoleSet<'_>, grantee: &Grantee) -> bool
     match grantee {
         Grantee::Public => true,
         Grantee::Role(name) => roles.contains(name),
-    }
-}
-
-/// Whether what is granted on this column, or on the whole table, counts for the other.
-fn covers(granted: Option<usize>, column: Option<usize>) -> bool
-    ensures { result ≡ covers_column granted column }
-{
-    match (granted, column) {
-        (None, _) => true,
-        (Some(granted), Some(column)) => granted == column,
-        (Some(_), None) => false,
-    }
-}
-
-/// The number of an action.
-fn action_number(action: Action) -> u8
-    ensures { result ≡ number_of action }
-{
-    match action {
-        Action::Select => 1,
-        Action::Insert => 2,
-        Action::Update => 3,
-        Action::Delete => 4,
     }
 }

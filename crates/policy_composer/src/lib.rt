@@ -7,3 +7,4 @@ mod guarding;
 mod policies;
 
 pub use guarding::compose;
+pub use policies::applies;

@@ -55,7 +55,7 @@ fn is_for_role(roles: &RoleSet<'_>, concerned: &PolicyRoles) -> bool
 }
 
 /// Whether a policy applies to an action of a role that is in these roles.
-pub(crate) fn applies(policy: &Policy, roles: &RoleSet<'_>, action: Action) -> bool
+pub fn applies(policy: &Policy, roles: &RoleSet<'_>, action: Action) -> bool
     ensures { result ≡ apply roles.now action policy.now }
 {
     is_for_action(action, policy.command) && is_for_role(roles, &policy.roles)
