@@ -19,7 +19,7 @@ use std::alloc::{AllocError, Global};
 
 /// The table, the grantees and the grant option of a statement.
 #[derive(Clone, Copy)]
-struct Target<'a> {
+struct GrantTarget<'a> {
     table: &'a Name,
     grantees: &'a [Grantee],
     grantable: bool,
@@ -35,7 +35,7 @@ pub(crate) struct Named {
 /// A privilege on the table for one grantee by this grantor.
 fn descriptor(
     alloc: Global,
-    target: Target<'_>,
+    target: GrantTarget<'_>,
     privilege: Privilege,
     by: &Name,
     grantee: &Grantee,
@@ -60,7 +60,7 @@ fn descriptor(
 fn push_each(
     alloc: Global,
     list: &mut Vec<Descriptor>,
-    target: Target<'_>,
+    target: GrantTarget<'_>,
     privilege: Privilege,
     by: &Name,
 ) -> Result<(), AllocError>
@@ -78,7 +78,7 @@ fn push_each(
 fn push_by(
     alloc: Global,
     list: &mut Vec<Descriptor>,
-    target: Target<'_>,
+    target: GrantTarget<'_>,
     privilege: Privilege,
     by: Option<&Name>,
 ) -> Result<(), AllocError>
@@ -95,7 +95,7 @@ fn push_by(
 /// The descriptors of these privileges that have an acting grantor, for each grantee.
 fn by_grantors(
     alloc: Global,
-    target: Target<'_>,
+    target: GrantTarget<'_>,
     all: &[NamedPrivilege<'_>],
 ) -> Result<Vec<Descriptor>, AllocError>
     ensures { IfOk result (λ list. list.items ≡ flat_map
@@ -124,7 +124,7 @@ pub(crate) fn what_is_named(
 {
     let units = units(alloc, asker.table.columns(), privileges)?;
     let all = acting_grantors(alloc, asker, units.as_slice())?;
-    let target = Target {
+    let target = GrantTarget {
         table: asker.table.name(),
         grantees,
         grantable,
