@@ -7,8 +7,8 @@ ghost use Rattle.script_runs.specs.Closing.{StandsWithinLimit, LeavesNoSession};
 ghost use Rattle.connections.specs.Connection.{input_of, IsServed, IsConnection, ServesPiece};
 
 use crate::answering::{answer_bad_frame, answer_events};
-use crate::closing::close_sessions;
 use crate::frame_sink::TakesFrames;
+use script_runs::run::close_sessions;
 use server::decide::Decide;
 use server::server::Server;
 use std::alloc::Global;

@@ -2,7 +2,6 @@
 #![tactic(auto)]
 
 pub mod answering;
-mod closing;
 pub mod connection;
 pub mod frame_sink;
 pub mod listen;

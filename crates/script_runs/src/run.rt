@@ -152,8 +152,8 @@ fn run_event<S: Store, X: Decide, K: TakesText>(
     None
 }
 
-/// Closes the sessions that are open, the first opened first.
-fn close_sessions<S: Store, X: Decide>(server: &mut Server<S, X>)
+/// Closes the sessions that are open, the first opened first. A server that has stopped keeps them.
+pub fn close_sessions<S: Store, X: Decide>(server: &mut Server<S, X>)
     ensures history { KeepsHistory (S.state server.old.store) (S.state server.new.store) }
     ensures closes { StandsWithinLimit S.state server.old
         → Closes X.Reads S.state server.old server.new }
