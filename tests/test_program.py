@@ -278,6 +278,16 @@ class Program(unittest.TestCase):
                          [(command, 'own') for command in ('SELECT', 'INSERT', 'UPDATE', 'DELETE')])
         self.assertEqual(self.described(path, 'root')['row security'], [{'table': 'orders', 'guarded': False}])
 
+    def test_what_a_role_may_do_to_columns(self):
+        """DELETE is of whole rows: it is told of the table alone."""
+        path = self.make_orders()
+        run('run', path, self.write('more', 'open r root\nr: GRANT DELETE ON orders TO bob\nr: GRANT UPDATE (note) ON orders TO bob\n'))
+        self.assertEqual([(row['column'], row['privilege']) for row in self.described(path, 'bob')['rights']],
+                         [(None, 'SELECT'), (None, 'DELETE'), ('id', 'SELECT'), ('note', 'SELECT'), ('note', 'UPDATE')])
+        told = [(row['column'], row['privilege']) for row in self.described(path, 'root')['rights']]
+        self.assertIn((None, 'DELETE'), told)
+        self.assertNotIn(('id', 'DELETE'), told)
+
     def test_descriptions_that_fail(self):
         path, none = self.make_orders(), self.path('none')
         self.assertEqual(run('describe', path, 'eve'), self.told('NoRole', 'eve', 'no role of the database has this name'))

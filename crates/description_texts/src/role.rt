@@ -3,6 +3,7 @@
 ghost use Rattle.std.specs.Prelude.{◌≡◌, ◌≢◌, None, find, IfOk, MatchOption};
 ghost use Rattle.abstract_database.specs.Database.{is_role_named};
 ghost use Rattle.descriptions.specs.Descriptions.{AreItsRoles};
+ghost use Rattle.description_texts.specs.Descriptions.{actions_on};
 
 use crate::database::{membership_section, push_memberships, role_row};
 use crate::section::{Cell, Section};
@@ -148,12 +149,8 @@ fn push_right<'a>(
 ) -> Result<(), AllocError>
     requires { AreItsRoles catalogue.now.memberships role.now roles.now }
 {
-    for action in [
-        Action::Select,
-        Action::Insert,
-        Action::Update,
-        Action::Delete,
-    ] {
+    for action in actions_on(column) {
+        let action = *action;
         let privilege = Privilege { action, column };
         let right = describe_privilege(catalogue, roles, role, table, privilege);
         if right.is_held || right.grants_as.is_some() {
@@ -167,6 +164,27 @@ fn push_right<'a>(
         }
     }
     Ok(())
+}
+
+/// The actions that privileges on a table are for.
+const ON_TABLES: [Action; 4] = [
+    Action::Select,
+    Action::Insert,
+    Action::Update,
+    Action::Delete,
+];
+
+/// The actions that privileges on a column are for: DELETE is of whole rows.
+const ON_COLUMNS: [Action; 3] = [Action::Select, Action::Insert, Action::Update];
+
+/// The actions that privileges on a whole table, or on a column of it, are for.
+fn actions_on(column: Option<usize>) -> &'static [Action]
+    ensures { result.now ≡ actions_on column }
+{
+    match column {
+        None => &ON_TABLES,
+        Some(_) => &ON_COLUMNS,
+    }
 }
 
 /// Adds what gives the role something of a table.
