@@ -21,10 +21,12 @@ import unittest
 from program import IS_FAKE, PROGRAM, free_port, make_database, run
 import guarddb
 
-TRACED = 'openat,ftruncate,fallocate,pread64,pwrite64,pwritev,write,writev,fsync,fdatasync'
+TRACED = 'openat,flock,ftruncate,fallocate,pread64,pwrite64,pwritev,write,writev,fsync,fdatasync'
 WRITES = ('ftruncate', 'fallocate', 'pwrite64', 'pwritev', 'write', 'writev')
 SYNCS = ('fsync', 'fdatasync')
 PAGES, PAGE, ROOT = 64, 4096, 512       # the pages of a file; the bytes of a page, and of a root, which is a sector of page 0
+ZEROS = 16 * PAGE                       # the zeros that are written at once where a file is made
+PIECES = PAGES * PAGE // ZEROS
 SETUP = 'open r root\nr: CREATE TABLE t (k BIGINT PRIMARY KEY)\n'
 HAS_STRACE = shutil.which('strace') is not None
 
@@ -83,15 +85,30 @@ class Files(unittest.TestCase):
 
     @unittest.skipUnless(HAS_STRACE, 'there is no strace')
     def test_a_file_is_made(self):
-        """Its zeros, a sync of it and one of its folder, and then the database."""
+        """It is locked; then come its zeros, a sync of it and one of its folder, and then the database."""
         calls, printed = self.traced('format', self.path('db'), '--pages', str(PAGES), '--admin', 'root')
         self.assertEqual(printed, 'ok FORMAT\n')
-        self.assertEqual(calls[0], Call('open', 'file', True, None))
+        self.assertEqual(calls[:2], [Call('open', 'file', True, None), Call('flock', 'file', 0, 0)])
         done = writes_and_syncs(calls)
-        self.assertEqual(done[:PAGES], [Call('pwrite64', 'file', PAGE, PAGE * page) for page in range(PAGES)])
-        self.assertEqual([call[:2] for call in done[PAGES:PAGES + 2]], [('fsync', 'file'), ('fsync', 'folder')])
-        self.assertIn(done[PAGES + 2].name, WRITES)
+        self.assertEqual(done[:PIECES], [Call('pwrite64', 'file', ZEROS, ZEROS * piece) for piece in range(PIECES)])
+        self.assertEqual([call[:2] for call in done[PIECES:PIECES + 2]], [('fsync', 'file'), ('fsync', 'folder')])
+        self.assertIn(done[PIECES + 2].name, WRITES)
         self.assertEqual(done[-1].name, 'fdatasync')
+
+    @unittest.skipUnless(HAS_STRACE, 'there is no strace')
+    def test_a_file_of_a_number_of_pages_that_is_no_whole_number_of_pieces(self):
+        calls, printed = self.traced('format', self.path('db'), '--pages', '67', '--admin', 'root')
+        self.assertEqual(printed, 'ok FORMAT\n')
+        self.assertEqual(writes_and_syncs(calls)[PIECES], Call('pwrite64', 'file', 3 * PAGE, PIECES * ZEROS))
+        self.assertEqual(os.stat(self.path('db')).st_size, 67 * PAGE)
+
+    @unittest.skipUnless(HAS_STRACE, 'there is no strace')
+    def test_a_file_that_is_locked_before_its_zeros(self):
+        """Where the lock is refused, nothing is written and the file is taken away."""
+        calls, printed = self.traced('format', self.path('db'), '--pages', str(PAGES), '--admin', 'root',
+                                     inject=('-e', 'inject=flock:error=EWOULDBLOCK:when=1'))
+        self.assertEqual((printed, writes_and_syncs(calls)), ('', []))
+        self.assertFalse(os.path.exists(self.path('db')))
 
     @unittest.skipUnless(HAS_STRACE, 'there is no strace')
     def test_a_file_that_is_there_is_left(self):
@@ -106,7 +123,7 @@ class Files(unittest.TestCase):
     @unittest.skipUnless(HAS_STRACE, 'there is no strace')
     def test_what_is_made_in_vain_is_taken_away(self):
         """Where the disk is full, at a page of zeros or at the database, and where a sync fails, of the file, its folder or the database."""
-        for fault in ('pwrite64:error=ENOSPC:when=3', f'pwrite64:error=ENOSPC:when={PAGES + 1}', 'fsync:error=EIO:when=1',
+        for fault in ('pwrite64:error=ENOSPC:when=3', f'pwrite64:error=ENOSPC:when={PIECES + 1}', 'fsync:error=EIO:when=1',
                       'fsync:error=EIO:when=2', 'fdatasync:error=EIO:when=1'):
             with self.subTest(fault):
                 words = ('format', self.path('db'), '--pages', str(PAGES), '--admin', 'root')

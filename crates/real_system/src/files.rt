@@ -1,9 +1,8 @@
-//! Devices over files of the system that are locked, and the names of new files.
+//! Devices over files of the system that are locked.
 
 use sector_device::{FileDevice, FileFault, SystemCause, SystemFile};
 use std::fs::{self, File, OpenOptions, TryLockError};
 use std::io;
-use std::path::Path;
 use std::rt::Files;
 use systems::{Access, OpenPathFault};
 
@@ -54,62 +53,6 @@ fn open_with(rt: &impl Files<File = File>, path: &str, access: Access) -> io::Re
     let mut options = OpenOptions::new();
     options.read(true).write(is_written);
     options.open(rt, path)
-}
-
-/// Whether there is something of this name, be it a link to nothing. A path without a byte can name
-/// nothing, which is an error.
-pub(crate) fn is_there(rt: &impl Files<File = File>, path: &str) -> io::Result<bool> {
-    if path.is_empty() {
-        return Err(io::Error::from(io::ErrorKind::NotFound));
-    }
-    match fs::symlink_metadata(rt, path) {
-        Ok(_found) => Ok(true),
-        Err(error) if error.kind() == io::ErrorKind::NotFound => Ok(false),
-        Err(error) => Err(error),
-    }
-}
-
-/// Gives the file at `from` the name `to`, in the same folder, in place of its own. Nothing is ever
-/// replaced: `Exists` where there is something of the name `to`. The file has its new name on the
-/// disk before it loses the other, so a stop leaves one of them or both. After an error it has the
-/// old one alone, as far as the system takes the new one away.
-pub(crate) fn rename_new(
-    rt: &impl Files<File = File>,
-    from: &str,
-    to: &str,
-) -> Result<(), FileFault> {
-    match fs::hard_link(rt, from, to) {
-        Ok(()) => {}
-        Err(error) if error.kind() == io::ErrorKind::AlreadyExists => {
-            return Err(FileFault::Exists);
-        }
-        Err(error) => return Err(new_fault(&error)),
-    }
-    match leave_name(rt, from, to) {
-        Ok(()) => Ok(()),
-        Err(error) => {
-            let _ = fs::remove_file(rt, to);
-            Err(new_fault(&error))
-        }
-    }
-}
-
-// Brings the second name of a file to the disk, and takes the first away.
-fn leave_name(rt: &impl Files<File = File>, from: &str, to: &str) -> io::Result<()> {
-    let folder = match Path::new(to).parent() {
-        Some(folder) if !folder.as_str().is_empty() => folder.as_str(),
-        _ => ".",
-    };
-    File::open(rt, folder)?.sync_all()?;
-    fs::remove_file(rt, from)
-}
-
-// The fault of a call of the system on a new file.
-fn new_fault(error: &io::Error) -> FileFault {
-    match error.kind() {
-        io::ErrorKind::OutOfMemory => FileFault::Memory,
-        _ => FileFault::Device(SystemCause::of(error)),
-    }
 }
 
 // The fault of a call of the system on a file that is there.

@@ -3,6 +3,7 @@
 
 mod files;
 mod listening;
+mod new_files;
 mod private_socket;
 mod real;
 mod socket;

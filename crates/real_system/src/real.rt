@@ -1,7 +1,8 @@
 //! The system of a machine.
 
-use crate::files::{is_there, open_file, rename_new};
+use crate::files::open_file;
 use crate::listening::PlaceListener;
+use crate::new_files::{is_there, make_file, rename_new};
 use crate::socket::{FileId, file_at, remove_made};
 use crate::streams::StandardStreams;
 use connections::system_listener::SystemListener;
@@ -106,7 +107,7 @@ impl<
     fn close(&mut self, _path: &str, _device: FileDevice<SystemFile>) {}
 
     fn make(&mut self, path: &str, pages: u32) -> Result<FileDevice<SystemFile>, FileFault> {
-        match FileDevice::make(self.rt, path, pages) {
+        match make_file(self.rt, path, pages) {
             Err(FileFault::Device(cause)) => {
                 self.failures = self.failures.saturating_add(1);
                 Err(FileFault::Device(cause))
