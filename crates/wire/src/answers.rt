@@ -1,9 +1,10 @@
 //! The text of an answer, as a script prints it and as frames will carry it.
 
-ghost use Rattle.std.specs.Prelude.{◌≡◌, false, flat_map, IsTrue, OnOk, length, codes, [], ◌∷◌, ◌++◌, decimal};
+ghost use Rattle.std.specs.Prelude.{◌≡◌, ◌≤◌, false, flat_map, take, IsTrue, OnOk, length, codes, [], ◌∷◌, ◌++◌, decimal};
+ghost use Rattle.std.specs.Fmt.{signed_decimal};
 ghost use Rattle.std.specs.Io.KnownBytes.{Appends};
 ghost use Rattle.wire.specs.Counts.{CountsFailure};
-ghost use Rattle.wire.specs.AnswerText.{answer_text, rows_text, row_text, fields_text, next_field, field_text, escaped, outcome_text, count_text};
+ghost use Rattle.wire.specs.AnswerText.{answer_text, rows_text, row_text, fields_text, next_field, field_text, tab, escaped, outcome_text, count_text};
 
 use crate::output::Output;
 use crate::text_writer::{Plain, TextWriter};
@@ -14,6 +15,9 @@ use sql_types::tag::Tag;
 use sql_types::value::Value;
 use sql_types::warning::Warning;
 use std::io;
+
+// A tab and the longest number that is printed behind one.
+const LONGEST_PIECE: usize = 41;
 
 /// Writes the text of an answer. Each line ends with a newline, and no memory is allocated.
 ///
@@ -193,8 +197,40 @@ fn print_next_field<S: TextWriter, O: Output>(
         sink.new (O.contents out.new)) }
     ensures counts { CountsFailure result (O.failures out.old) (O.failures out.new) }
 {
-    sink.put(b"\t", out)?;
-    print_field(value, sink, out)
+    match value {
+        Value::Int(number) => print_next_number(*number, sink, out),
+        _ => {
+            sink.put(b"\t", out)?;
+            print_field(value, sink, out)
+        }
+    }
+}
+
+// Prints a number that is not the first field of its row, in one piece with the tab before it.
+fn print_next_number<S: TextWriter, O: Output>(
+    number: i64,
+    sink: &mut S,
+    out: &mut O,
+) -> io::Result<()>
+    ensures taken { OnOk result (S.takes sink.old (O.contents out.old) (tab ++ signed_decimal number)
+        sink.new (O.contents out.new)) }
+    ensures counts { CountsFailure result (O.failures out.old) (O.failures out.new) }
+{
+    let mut piece = [b'\t'; LONGEST_PIECE];
+    let length = put_behind_tab(Buffer::new().format(number).as_bytes(), &mut piece);
+    sink.put(&piece[..length], out)
+}
+
+// Puts digits behind the tab with which a piece begins, and answers how long both are.
+fn put_behind_tab(digits: &[u8], piece: &mut [u8; LONGEST_PIECE]) -> usize
+    requires begins { take 1 piece.old ≡ tab }
+    requires short { length digits.now ≤ 40 }
+    ensures within { result ≤ 41 }
+    ensures piece { take result piece.new ≡ tab ++ digits.now }
+{
+    let length = digits.len() + 1;
+    piece[1..length].copy_from_slice(digits);
+    length
 }
 
 fn print_field<S: TextWriter, O: Output>(value: &Value, sink: &mut S, out: &mut O) -> io::Result<()>

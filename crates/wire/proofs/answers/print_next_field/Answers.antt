@@ -3,9 +3,9 @@ use Rattle.wire.proofs.Counting.{then_counted}
 use Rattle.wire.proofs.Sinks.{then_taken}
 use Rattle.wire.proofs.answers.print_next_field.Goals as goal
 
-pub returns-clause-taken : goal.returns-clause-taken
-returns-clause-taken g c = then_taken g.S.TextWriter.takes g.S.TextWriter.takes_joined c.print_field.result _ _ _ _ _ _ _ _ _
-    c.in_ok-put.ensures.taken c.print_field.ensures.taken (search rules)
-
-pub returns-clause-counts : goal.returns-clause-counts
-returns-clause-counts g c = then_counted c.print_field.result _ _ _ c.in_ok-put.ensures.counts c.print_field.ensures.counts
+pub returns-in_ok-put-in_default : goal.returns-in_ok-put-in_default
+returns-in_ok-put-in_default g c = record {
+  taken = then_taken g.S.TextWriter.takes g.S.TextWriter.takes_joined c.print_field.result _ _ _ _ _ _ _ _ _
+      c.in_ok-put-in_default.ensures.taken c.print_field.ensures.taken (search rules);
+  counts = then_counted c.print_field.result _ _ _ c.in_ok-put-in_default.ensures.counts c.print_field.ensures.counts;
+}
