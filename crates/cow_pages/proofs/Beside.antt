@@ -1,5 +1,5 @@
 -- Sectors beside the pages are written: the pages stay as they are.
-use Rattle.std.proofs.Common.{◌≡◌, ◌<◌, ◌≤◌, ◌+◌, ◌*◌, ℕ, zero, suc, List, Some, length, get_or, ap, subst, sym, refl, inl, inr, ⊎_elim, arith}
+use Rattle.std.proofs.Common.{◌≡◌, ◌<◌, ◌≤◌, ◌+◌, ◌*◌, ℕ, zero, suc, List, Some, length, get_or, ap, subst, sym, refl, inl, ⊎_elim, arith}
 use Rattle.sector_device.specs.Timeline.{LeavesOnly, weakened}
 use Rattle.sector_device.specs.Device.{DeviceState, Image, IsBehindRoots, timeline}
 use Rattle.sector_device.specs.Page.{IsAlone}

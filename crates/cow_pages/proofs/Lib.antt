@@ -31,3 +31,4 @@ pub mod Overlaid
 pub mod Putting
 pub mod Changing
 pub mod Beside
+pub mod Freed

@@ -1,5 +1,5 @@
 -- What no call but a commit changes.
-use Rattle.std.proofs.Common.{Result, Err, ◌≡◌, ◌⊎◌, ◌<◌, ◌≤◌, ◌+◌, ◌*◌, ℕ, List, true, inl, inr, ap, sym, subst, refl, ◌∙◌, arith}
+use Rattle.std.proofs.Common.{Result, Err, ◌≡◌, ◌⊎◌, ◌<◌, ◌≤◌, ◌+◌, ◌*◌, ℕ, List, true, inl, inr, ap, sym, subst, ◌∙◌}
 use Rattle.sector_device.specs.Timeline.{LeavesOnly, IsPresent}
 use Rattle.sector_device.specs.Device.{KeepsHistory, HasFailed, timeline, history_none}
 use Rattle.sector_device.specs.Page.{IsAlone}

@@ -14,3 +14,4 @@ pub mod Formatting
 pub mod Preserved
 pub mod PreservedLaws
 pub mod ReadingLaws
+pub mod Free

@@ -47,7 +47,7 @@ pub(crate) enum Place {
 /// that a call needs is taken by `open`: where the cache is refused memory, it holds less.
 pub struct CowPages<D: Device> {
     device: D,
-    map: PageMap,
+    pub(crate) map: PageMap,
     dirty: DirtyPages,
     cache: PageCache,
     // The page that was fetched last, and the page that was read from the device last.

@@ -6,6 +6,7 @@ mod changes;
 mod cow;
 mod dirty_pages;
 mod formatting;
+mod free_pages;
 mod laws;
 mod open;
 mod over_device;

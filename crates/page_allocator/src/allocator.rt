@@ -1,6 +1,6 @@
 //! The free pages of a device.
 ghost use Rattle.std.specs.Prelude.{◌≡◌, ◌||◌, Bool, ◌<◌, ◌≤◌, ◌-◌, ◌↔◌, ℕ, ◌∷◌, length, replicate, true, false, IsTrue, IfOk, IsErr, OnErr};
-ghost use Rattle.page_allocator.specs.TakenPages.{TakenPages, IsTaken, IsFree, IsFull, AreReached, with_taken, with_free};
+ghost use Rattle.page_allocator.specs.TakenPages.{TakenPages, IsTaken, IsFree, IsFull, HasFree, AreReached, with_taken, with_free};
 ghost use Rattle.page_allocator.specs.Order.{IsFreeFirst, taken_pages};
 
 use crate::order::{descending, exchange};
@@ -65,6 +65,13 @@ impl PageAllocator {
         ensures { IsTrue result ↔ IsFull self.now }
     {
         self.free == 0
+    }
+
+    /// How many pages are free.
+    pub fn free_count(&self) -> u32
+        ensures { HasFree result self.now }
+    {
+        self.free
     }
 
     /// Whether this is a page of the device that is taken. Page 0 always is.

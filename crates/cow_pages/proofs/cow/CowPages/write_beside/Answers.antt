@@ -1,4 +1,4 @@
-use Rattle.std.proofs.Common.{◌<◌, ◌+◌, ℕ, length, ◌∙◌, arith}
+use Rattle.std.proofs.Common.{◌<◌, ◌+◌, ℕ, length, ◌∙◌}
 use Rattle.sector_device.specs.Device.{IsBehindRoots}
 use Rattle.cow_pages.specs.DirtyPages.{dirty_bytes}
 use Rattle.cow_pages.proofs.Beside.{agrees_beside, working_beside, settled_beside, array_beside, leaves_beside}
