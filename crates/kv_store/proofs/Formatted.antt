@@ -28,7 +28,7 @@ pub leaf_written : (e : Record) (cells page : List ℕ) → IsKeySize e.0 → le
     → ((cs : List Record) → HasSizes Leaf cs → cells ≡ cells_bytes Leaf cs → 1 ≡ length cs → IsNode Leaf [] cs page) → IsNode Leaf [] (e ∷ []) page
 leaf_written e cells page key value is writes = writes (e ∷ []) (key, value, tt) (is ∙ sym (append-nil (cell_bytes Leaf e))) refl
 
-only_first : (page : List ℕ) (l : ℕ) → IsSome (one_page page l) → l ≡ 0
+pub only_first : (page : List ℕ) (l : ℕ) → IsSome (one_page page l) → l ≡ 0
 only_first page zero some = refl
 only_first page (suc l) some = absurd (let bad = some in cc)
 

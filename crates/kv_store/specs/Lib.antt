@@ -14,3 +14,4 @@ pub mod Refusals
 pub mod Formatting
 pub mod Walks
 pub mod Beside
+pub mod Switching

@@ -102,7 +102,7 @@ fn commit_pages<D: Device>(
 }
 
 // Makes the working array the durable one, in this format, or gives it up.
-fn finish<D: Device>(
+pub(crate) fn finish<D: Device>(
     pages: &mut CowPages<D>,
     format: Format,
     switch: Switch,

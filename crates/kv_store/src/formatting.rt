@@ -34,8 +34,12 @@ impl From<AllocError> for FormatFault {
     }
 }
 
-// The page of a leaf that has one entry. After an error nothing is said of the page.
-fn write_leaf_of(alloc: Global, first: &Entry, page: &mut [u8; PAGE_SIZE]) -> Result<(), AllocError>
+/// The page of a leaf that has one entry. The only error is that an allocation failed, and then nothing is said of the page.
+pub fn write_leaf_of(
+    alloc: Global,
+    first: &Entry,
+    page: &mut [u8; PAGE_SIZE],
+) -> Result<(), AllocError>
     requires key { IsKeySize first.now.0 }
     requires value { length first.now.1 ≤ max_value_length }
     ensures { OnOk result (IsNode Leaf [] (first.now ∷ []) page.new) }

@@ -5,13 +5,15 @@
 mod beside;
 mod commit;
 mod formatting;
+mod free_pages;
+mod journal_kind;
 mod laws;
 mod page_store;
 mod read_only;
 mod tree_store;
 
 pub use cow_pages::{DEFAULT_CACHE_PAGES, MAX_CACHE_PAGES, OpenFault};
-pub use formatting::FormatFault;
+pub use formatting::{FormatFault, write_leaf_of};
 pub use laws::{one_contents, sound_images, tree_and_records};
 pub use page_store::PageStore;
 pub use store::{Batch, Change, Entry, Fault, Map, MemStore, Spelling, Store, StoreFault};

@@ -32,7 +32,7 @@ use store::{Batch, Entry, EntryRef, Map, Spelling, Store, StoreFault};
 
 /// A store in pages on a device: its records are the entries of the tree from logical page 0 of the durable array. Where its
 /// root says that there is a journal, these are the records of the pages alone, and no call but `write_beside` touches the
-/// journal. No commit changes what the root says of it. Once it has answered Device it answers nothing else. Its cursor keeps the leaf of the last scan until a commit, so that a scan
+/// journal. No commit but `commit_kind` changes what the root says of it. Once it has answered Device it answers nothing else. Its cursor keeps the leaf of the last scan until a commit, so that a scan
 /// that goes on in that leaf reads no page.
 pub struct TreeStore<D: Device> {
     pub(crate) pages: ReadOnlyPages<D>,
