@@ -26,11 +26,13 @@ use Rattle.kv_store.specs.Numbered.{HasContentsUnder, LeavesBefore, LeavesEither
 use Rattle.kv_store.specs.TreeStore.{IsSoundStore, pages_of, store_state}
 use Rattle.kv_store.proofs.Reading.{contents_are}
 use Rattle.journal_store.specs.declared.stores.JournalStore.{JournalStore}
-use Rattle.journal_store.specs.Meaning.{HasJournaledContents, IsJournalReadAs, with_batches, journal_start, journal_room}
+use Rattle.journal_store.specs.Meaning.{HasJournaledContents, IsNumberOf, with_batches, journal_start, journal_room}
+use Rattle.journal_store.specs.Images.{IsReadAs}
 use Rattle.journal_store.specs.Stores.{device_under, base_of, root_number, IsSoundJournal, journal_state}
-use Rattle.journal_store.specs.MeaningLaws.{read_is}
+use Rattle.journal_store.specs.ImageLaws.{read_is}
 use Rattle.journal_store.specs.StoreLaws.{held, ordered, stored_is, settled}
 use Rattle.journal_store.proofs.Meanings.{checkpoint_leaves}
+use Rattle.journal_store.proofs.Numbers.{under_next}
 use Rattle.journal_store.proofs.Records.{both}
 
 -- where no more is said of the present than what a stop may leave, time that passes is a run
@@ -54,7 +56,7 @@ module _ (root top : ℕ) (es : List Entry) (d e : DeviceState) (holds : HoldsJo
     | inl lt ↦ same_sector journal_start journal_room image d.content q lt (same q lt)
   ])
 
-  same_now : region_in journal_start journal_room e.content ≡ region_in journal_start journal_room d.content
+  pub same_now : region_in journal_start journal_room e.content ≡ region_in journal_start journal_room d.content
   same_now = same_region e.content (λ q lt. (history.beside faithful).content (journal_start + q) (is_beside q lt))
 
   pub journal_kept : HoldsJournal journal_start journal_room root top es e
@@ -96,16 +98,19 @@ module _ {D : Type 0} {g : Ghosts D} (present : (device : D) → (g.state device
     kept : HoldsJournal journal_start journal_room (root_number s) s.top (sound.works works).es (device_under t)
     kept = journal_kept (root_number s) s.top (sound.works works).es (device_under s) (device_under t) (sound.works works).holds history sound.pages.faithful (all_beside (pages_of s.store).device)
 
+    region_kept : region_in journal_start journal_room (device_under t).content ≡ region_in journal_start journal_room (device_under s).content
+    region_kept = same_now (root_number s) s.top (sound.works works).es (device_under s) (device_under t) (sound.works works).holds history sound.pages.faithful (all_beside (pages_of s.store).device)
+
     abbrev Before : Image → Type 0
     Before image = HasJournaledContents (root_of (pages_of s.store)).pages (with_batches (sound.works works).batches (base_of s)) image
 
     abbrev Either : Image → Type 0
     Either image = Before image ⊎ HasJournaledContents (root_of (pages_of s.store)).pages made image
 
-    is_before : (image : Image) (x : Option Contents) → Before image → IsJournalReadAs (root_of (pages_of s.store)).pages image x → x ≡ Some (stored (journal_state s))
+    is_before : (image : Image) (x : Option Contents) → Before image → IsReadAs (root_of (pages_of s.store)).pages image x → x ≡ Some (stored (journal_state s))
     is_before image x has read = read_is image (root_of (pages_of s.store)).pages _ x has read ∙ ap (λ (c : Contents). Some c) (sym (stored_is s sound works))
 
-    is_either : (image : Image) (x : Option Contents) → Either image → IsJournalReadAs (root_of (pages_of s.store)).pages image x → (x ≡ Some (stored (journal_state s))) ⊎ (x ≡ Some after)
+    is_either : (image : Image) (x : Option Contents) → Either image → IsReadAs (root_of (pages_of s.store)).pages image x → (x ≡ Some (stored (journal_state s))) ⊎ (x ≡ Some after)
     is_either image x has read = elim has [
       | inl is ↦ inl (is_before image x is read)
       | inr is ↦ inr (read_is image (root_of (pages_of s.store)).pages made x is read ∙ ap (λ (c : Contents). Some c) made_is)
@@ -144,17 +149,17 @@ module _ {D : Type 0} {g : Ghosts D} (present : (device : D) → (g.state device
 
     -- of the pages, where they have as many as before
     module _ (same_pages : (root_of (pages_of t.store)).pages ≡ (root_of (pages_of s.store)).pages) where
-      read_on : (Q : Option Contents → Type 0) → LeavesOnly Q (journal_state s).time (read_by (IsJournalReadAs (root_of (pages_of s.store)).pages) (timeline (device_under t))) → LeavesOnly Q (journal_state s).time (journal_state t).time
-      read_on Q leaves = subst (λ (n : ℕ). LeavesOnly Q (journal_state s).time (read_by (IsJournalReadAs n) (timeline (device_under t)))) (sym same_pages) leaves
+      read_on : (Q : Option Contents → Type 0) → LeavesOnly Q (journal_state s).time (read_by (IsReadAs (root_of (pages_of s.store)).pages) (timeline (device_under t))) → LeavesOnly Q (journal_state s).time (journal_state t).time
+      read_on Q leaves = subst (λ (n : ℕ). LeavesOnly Q (journal_state s).time (read_by (IsReadAs n) (timeline (device_under t)))) (sym same_pages) leaves
 
       leaves_either : LeavesEither (base_of s) made (pages_of s.store) (pages_of t.store) → LeavesOnly (λ x. (x ≡ Some (stored (journal_state s))) ⊎ (x ≡ Some after)) (journal_state s).time (journal_state t).time
       leaves_either leaves = read_on _
-          (lifted (IsJournalReadAs (root_of (pages_of s.store)).pages) Either _ (timeline (device_under s)) (timeline (device_under t)) is_either
+          (lifted (IsReadAs (root_of (pages_of s.store)).pages) Either _ (timeline (device_under s)) (timeline (device_under t)) is_either
           (weakened _ Either (timeline (device_under s)) (timeline (device_under t)) either_image (both _ _ (timeline (device_under s)) (timeline (device_under t)) (either_journaled leaves) journals)))
 
       leaves_before : LeavesBefore (base_of s) (pages_of s.store) (pages_of t.store) → LeavesOnly (λ x. x ≡ Some (stored (journal_state s))) (journal_state s).time (journal_state t).time
       leaves_before leaves = read_on _
-          (lifted (IsJournalReadAs (root_of (pages_of s.store)).pages) Before _ (timeline (device_under s)) (timeline (device_under t)) is_before
+          (lifted (IsReadAs (root_of (pages_of s.store)).pages) Before _ (timeline (device_under s)) (timeline (device_under t)) is_before
           (weakened _ Before (timeline (device_under s)) (timeline (device_under t)) before_image (both _ _ (timeline (device_under s)) (timeline (device_under t)) (before_journaled leaves) journals)))
 
   -- all is committed
@@ -163,6 +168,12 @@ module _ {D : Type 0} {g : Ghosts D} (present : (device : D) → (g.state device
       (whole : (contents : Contents) → HoldsContents contents (pages_of s.store) → CommitsBatch joined (Ok tt) contents (changed_by_batch joined contents) (pages_of s.store) (pages_of t.store)) where
     base_after : (sound : IsSoundJournal s) → base_of t ≡ changed_by_batch joined (base_of s)
     base_after sound = contents_are (changed_by_batch joined (base_of s)) (pages_of t.store) (whole (base_of s) (held s sound works)).outcome.holds
+
+    number_after : IsSoundJournal s → IsNumberOf (max (root_number t) t.top) (root_number t) (region_in journal_start journal_room (device_under t).content)
+    number_after sound =
+        subst (λ (n : ℕ). IsNumberOf (max (root_number t) n) (root_number t) (region_in journal_start journal_room (device_under t).content)) (sym top)
+        (subst (λ (region : Region). IsNumberOf (max (root_number t) s.top) (root_number t) region) (sym (region_kept sound))
+        (under_next (root_number s) (root_number t) s.top (region_in journal_start journal_room (device_under s).content) anew (sound.works works).number_is))
 
     sound_after : IsSoundJournal s → IsSoundJournal t
     sound_after sound = record {
@@ -182,6 +193,7 @@ module _ {D : Type 0} {g : Ghosts D} (present : (device : D) → (g.state device
             spelled = tt;
             waits = λ es in_order. ap (λ (w : List Changes). applied_all w es) waiting;
             end_is = sym ends;
+            number_is = number_after sound;
           };
     }
 
@@ -233,6 +245,9 @@ module _ {D : Type 0} {g : Ghosts D} (present : (device : D) → (g.state device
               spelled = r.spelled;
               waits = λ es in_order. ap (λ (w : List Changes). applied_all w es) waiting ∙ r.waits es in_order;
               end_is = r.end_is ∙ sym ends;
+              number_is = subst (λ (n : ℕ). IsNumberOf (max n t.top) n (region_in journal_start journal_room (device_under t).content)) (sym same_number)
+                  (subst (λ (n : ℕ). IsNumberOf (max (root_number s) n) (root_number s) (region_in journal_start journal_room (device_under t).content)) (sym top)
+                  (subst (λ (region : Region). IsNumberOf (max (root_number s) s.top) (root_number s) region) (sym (region_kept sound)) r.number_is));
             };
       }
 

@@ -1,4 +1,5 @@
 pub mod Meanings
+pub mod Numbers
 pub mod Reading
 pub mod Records
 pub mod Checkpoints

@@ -33,6 +33,7 @@ use Rattle.journal_store.specs.Meaning.{HasJournaledContents, IsJournalReadAs, I
 use Rattle.journal_store.specs.Stores.{device_under, base_of, root_number, IsSoundJournal}
 use Rattle.journal_store.specs.Opening.{IsNamedFor, HoldsImage, IsOpened, CannotOpen, Opens, IsReplayed, NotReplayed}
 use Rattle.journal_store.specs.MeaningLaws.{under_has}
+use Rattle.journal_store.proofs.Numbers.{greater}
 
 -- a device of another size than a database may have
 pub wrong_size : (d : DeviceState) → is_size d.sectors ≡ false → first_fault d.sectors d.content ≡ Some WrongSize
@@ -51,20 +52,6 @@ as_under pages number contents image has same = record {
   kind = has.kind;
   spelled = has.spelled;
   represents = has.represents;
-}
-
--- the number of a store is that of what its device holds
-greater : (root top : ℕ) (region : Region) → IsGreatest top region → IsNumberOf (max root top) root region
-greater root top region greatest = record {
-  not_below = omega arith;
-  up_to = λ q part held. omega (arith, greatest.up_to q part held);
-  reached = elim (cases_lt root top) [
-    | inl above ↦ ⊎_elim
-        (λ none. absurd (omega (arith, none, above)))
-        (λ found. inr (found.0, found.1, found.2, omega (arith, found.3, above)))
-        greatest.reached
-    | inr low ↦ inl (omega (arith, low))
-  ];
 }
 
 -- a refusal that is passed on
@@ -165,13 +152,15 @@ module _ (d m : DeviceState) (history : KeepsHistory d m) (keeps : d.faithful �
     second : (base_of s).spelling ≡ Second
     second = journaled_is_second (root_of (pages_of s.store)).format s.journaled
 
+    region_now : d.faithful → region_of journal_room sectors ≡ region_in journal_start journal_room (device_under s).content
+    region_now faithful =
+        let all = content_is s.store opened sectors read faithful in
+        region_is s.store opened sectors read faithful ∙ region_still journal_start journal_room d.content (device_under s).content (λ q lt. sym (all.content (journal_start + q)))
+
     holds_journal : d.faithful → HoldsJournal journal_start journal_room (root_number s) s.top is.es (device_under s)
     holds_journal faithful =
         let kept = opened.content (history.faithful faithful) in
-        let all = content_is s.store opened sectors read faithful in
-        let same : region_of journal_room sectors ≡ region_in journal_start journal_room (device_under s).content
-        = region_is s.store opened sectors read faithful
-        ∙ region_still journal_start journal_room d.content (device_under s).content (λ q lt. sym (all.content (journal_start + q))) in
+        let same = region_now faithful in
         record {
           inside = s.room;
           fixed = λ q lt c left. synced faithful (journal_start + q) (omega (arith, lt, s.room, opened.history.sectors)) c (kept.left (journal_start + q) c left) ∙ sym (kept.content (journal_start + q));
@@ -190,6 +179,8 @@ module _ (d m : DeviceState) (history : KeepsHistory d m) (keeps : d.faithful �
         spelled = is.spelled;
         waits = is.waits;
         end_is = is.end_is;
+        number_is = greater (root_number s) s.top (region_in journal_start journal_room (device_under s).content)
+            (subst (λ (region : Region). IsGreatest s.top region) (region_now faithful) is.top);
       };
     }
 

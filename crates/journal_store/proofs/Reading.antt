@@ -1,5 +1,5 @@
 -- Reads of a store with a journal, which are reads of its pages under what waits.
-use Rattle.std.proofs.Common.{◌≡◌, ◌+◌, ℕ, Bool, true, false, List, Option, Result, Ok, Err, inl, refl, sym, ap, subst, ◌∙◌, arith}
+use Rattle.std.proofs.Common.{◌≡◌, ◌+◌, ℕ, Bool, true, false, List, Option, Result, Ok, Err, inl, max, refl, sym, ap, subst, ◌∙◌, arith}
 use Rattle.std.proofs.Math.Path.{fun_ext}
 use Rattle.std.proofs.lemmas.Bool.{false≢true}
 use Rattle.sector_device.specs.Timeline.{LeavesOnly, IsPresent, read_by}
@@ -24,7 +24,8 @@ use Rattle.transactions.proofs.Viewing.{map_only_reads}
 use Rattle.kv_store.specs.TreeStore.{pages_of, store_state}
 use Rattle.kv_store.specs.Unwritten.{WritesNothing}
 use Rattle.journal_store.specs.declared.stores.JournalStore.{JournalStore}
-use Rattle.journal_store.specs.Meaning.{IsJournalReadAs, journal_start, journal_room}
+use Rattle.journal_store.specs.Meaning.{IsNumberOf, journal_start, journal_room}
+use Rattle.journal_store.specs.Images.{IsReadAs}
 use Rattle.journal_store.specs.Stores.{device_under, root_number, HoldsRecords, IsSoundJournal, journal_state}
 use Rattle.journal_store.specs.Reads.{KeepsJournal, present_in}
 
@@ -66,6 +67,9 @@ module _ {D : Type 0} {g : Ghosts D} (present : (device : D) → (g.state device
             spelled = r.spelled;
             waits = λ es in_order. ap (λ (w : List Changes). applied_all w es) keeps.waiting ∙ r.waits es in_order;
             end_is = r.end_is ∙ sym keeps.ends;
+            number_is = subst (λ (f : RootFields). IsNumberOf (max f.number t.top) f.number (region_in journal_start journal_room (device_under t).content)) (sym same_root)
+                (subst (λ (n : ℕ). IsNumberOf (max (root_number s) n) (root_number s) (region_in journal_start journal_room (device_under t).content)) (sym keeps.top)
+                (subst (λ (image : Image). IsNumberOf (max (root_number s) s.top) (root_number s) (region_in journal_start journal_room image)) (fun_ext (λ q. sym (content.content q))) r.number_is));
           }
 
       still_sound : IsSoundJournal t
@@ -73,8 +77,8 @@ module _ {D : Type 0} {g : Ghosts D} (present : (device : D) → (g.state device
 
       leaves_read : LeavesOnly (journal_state s).time.left (journal_state s).time (journal_state t).time
       leaves_read =
-          subst (λ (f : RootFields). LeavesOnly (journal_state s).time.left (journal_state s).time (read_by (IsJournalReadAs f.pages) (timeline (device_under t)))) (sym same_root)
-          (lifted (IsJournalReadAs (root_of (pages_of s.store)).pages) (IsLeft (device_under s)) (journal_state s).time.left (timeline (device_under s)) (timeline (device_under t))
+          subst (λ (f : RootFields). LeavesOnly (journal_state s).time.left (journal_state s).time (read_by (IsReadAs f.pages) (timeline (device_under t)))) (sym same_root)
+          (lifted (IsReadAs (root_of (pages_of s.store)).pages) (IsLeft (device_under s)) (journal_state s).time.left (timeline (device_under s)) (timeline (device_under t))
           (λ image x left read. (image, left, read)) content.leaves)
 
       map_is : (journal_state t).map ≡ (journal_state s).map

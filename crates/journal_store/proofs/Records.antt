@@ -1,5 +1,5 @@
 -- A store with a journal that works: what a stop leaves of it, and a record behind the others.
-use Rattle.std.proofs.Common.{leb, eqb, ◌&&◌, drop, ◌≡◌, ◌<◌, ◌≤◌, ◌⊎◌, ◌+◌, ◌/◌, ◌-◌, ◌^◌, ◌++◌, inl, inr, ⊎_elim, ℕ, Bool, true, false, List, [], ◌∷◌, Option, Some, None, Ok, Err, length, get_or, refl, sym, ap, subst, ◌∙◌, arith}
+use Rattle.std.proofs.Common.{leb, eqb, ◌&&◌, drop, ◌≡◌, ◌<◌, ◌≤◌, ◌⊎◌, ◌+◌, ◌/◌, ◌-◌, ◌^◌, ◌++◌, inl, inr, ⊎_elim, ℕ, Bool, true, false, List, [], ◌∷◌, Option, Some, None, Ok, Err, length, get_or, max, refl, sym, ap, subst, ◌∙◌, arith}
 use Rattle.std.specs.Str.{bytes_eq}
 use Rattle.std.proofs.lemmas.Bool.{false≢true, leb-true}
 use Rattle.byteorder.specs.Endian.{big_number}
@@ -19,7 +19,7 @@ use Rattle.journal_records.specs.Changes.{Spells, change_then}
 use Rattle.journal_records.specs.Records.{entry_of}
 use Rattle.journal_records.specs.Sectors.{sector_at}
 use Rattle.journal_records.proofs.Parts.{length-parts_of}
-use Rattle.sector_journal.specs.Journals.{HoldsJournal, CanAppend, IsAppended}
+use Rattle.sector_journal.specs.Journals.{region_in, HoldsJournal, CanAppend, IsAppended}
 use Rattle.sector_journal.proofs.Appending.{leaves_written, appended_now}
 use Rattle.cow_pages.specs.Cow.{device_below, root_of}
 use Rattle.store.specs.Contents.{changed_by_batch}
@@ -34,10 +34,12 @@ use Rattle.kv_store.specs.ContentLaws.{same_parts}
 use Rattle.kv_store.specs.Numbered.{HasContentsUnder, LeavesBefore}
 use Rattle.kv_store.specs.TreeStore.{IsSoundStore, pages_of}
 use Rattle.journal_store.specs.declared.stores.JournalStore.{JournalStore}
-use Rattle.journal_store.specs.Meaning.{HasJournaledContents, IsJournalReadAs, with_batches, joined_parts, journal_start, journal_room}
+use Rattle.journal_store.specs.Meaning.{HasJournaledContents, IsNumberOf, with_batches, joined_parts, journal_start, journal_room}
+use Rattle.journal_store.specs.Images.{IsReadAs}
 use Rattle.journal_store.specs.Stores.{device_under, base_of, root_number, HoldsRecords, IsSoundJournal, state_with, journal_state}
-use Rattle.journal_store.specs.MeaningLaws.{read_is}
+use Rattle.journal_store.specs.ImageLaws.{read_is}
 use Rattle.journal_store.specs.StoreLaws.{held, ordered, stored_is, settled}
+use Rattle.journal_store.proofs.Numbers.{greater, last_stands}
 use Rattle.journal_store.proofs.Reading.{nothing_read}
 use Rattle.journal_store.proofs.Meanings.{record_leaves, spell_more, applied_more, joined_is}
 
@@ -86,6 +88,8 @@ module _ {D : Type 0} {g : Ghosts D} (present : (device : D) → (g.state device
           spelled = r.spelled;
           waits = λ es in_order. ap (λ (w : List Changes). applied_all w es) waiting ∙ r.waits es in_order;
           end_is = r.end_is ∙ sym ends;
+          number_is = subst (λ (x : TreeStore D g). IsNumberOf (max (root_of (pages_of x)).number t.top) (root_of (pages_of x)).number (region_in journal_start journal_room (device_below (pages_of x)).content)) (sym store)
+              (subst (λ (n : ℕ). IsNumberOf (max (root_number s) n) (root_number s) (region_in journal_start journal_room (device_under s).content)) (sym top) r.number_is);
         };
   }
 
@@ -93,7 +97,7 @@ module _ {D : Type 0} {g : Ghosts D} (present : (device : D) → (g.state device
   refused_at = record {
     history = record { sound = sound_same; fulls = omega arith; failures = omega arith; faults = omega arith };
     at_once = λ sound worked.
-        let now : IsPresent (journal_state s).time = present_lifted (IsJournalReadAs (root_of (pages_of s.store)).pages) (timeline (device_under s)) (present (pages_of s.store).device sound.pages.faithful) in
+        let now : IsPresent (journal_state s).time = present_lifted (IsReadAs (root_of (pages_of s.store)).pages) (timeline (device_under s)) (present (pages_of s.store).device sound.pages.faithful) in
         record {
           committed = record { map = refl; spelling = refl; number = refl };
           leaves = started (MayLeaveDuring (Err Memory) (stored (journal_state s)) after) (journal_state s).time now (λ x left. settled s sound works x left);
@@ -175,7 +179,7 @@ module _ {D : Type 0} {g : Ghosts D} (present : (device : D) → (g.state device
         (λ image has. record_leaves image (root_of (pages_of s.store)).pages (root_number s) (base_of s) (sound.works works).es (sound.works works).batches entry batch has.0 (sound.works works).second (sound.works works).spelled entry_spells has.1)
         (both _ _ (timeline (device_under s)) (timeline (device_under t)) (journaled (leaves (base_of s) (held s sound works))) journals)
 
-    read_either : (image : Image) (x : Option Contents) → Either image → IsJournalReadAs (root_of (pages_of s.store)).pages image x → (x ≡ Some (stored (journal_state s))) ⊎ (x ≡ Some after)
+    read_either : (image : Image) (x : Option Contents) → Either image → IsReadAs (root_of (pages_of s.store)).pages image x → (x ≡ Some (stored (journal_state s))) ⊎ (x ≡ Some after)
     read_either image x has read = elim has [
       | inl is ↦ inl (read_is image (root_of (pages_of s.store)).pages _ x is read ∙ ap (λ (c : Contents). Some c) (sym (stored_is s sound works)))
       | inr is ↦ inr (read_is image (root_of (pages_of s.store)).pages _ x is read ∙ ap (λ (c : Contents). Some c) (sym stored_after))
@@ -183,8 +187,8 @@ module _ {D : Type 0} {g : Ghosts D} (present : (device : D) → (g.state device
 
     pub leaves_store : LeavesOnly (λ x. (x ≡ Some (stored (journal_state s))) ⊎ (x ≡ Some after)) (journal_state s).time (journal_state t).time
     leaves_store =
-        subst (λ (n : ℕ). LeavesOnly (λ x. (x ≡ Some (stored (journal_state s))) ⊎ (x ≡ Some after)) (journal_state s).time (read_by (IsJournalReadAs n) (timeline (device_under t)))) (sym same_pages)
-        (lifted (IsJournalReadAs (root_of (pages_of s.store)).pages) Either _ (timeline (device_under s)) (timeline (device_under t)) read_either leaves_either)
+        subst (λ (n : ℕ). LeavesOnly (λ x. (x ≡ Some (stored (journal_state s))) ⊎ (x ≡ Some after)) (journal_state s).time (read_by (IsReadAs n) (timeline (device_under t)))) (sym same_pages)
+        (lifted (IsReadAs (root_of (pages_of s.store)).pages) Either _ (timeline (device_under s)) (timeline (device_under t)) read_either leaves_either)
 
   -- the device failed
   pub append_failed : FailsBeside s.store t.store → Commits (Err Device) after (journal_state s) (journal_state t)
@@ -219,6 +223,17 @@ module _ {D : Type 0} {g : Ghosts D} (present : (device : D) → (g.state device
         appended_now journal_start journal_room (root_number s) s.top (sound.works works).es entry (2 + s.end) sectors (device_under s) (can sound) (device_under t)
         (writes sound.pages.faithful) (written sound.pages.faithful) (synced sound.pages.faithful) size.sectors (λ q lt. content_left (pages_of s.store).device q sound.pages.faithful lt) inside
 
+    -- its number is the greatest
+    number_more : (sound : IsSoundJournal s) → IsNumberOf (max (root_number t) t.top) (root_number t) (region_in journal_start journal_room (device_under t).content)
+    number_more sound =
+        let region = region_in journal_start journal_room (device_under t).content in
+        let holds = (appended sound).holds in
+        subst (λ (n : ℕ). IsNumberOf (max (root_number t) n) (root_number t) region) (sym top)
+        (greater (root_number t) number region (record {
+          up_to = holds.few;
+          reached = inr (last_stands region (root_number s) 0 0 journal_room (sound.works works).es entry holds.journal.chain);
+        }))
+
     holds_more : (sound : IsSoundJournal s) → HoldsRecords t
     holds_more sound = record {
       second = ap (λ (c : Contents). c.spelling) (same_base sound) ∙ (sound.works works).second;
@@ -229,6 +244,7 @@ module _ {D : Type 0} {g : Ghosts D} (present : (device : D) → (g.state device
       spelled = spell_more (sound.works works).es (sound.works works).batches entry batch (sound.works works).spelled entry_spells;
       waits = λ es in_order. waits es in_order ∙ (ap (λ (rs : Records). applied batch rs) ((sound.works works).waits es in_order) ∙ sym (applied_more (sound.works works).batches batch es));
       end_is = end_with 0 (sound.works works).es entry ∙ omega (arith, (sound.works works).end_is, parts, count, ends);
+      number_is = number_more sound;
     }
 
     sound_after : IsSoundJournal s → IsSoundJournal t
@@ -258,7 +274,7 @@ module _ {D : Type 0} {g : Ghosts D} (present : (device : D) → (g.state device
   refused_number works last = record {
     history = record { sound = λ sound. sound; fulls = omega arith; failures = omega arith; faults = omega arith };
     at_once = λ sound worked.
-        let now : IsPresent (journal_state s).time = present_lifted (IsJournalReadAs (root_of (pages_of s.store)).pages) (timeline (device_under s)) (present (pages_of s.store).device sound.pages.faithful) in
+        let now : IsPresent (journal_state s).time = present_lifted (IsReadAs (root_of (pages_of s.store)).pages) (timeline (device_under s)) (present (pages_of s.store).device sound.pages.faithful) in
         record {
           committed = record { map = refl; spelling = refl; number = refl };
           leaves = started (MayLeaveDuring (Err Number) (stored (journal_state s)) after) (journal_state s).time now (λ x left. settled s sound works x left);
@@ -286,7 +302,7 @@ module _ {D : Type 0} {g : Ghosts D} (present : (device : D) → (g.state device
   committed_nothing works = record {
     history = record { sound = λ sound. sound; fulls = omega arith; failures = omega arith; faults = omega arith };
     at_once = λ sound worked.
-        let now : IsPresent (journal_state s).time = present_lifted (IsJournalReadAs (root_of (pages_of s.store)).pages) (timeline (device_under s)) (present (pages_of s.store).device sound.pages.faithful) in
+        let now : IsPresent (journal_state s).time = present_lifted (IsReadAs (root_of (pages_of s.store)).pages) (timeline (device_under s)) (present (pages_of s.store).device sound.pages.faithful) in
         record {
           committed = record { map = refl; spelling = refl; not_back = omega arith; by_one = omega arith };
           leaves = started (MayLeaveDuring (Ok tt) (stored (journal_state s)) (stored (journal_state s))) (journal_state s).time now (λ x left. inl (settled s sound works x left));

@@ -1,6 +1,8 @@
 pub mod Meaning
 pub mod Stores
 pub mod MeaningLaws
+pub mod Images
+pub mod ImageLaws
 pub mod StoreLaws
 pub mod Reads
 pub mod Opening

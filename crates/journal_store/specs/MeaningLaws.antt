@@ -1,5 +1,5 @@
 -- Laws of images with a journal that the ghost members of a store cite: an image has one contents at most.
-use Rattle.std.proofs.Common.{◌≡◌, ℕ, true, List, [], ◌∷◌, Option, Some, None, refl, sym, ap, subst, ◌∙◌}
+use Rattle.std.proofs.Common.{◌≡◌, ℕ, true, List, [], ◌∷◌, refl, sym, ap, subst, ◌∙◌}
 use Rattle.sector_device.specs.Device.{Image}
 use Rattle.journal_chain.specs.Chain.{Entry}
 use Rattle.journal_chain.proofs.Chaining.{one_chain}
@@ -11,7 +11,7 @@ use Rattle.store.specs.Store.{Contents}
 use Rattle.kv_store.specs.Contents.{HasContentsWith}
 use Rattle.kv_store.specs.ContentLaws.{same_contents_with}
 use Rattle.kv_store.specs.Numbered.{HasContentsUnder}
-use Rattle.journal_store.specs.Meaning.{HasJournaledContents, IsJournalReadAs, SpellBatches, with_batches, joined_parts, journal_start, journal_room}
+use Rattle.journal_store.specs.Meaning.{HasJournaledContents, SpellBatches, with_batches, joined_parts, journal_start, journal_room}
 
 -- records spell one list of batches at most
 one_list : (es : List Entry) (bs cs : List Changes) → SpellBatches es bs → SpellBatches es cs → bs ≡ cs
@@ -35,8 +35,3 @@ one_contents image pages others contents other has also =
     let records : has.es ≡ also.es = one_chain (region_in journal_start journal_room image) also.root 0 0 journal_room has.es also.es journal.chain also.journal.chain in
     let batches : has.batches ≡ also.batches = one_list also.es has.batches also.batches (subst (λ (es : List Entry). SpellBatches es has.batches) records has.spelled) also.spelled in
     has.is ∙ ap (λ (bs : List Changes). with_batches bs has.base) batches ∙ ap (λ (c : Contents). with_batches also.batches c) bases ∙ sym also.is
-
--- what is read of an image that has these contents
-pub read_is : (image : Image) (pages : ℕ) (contents : Contents) (x : Option Contents) → HasJournaledContents pages contents image → IsJournalReadAs pages image x → x ≡ Some contents
-read_is image pages contents (Some other) has read = ap (λ (c : Contents). Some c) (one_contents image pages pages other contents read has)
-read_is image pages contents None has none = absurd (none contents has)

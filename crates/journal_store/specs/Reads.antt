@@ -21,7 +21,7 @@ use Rattle.kv_store.specs.Unwritten.{WritesNothing}
 use Rattle.kv_store.specs.UnwrittenLaws.{nothing_written, nothing_written_joined}
 use Rattle.kv_store.specs.Walks.{AreAhead as AreAheadInPages, ahead_later as later_in_pages}
 use Rattle.journal_store.specs.declared.stores.JournalStore.{JournalStore}
-use Rattle.journal_store.specs.Meaning.{IsJournalReadAs}
+use Rattle.journal_store.specs.Images.{IsReadAs}
 use Rattle.journal_store.specs.Stores.{device_under, base_of, IsSoundJournal, journal_state}
 
 -- what waits is as it was, and nothing was written
@@ -70,4 +70,4 @@ records_rise s sound = ordered_view s.waiting (base_of s).records (keys_rise s.s
 
 -- a stop now leaves what it may leave now
 pub present_in : {D : Type 0} {g : Ghosts D} (s : JournalStore D g) → IsPresent (timeline (device_under s)) → IsPresent (journal_state s).time
-present_in s present = present_lifted (IsJournalReadAs (root_of (pages_of s.store)).pages) (timeline (device_under s)) present
+present_in s present = present_lifted (IsReadAs (root_of (pages_of s.store)).pages) (timeline (device_under s)) present

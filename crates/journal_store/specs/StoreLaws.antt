@@ -1,5 +1,5 @@
 -- Laws that the ghost members of a store with a journal cite: what a stop leaves of it.
-use Rattle.std.proofs.Common.{◌≡◌, ◌+◌, inl, inr, ℕ, false, List, Option, Some, refl, sym, ap, subst, ◌∙◌, arith}
+use Rattle.std.proofs.Common.{◌≡◌, ◌+◌, ◌/◌, inl, inr, ℕ, false, List, Option, Some, refl, sym, ap, subst, ◌∙◌, arith}
 use Rattle.std.proofs.Math.Path.{fun_ext}
 use Rattle.std.proofs.lemmas.Bool.{cases_lt}
 use Rattle.sector_device.specs.Device.{DeviceState, Image, IsLeft}
@@ -17,7 +17,8 @@ use Rattle.kv_store.specs.TreeStore.{pages_of}
 use Rattle.kv_store.specs.TreeLaws.{keys_rise}
 use Rattle.journal_store.specs.declared.stores.JournalStore.{JournalStore}
 use Rattle.journal_store.specs.Meaning.{HasJournaledContents, with_batches, journal_start, journal_room}
-use Rattle.journal_store.specs.MeaningLaws.{read_is}
+use Rattle.journal_store.specs.Images.{IsJournaledUnder}
+use Rattle.journal_store.specs.ImageLaws.{read_is}
 use Rattle.journal_store.specs.Stores.{device_under, base_of, root_number, HoldsRecords, IsSoundJournal, journal_state}
 
 -- what a stop leaves of a journal that it leaves as it is
@@ -65,6 +66,23 @@ module _ {D : Type 0} {g : Ghosts D} (s : JournalStore D g) (sound : IsSoundJour
         spelled = (sound.works works).spelled;
         is = refl;
       }
+
+  -- as contents of a device of so many sectors
+  pub image_left : (image : Image) → IsLeft (device_under s) image → HasJournaledContents ((device_under s).sectors / 8) (stored (journal_state s)) image
+  image_left image left =
+      let pages : (root_of (pages_of s.store)).pages ≡ (device_under s).sectors / 8 = omega (arith, (pages_of s.store).sized) in
+      subst (λ (n : ℕ). HasJournaledContents n (stored (journal_state s)) image) pages
+      (subst (λ (c : Contents). HasJournaledContents (root_of (pages_of s.store)).pages c image) (sym stored_is) (left_has image left))
+
+  -- and the content has them, under the number of the store
+  pub content_under : IsLeft (device_under s) (device_under s).content → IsJournaledUnder ((device_under s).sectors / 8) (journal_state s).number (stored (journal_state s)) (device_under s).content
+  unfolding left_has
+  content_under left =
+      let image = (device_under s).content in
+      let pages : (root_of (pages_of s.store)).pages ≡ (device_under s).sectors / 8 = omega (arith, (pages_of s.store).sized) in
+      subst (λ (n : ℕ). IsJournaledUnder n (journal_state s).number (stored (journal_state s)) image) pages
+      (subst (λ (c : Contents). IsJournaledUnder (root_of (pages_of s.store)).pages (journal_state s).number c image) (sym stored_is)
+      (record { has = left_has image left; number_is = (sound.works works).number_is }))
 
   pub settled : (x : Option Contents) → (journal_state s).time.left x → x ≡ Some (stored (journal_state s))
   settled x left =

@@ -5,7 +5,7 @@ use Rattle.sector_device.specs.Timeline.{read_by}
 use Rattle.sector_device.specs.Device.{DeviceState, timeline}
 use Rattle.sector_device.specs.declared.device.Device.{Ghosts}
 use Rattle.journal_chain.specs.Chain.{Entry, end_of}
-use Rattle.sector_journal.specs.Journals.{HoldsJournal}
+use Rattle.sector_journal.specs.Journals.{region_in, HoldsJournal}
 use Rattle.cow_pages.specs.Cow.{device_of, device_below, root_of}
 use Rattle.store.specs.Records.{Records, Changes, IsOrdered}
 use Rattle.store.specs.Store.{Contents, StoreState}
@@ -13,7 +13,8 @@ use Rattle.transactions.specs.Views.{applied_all}
 use Rattle.kv_store.specs.declared.tree_store.TreeStore.{TreeStore}
 use Rattle.kv_store.specs.Contents.{contents_of}
 use Rattle.kv_store.specs.TreeStore.{IsSoundStore, pages_of}
-use Rattle.journal_store.specs.Meaning.{SpellBatches, IsJournalReadAs, journal_start, journal_room}
+use Rattle.journal_store.specs.Meaning.{SpellBatches, IsNumberOf, journal_start, journal_room}
+use Rattle.journal_store.specs.Images.{IsReadAs}
 use Rattle.journal_store.specs.declared.stores.JournalStore.{JournalStore}
 
 -- the device itself
@@ -37,7 +38,8 @@ abbrev pub end_of_records : {D : Type 0} {g : Ghosts D} → JournalStore D g →
 end_of_records s = s.end
 
 -- The records of the durable root stand in the journal, which a stop leaves as it is: their batches are what waits, and they end
--- where the next one begins. No number in the journal, of whatever root, is above the top.
+-- where the next one begins. No number in the journal, of whatever root, is above the top, and the greater of it and the root's is one
+-- that stands there or the root's.
 pub record HoldsRecords {D : Type 0} {g : Ghosts D} (s : JournalStore D g) : Type 0 where
   pub second : (base_of s).spelling ≡ Second
   pub es : List Entry
@@ -46,6 +48,7 @@ pub record HoldsRecords {D : Type 0} {g : Ghosts D} (s : JournalStore D g) : Typ
   pub spelled : SpellBatches es batches
   pub waits : (records : Records) → IsOrdered records → applied_all s.waiting records ≡ applied_all batches records
   pub end_is : end_of 0 es ≡ s.end
+  pub number_is : IsNumberOf (max (root_number s) s.top) (root_number s) (region_in journal_start journal_room (device_under s).content)
 
 -- the pages are sound, and unless the store has answered Device the journal behind them holds what waits
 pub record IsSoundJournal {D : Type 0} {g : Ghosts D} (s : JournalStore D g) : Type 0 where
@@ -64,7 +67,7 @@ state_with sound store waiting top = record {
   fulls = store.fulls;
   failures = store.failures;
   faults = (device_below (pages_of store)).failures;
-  time = read_by (IsJournalReadAs (root_of (pages_of store)).pages) (timeline (device_below (pages_of store)));
+  time = read_by (IsReadAs (root_of (pages_of store)).pages) (timeline (device_below (pages_of store)));
 }
 
 -- the records are those of the pages under what waits, and the number is the greater of the root's and the top

@@ -1,9 +1,9 @@
 //! A store with a journal over a device that keeps nothing beside.
-ghost use Rattle.std.specs.Prelude.{◌≡◌};
+ghost use Rattle.std.specs.Prelude.{◌≡◌, ◌≤◌};
 ghost use Rattle.journal_store.specs.Guarded.{IsPlain, OpensOver, inner_device};
 
 use crate::stores::JournalStore;
-use kv_store::OpenFault;
+use kv_store::{DEFAULT_CACHE_PAGES, MAX_CACHE_PAGES, OpenFault};
 use sector_device::{Device, Guarded};
 use std::alloc::Global;
 
@@ -13,7 +13,21 @@ impl<D: Device> JournalStore<Guarded<D>> {
         requires { IsPlain (D.state device) }
         ensures { OpensOver (D.state device) result }
     {
-        match JournalStore::open(alloc, Guarded::new(device)) {
+        JournalStore::open_over_with(alloc, device, DEFAULT_CACHE_PAGES)
+    }
+
+    /// Opens a device as `open_over` does, with a cache of so many pages.
+    pub fn open_over_with(
+        alloc: Global,
+        device: D,
+        cache_pages: usize,
+    ) -> Result<JournalStore<Guarded<D>>, (D, OpenFault)>
+        requires plain { IsPlain (D.state device) }
+        requires some { 1 ≤ cache_pages }
+        requires most { cache_pages ≤ MAX_CACHE_PAGES }
+        ensures { OpensOver (D.state device) result }
+    {
+        match JournalStore::open_with(alloc, Guarded::new(device), cache_pages) {
             Ok(store) => Ok(store),
             Err((guarded, fault)) => Err((guarded.into_device(), fault)),
         }

@@ -13,7 +13,7 @@ use crate::devices::JournalDevice;
 use crate::stores::{JOURNAL_ROOM, JOURNAL_START, JournalStore};
 use cow_pages::page_count;
 use journal_records::read_batch;
-use kv_store::{DEFAULT_CACHE_PAGES, OpenFault, TreeStore};
+use kv_store::{DEFAULT_CACHE_PAGES, MAX_CACHE_PAGES, OpenFault, TreeStore};
 use sector_device::{Device, SECTOR_SIZE};
 use sector_journal::{JournalFault, JournalRecord, find_journal, read_sectors};
 use std::alloc::Global;
@@ -103,12 +103,25 @@ impl<D: JournalDevice> JournalStore<D> {
     pub fn open(alloc: Global, device: D) -> Result<JournalStore<D>, (D, OpenFault)>
         ensures { Opens (D.state device) result }
     {
+        JournalStore::open_with(alloc, device, DEFAULT_CACHE_PAGES)
+    }
+
+    /// Opens a device as `open` does, with a cache of so many pages.
+    pub fn open_with(
+        alloc: Global,
+        device: D,
+        cache_pages: usize,
+    ) -> Result<JournalStore<D>, (D, OpenFault)>
+        requires some { 1 ≤ cache_pages }
+        requires most { cache_pages ≤ MAX_CACHE_PAGES }
+        ensures { Opens (D.state device) result }
+    {
         let mut device = device;
         let mut sectors = [[0; SECTOR_SIZE]; JOURNAL_ROOM as usize];
         if let Err(fault) = read_behind_roots(&mut device, &mut sectors) {
             return Err((device, fault));
         }
-        let store = TreeStore::open_with(alloc, device, true, DEFAULT_CACHE_PAGES)?;
+        let store = TreeStore::open_with(alloc, device, true, cache_pages)?;
         match replay(alloc, store.number(), &sectors) {
             Ok(replayed) => Ok(JournalStore {
                 store,

@@ -3,7 +3,7 @@ use Rattle.cow_pages.specs.declared.open.OpenFault.TheVariants.{Damaged, Memory}
 use Rattle.sector_journal.specs.declared.journal.JournalFault.{JournalFault}
 use Rattle.journal_store.specs.Opening.{CannotOpen, IsReplayed, NotReplayed}
 use Rattle.journal_store.proofs.Opened.{refused_on, pages_refused, refused_memory, refused_damaged, store_opened}
-use Rattle.journal_store.proofs.stores.JournalStore.open.Goals as goal
+use Rattle.journal_store.proofs.stores.JournalStore.open_with.Goals as goal
 
 pub returns-in_err-store : goal.returns-in_err-store
 returns-in_err-store g c =
