@@ -14,7 +14,7 @@ use Rattle.expr_parser.specs.Stages.{Parses, by_tokens, Answers, parsed}
 use Rattle.expr_parser.specs.Whole.{SpellsWhole, IsWithinDepth}
 use Rattle.expr_parser.specs.Written.{IsAsWritten}
 use Rattle.catalogue_checks.specs.Parts.{HasUtf8}
-use Rattle.catalogue_checks.proofs.ReadTerms.{term_read}
+use Rattle.expr_parser.proofs.ReadTerms.{term_read}
 
 -- the tokens of a text of UTF-8 are readable
 abbrev pub TokensAreReadable : Type 0

@@ -1,5 +1,4 @@
 pub mod Lists
-mod ReadTerms
 mod Clauses
 mod Supports
 pub mod Differing

@@ -3,3 +3,4 @@ pub mod OneAnswer
 pub mod Primaries
 pub mod Readings
 pub mod Wholes
+pub mod ReadTerms

@@ -5,7 +5,6 @@ pub mod Table
 mod Counted
 mod Alike
 pub mod OneCommand
-mod ReadTerms
 mod Sound
 pub mod ReadStatements
 mod Wholes

@@ -22,7 +22,7 @@ use Rattle.sql_commands.specs.declared.queries.MoreTables.{MoreTables}
 use Rattle.sql_commands.specs.declared.queries.MoreTables.TheVariants as more
 use Rattle.sql_commands.specs.declared.command.Command.{Command}
 use Rattle.sql_commands.specs.declared.command.Command.TheVariants as production
-use Rattle.sql_commands.proofs.ReadTerms.{term_read}
+use Rattle.expr_parser.proofs.ReadTerms.{term_read}
 use Rattle.sql_commands.proofs.Sound.{Sound, nothing, word, part, either, anything, names, terms, sort_terms, numbers, list_of, many_of, option_of, after_of, parens_of}
 
 -- it may be read if it keeps the rules of form

@@ -9,7 +9,7 @@ use Rattle.sql_ast.specs.Read.{AreSome, IsReadTerm}
 use Rattle.sql_grammar.specs.Phrases.{Phrase, gives, ◌▹◌, ◌⊛◌, ◌∣◌, listed, many, name, number, expr, sort_value, Spells, optional, after, parenthesized}
 use Rattle.sql_grammar.specs.Productions.{SpellsList, last, more, SpellsRepeated, no_more, one_more}
 use Rattle.sql_lexer.specs.Tokens.{AreReadable}
-use Rattle.sql_commands.proofs.ReadTerms.{term_read}
+use Rattle.expr_parser.proofs.ReadTerms.{term_read}
 
 -- P holds of each value of the phrase
 pub record Sound {A : Type 0} (ts : List Lexeme) (p : Phrase A) (P : A → Type 0) : Type 0 where
