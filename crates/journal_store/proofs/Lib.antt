@@ -6,4 +6,5 @@ pub mod Checkpoints
 pub mod InTurn
 pub mod Opened
 pub mod Replaying
+pub mod Counted
 pub mod Guarding

@@ -7,3 +7,4 @@ pub mod StoreLaws
 pub mod Reads
 pub mod Opening
 pub mod Guarded
+pub mod Room

@@ -1,9 +1,10 @@
 //! Commits of a store with a journal: a record, where there is room for one, or else the pages.
-ghost use Rattle.std.specs.Prelude.{◌≡◌, ◌≢◌, ◌<◌, ◌≤◌, ◌+◌, ◌↔◌, [], false, IsTrue, Ok};
+ghost use Rattle.std.specs.Prelude.{◌≡◌, ◌≢◌, ◌<◌, ◌≤◌, ◌+◌, ◌↔◌, [], false, IsTrue, Ok, length};
 ghost use Rattle.storage_sizes.specs.declared.spelling.Spelling.TheVariants.{Second};
 ghost use Rattle.store.specs.Contents.{changed_by_batch, changed_in};
 ghost use Rattle.store.specs.Store.{Commits, stored};
 ghost use Rattle.journal_store.specs.Reads.{IsStill};
+ghost use Rattle.journal_store.specs.Room.{changes_in, HasRoomFor};
 ghost use Rattle.journal_store.specs.StoreLaws.{settled};
 ghost use Rattle.journal_store.specs.Stores.{journal_state, root_number, end_of_records};
 
@@ -29,6 +30,14 @@ impl<D: JournalDevice> JournalStore<D> {
         ensures { IsTrue result ↔ (end_of_records self.now + parts ≤ 6) }
     {
         parts <= JOURNAL_ROOM - self.end as usize
+    }
+
+    // Whether a batch of so many parts may be a record: there are sectors for it, and pages enough for what waits and it.
+    fn may_record(&self, parts: usize, batch: &Batch) -> bool
+        ensures sectors { IsTrue result → end_of_records self.now + parts ≤ 6 }
+        ensures pages { IsTrue result → HasRoomFor (changes_in self.now.waiting + length batch.now) self.now }
+    {
+        self.has_room(parts) && self.has_pages_for(batch)
     }
 
     // Commits to the pages what waits, by itself, and then a batch. As the number is one of a record that waits, the two
@@ -80,7 +89,7 @@ impl<D: JournalDevice> JournalStore<D> {
         let Ok(bytes) = batch_bytes(self.alloc, batch) else {
             return Err(StoreFault::Memory);
         };
-        if !self.has_room(bytes.len() / PART_SIZE) {
+        if !self.may_record(bytes.len() / PART_SIZE, batch) {
             return self.commit_to_pages(batch);
         }
         let Ok(copy) = batch.try_copy(self.alloc) else {
@@ -112,7 +121,7 @@ impl<D: JournalDevice> Store for JournalStore<D> {
     }
 
     /// Commits all changes of a batch, or none of them, as `Store` says. Where the batch fits behind the records that
-    /// are there it is a record, with one sync, and waits; else all that waits and it are committed to the pages. Full: the pages have no room for the batch
+    /// are there, and the free pages are enough for what waits and it, it is a record, with one sync, and waits; else all that waits and it are committed to the pages. Full: the pages have no room for the batch
     /// behind what waits, which may be in the pages then. Once the store has answered
     /// Device nothing changes.
     fn commit(&mut self, batch: &Batch) -> Result<(), StoreFault>

@@ -8,6 +8,7 @@ mod guarded;
 mod laws;
 mod opening;
 mod reads;
+mod room;
 mod stores;
 mod under;
 

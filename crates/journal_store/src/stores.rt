@@ -74,17 +74,20 @@ impl<D: JournalDevice> JournalStore<D> {
     ghost use Rattle.store.specs.Contents.{changed_by_batch};
     ghost use Rattle.store.specs.Store.{Commits, stored};
     ghost use Rattle.journal_records.specs.Changes.{Spells};
+    ghost use Rattle.journal_store.specs.Room.{changes_in, HasRoomFor};
     ghost use Rattle.journal_store.specs.Stores.{journal_state, end_of_records, root_number};
 
     /// Commits a batch as the record of the next number, whose parts have these bytes, with one sync. A stop at any moment
-    /// leaves the contents before it or those after it, and from `Ok` on those after it alone. Memory: an allocation failed,
-    /// and nothing was written. Device: the device failed.
+    /// leaves the contents before it or those after it, and from `Ok` on those after it alone. It is for a batch for which, and
+    /// for what waits, the free pages are enough, so that what waits can be committed to them by itself. Memory: an allocation
+    /// failed, and nothing was written. Device: the device failed.
     pub fn append(&mut self, batch: Batch, number: u64, bytes: &[u8]) -> Result<(), StoreFault>
         requires works { (journal_state self.old).has_failed ≡ false }
         requires next { number ≡ (journal_state self.old).number + 1 }
         requires spells { Spells bytes.now batch }
         requires some { 1 ≤ length bytes.now / 488 }
         requires fits { end_of_records self.old + length bytes.now / 488 ≤ 6 }
+        requires pages { HasRoomFor (changes_in self.old.waiting + length batch) self.old }
         ensures { Commits result (changed_by_batch batch (stored (journal_state self.old)))
             (journal_state self.old) (journal_state self.new) }
     {
