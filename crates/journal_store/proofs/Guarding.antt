@@ -1,5 +1,4 @@
 -- A store with a journal over a guarded device, as the device below that one sees it.
-use Rattle.std.proofs.Common.{◌≡◌}
 use Rattle.sector_device.specs.Device.{DeviceState}
 use Rattle.sector_device.specs.Beside.{guarded_state}
 use Rattle.cow_pages.specs.declared.open.OpenFault.{OpenFault}

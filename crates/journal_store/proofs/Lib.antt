@@ -7,4 +7,6 @@ pub mod InTurn
 pub mod Opened
 pub mod Replaying
 pub mod Counted
+pub mod Clearing
+pub mod Formatted
 pub mod Guarding

@@ -1,7 +1,7 @@
 -- A store with a journal over a guarded device, as the device below that one sees it.
-use Rattle.std.specs.Prelude.{◌≡◌, ℕ, Result, MatchResult}
-use Rattle.std.proofs.Common.{inr, ⊎_elim}
-use Rattle.sector_device.specs.Device.{DeviceState, KeepsHistory, HasFailed}
+use Rattle.std.specs.Prelude.{ℕ, Result, MatchResult}
+use Rattle.std.proofs.Common.{inr}
+use Rattle.sector_device.specs.Device.{DeviceState, KeepsHistory}
 use Rattle.sector_device.specs.Beside.{guarded_state}
 use Rattle.sector_device.specs.Guarded.{device_in}
 use Rattle.sector_device.specs.declared.device.Device.{Ghosts}

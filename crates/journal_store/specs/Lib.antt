@@ -8,3 +8,5 @@ pub mod Reads
 pub mod Opening
 pub mod Guarded
 pub mod Room
+pub mod Formatting
+pub mod Clearing

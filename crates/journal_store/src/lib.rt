@@ -4,6 +4,7 @@
 
 mod commits;
 mod devices;
+mod formatting;
 mod guarded;
 mod laws;
 mod opening;

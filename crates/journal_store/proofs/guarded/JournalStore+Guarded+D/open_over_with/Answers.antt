@@ -1,4 +1,4 @@
-use Rattle.std.proofs.Common.{◌≡◌, sym, subst}
+use Rattle.std.proofs.Common.{sym, subst}
 use Rattle.sector_device.specs.Beside.{guarded_state}
 use Rattle.sector_device.specs.Guarded.{device_in}
 use Rattle.journal_store.specs.Guarded.{IsPlain, inner_device, inner_history}
