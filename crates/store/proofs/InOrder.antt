@@ -8,7 +8,7 @@ use Rattle.store.specs.Place.{IsPlace, has_lesser_key_at}
 use Rattle.store.proofs.Changes.{key_trans, applied-append}
 use Rattle.store.proofs.Places.{less_key, not_less_key}
 
-before_start : {X : Type 0} (key : List ℕ) (xs ys : Entries X) → IsBefore key (xs ++ ys) → IsBefore key xs
+pub before_start : {X : Type 0} (key : List ℕ) (xs ys : Entries X) → IsBefore key (xs ++ ys) → IsBefore key xs
 before_start key [] ys b = tt
 before_start key (x ∷ xs) ys b = (b.0, before_start key xs ys b.1)
 

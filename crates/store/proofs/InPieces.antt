@@ -280,7 +280,7 @@ append_filled (q ∷ ps) p f one = (f.0, append_filled ps p f.1 one)
 
 -- ---- edits of the list of pieces
 
-set_itself : (ps : List Changes) (at : ℕ) (d : Changes) → at < length ps → set ps at (get_or ps at d) ≡ ps
+pub set_itself : (ps : List Changes) (at : ℕ) (d : Changes) → at < length ps → set ps at (get_or ps at d) ≡ ps
 set_itself [] at d inside = absurd (omega arith)
 set_itself (p ∷ ps) zero d inside = refl
 set_itself (p ∷ ps) (suc at) d inside = ap (λ (qs : List Changes). p ∷ qs) (set_itself ps at d (omega arith))

@@ -16,3 +16,4 @@ pub mod Spans
 pub mod Stops
 pub mod Counting
 pub mod Spots
+pub mod Apart

@@ -48,6 +48,11 @@ IsStopIndex stop (suc at) (piece ∷ pieces) = (ends_within stop piece ≡ true)
 abbrev pub AreLess : List ℕ → Changes → Type 0
 AreLess key piece = AllByRecursion (λ e. key_cmp e.0 key ≡ Less) piece
 
+-- the first of these changes is of this key
+abbrev pub BeginWith : List ℕ → Changes → Type 0
+BeginWith key [] = ⊥
+BeginWith key (c ∷ cs) = c.0 ≡ key
+
 -- the keys before the piece at this index are less than the key, and those behind it are greater
 abbrev pub IsHome : List ℕ → ℕ → List Changes → Type 0
 IsHome key at [] = ⊥

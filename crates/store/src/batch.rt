@@ -4,7 +4,7 @@ ghost use Rattle.std.specs.Option.{option_copied};
 ghost use Rattle.std.specs.List.{AllByRecursion};
 ghost use Rattle.store.specs.Records.{Changes, IsOrdered, IsKeySize, IsChangeSize, changed, entry_at, first_from};
 ghost use Rattle.store.specs.Batch.{IsBatch, all_changes};
-ghost use Rattle.store.specs.Place.{IsPlace};
+ghost use Rattle.store.specs.Pieces.{AreFilled};
 
 use crate::pieces::Pieces;
 use crate::{Change, MAX_VALUE_LENGTH, Piece};
@@ -58,6 +58,7 @@ impl Batch {
         ensures changes { all_changes result.now ≡ self.now }
         ensures ordered { IsOrdered self.now }
         ensures sizes { AllByRecursion IsChangeSize self.now }
+        ensures filled { AreFilled result.now }
     {
         self.changes.as_slice()
     }
@@ -73,6 +74,9 @@ impl Batch {
     pub fn find(&self, key: &[u8]) -> Option<&Change>
         ensures { option_copied result ≡ entry_at key.now self.now }
     {
+        if self.changes.all_end_before(key) {
+            return None;
+        }
         self.changes.find(key)
     }
 

@@ -4,6 +4,7 @@
 
 mod admin;
 mod batch;
+mod behind;
 mod change;
 mod cursor;
 mod entry;

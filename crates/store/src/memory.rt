@@ -6,7 +6,7 @@ ghost use Rattle.std.proofs.Common.{refl, ◌∙◌};
 ghost use Rattle.store.specs.Records.{IsOrdered, IsOrdered-prop, applied, changed, key_cmp, lookup};
 ghost use Rattle.store.specs.Batch.{all_changes};
 ghost use Rattle.store.specs.InPieces.{changes_of};
-ghost use Rattle.store.specs.Held.{AreHeld, records_of};
+ghost use Rattle.store.specs.Held.{AreHeld, putting, records_of, removing};
 ghost use Rattle.store.specs.Memory.{memory_state};
 ghost use Rattle.storage_sizes.specs.Spellings.{current};
 
@@ -196,7 +196,54 @@ impl MemStore {
         Ok(())
     }
 
-    // Makes all changes of a batch, or none of them. The only error is that an allocation failed.
+    // Removes the keys that these changes remove, the last first.
+    fn remove_each(&mut self, changes: &[Change])
+        ensures spelling { self.new.spelling ≡ self.old.spelling }
+        ensures made { records_of self.new.entries
+            ≡ applied (removing changes.now) (records_of self.old.entries) }
+    {
+        let mut left = changes;
+        while let Some((change, before)) = left.split_last() {
+            if !change.is_put() {
+                self.entries.remove(change.key());
+            }
+            left = before;
+        }
+    }
+
+    // The same of the changes of pieces.
+    fn remove_all(&mut self, pieces: &[Piece])
+        ensures spelling { self.new.spelling ≡ self.old.spelling }
+        ensures made { records_of self.new.entries
+            ≡ applied (removing (all_changes pieces.now)) (records_of self.old.entries) }
+    {
+        let mut left = pieces;
+        while let Some((piece, before)) = left.split_last() {
+            self.remove_each(piece.as_slice());
+            left = before;
+        }
+    }
+
+    // Makes all changes of a batch, or none of them: first those that put a value. The only error is
+    // that an allocation failed.
+    fn change_among(&mut self, batch: &Batch) -> Result<(), StoreFault>
+        ensures spelling { self.new.spelling ≡ self.old.spelling }
+        ensures made { OnOk result (records_of self.new.entries
+            ≡ applied batch.now (records_of self.old.entries)) }
+        ensures refused { OnErr result (records_of self.new.entries ≡ records_of self.old.entries) }
+        ensures memory { OnErr result (result ≡ Err StoreFault.Memory) }
+    {
+        let puts = copy_puts(self.alloc, batch.pieces())?;
+        if self.hold_all(&puts).is_err() {
+            self.release_all(&puts);
+            return Err(StoreFault::Memory);
+        }
+        self.make_all(puts);
+        self.remove_all(batch.pieces());
+        Ok(())
+    }
+
+    // The same, where changes that come behind all entries are put there as they are.
     fn change_all(&mut self, batch: &Batch) -> Result<(), StoreFault>
         ensures spelling { self.new.spelling ≡ self.old.spelling }
         ensures made { OnOk result (records_of self.new.entries
@@ -204,12 +251,11 @@ impl MemStore {
         ensures refused { OnErr result (records_of self.new.entries ≡ records_of self.old.entries) }
         ensures memory { OnErr result (result ≡ Err StoreFault.Memory) }
     {
-        let changes = copy_changes(self.alloc, batch.pieces())?;
-        if self.hold_all(&changes).is_err() {
-            self.release_all(&changes);
-            return Err(StoreFault::Memory);
+        let pieces = batch.pieces();
+        if !self.entries.are_later(pieces) {
+            return self.change_among(batch);
         }
-        self.make_all(changes);
+        self.entries.copy_behind(pieces)?;
         Ok(())
     }
 
@@ -241,13 +287,13 @@ fn only_change(pieces: &[Piece]) -> Option<&Change>
     }
 }
 
-// Copies changes into one list. The only error is that an allocation failed.
-fn copy_changes(alloc: Global, pieces: &[Piece]) -> Result<Vec<Change>, AllocError>
-    ensures { IfOk result (λ copies. copies.items ≡ all_changes pieces.now) }
+// Copies the changes that put a value into one list. The only error is that an allocation failed.
+fn copy_puts(alloc: Global, pieces: &[Piece]) -> Result<Vec<Change>, AllocError>
+    ensures { IfOk result (λ copies. copies.items ≡ putting (all_changes pieces.now)) }
 {
     let mut copies = Vec::new(alloc);
     for piece in pieces {
-        piece.copy_to(alloc, &mut copies)?;
+        piece.copy_puts_to(alloc, &mut copies)?;
     }
     Ok(copies)
 }

@@ -3,6 +3,7 @@ ghost use Rattle.std.specs.Prelude.{◌≡◌, ◌≤◌, [], ◌∷◌, ◌++�
 ghost use Rattle.std.specs.Option.{option_copied};
 ghost use Rattle.store.specs.Records.{IsOrdered, changed, entry_at, first_from, lookup};
 ghost use Rattle.store.specs.Place.{IsPlace, IsStopPlace, has_key_at, has_lesser_key_at};
+ghost use Rattle.store.specs.Held.{putting};
 ghost use Rattle.store.specs.Pieces.{ends_before, ends_within, IsInnerPlace, puts, puts_within, weight};
 
 use crate::Change;
@@ -157,13 +158,49 @@ impl Piece {
     }
 
     // Adds copies of the changes to others. The only error is that an allocation failed.
-    pub(crate) fn copy_to(&self, alloc: Global, copies: &mut Vec<Change>) -> Result<(), AllocError>
+    fn copy_to(&self, alloc: Global, copies: &mut Vec<Change>) -> Result<(), AllocError>
         ensures { OnOk result (copies.new.items ≡ copies.old.items ++ self.now) }
     {
         for change in &self.changes {
             copies.push(change.try_copy(alloc)?)?;
         }
         Ok(())
+    }
+
+    // Adds copies of the changes that put a value to others. The only error is that an allocation
+    // failed.
+    pub(crate) fn copy_puts_to(
+        &self,
+        alloc: Global,
+        copies: &mut Vec<Change>,
+    ) -> Result<(), AllocError>
+        ensures { OnOk result (copies.new.items ≡ copies.old.items ++ putting self.now) }
+    {
+        for change in &self.changes {
+            if change.is_put() {
+                copies.push(change.try_copy(alloc)?)?;
+            }
+        }
+        Ok(())
+    }
+
+    // Puts copies of the changes of a later piece behind the others. The only error is that an
+    // allocation failed, which leaves the piece as it was.
+    pub(crate) fn copy_behind(&mut self, alloc: Global, later: &Piece) -> Result<(), AllocError>
+        ensures ok { OnOk result (self.new ≡ self.old ++ later.now) }
+        ensures err { OnErr result (self.new ≡ self.old) }
+    {
+        let mut copies = Vec::with_capacity(alloc, later.len())?;
+        later.copy_to(alloc, &mut copies)?;
+        let put_count = count_puts(&copies);
+        self.changes.append(&mut copies)?;
+        self.put_count += put_count;
+        Ok(())
+    }
+
+    // Whether each change puts a value.
+    pub(crate) fn puts_each(&self) -> bool {
+        self.put_count == self.changes.len()
     }
 
     // Removes the change of a key from its place, if there is one.

@@ -7,22 +7,22 @@ ghost use Rattle.store.specs.Batch.{all_changes};
 ghost use Rattle.store.specs.Pieces.{AreFilled, AreFilled-prop, IsIndex, IsHome, IsSpot, IsStopIndex, from_place, puts_within};
 ghost use Rattle.store.specs.Walks.{count_of};
 
+use crate::behind::copy_pieces;
 use crate::{Change, Piece};
-use sql_types::try_copy::TryCopy;
 use std::alloc::{AllocError, Global};
 
 /// How many changes a piece may have: a put among them moves no more.
-const MAX_PIECE_LENGTH: usize = 512;
+pub(crate) const MAX_PIECE_LENGTH: usize = 512;
 
 /// Changes in the order of their keys, in a list of pieces none of which is empty. A key is found
 /// by two binary searches, for its piece and in it. A put moves the changes of one piece at most,
 /// and the list of pieces.
 #[derive(Debug, Drop)]
 pub(crate) struct Pieces {
-    list: Vec<Piece>,
+    pub(crate) list: Vec<Piece>,
     // The place next to the last put, removal or search. Any will do: it is only tried first.
     last: Place,
-    alloc: Global,
+    pub(crate) alloc: Global,
     ghost ordered: { IsOrdered (all_changes list.items) } by { IsOrdered-prop (all_changes list.items) },
     ghost filled: { AreFilled list.items } by { AreFilled-prop list.items },
 }
@@ -204,7 +204,7 @@ impl Pieces {
     pub(crate) fn place_of(&self, key: &[u8], tried: Place) -> Place
         ensures { IsSpot key.now result.piece result.at self.now.list.items }
     {
-        if tried.piece < self.list.len() && self.list[tried.piece].is_inner_place(key, tried.at) {
+        if self.is_at(key, tried) {
             return tried;
         }
         let len = self.list.len();
@@ -221,6 +221,20 @@ impl Pieces {
         let piece = self.index(key);
         let at = self.list[piece].place(key);
         Place { piece, at }
+    }
+
+    // Whether a place is a key's: its change stands there, or it is between two others.
+    fn is_at(&self, key: &[u8], tried: Place) -> bool
+        ensures { IsTrue result → IsSpot key.now tried.piece tried.at self.now.list.items }
+    {
+        if tried.piece >= self.list.len() {
+            return false;
+        }
+        let piece = &self.list[tried.piece];
+        if piece.has_key_at(key, tried.at) {
+            return true;
+        }
+        piece.is_inner_place(key, tried.at)
     }
 
     // The change of a key that has this place, or `None` where there is none.
@@ -421,12 +435,8 @@ impl Pieces {
     pub(crate) fn copy(&self, alloc: Global) -> Result<Pieces, AllocError>
         ensures { IfOk result (λ copy. copy.list.items ≡ self.now.list.items) }
     {
-        let mut list = Vec::with_capacity(alloc, self.list.len())?;
-        for piece in &self.list {
-            list.push(piece.try_copy(alloc)?)?;
-        }
         Ok(Pieces {
-            list,
+            list: copy_pieces(alloc, &self.list)?,
             last: Place::start(),
             alloc,
         })

@@ -1,4 +1,4 @@
-use Rattle.std.proofs.Common.{◌≡◌, ◌<◌, ◌≤◌, ◌∙◌, Bool, List, None, if◌then◌else◌, length, slice_get, sym, ap, arith}
+use Rattle.std.proofs.Common.{◌<◌, ◌≤◌, ◌∙◌, Bool, List, None, if◌then◌else◌, length, slice_get, sym, ap, arith}
 use Rattle.store.specs.Records.{Changes, entry_at}
 use Rattle.store.specs.Batch.{all_changes}
 use Rattle.store.proofs.Spots.{spot_entry, spot_nowhere}
