@@ -8,7 +8,7 @@ const LENGTH: usize = 262_144;
 
 /// How a file is altered.
 #[derive(Clone, Copy)]
-pub enum Change {
+pub enum FileChange {
     /// All of its bytes are zero.
     Zeros,
     /// It is cut to so many bytes.
@@ -18,18 +18,18 @@ pub enum Change {
 }
 
 /// Alters a file.
-pub fn alter(rt: &HostRuntime, alloc: Global, file: &str, change: Change) -> io::Result<()> {
+pub fn alter(rt: &HostRuntime, alloc: Global, file: &str, change: FileChange) -> io::Result<()> {
     let bytes = altered(alloc, fs::read(rt, file)?, change)?;
     fs::write(rt, file, bytes.as_slice())
 }
 
 /// The bytes of a file, altered.
-fn altered(alloc: Global, bytes: Vec<u8>, change: Change) -> Result<Vec<u8>, AllocError> {
+fn altered(alloc: Global, bytes: Vec<u8>, change: FileChange) -> Result<Vec<u8>, AllocError> {
     let mut bytes = bytes;
     match change {
-        Change::Zeros => return vec![in alloc; 0; LENGTH],
-        Change::Cut(length) => bytes.truncate(length),
-        Change::Byte(offset, value) => {
+        FileChange::Zeros => return vec![in alloc; 0; LENGTH],
+        FileChange::Cut(length) => bytes.truncate(length),
+        FileChange::Byte(offset, value) => {
             if let Some(byte) = bytes.get_mut(offset) {
                 *byte = value;
             }

@@ -1,7 +1,7 @@
 //! Orders that something outside the program hinders: a file that was altered, is locked or not there, a port that is bound, an
 //! output that fails.
 
-use crate::altered_files::{Change, alter};
+use crate::altered_files::{FileChange, alter};
 use crate::device_images::DeviceImage;
 use crate::orders::{make_database, printed_for_order, told_for_order};
 use crate::reports::report;
@@ -25,7 +25,7 @@ const SCRIPT: &str = "current_user.sql";
 #[derive(Clone, Copy)]
 enum Hindrance {
     /// `check` is to open a file that was altered.
-    AlteredFile(Change),
+    AlteredFile(FileChange),
     /// `check` is to open a file that holds what the file `NAME.image` of this name tells.
     Image(&'static str),
     /// `serve` is to bind a port that is bound already.
@@ -43,104 +43,104 @@ const HINDRANCES: &[(&str, &str, Hindrance, &str)] = &[
     (
         "altered",
         "file_of_zeros",
-        Hindrance::AlteredFile(Change::Zeros),
+        Hindrance::AlteredFile(FileChange::Zeros),
         "status 1\nguarddb: NotADatabase\n\
          guarddb: hindered.db: not a database; 'guarddb format' makes one in a new file\n",
     ),
     (
         "altered",
         "magic",
-        Hindrance::AlteredFile(Change::Byte(512, 0x00)),
+        Hindrance::AlteredFile(FileChange::Byte(512, 0x00)),
         "status 1\nguarddb: NotADatabase\n\
          guarddb: hindered.db: not a database; 'guarddb format' makes one in a new file\n",
     ),
     (
         "altered",
         "format",
-        Hindrance::AlteredFile(Change::Byte(523, 0x09)),
+        Hindrance::AlteredFile(FileChange::Byte(523, 0x09)),
         "status 1\nguarddb: Damaged\n\
          guarddb: hindered.db: the database is damaged; restore it from a copy\n",
     ),
     (
         "altered",
         "format_0",
-        Hindrance::AlteredFile(Change::Byte(523, 0x00)),
+        Hindrance::AlteredFile(FileChange::Byte(523, 0x00)),
         "status 1\nguarddb: Damaged\n\
          guarddb: hindered.db: the database is damaged; restore it from a copy\n",
     ),
     (
         "altered",
         "format_1_of_no_table",
-        Hindrance::AlteredFile(Change::Byte(523, 0x01)),
+        Hindrance::AlteredFile(FileChange::Byte(523, 0x01)),
         "ok CHECK\nstatus 0\n\
          guarddb: hindered.db was of format 1 and is of format 2 now\n",
     ),
     (
         "altered",
         "format_3",
-        Hindrance::AlteredFile(Change::Byte(523, 0x03)),
+        Hindrance::AlteredFile(FileChange::Byte(523, 0x03)),
         "status 1\nguarddb: Damaged\n\
          guarddb: hindered.db: the database is damaged; restore it from a copy\n",
     ),
     (
         "altered",
         "number_of_pages",
-        Hindrance::AlteredFile(Change::Byte(527, 0x41)),
+        Hindrance::AlteredFile(FileChange::Byte(527, 0x41)),
         "status 1\nguarddb: WrongSize\n\
          guarddb: hindered.db: not 64 to 65536 pages of 4096 bytes, or not as many as it was made with\n",
     ),
     (
         "altered",
         "length",
-        Hindrance::AlteredFile(Change::Cut(262_143)),
+        Hindrance::AlteredFile(FileChange::Cut(262_143)),
         "status 1\nguarddb: WrongSize\n\
          guarddb: hindered.db: not 64 to 65536 pages of 4096 bytes, or not as many as it was made with\n",
     ),
     (
         "altered",
         "commit_number",
-        Hindrance::AlteredFile(Change::Byte(535, 0x02)),
+        Hindrance::AlteredFile(FileChange::Byte(535, 0x02)),
         "status 1\nguarddb: Damaged\n\
          guarddb: hindered.db: the database is damaged; restore it from a copy\n",
     ),
     (
         "altered",
         "number_of_map_pages",
-        Hindrance::AlteredFile(Change::Byte(539, 0x00)),
+        Hindrance::AlteredFile(FileChange::Byte(539, 0x00)),
         "status 1\nguarddb: Damaged\n\
          guarddb: hindered.db: the database is damaged; restore it from a copy\n",
     ),
     (
         "altered",
         "page_named_twice",
-        Hindrance::AlteredFile(Change::Byte(8_199, 0x01)),
+        Hindrance::AlteredFile(FileChange::Byte(8_199, 0x01)),
         "status 1\nguarddb: Damaged\n\
          guarddb: hindered.db: the database is damaged; restore it from a copy\n",
     ),
     (
         "altered",
         "attributes_of_a_role",
-        Hindrance::AlteredFile(Change::Byte(4_109, 0x08)),
+        Hindrance::AlteredFile(FileChange::Byte(4_109, 0x08)),
         "status 1\nguarddb: Damaged\n\
          guarddb: hindered.db: the database is damaged; restore it from a copy\n",
     ),
     (
         "altered",
         "byte_past_the_cells",
-        Hindrance::AlteredFile(Change::Byte(4_110, 0x01)),
+        Hindrance::AlteredFile(FileChange::Byte(4_110, 0x01)),
         "status 1\nguarddb: Damaged\n\
          guarddb: hindered.db: the database is damaged; restore it from a copy\n",
     ),
     (
         "altered",
         "sector_past_the_roots",
-        Hindrance::AlteredFile(Change::Byte(1_024, 0x01)),
+        Hindrance::AlteredFile(FileChange::Byte(1_024, 0x01)),
         "ok CHECK\nstatus 0\n",
     ),
     (
         "altered",
         "page_in_no_reach",
-        Hindrance::AlteredFile(Change::Byte(12_288, 0x01)),
+        Hindrance::AlteredFile(FileChange::Byte(12_288, 0x01)),
         "ok CHECK\nstatus 0\n",
     ),
     (
@@ -260,7 +260,7 @@ fn printed_if_hindered(
 }
 
 /// What `check` prints where its file was altered.
-fn check_altered(rt: &HostRuntime, alloc: Global, change: Change) -> io::Result<String> {
+fn check_altered(rt: &HostRuntime, alloc: Global, change: FileChange) -> io::Result<String> {
     alter(rt, alloc, FILE, change)?;
     printed_for_order(rt, alloc, &Order::Check { file: FILE })
 }

@@ -5,7 +5,7 @@ use crate::files::{names_of, text_of};
 use crate::frames::{bytes_of, text_of_frames};
 use crate::reports::report;
 use crate::servers::serve_over;
-use crate::stores::{PAGES, SMALL_PAGES, Store, new_in_memory, new_in_pages};
+use crate::stores::{PAGES, SMALL_PAGES, StoreKind, new_in_memory, new_in_pages};
 use connections::listen::Listen;
 use connections::listener::Served;
 use connections::system_listener::SystemListener;
@@ -19,7 +19,7 @@ use std::net::{Ipv4Addr, Shutdown, SocketAddr, TcpListener, TcpStream};
 pub fn send_frames(
     rt: &HostRuntime,
     alloc: Global,
-    store: Store,
+    store: StoreKind,
     differing: &mut u64,
 ) -> io::Result<()> {
     let what = format!(in alloc; "listener over {}", store.name())?;
@@ -33,7 +33,7 @@ pub fn send_frames(
 fn send_file(
     rt: &HostRuntime,
     alloc: Global,
-    store: Store,
+    store: StoreKind,
     what: &str,
     name: &str,
     differing: &mut u64,
@@ -45,14 +45,19 @@ fn send_file(
 }
 
 /// What a client is sent back that sends the bytes of the file `NAME.frames`.
-fn sent_back_to(rt: &HostRuntime, alloc: Global, store: Store, name: &str) -> io::Result<String> {
+fn sent_back_to(
+    rt: &HostRuntime,
+    alloc: Global,
+    store: StoreKind,
+    name: &str,
+) -> io::Result<String> {
     let sent = text_of(rt, alloc, name, ".frames")?;
     sent_back(rt, alloc, store, sent.as_str())
 }
 
 /// What a client is sent back that sends the bytes of each line and then no more. Where the listener did not serve the one
 /// connection, that is told in a last line.
-fn sent_back(rt: &HostRuntime, alloc: Global, store: Store, sent: &str) -> io::Result<String> {
+fn sent_back(rt: &HostRuntime, alloc: Global, store: StoreKind, sent: &str) -> io::Result<String> {
     let listener = TcpListener::bind(rt, SocketAddr::from((Ipv4Addr::LOCALHOST, 0)))?;
     let mut client = TcpStream::connect(rt, listener.local_addr()?)?;
     let mut listener = SystemListener::new(rt, alloc, listener, None);
@@ -63,7 +68,7 @@ fn sent_back(rt: &HostRuntime, alloc: Global, store: Store, sent: &str) -> io::R
 /// Sends the bytes of each line and then no more, and serves one connection.
 fn serve_client<L: Listen>(
     alloc: Global,
-    store: Store,
+    store: StoreKind,
     sent: &str,
     listener: &mut L,
     client: &mut TcpStream,
@@ -98,10 +103,10 @@ fn send_lines(alloc: Global, client: &mut TcpStream, lines: &str) -> io::Result<
 }
 
 /// Serves one connection of a listener over a new database in a store.
-fn serve_one<L: Listen>(alloc: Global, store: Store, listener: &mut L) -> io::Result<Served> {
+fn serve_one<L: Listen>(alloc: Global, store: StoreKind, listener: &mut L) -> io::Result<Served> {
     match store {
-        Store::Memory => serve_over(alloc, new_in_memory(alloc)?, listener),
-        Store::Pages => serve_over(alloc, new_in_pages(alloc, PAGES)?, listener),
-        Store::Small => serve_over(alloc, new_in_pages(alloc, SMALL_PAGES)?, listener),
+        StoreKind::Memory => serve_over(alloc, new_in_memory(alloc)?, listener),
+        StoreKind::Pages => serve_over(alloc, new_in_pages(alloc, PAGES)?, listener),
+        StoreKind::Small => serve_over(alloc, new_in_pages(alloc, SMALL_PAGES)?, listener),
     }
 }

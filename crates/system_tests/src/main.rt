@@ -49,7 +49,7 @@ use crate::long_scripts::expanded;
 use crate::migrations::{open_again, open_images};
 use crate::reports::report;
 use crate::stops::try_stops;
-use crate::stores::{STORES, Store, printed_by};
+use crate::stores::{STORES, StoreKind, printed_by};
 use crate::unscripted::check_unscripted;
 use std::alloc::Global;
 use std::process::ExitCode;
@@ -88,7 +88,7 @@ fn has_word(rt: &HostRuntime, alloc: Global, word: &str) -> io::Result<bool> {
 fn run_parts(rt: &HostRuntime, alloc: Global, differing: &mut u64) -> io::Result<()> {
     run_scripts(rt, alloc, ".script", &STORES, differing)?;
     run_scripts(rt, alloc, ".long", &STORES, differing)?;
-    run_scripts(rt, alloc, ".small", &[Store::Small], differing)?;
+    run_scripts(rt, alloc, ".small", &[StoreKind::Small], differing)?;
     run_at_once(rt, alloc, differing)?;
     for store in STORES {
         send_frames(rt, alloc, store, differing)?;
@@ -105,7 +105,7 @@ fn run_scripts(
     rt: &HostRuntime,
     alloc: Global,
     ending: &str,
-    stores: &[Store],
+    stores: &[StoreKind],
     differing: &mut u64,
 ) -> io::Result<()> {
     for name in &names_of(rt, alloc, ending)? {
@@ -120,7 +120,7 @@ fn run_file(
     alloc: Global,
     name: &str,
     ending: &str,
-    stores: &[Store],
+    stores: &[StoreKind],
     differing: &mut u64,
 ) -> io::Result<()> {
     let script = script_part(rt, alloc, name, ending, ending)?;
@@ -139,7 +139,7 @@ fn run_over(
     name: &str,
     script: &str,
     expected: &str,
-    store: Store,
+    store: StoreKind,
     differing: &mut u64,
 ) -> io::Result<()> {
     let printed = printed_by(alloc, store, script)?;

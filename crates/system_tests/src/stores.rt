@@ -27,11 +27,11 @@ pub const PAGES: u32 = 256;
 pub const SMALL_PAGES: u32 = 64;
 
 /// The stores that have room for every script.
-pub const STORES: [Store; 2] = [Store::Memory, Store::Pages];
+pub const STORES: [StoreKind; 2] = [StoreKind::Memory, StoreKind::Pages];
 
 /// What a new database lies in.
 #[derive(Clone, Copy)]
-pub enum Store {
+pub enum StoreKind {
     /// A store in memory.
     Memory,
     /// A store in pages on a device in memory.
@@ -40,12 +40,12 @@ pub enum Store {
     Small,
 }
 
-impl Store {
+impl StoreKind {
     pub fn name(self) -> &'static str {
         match self {
-            Store::Memory => "memory",
-            Store::Pages => "pages",
-            Store::Small => "64 pages",
+            StoreKind::Memory => "memory",
+            StoreKind::Pages => "pages",
+            StoreKind::Small => "64 pages",
         }
     }
 
@@ -58,14 +58,14 @@ impl Store {
         err: &mut Vec<u8>,
     ) -> io::Result<u8> {
         match self {
-            Store::Memory => {
+            StoreKind::Memory => {
                 let decider = Decider::new(Statements);
                 let read = Ok(String::from_str(alloc, script)?.into_bytes());
                 let mut sink = TextSink::new(out);
                 Ok(run_for(alloc, decider, ADMIN, read, SCRIPT, &mut sink, err).status)
             }
-            Store::Pages => Ok(run_over(alloc, new_in_pages(alloc, PAGES)?, script, out, err)),
-            Store::Small => Ok(run_over(
+            StoreKind::Pages => Ok(run_over(alloc, new_in_pages(alloc, PAGES)?, script, out, err)),
+            StoreKind::Small => Ok(run_over(
                 alloc,
                 new_in_pages(alloc, SMALL_PAGES)?,
                 script,
@@ -139,7 +139,7 @@ fn format_with(alloc: Global, device: &mut MemDevice, first: &Entry) -> io::Resu
 }
 
 /// What a script prints over a new database: its answers, and where it does not end well the message and a line `status N`.
-pub fn printed_by(alloc: Global, store: Store, script: &str) -> io::Result<String> {
+pub fn printed_by(alloc: Global, store: StoreKind, script: &str) -> io::Result<String> {
     let mut out = Vec::new(alloc);
     let mut err = Vec::new(alloc);
     let status = store.run(alloc, script, &mut out, &mut err)?;

@@ -2,7 +2,7 @@
 
 use crate::servers::open_server;
 use crate::stops::fault::TrialFault;
-use crate::stops::places::Place;
+use crate::stops::places::TrialPlace;
 use crate::stops::tally::Tally;
 use crate::stores::new_in_memory;
 use connections::connection::{End, serve_connection};
@@ -28,12 +28,12 @@ const ANSWER: &[u8] = b"\0\0\0\x13\x04\0\0\0\0refused 08P01\n";
 
 /// Bytes that come in pieces of so many.
 #[derive(Drop)]
-struct Pieces<'a> {
+struct PieceReader<'a> {
     rest: &'a [u8],
     size: usize,
 }
 
-impl Read for Pieces<'_> {
+impl Read for PieceReader<'_> {
     fn read(&mut self, buf: &mut [u8]) -> io::Result<usize> {
         let size = self.size.min(buf.len());
         self.rest.read(&mut buf[..size])
@@ -45,7 +45,7 @@ pub fn send_bad_frames(alloc: Global, tally: &mut Tally) -> Result<(), TrialFaul
     for (index, frame) in BAD_FRAMES.iter().enumerate() {
         tally.count_tried();
         if let Err(fault) = check_bad_frame(alloc, frame) {
-            tally.disagree(Place::after(index), fault)?;
+            tally.disagree(TrialPlace::after(index), fault)?;
         }
     }
     Ok(())
@@ -68,7 +68,7 @@ fn before_good_frame(alloc: Global, frame: &[u8]) -> Result<Vec<u8>, AllocError>
 /// Serves a connection whose bytes come in pieces of so many, and checks its end and what is sent back.
 fn check_pieces(alloc: Global, rest: &[u8], size: usize) -> Result<(), TrialFault> {
     let mut written = Vec::new(alloc);
-    let end = serve_pieces(alloc, Pieces { rest, size }, &mut written)?;
+    let end = serve_pieces(alloc, PieceReader { rest, size }, &mut written)?;
     if end != End::BadFrame {
         return Err(TrialFault::AnotherEnd);
     }
@@ -79,7 +79,7 @@ fn check_pieces(alloc: Global, rest: &[u8], size: usize) -> Result<(), TrialFaul
 }
 
 /// Serves a connection over a new database. Adds what is sent back, and tells how the connection ended.
-fn serve_pieces(alloc: Global, pieces: Pieces<'_>, written: &mut Vec<u8>) -> io::Result<End> {
+fn serve_pieces(alloc: Global, pieces: PieceReader<'_>, written: &mut Vec<u8>) -> io::Result<End> {
     let mut server = open_server(alloc, new_in_memory(alloc)?)?;
     let mut reader = CountedReader::new(pieces);
     let mut sink = FrameSink::new(alloc, written);

@@ -3,7 +3,7 @@
 use crate::stops::fault::TrialFault;
 use crate::stops::images::Image;
 use crate::stops::outcome::Outcome;
-use crate::stops::places::Place;
+use crate::stops::places::TrialPlace;
 use crate::stops::tally::Tally;
 use std::alloc::Global;
 
@@ -20,7 +20,7 @@ pub trait Failing {
         &self,
         alloc: Global,
         image: &Image,
-        place: Place,
+        place: TrialPlace,
         tally: &mut Tally,
     ) -> Result<(), TrialFault>;
 }
@@ -29,12 +29,12 @@ pub trait Failing {
 pub fn fail_each<W: Failing>(
     alloc: Global,
     work: &W,
-    place: Place,
+    place: TrialPlace,
     tally: &mut Tally,
 ) -> Result<(), TrialFault> {
     for calls in 0..MAX_CALLS {
         let failure = Some(calls);
-        if passes_after(alloc, work, calls, Place { failure, ..place }, tally)? {
+        if passes_after(alloc, work, calls, TrialPlace { failure, ..place }, tally)? {
             return Ok(());
         }
     }
@@ -46,7 +46,7 @@ fn passes_after<W: Failing>(
     alloc: Global,
     work: &W,
     calls: u64,
-    place: Place,
+    place: TrialPlace,
     tally: &mut Tally,
 ) -> Result<bool, TrialFault> {
     match work.fail_call(alloc, calls) {

@@ -4,7 +4,7 @@ use crate::stops::failing::{Failing, fail_each};
 use crate::stops::fault::TrialFault;
 use crate::stops::images::Image;
 use crate::stops::outcome::Outcome;
-use crate::stops::places::Place;
+use crate::stops::places::TrialPlace;
 use crate::stops::restarts::check_restarts;
 use crate::stops::scripts::Script;
 use crate::stops::servers::{Answering, DeviceServer, open_new};
@@ -30,7 +30,7 @@ impl Failing for FailingEvent<'_> {
         &self,
         alloc: Global,
         image: &Image,
-        place: Place,
+        place: TrialPlace,
         tally: &mut Tally,
     ) -> Result<(), TrialFault> {
         check_restarts(alloc, image, place, tally, |_, device| {
@@ -54,7 +54,7 @@ pub fn fail_events(
             index,
             cache,
         };
-        let place = Place::after(index);
+        let place = TrialPlace::after(index);
         if let Err(fault) = fail_each(alloc, &event, place, tally) {
             tally.disagree(place, fault)?;
         }

@@ -5,7 +5,7 @@ use crate::stops::fault::TrialFault;
 use crate::stops::images::Image;
 use crate::stops::openings::FailingOpening;
 use crate::stops::parts::Parts;
-use crate::stops::places::Place;
+use crate::stops::places::TrialPlace;
 use crate::stops::requests::run_first;
 use crate::stops::restarts::check_restarts;
 use crate::stops::scripts::Script;
@@ -20,17 +20,17 @@ pub const MAX_WRITES: u64 = 1_024;
 
 /// What a device holds after a stop, the index of the event that was under way, whether it had been answered, and where the
 /// stop was.
-pub struct Stop {
+pub struct StoppedDevice {
     pub image: Image,
     pub index: usize,
     pub is_answered: bool,
-    pub place: Place,
+    pub place: TrialPlace,
 }
 
 // Written and not derived: where a value is dropped this is one call, and not its parts one by one.
-impl Drop for Stop {
+impl Drop for StoppedDevice {
     fn drop(self) {
-        let Stop {
+        let StoppedDevice {
             image: _,
             index: _,
             is_answered: _,
@@ -49,7 +49,7 @@ pub fn stop_event(
 ) -> Result<(), TrialFault> {
     match stop_each(alloc, script, index, parts, tried) {
         Ok(()) => Ok(()),
-        Err(fault) => tried.stops.disagree(Place::after(index), fault),
+        Err(fault) => tried.stops.disagree(TrialPlace::after(index), fault),
     }
 }
 
@@ -91,18 +91,18 @@ fn stop_server<S: Answering + DeviceServer + Drop>(
     index: usize,
     mut server: S,
     writes: u64,
-) -> Result<Stop, TrialFault> {
+) -> Result<StoppedDevice, TrialFault> {
     run_first(&mut server, &script.events, index);
     server.device().stop_after(writes);
     let is_answered = script.is_answered_by(alloc, index, &mut server)?;
     let stop = Some(writes);
-    Ok(Stop {
+    Ok(StoppedDevice {
         image: Image::of(alloc, server.end())?,
         index,
         is_answered,
-        place: Place {
+        place: TrialPlace {
             stop,
-            ..Place::after(index)
+            ..TrialPlace::after(index)
         },
     })
 }
@@ -111,7 +111,7 @@ fn stop_server<S: Answering + DeviceServer + Drop>(
 fn check_stop(
     alloc: Global,
     script: &Script,
-    stop: &Stop,
+    stop: &StoppedDevice,
     parts: &mut Parts,
     tried: &mut Tallies,
 ) -> Result<(), TrialFault> {
@@ -132,7 +132,7 @@ fn check_stop(
 fn open_all(
     alloc: Global,
     script: &Script,
-    stop: &Stop,
+    stop: &StoppedDevice,
     parts: &mut Parts,
     tried: &mut Tallies,
 ) -> Result<(), TrialFault> {

@@ -9,9 +9,9 @@ use crate::stops::images::Image;
 use crate::stops::openings::passed;
 use crate::stops::outcome::Outcome;
 use crate::stops::parts::Parts;
-use crate::stops::places::Place;
+use crate::stops::places::TrialPlace;
 use crate::stops::restarts::check_restarts;
-use crate::stops::servers::{DeviceServer, Opened, end_and_scan, open_device, try_opening};
+use crate::stops::servers::{DeviceServer, OpeningOutcome, end_and_scan, open_device, try_opening};
 use crate::stops::tallies::Tallies;
 use crate::stops::tally::Tally;
 use kv_store::DEFAULT_CACHE_PAGES;
@@ -59,7 +59,7 @@ pub fn hinder_migration(
     parts: &mut Parts,
     tried: &mut Tallies,
 ) -> Result<(), TrialFault> {
-    let place = Place::after(0);
+    let place = TrialPlace::after(0);
     if let Err(fault) = stop_each(alloc, migration, parts, tried) {
         tried.stops.disagree(place, fault)?;
     }
@@ -101,9 +101,9 @@ fn is_opened_before(
         second_stops,
         ..
     } = tried;
-    let place = Place {
+    let place = TrialPlace {
         stop: Some(writes),
-        ..Place::after(0)
+        ..TrialPlace::after(0)
     };
     let (image, is_opened) = stopped(alloc, migration.image.running(alloc)?, writes)?;
     stops.count_tried();
@@ -122,8 +122,8 @@ fn is_opened_before(
 fn stopped(alloc: Global, device: MemDevice, writes: u64) -> Result<(Image, bool), TrialFault> {
     device.stop_after(writes);
     match try_opening(alloc, device, DEFAULT_CACHE_PAGES)? {
-        Opened::Server(server) => Ok((Image::of(alloc, server.end())?, true)),
-        Opened::Device(device) => Ok((Image::of(alloc, device)?, false)),
+        OpeningOutcome::Server(server) => Ok((Image::of(alloc, server.end())?, true)),
+        OpeningOutcome::Device(device) => Ok((Image::of(alloc, device)?, false)),
     }
 }
 
@@ -133,11 +133,11 @@ fn stop_again(
     migration: &Migration,
     image: &Image,
     choice: Choice,
-    place: Place,
+    place: TrialPlace,
     tally: &mut Tally,
 ) -> Result<(), TrialFault> {
     for writes in 0..MAX_WRITES {
-        let place = Place {
+        let place = TrialPlace {
             restart: Some(choice),
             second_stop: Some(writes),
             ..place
@@ -170,8 +170,8 @@ impl Failing for FailingMigration<'_> {
             device.fail_call(calls);
         }
         match try_opening(alloc, device, DEFAULT_CACHE_PAGES)? {
-            Opened::Server(server) => passed(server.device()),
-            Opened::Device(device) => handed_back(alloc, device),
+            OpeningOutcome::Server(server) => passed(server.device()),
+            OpeningOutcome::Device(device) => handed_back(alloc, device),
         }
     }
 
@@ -179,7 +179,7 @@ impl Failing for FailingMigration<'_> {
         &self,
         alloc: Global,
         image: &Image,
-        place: Place,
+        place: TrialPlace,
         tally: &mut Tally,
     ) -> Result<(), TrialFault> {
         tally.count_opened();

@@ -2,14 +2,14 @@
 
 use crate::stops::failing::{Failing, fail_each};
 use crate::stops::fault::TrialFault;
-use crate::stops::first_stops::Stop;
+use crate::stops::first_stops::StoppedDevice;
 use crate::stops::images::Image;
 use crate::stops::outcome::Outcome;
-use crate::stops::places::Place;
+use crate::stops::places::TrialPlace;
 use crate::stops::requests::run_first;
 use crate::stops::restarts::check_restarts;
-use crate::stops::scripts::{Found, Script};
-use crate::stops::servers::{DeviceServer, Opened, open_new, try_opening};
+use crate::stops::scripts::{FoundStore, Script};
+use crate::stops::servers::{DeviceServer, OpeningOutcome, open_new, try_opening};
 use crate::stops::tally::Tally;
 use kv_store::DEFAULT_CACHE_PAGES;
 use sector_device::{Device, MemDevice};
@@ -20,7 +20,7 @@ use std::alloc::Global;
 #[derive(Clone, Copy)]
 pub struct FailingOpening<'a> {
     pub script: &'a Script,
-    pub stop: &'a Stop,
+    pub stop: &'a StoppedDevice,
     pub cache: usize,
 }
 
@@ -29,8 +29,10 @@ impl Failing for FailingOpening<'_> {
         let device = self.stop.image.running(alloc)?;
         device.fail_call(calls);
         match try_opening(alloc, device, self.cache)? {
-            Opened::Server(server) => passed(server.device()),
-            Opened::Device(device) => Ok(Outcome::Failed(handed_back(alloc, self.stop, device)?)),
+            OpeningOutcome::Server(server) => passed(server.device()),
+            OpeningOutcome::Device(device) => Ok(Outcome::Failed(handed_back(
+                alloc, self.stop, device,
+            )?)),
         }
     }
 
@@ -38,7 +40,7 @@ impl Failing for FailingOpening<'_> {
         &self,
         alloc: Global,
         image: &Image,
-        place: Place,
+        place: TrialPlace,
         tally: &mut Tally,
     ) -> Result<(), TrialFault> {
         if let Err(fault) = open_running(alloc, self, image, place, tally) {
@@ -53,8 +55,8 @@ impl Failing for FailingOpening<'_> {
 
 impl FailingOpening<'_> {
     /// Opens a server on a device that holds what the stop left, and tells of which moment its map is.
-    fn find(&self, alloc: Global, device: MemDevice) -> Result<Found, TrialFault> {
-        let Stop {
+    fn find(&self, alloc: Global, device: MemDevice) -> Result<FoundStore, TrialFault> {
+        let StoppedDevice {
             index,
             is_answered,
             ..
@@ -83,15 +85,15 @@ pub fn fail_last_openings(
 }
 
 /// What a device holds after all events of a script, each of them answered.
-fn end_of(alloc: Global, script: &Script) -> Result<Stop, TrialFault> {
+fn end_of(alloc: Global, script: &Script) -> Result<StoppedDevice, TrialFault> {
     let mut server = open_new(alloc, DEFAULT_CACHE_PAGES)?;
     run_first(&mut server, &script.events, script.events.len());
     let index = script.events.len().saturating_sub(1);
-    Ok(Stop {
+    Ok(StoppedDevice {
         image: Image::of(alloc, server.end())?,
         index,
         is_answered: true,
-        place: Place::after(index),
+        place: TrialPlace::after(index),
     })
 }
 
@@ -105,7 +107,11 @@ pub fn passed(device: &MemDevice) -> Result<Outcome, TrialFault> {
 }
 
 /// What a device holds that an opening hands back: one call failed, and its content is as before.
-fn handed_back(alloc: Global, stop: &Stop, device: MemDevice) -> Result<Image, TrialFault> {
+fn handed_back(
+    alloc: Global,
+    stop: &StoppedDevice,
+    device: MemDevice,
+) -> Result<Image, TrialFault> {
     match device.failures() {
         1 => image_as_before(alloc, stop, device),
         failures => Err(TrialFault::Calls(failures)),
@@ -113,7 +119,11 @@ fn handed_back(alloc: Global, stop: &Stop, device: MemDevice) -> Result<Image, T
 }
 
 /// What a device holds, whose content is as after a stop.
-fn image_as_before(alloc: Global, stop: &Stop, device: MemDevice) -> Result<Image, TrialFault> {
+fn image_as_before(
+    alloc: Global,
+    stop: &StoppedDevice,
+    device: MemDevice,
+) -> Result<Image, TrialFault> {
     let image = Image::of(alloc, device)?;
     if image.has_content_of(&stop.image) {
         Ok(image)
@@ -128,11 +138,11 @@ fn open_running(
     alloc: Global,
     opening: &FailingOpening<'_>,
     image: &Image,
-    place: Place,
+    place: TrialPlace,
     tally: &mut Tally,
 ) -> Result<(), TrialFault> {
     tally.count_opened();
-    let Found { store, moment } = opening.find(alloc, image.running(alloc)?)?;
+    let FoundStore { store, moment } = opening.find(alloc, image.running(alloc)?)?;
     let found = Image::of(alloc, store.into_device())?;
     check_restarts(alloc, &found, place, tally, |_, device| {
         let again = opening.find(alloc, device)?;

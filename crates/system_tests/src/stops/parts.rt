@@ -5,15 +5,15 @@ const SEED: u64 = 20_160_601;
 
 /// Takes about one of so many trials, chosen by numbers that are drawn in turn.
 #[derive(Clone, Copy)]
-pub struct Part {
+pub struct Sampler {
     every: u64,
     number: u64,
 }
 
-impl Part {
+impl Sampler {
     /// Takes about one of `every`, and each where that is 1.
-    fn one_of(every: u64) -> Part {
-        Part {
+    fn one_of(every: u64) -> Sampler {
+        Sampler {
             every,
             number: SEED,
         }
@@ -41,9 +41,9 @@ pub struct Parts {
     /// All trials are taken.
     all: bool,
     /// Of the devices after a stop, those on which one more commit is stopped too.
-    pub second_stops: Part,
+    pub second_stops: Sampler,
     /// Of the stops, those after which each call of an opening fails.
-    pub openings: Part,
+    pub openings: Sampler,
 }
 
 impl Parts {
@@ -51,8 +51,8 @@ impl Parts {
     pub fn new(all: bool) -> Parts {
         Parts {
             all,
-            second_stops: Part::one_of(if all { 1 } else { PART_STOPPED_AGAIN }),
-            openings: Part::one_of(if all { 1 } else { PART_OPENED }),
+            second_stops: Sampler::one_of(if all { 1 } else { PART_STOPPED_AGAIN }),
+            openings: Sampler::one_of(if all { 1 } else { PART_OPENED }),
         }
     }
 

@@ -4,7 +4,7 @@ use crate::stops::choices::Choice;
 
 /// Where something was tried. What was not done there is `None`.
 #[derive(Clone, Copy, Debug)]
-pub struct Place {
+pub struct TrialPlace {
     /// How many events were answered before the one under way.
     pub events: usize,
     /// After how many writes the device stopped.
@@ -19,10 +19,10 @@ pub struct Place {
     pub choice: Option<Choice>,
 }
 
-impl Place {
+impl TrialPlace {
     /// At an event, before anything is done to the device.
-    pub fn after(events: usize) -> Place {
-        Place {
+    pub fn after(events: usize) -> TrialPlace {
+        TrialPlace {
             events,
             stop: None,
             restart: None,

@@ -3,7 +3,7 @@
 use crate::stops::choices::Choice;
 use crate::stops::fault::TrialFault;
 use crate::stops::images::Image;
-use crate::stops::places::Place;
+use crate::stops::places::TrialPlace;
 use crate::stops::tally::Tally;
 use sector_device::MemDevice;
 use std::alloc::Global;
@@ -13,7 +13,7 @@ use std::alloc::Global;
 pub fn check_restarts<F: FnMut(Choice, MemDevice) -> Result<(), TrialFault>>(
     alloc: Global,
     image: &Image,
-    place: Place,
+    place: TrialPlace,
     tally: &mut Tally,
     mut check: F,
 ) -> Result<(), TrialFault>
@@ -24,7 +24,7 @@ pub fn check_restarts<F: FnMut(Choice, MemDevice) -> Result<(), TrialFault>>(
         tally.count_opened();
         if let Err(fault) = check(*choice, device) {
             let choice = Some(*choice);
-            tally.disagree(Place { choice, ..place }, fault)?;
+            tally.disagree(TrialPlace { choice, ..place }, fault)?;
         }
     }
     Ok(())

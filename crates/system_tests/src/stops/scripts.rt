@@ -16,7 +16,7 @@ use std::slice::from_ref;
 
 /// The store on a device, and the number of the moment whose map it has: how many events came before it.
 #[derive(Drop)]
-pub struct Found {
+pub struct FoundStore {
     pub store: DeviceStore,
     pub moment: usize,
 }
@@ -121,10 +121,10 @@ impl Script {
         device: MemDevice,
         index: usize,
         is_answered: bool,
-    ) -> Result<Found, TrialFault> {
+    ) -> Result<FoundStore, TrialFault> {
         let (store, records) = end_and_scan(alloc, open_device(alloc, device)?)?;
         let moment = self.moment_of(records.as_slice(), index, is_answered)?;
-        Ok(Found { store, moment })
+        Ok(FoundStore { store, moment })
     }
 
     /// The number of the moment that has these records: that after the event at an index, or where it was not answered that
@@ -154,7 +154,7 @@ impl Script {
         index: usize,
         is_answered: bool,
     ) -> Result<usize, TrialFault> {
-        let Found { store, moment } = self.find(alloc, device, index, is_answered)?;
+        let FoundStore { store, moment } = self.find(alloc, device, index, is_answered)?;
         self.check_again(alloc, commit_on(alloc, store)?, moment, true)?;
         Ok(moment)
     }

@@ -2,9 +2,9 @@
 
 use crate::stops::choices::Choice;
 use crate::stops::fault::TrialFault;
-use crate::stops::first_stops::{MAX_WRITES, Stop};
+use crate::stops::first_stops::{MAX_WRITES, StoppedDevice};
 use crate::stops::images::Image;
-use crate::stops::places::Place;
+use crate::stops::places::TrialPlace;
 use crate::stops::requests::{commit_again, log_in_again};
 use crate::stops::restarts::check_restarts;
 use crate::stops::scripts::Script;
@@ -16,7 +16,7 @@ use std::alloc::Global;
 struct SecondStop {
     image: Image,
     is_answered: bool,
-    place: Place,
+    place: TrialPlace,
 }
 
 // Written and not derived: where a value is dropped this is one call, and not its parts one by one.
@@ -35,7 +35,7 @@ impl Drop for SecondStop {
 pub fn stop_again(
     alloc: Global,
     script: &Script,
-    stop: &Stop,
+    stop: &StoppedDevice,
     choice: Choice,
     moment: usize,
     tally: &mut Tally,
@@ -52,7 +52,7 @@ pub fn stop_again(
 fn is_answered_before(
     alloc: Global,
     script: &Script,
-    stop: &Stop,
+    stop: &StoppedDevice,
     choice: Choice,
     moment: usize,
     writes: u64,
@@ -66,11 +66,11 @@ fn is_answered_before(
 /// Makes one more commit on the device that a stop left by a choice, and that stops after so many writes.
 fn stop_after(
     alloc: Global,
-    stop: &Stop,
+    stop: &StoppedDevice,
     choice: Choice,
     writes: u64,
 ) -> Result<SecondStop, TrialFault> {
-    let place = Place {
+    let place = TrialPlace {
         restart: Some(choice),
         second_stop: Some(writes),
         ..stop.place
@@ -84,7 +84,7 @@ fn stop_server<S: Answering + DeviceServer + Drop>(
     alloc: Global,
     mut server: S,
     writes: u64,
-    place: Place,
+    place: TrialPlace,
 ) -> Result<SecondStop, TrialFault> {
     log_in_again(alloc, &mut server)?;
     server.device().stop_after(writes);

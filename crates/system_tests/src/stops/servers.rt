@@ -54,35 +54,39 @@ impl DeviceServer for OnDevice {
 
 /// What an opening came to: a server, or the device, handed back because a call of it failed.
 #[derive(Drop)]
-pub enum Opened {
+pub enum OpeningOutcome {
     Server(OnDevice),
     Device(MemDevice),
 }
 
 /// Opens a server on a device, with a cache of so many pages. A refusal other than that the device failed is an error.
-pub fn try_opening(alloc: Global, device: MemDevice, cache: usize) -> Result<Opened, TrialFault> {
+pub fn try_opening(
+    alloc: Global,
+    device: MemDevice,
+    cache: usize,
+) -> Result<OpeningOutcome, TrialFault> {
     if cache == 0 || cache > DEFAULT_CACHE_PAGES {
         return Err(TrialFault::NoSuchCache);
     }
     match PageStore::open_with(alloc, device, cache) {
         Ok(store) => try_server(alloc, store),
-        Err((device, OpenFault::Device)) => Ok(Opened::Device(device)),
+        Err((device, OpenFault::Device)) => Ok(OpeningOutcome::Device(device)),
         Err((_, fault)) => Err(TrialFault::NoStore(fault)),
     }
 }
 
 /// Opens a server over a store on a device. A refusal other than that the device failed is an error.
-fn try_server(alloc: Global, store: DeviceStore) -> Result<Opened, TrialFault> {
+fn try_server(alloc: Global, store: DeviceStore) -> Result<OpeningOutcome, TrialFault> {
     match open(alloc, store, Decider::new(Statements)) {
-        Ok(server) => Ok(Opened::Server(server)),
+        Ok(server) => Ok(OpeningOutcome::Server(server)),
         Err(Refused { store, fault }) => without_server(store, fault),
     }
 }
 
 /// What an opening came to that opened no server over a store.
-fn without_server(store: DeviceStore, fault: OpeningFault) -> Result<Opened, TrialFault> {
+fn without_server(store: DeviceStore, fault: OpeningFault) -> Result<OpeningOutcome, TrialFault> {
     match fault {
-        OpeningFault::Device => Ok(Opened::Device(store.into_device())),
+        OpeningFault::Device => Ok(OpeningOutcome::Device(store.into_device())),
         _ => Err(TrialFault::NoServer(fault)),
     }
 }
@@ -90,8 +94,8 @@ fn without_server(store: DeviceStore, fault: OpeningFault) -> Result<Opened, Tri
 /// Opens a server on a device no call of which fails, with a cache of so many pages.
 pub fn open_cached(alloc: Global, device: MemDevice, cache: usize) -> Result<OnDevice, TrialFault> {
     match try_opening(alloc, device, cache)? {
-        Opened::Server(server) => Ok(server),
-        Opened::Device(_) => Err(TrialFault::NoServer(OpeningFault::Device)),
+        OpeningOutcome::Server(server) => Ok(server),
+        OpeningOutcome::Device(_) => Err(TrialFault::NoServer(OpeningFault::Device)),
     }
 }
 

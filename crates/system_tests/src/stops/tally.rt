@@ -2,7 +2,7 @@
 
 use crate::printing::print_counts;
 use crate::stops::fault::TrialFault;
-use crate::stops::places::Place;
+use crate::stops::places::TrialPlace;
 use std::alloc::{AllocFailed, Global};
 use std::io;
 
@@ -16,7 +16,7 @@ pub struct Tally {
     pub opened: u64,
     /// How often something went otherwise than expected.
     pub disagreements: u64,
-    faults: Vec<(Place, TrialFault)>,
+    faults: Vec<(TrialPlace, TrialFault)>,
 }
 
 // Written and not derived: where a value is dropped this is one call, and not its parts one by one.
@@ -55,7 +55,7 @@ impl Tally {
     }
 
     /// Counts a disagreement at a place.
-    pub fn disagree(&mut self, place: Place, fault: TrialFault) -> Result<(), TrialFault> {
+    pub fn disagree(&mut self, place: TrialPlace, fault: TrialFault) -> Result<(), TrialFault> {
         self.disagreements = self.disagreements.saturating_add(1);
         self.faults.push((place, fault))?;
         Ok(())
