@@ -90,7 +90,10 @@ impl Ord for SortValue {
     ghost matches_eq = { Prim.search (comparing, rules) depth 12 };
 
     fn cmp(&self, other: &SortValue) -> Ordering {
-        sort_order(self.0.as_ref(), other.0.as_ref())
+        match (&self.0, &other.0) {
+            (Value::Int(own), Value::Int(other)) => own.cmp(other),
+            _ => sort_order(self.0.as_ref(), other.0.as_ref()),
+        }
     }
 }
 
