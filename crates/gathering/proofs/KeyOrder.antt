@@ -19,7 +19,7 @@ use Rattle.expressions.proofs.Results.{bind_ok, ok_inside}
 use Rattle.abstract_database.specs.Expressions.{bound_value, passing, row_at, when_true}
 use Rattle.abstract_database.specs.Lists.{Among, Rising}
 use Rattle.abstract_database.specs.Queries.{BoundList, each_column, each_value, their_count, Combination, Keyed, all_columns, condition_value, cut, keys_cmp, listed, ordered, put_before, sorted, with_keys}
-use Rattle.gathering.specs.declared.query.SortKey.{SortKey}
+use Rattle.gathering.specs.declared.query.TypedSortKey.{TypedSortKey}
 use Rattle.gathering.specs.Joins.{column_in}
 use Rattle.gathering.specs.KeyOrder.{is_own_column, is_ascending_by, are_first_of, first_row_cmp, unsorted, KeyOrderIsSorted}
 use Rattle.gathering.specs.Queries.{key_of, list_of, terms}
@@ -69,12 +69,12 @@ column_value users c index (null_test a) e = cc
 column_value users c index (not_null_test a) e = cc
 column_value users c index (member_test a) e = cc
 
-abbrev values_of : List ℕ → List SortKey → Combination → List Value
+abbrev values_of : List ℕ → List TypedSortKey → Combination → List Value
 values_of columns [] c = []
 values_of [] (key ∷ keys) c = []
 values_of (index ∷ columns) (key ∷ keys) c = value_at (row_at c 0) index ∷ values_of columns keys c
 
-each_key : (users : UserNames) (c : Combination) (columns : List ℕ) (keys : List SortKey) → are_first_of columns keys ≡ true
+each_key : (users : UserNames) (c : Combination) (columns : List ℕ) (keys : List TypedSortKey) → are_first_of columns keys ≡ true
     → each (λ key. bound_value users c key.term) (map key_of keys) ≡ Ok (values_of columns keys c)
 each_key users c columns [] e = refl
 each_key users c [] (key ∷ keys) e = cc
@@ -85,7 +85,7 @@ each_key users c (index ∷ columns) (key ∷ keys) e =
     ∙ ap (λ (r : Result (List Value) SqlState). r >>= λ vs. Ok (value_at (row_at c 0) index ∷ vs)) (each_key users c columns keys parts.1)
 
 -- a combination that is before another by the columns is not behind it by the keys
-not_behind : (columns : List ℕ) (keys : List SortKey) (c d : Combination) → are_first_of columns keys ≡ true → first_row_cmp columns c d ≡ Less
+not_behind : (columns : List ℕ) (keys : List TypedSortKey) (c d : Combination) → are_first_of columns keys ≡ true → first_row_cmp columns c d ≡ Less
     → is_gt (keys_cmp (map key_of keys) (values_of columns keys c) (values_of columns keys d)) ≡ false
 not_behind columns [] c d e less = refl
 not_behind [] (key ∷ keys) c d e less = cc
@@ -116,7 +116,7 @@ sorted_stays {A} cmp (x ∷ y ∷ ys) h =
     ap (λ (l : List A). put_before cmp x l) (sorted_stays cmp (y ∷ ys) h.1)
     ∙ ap (λ (b : Bool). if b then y ∷ put_before cmp x ys else x ∷ y ∷ ys) h.0
 
-module _ (users : UserNames) (columns : List ℕ) (keys : List SortKey) (first : are_first_of columns keys ≡ true) where
+module _ (users : UserNames) (columns : List ℕ) (keys : List TypedSortKey) (first : are_first_of columns keys ≡ true) where
   abbrev keyed : Combination → Keyed
   keyed c = record { keys = values_of columns keys c; combination = c }
 
@@ -153,7 +153,7 @@ module _ (users : UserNames) (columns : List ℕ) (keys : List SortKey) (first :
 
 -- ---- the query
 
-listed_alike : (users : UserNames) (columns : List ℕ) (keys : List SortKey) → are_first_of columns keys ≡ true → (list : BoundList) (limit : Option ℕ) (cs : List Combination) → Rising (first_row_cmp columns) cs
+listed_alike : (users : UserNames) (columns : List ℕ) (keys : List TypedSortKey) → are_first_of columns keys ≡ true → (list : BoundList) (limit : Option ℕ) (cs : List Combination) → Rising (first_row_cmp columns) cs
     → listed users list (map key_of keys) limit cs ≡ listed users list [] limit cs
 listed_alike users columns keys first their_count limit cs rising = refl
 listed_alike users columns keys first each_column limit cs rising =

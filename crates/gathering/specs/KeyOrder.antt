@@ -7,7 +7,7 @@ use Rattle.expressions.specs.Meaning.{UserNames}
 use Rattle.abstract_database.specs.Expressions.{row_at}
 use Rattle.abstract_database.specs.Lists.{Rising}
 use Rattle.abstract_database.specs.Queries.{Combination}
-use Rattle.gathering.specs.declared.query.SortKey.{SortKey}
+use Rattle.gathering.specs.declared.query.TypedSortKey.{TypedSortKey}
 use Rattle.gathering.specs.declared.query.Query.{Query}
 use Rattle.gathering.specs.Joins.{column_in}
 use Rattle.gathering.specs.Queries.{answered, bound_of}
@@ -18,11 +18,11 @@ is_own_column index None = false
 is_own_column index (Some column) = nat_eq column.table 0 && nat_eq column.column index
 
 -- whether rows are sorted by the first table's column of the index, ascending
-abbrev pub is_ascending_by : ℕ → SortKey → Bool
+abbrev pub is_ascending_by : ℕ → TypedSortKey → Bool
 is_ascending_by index key = not key.descending && is_own_column index (column_in key.value.term)
 
 -- whether the sort keys are the first of these columns, each ascending
-abbrev pub are_first_of : List ℕ → List SortKey → Bool
+abbrev pub are_first_of : List ℕ → List TypedSortKey → Bool
 are_first_of columns [] = true
 are_first_of [] (key ∷ keys) = false
 are_first_of (index ∷ columns) (key ∷ keys) = is_ascending_by index key && are_first_of columns keys

@@ -5,11 +5,11 @@ ghost use Rattle.gathering.specs.Joins.{column_in};
 ghost use Rattle.gathering.specs.KeyOrder.{is_own_column, is_ascending_by, are_first_of};
 
 use crate::join::column_in;
-use crate::query::SortKey;
+use crate::query::TypedSortKey;
 use sql_ast::scope::ColumnIndex;
 
 /// Whether the sort keys are the first of these columns of the first table, each ascending.
-pub fn are_first_of(columns: &[usize], keys: &[SortKey]) -> bool
+pub fn are_first_of(columns: &[usize], keys: &[TypedSortKey]) -> bool
     ensures { result ≡ are_first_of columns.now keys.now }
 {
     let mut left = columns;
@@ -26,7 +26,7 @@ pub fn are_first_of(columns: &[usize], keys: &[SortKey]) -> bool
 }
 
 // Whether rows are sorted by the first table's column of the index, ascending.
-fn is_ascending_by(index: usize, key: &SortKey) -> bool
+fn is_ascending_by(index: usize, key: &TypedSortKey) -> bool
     ensures { result ≡ is_ascending_by index key.now }
 {
     !key.descending && is_own_column(index, column_in(key.value.tree()))

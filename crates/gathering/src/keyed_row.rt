@@ -4,7 +4,7 @@ ghost use Rattle.std.specs.Cmp.Lexicographic.{slice_cmp};
 ghost use Rattle.expressions.specs.Rows.{names_of};
 ghost use Rattle.gathering.specs.Entries.{behind_first, both_compared, directed_cmp, first_compared, key_compared, key_on, keys_compared, keys_on};
 
-use crate::query::SortKey;
+use crate::query::TypedSortKey;
 use crate::sort_value::Directed;
 use expressions::eval::{Users, eval};
 use sql_types::items::Items;
@@ -28,7 +28,7 @@ pub struct KeyedRow {
 /// The value of a sort key, or its refusal. An error means that memory was refused.
 pub(crate) fn key_on<R: RowView>(
     alloc: Global,
-    key: &SortKey,
+    key: &TypedSortKey,
     row: &R,
     users: &Users<'_>,
 ) -> Result<Result<Directed, SqlState>, AllocError>
@@ -44,7 +44,7 @@ pub(crate) fn key_on<R: RowView>(
 /// The values of the sort keys, or the refusal of the first that has one. An error means that memory was refused.
 pub(crate) fn keys_on<R: RowView>(
     alloc: Global,
-    keys: &[SortKey],
+    keys: &[TypedSortKey],
     row: &R,
     users: &Users<'_>,
 ) -> Result<Result<Items<Directed>, SqlState>, AllocError>
@@ -64,7 +64,7 @@ pub(crate) fn keys_on<R: RowView>(
 /// How a row's values of sort keys compare with those of a row that is kept, or the refusal of the first that has one. No memory
 /// is taken.
 pub(crate) fn compare_keys<R: RowView>(
-    keys: &[SortKey],
+    keys: &[TypedSortKey],
     row: &R,
     users: &Users<'_>,
     kept: &[Directed],
@@ -91,7 +91,7 @@ pub(crate) fn both(
 
 /// How a row's value of a sort key compares with the first of these, or its refusal.
 fn compare_first<R: RowView>(
-    key: &SortKey,
+    key: &TypedSortKey,
     row: &R,
     users: &Users<'_>,
     kept: &[Directed],
@@ -110,7 +110,7 @@ fn compare_first<R: RowView>(
 
 /// How a row's value of a sort key compares with that of a row that is kept, or its refusal.
 pub(crate) fn compare_key<R: RowView>(
-    key: &SortKey,
+    key: &TypedSortKey,
     row: &R,
     users: &Users<'_>,
     kept: &Directed,

@@ -30,7 +30,7 @@ use Rattle.gathering.specs.Fits.{HasWidths as HaveWidths, HasKeyType}
 use Rattle.gathering.specs.declared.query.OutputList.{OutputList}
 use Rattle.gathering.specs.declared.query.OutputList.TheVariants.{Rows, Count}
 use Rattle.gathering.specs.declared.query.RowList.TheVariants.{Columns, Values}
-use Rattle.gathering.specs.declared.query.SortKey.{SortKey}
+use Rattle.gathering.specs.declared.query.TypedSortKey.{TypedSortKey}
 use Rattle.gathering.specs.Queries.{terms}
 use Rattle.planner.specs.Bound.{HasWidths, IsTyped}
 use Rattle.planner.specs.Fitting.{NamedTablesHaveLayouts, FitTables, AreRowsOf, QueriesFitCombinations, QueriesFitRows, QueriesFitProducts, InsertsFit, UpdatesFit}
@@ -123,7 +123,7 @@ combinations d current s p users c is f =
     let ts = tables_of_plan p in
     let long : length ts ≡ length refs = length_each (λ (r : TableReference). table_in d r.table) refs ts is.tables.found in (
       have_widths (scope_of_plan s p) p.query.list c is.widths (widths_alike refs ts c long f),
-      all_so (λ (key : SortKey). IsTyped (scope_of_plan s p) key.value) (HasKeyType users c)
+      all_so (λ (key : TypedSortKey). IsTyped (scope_of_plan s p) key.value) (HasKeyType users c)
           (λ key typed. typed (cell_in c) users (λ index. cells_fit refs ts c long f index.table index.column)) p.query.keys is.types.keys,
     )
 

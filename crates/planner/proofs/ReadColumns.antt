@@ -9,7 +9,7 @@ use Rattle.abstract_database.specs.Expressions.{columns_in}
 use Rattle.abstract_database.specs.Needs.{has_any, columns_read, columns_of_query, terms_of_query}
 use Rattle.abstract_database.specs.Queries.{BoundList, each_column, each_value, their_count, BoundKey, BoundQuery}
 use Rattle.sql_ast.specs.Layout.{Layout}
-use Rattle.gathering.specs.declared.query.SortKey.{SortKey}
+use Rattle.gathering.specs.declared.query.TypedSortKey.{TypedSortKey}
 use Rattle.gathering.specs.Queries.{key_of}
 use Rattle.catalogue.specs.Grants.{has_bit}
 use Rattle.planner.specs.Reading.{names, lacks, is_each_column}
@@ -103,10 +103,10 @@ then_so a b e = sym (ap (λ x. x || b) e)
 
 -- ---- queries
 
-pub through_keys : (kind : ColumnIndex → Bool) (keys : List SortKey) → list_any (λ (key : SortKey). names kind key.value.term) keys ≡ list_any (names kind) (map (λ (key : SortKey). key.value.term) keys)
-through_keys kind keys = any_through (λ (key : SortKey). key.value.term) kind keys
+pub through_keys : (kind : ColumnIndex → Bool) (keys : List TypedSortKey) → list_any (λ (key : TypedSortKey). names kind key.value.term) keys ≡ list_any (names kind) (map (λ (key : TypedSortKey). key.value.term) keys)
+through_keys kind keys = any_through (λ (key : TypedSortKey). key.value.term) kind keys
 
-pub keys_by_value : (keys : List SortKey) → map (λ (key : SortKey). key.value.term) keys ≡ map (λ (key : BoundKey). key.term) (map key_of keys)
+pub keys_by_value : (keys : List TypedSortKey) → map (λ (key : TypedSortKey). key.value.term) keys ≡ map (λ (key : BoundKey). key.term) (map key_of keys)
 keys_by_value [] = refl
 keys_by_value (key ∷ keys) = ap (λ l. key.value.term ∷ l) (keys_by_value keys)
 

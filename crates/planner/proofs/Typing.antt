@@ -24,7 +24,7 @@ use Rattle.abstract_database.proofs.ResultLemmas.{ok_inside, bind_ok}
 use Rattle.gathering.specs.declared.query.OutputList.{OutputList}
 use Rattle.gathering.specs.declared.query.OutputList.TheVariants.{Rows, Count}
 use Rattle.gathering.specs.declared.query.RowList.TheVariants.{Columns, Values}
-use Rattle.gathering.specs.declared.query.SortKey.{SortKey}
+use Rattle.gathering.specs.declared.query.TypedSortKey.{TypedSortKey}
 use Rattle.gathering.specs.declared.query.Query.{Query}
 use Rattle.planner.specs.Bound.{IsTyped, HasListTypes, HasTypes, IsListOf, key_values, Begins}
 use Rattle.planner.specs.Parts.{value_part, condition_part, key_part, list_length, conditions_length}
@@ -99,5 +99,5 @@ typed_query scope l s bound q b list keys =
     let of_keys = all_given (λ (k : WrittenKey). names_then_types scope k.value) (IsTyped scope) (λ k u h. is_typed scope k.value u h) (keys_of s) (drop (conditions_length s) (drop (list_length l) bound)) (sym (each_map named (key_part scope) (keys_of s)) ∙ last) in
     record {
       list = list_typed scope q.list (take (list_length l) bound) list of_list;
-      keys = of_map (IsTyped scope) (λ (k : SortKey). k.value) q.keys (front_all (IsTyped scope) (key_values q.keys) keys.0 (subst (AllByRecursion (IsTyped scope)) keys.1 of_keys));
+      keys = of_map (IsTyped scope) (λ (k : TypedSortKey). k.value) q.keys (front_all (IsTyped scope) (key_values q.keys) keys.0 (subst (AllByRecursion (IsTyped scope)) keys.1 of_keys));
     }

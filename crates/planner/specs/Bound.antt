@@ -10,7 +10,7 @@ use Rattle.abstract_database.specs.Queries.{BoundQuery}
 use Rattle.gathering.specs.declared.query.OutputList.{OutputList}
 use Rattle.gathering.specs.declared.query.OutputList.TheVariants.{Rows, Count}
 use Rattle.gathering.specs.declared.query.RowList.TheVariants.{Columns, Values}
-use Rattle.gathering.specs.declared.query.SortKey.{SortKey}
+use Rattle.gathering.specs.declared.query.TypedSortKey.{TypedSortKey}
 use Rattle.gathering.specs.declared.query.Query.{Query}
 use Rattle.gathering.specs.Queries.{bound_of}
 
@@ -33,7 +33,7 @@ HasListTypes scope Count = Unit {0}
 -- the values of the list and the sort keys have their types
 pub record HasTypes (scope : List ScopeTable) (q : Query) : Type 0 where
   pub list : HasListTypes scope q.list
-  pub keys : AllByRecursion (λ (key : SortKey). IsTyped scope key.value) q.keys
+  pub keys : AllByRecursion (λ (key : TypedSortKey). IsTyped scope key.value) q.keys
 
 -- these are the values of the list, where it has some
 abbrev pub IsListOf : OutputList → List TypedTerm → Type 0
@@ -42,8 +42,8 @@ IsListOf (Rows (Values list)) values = list ≡ values
 IsListOf Count values = Unit {0}
 
 -- the values of sort keys, with their types
-abbrev pub key_values : List SortKey → List TypedTerm
-key_values keys = map (λ (key : SortKey). key.value) keys
+abbrev pub key_values : List TypedSortKey → List TypedTerm
+key_values keys = map (λ (key : TypedSortKey). key.value) keys
 
 -- the one list stands at the front of the other
 abbrev pub Begins : {X : Type 0} → List X → List X → Type 0

@@ -10,7 +10,7 @@ ghost use Rattle.planner.specs.Parts.{list_length, conditions_length, list_with,
 use crate::parts::{count_expressions, select_parts, sort_keys};
 use expressions::parts::bind;
 use expressions::types::Typed;
-use gathering::query::{OutputList, Query, RowList, SortKey};
+use gathering::query::{OutputList, Query, RowList, TypedSortKey};
 use sql_ast::scope::Scope;
 use sql_ast::statement::{SelectList, SortDirection, SortKey as WrittenKey, TableExpression};
 use sql_types::items::Items;
@@ -122,7 +122,7 @@ fn sorted_by(
     alloc: Global,
     keys: &[WrittenKey],
     values: Vec<Typed>,
-) -> Result<Items<SortKey>, AllocError>
+) -> Result<Items<TypedSortKey>, AllocError>
     ensures keys { IfOk result (λ sorted.
         map key_of sorted ≡ keys_with keys.now (terms values.items)) }
     ensures values { IfOk result (λ sorted. Begins (key_values sorted) values.items) }
@@ -130,7 +130,7 @@ fn sorted_by(
     let mut sorted = Items::new(alloc);
     for (key, value) in keys.iter().zip(values) {
         let descending = is_descending(key.direction);
-        sorted.push(SortKey { value, descending })?;
+        sorted.push(TypedSortKey { value, descending })?;
     }
     Ok(sorted)
 }

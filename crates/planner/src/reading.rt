@@ -12,7 +12,7 @@ ghost use Rattle.planner.specs.Rights.{covers as covers_column};
 
 use crate::masks::{covers, covers_first, is_whole};
 use expressions::types::Typed;
-use gathering::query::{OutputList, Query, RowList, SortKey};
+use gathering::query::{OutputList, Query, RowList, TypedSortKey};
 use sql_ast::columns::Columns;
 use sql_ast::expression::Expression;
 use sql_ast::scope::ColumnIndex;
@@ -42,7 +42,7 @@ fn any_lacks(values: &[Typed], number: usize, mask: u32) -> bool
     values.iter().any(|value| lacks(value.tree(), number, mask))
 }
 
-fn any_key_lacks(keys: &[SortKey], number: usize, mask: u32) -> bool
+fn any_key_lacks(keys: &[TypedSortKey], number: usize, mask: u32) -> bool
     ensures { result
         ≡ list_any (λ key. names (is_lacked (has_bit mask) number) key.value.term) keys.now }
 {

@@ -2,7 +2,7 @@ use Rattle.std.proofs.Common.{◌∙◌, List, Result, ap, sym}
 use Rattle.std.specs.declared.cmp.Ordering.{Ordering}
 use Rattle.sql_types.specs.declared.state.SqlState.{SqlState}
 use Rattle.expressions.specs.Rows.{names_of}
-use Rattle.gathering.specs.declared.query.SortKey.{SortKey}
+use Rattle.gathering.specs.declared.query.TypedSortKey.{TypedSortKey}
 use Rattle.gathering.specs.Entries.{both_compared, first_compared, key_on, keys_compared, keys_on}
 use Rattle.gathering.proofs.Comparing.{first_then_others}
 use Rattle.gathering.proofs.keyed_row.+compare_keys.Goals as goal
@@ -16,4 +16,4 @@ returns g t c =
     ∙ ap (both_compared (first_compared (key_on users cells c.in-Some.key.now) c.args.kept.now))
     (c.compare_keys.ensures ∙ ap (keys_compared (keys_on users c.in-Some.others.now cells)) c.behind_first.ensures)
     ∙ first_then_others (key_on users cells c.in-Some.key.now) (keys_on users c.in-Some.others.now cells) c.args.kept.now
-    ∙ ap (λ (keys : List SortKey). keys_compared (keys_on users keys cells) c.args.kept.now) (sym c.in-Some.ensures.cases.0)
+    ∙ ap (λ (keys : List TypedSortKey). keys_compared (keys_on users keys cells) c.args.kept.now) (sym c.in-Some.ensures.cases.0)
