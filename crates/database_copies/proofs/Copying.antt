@@ -68,7 +68,7 @@ refused_copy state contents records.Memory old new is not = inr is
 refused_copy state contents records.Source old new is not = inr is
 refused_copy state contents records.Damaged old new is not = absurd (not refl)
 refused_copy state contents records.WrongSize old new is not = is
-refused_copy state contents records.Full old new is not = is
+refused_copy state contents (records.Full least) old new is not = is
 refused_copy state contents records.Device old new is not = is
 
 pub copies_store : {E : Type 0} (state : E → DeviceState) (contents : Contents) (result : Result (Unit {0}) RecordsFault) (old new : E) → CopiesRead contents state result old new
@@ -97,7 +97,7 @@ cause_of_copy records.Memory old new cause = tt
 cause_of_copy records.Source old new cause = cause
 cause_of_copy records.Damaged old new cause = tt
 cause_of_copy records.WrongSize old new cause = tt
-cause_of_copy records.Full old new cause = tt
+cause_of_copy (records.Full least) old new cause = tt
 cause_of_copy records.Device old new cause = tt
 
 -- the source failed in the copy, after reads that did not
@@ -106,7 +106,7 @@ cause_since records.Memory old mid new first same second cause = tt
 cause_since records.Source old mid new first same second cause = cause_later commit.Device old mid new first same second cause
 cause_since records.Damaged old mid new first same second cause = tt
 cause_since records.WrongSize old mid new first same second cause = tt
-cause_since records.Full old mid new first same second cause = tt
+cause_since (records.Full least) old mid new first same second cause = tt
 cause_since records.Device old mid new first same second cause = tt
 
 pub told_cause : (result : Result (Unit {0}) RecordsFault) (old mid new : StoreState) → KeepsHistory old mid → mid.has_failed ≡ old.has_failed → KeepsHistory mid new
@@ -156,5 +156,5 @@ module _ {E : Type 0} (state : E → DeviceState) (d e : DeviceState) (contents 
   copies_database (Err (Source source.Damaged)) old new is cause = (inr (none_held is.0), is.1)
   copies_database (Err (Source source.Device)) old new is cause = (failed cause, elim is [ inl same ↦ inl same | inr copied ↦ inr (held (Err records.Source) old new copied) ])
   copies_database (Err WrongSize) old new is cause = held (Err records.WrongSize) old new is
-  copies_database (Err Full) old new is cause = held (Err records.Full) old new is
+  copies_database (Err (Full least)) old new is cause = held (Err (records.Full least)) old new is
   copies_database (Err Device) old new is cause = held (Err records.Device) old new is

@@ -43,7 +43,7 @@ fault_of_copy records.Memory = Memory
 fault_of_copy records.Source = Source source.Device
 fault_of_copy records.Damaged = Source source.Damaged
 fault_of_copy records.WrongSize = WrongSize
-fault_of_copy records.Full = Full
+fault_of_copy (records.Full least) = Full least
 fault_of_copy records.Device = Device
 
 abbrev pub told_of : Result (Unit {0}) RecordsFault → Result (Unit {0}) CopyFault
@@ -69,7 +69,7 @@ CopiesStore contents state (Err (Source source.NotADatabase)) old new = ⊥
 CopiesStore contents state (Err (Source source.Damaged)) old new = ((db : Database) → Stands contents db → ⊥) × (new ≡ old)
 CopiesStore contents state (Err (Source source.Device)) old new = (new ≡ old) ⊎ CopiesRead contents state (Err records.Source) old new
 CopiesStore contents state (Err WrongSize) old new = CopiesRead contents state (Err records.WrongSize) old new
-CopiesStore contents state (Err Full) old new = CopiesRead contents state (Err records.Full) old new
+CopiesStore contents state (Err (Full least)) old new = CopiesRead contents state (Err (records.Full least)) old new
 CopiesStore contents state (Err Device) old new = CopiesRead contents state (Err records.Device) old new
 
 -- why the source is told to be the cause
@@ -80,7 +80,7 @@ HasReadCause (Source source.NotADatabase) old new = Unit {0}
 HasReadCause (Source source.Damaged) old new = Unit {0}
 HasReadCause (Source source.Device) old new = HasDeviceCause old new
 HasReadCause WrongSize old new = Unit {0}
-HasReadCause Full old new = Unit {0}
+HasReadCause (Full least) old new = Unit {0}
 HasReadCause Device old new = Unit {0}
 
 -- ---- a device that is copied
@@ -112,5 +112,5 @@ CopiesDatabase d e state (Err (Source source.NotADatabase)) old new = IsOfSource
 CopiesDatabase d e state (Err (Source source.Damaged)) old new = IsOfSource source.Damaged d e × (new ≡ old)
 CopiesDatabase d e state (Err (Source source.Device)) old new = IsOfSource source.Device d e × ((new ≡ old) ⊎ Copies d state (Err records.Source) old new)
 CopiesDatabase d e state (Err WrongSize) old new = Copies d state (Err records.WrongSize) old new
-CopiesDatabase d e state (Err Full) old new = Copies d state (Err records.Full) old new
+CopiesDatabase d e state (Err (Full least)) old new = Copies d state (Err (records.Full least)) old new
 CopiesDatabase d e state (Err Device) old new = Copies d state (Err records.Device) old new

@@ -24,7 +24,7 @@ use store::Store;
 /// stand for no database, or the whole copy; and after each fault but `Device` it leaves no whole copy.
 ///
 /// `Source`: no database is on the source, or its device failed. `WrongSize`: the device of the copy has another size;
-/// nothing was written. `Full`: no room is left on it, so the copy wants a page more at least. `Device`: it failed.
+/// nothing was written. `Full`: no room is left on it; it names how many pages a copy wants at least. `Device`: it failed.
 /// `Memory`: an allocation failed.
 pub fn copy_database<D: Device, E: Device>(
     alloc: Global,

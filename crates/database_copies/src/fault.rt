@@ -11,8 +11,8 @@ pub enum CopyFault {
     Source(SourceFault),
     /// The device of the copy does not have 64 to 65,536 whole pages. Nothing was written.
     WrongSize,
-    /// The device of the copy has no room left.
-    Full,
+    /// The device of the copy has no room left. The copy wants so many pages at least.
+    Full(u64),
     /// The device of the copy failed.
     Device,
 }
@@ -72,7 +72,7 @@ impl From<device_copies::CopyFault> for CopyFault {
             device_copies::CopyFault::Source => CopyFault::Source(SourceFault::Device),
             device_copies::CopyFault::Damaged => CopyFault::Source(SourceFault::Damaged),
             device_copies::CopyFault::WrongSize => CopyFault::WrongSize,
-            device_copies::CopyFault::Full => CopyFault::Full,
+            device_copies::CopyFault::Full(least) => CopyFault::Full(least),
             device_copies::CopyFault::Device => CopyFault::Device,
         }
     }

@@ -177,5 +177,5 @@ not_marked g Memory old new present is = subst (λ (x : _). IsNotBegun (g.state 
 not_marked g Source old new present is = is
 not_marked g Damaged old new present is = is
 not_marked g WrongSize old new present is = is
-not_marked g Full old new present is = is
+not_marked g (Full least) old new present is = is
 not_marked g Device old new present is = (half_written (g.state old) (g.state new) is.0 is.1, λ faithful. is.2)

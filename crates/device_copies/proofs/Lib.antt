@@ -1,3 +1,4 @@
 pub mod NoDatabase
 pub mod Beginning
 pub mod Copied
+pub mod Counted

@@ -22,6 +22,7 @@ use Rattle.copying.specs.declared.fault.CopyFault.TheVariants.{Read, Write}
 use Rattle.copying.specs.Copying.{IsUnfinished, mark, whole}
 use Rattle.device_copies.specs.declared.fault.CopyFault.{CopyFault}
 use Rattle.device_copies.specs.declared.fault.CopyFault.TheVariants.{Memory, Source, Damaged, WrongSize, Full, Device}
+use Rattle.device_copies.specs.Wanted.{wanted}
 
 -- what a stop leaves of a device, read as contents
 abbrev pub records_on : DeviceState → Timeline (Option Contents)
@@ -52,14 +53,15 @@ IsCopied contents d = (image : Image) → IsLeft d image → HasContents (d.sect
 abbrev pub IsNotCopied : DeviceState → DeviceState → Type 0
 IsNotCopied old new = old.faithful → IsBlank old → (x : Option Contents) → (records_on new).left x → HasNoneOrMark x
 
--- the contents are copied; or the copy stops for its source, for memory or for room, and is not whole; or the device fails, or has another size
+-- the contents are copied; or the copy stops for its source, for memory or for room, and is not whole, and where it was for room it is told how many pages are wanted
+-- at least; or the device fails, or has another size
 abbrev pub CopiesAll : {D : Type 0} → (D → DeviceState) → Contents → Result (Unit {0}) CopyFault → D → D → Type 0
 CopiesAll state contents (Ok x) old new = Tries contents (state old) (state new) × ((state old).faithful → IsCopied contents (state new))
 CopiesAll state contents (Err Memory) old new = Tries contents (state old) (state new) × IsNotCopied (state old) (state new)
 CopiesAll state contents (Err Source) old new = Tries contents (state old) (state new) × IsNotCopied (state old) (state new)
 CopiesAll state contents (Err Damaged) old new = Tries contents (state old) (state new) × IsNotCopied (state old) (state new)
 CopiesAll state contents (Err WrongSize) old new = (is_size (state old).sectors ≡ false) × (new ≡ old)
-CopiesAll state contents (Err Full) old new = Tries contents (state old) (state new) × IsNotCopied (state old) (state new)
+CopiesAll state contents (Err (Full least)) old new = Tries contents (state old) (state new) × IsNotCopied (state old) (state new) × (least ≡ wanted ((state old).sectors / 8) contents.records)
 CopiesAll state contents (Err Device) old new = Tries contents (state old) (state new) × ((state old).faithful → HasFailed (state old) (state new))
 
 -- the records behind the mark are copied, in the current spelling
@@ -72,19 +74,19 @@ HasSourceCause Memory old new = Unit {0}
 HasSourceCause Source old new = HasDeviceCause old new
 HasSourceCause Damaged old new = Unit {0}
 HasSourceCause WrongSize old new = Unit {0}
-HasSourceCause Full old new = Unit {0}
+HasSourceCause (Full least) old new = Unit {0}
 HasSourceCause Device old new = Unit {0}
 
--- what a copy of records answered, as one to a device: a new store has a number for each commit of it
-abbrev pub told_of : Result (Unit {0}) RecordsFault → Result (Unit {0}) CopyFault
-told_of (Ok x) = Ok x
-told_of (Err (Read read.Memory)) = Err Memory
-told_of (Err (Read read.Device)) = Err Source
-told_of (Err (Read read.Damaged)) = Err Damaged
-told_of (Err (Write write.Full)) = Err Full
-told_of (Err (Write write.Memory)) = Err Memory
-told_of (Err (Write write.Device)) = Err Device
-told_of (Err (Write write.Number)) = Err Full
+-- what a copy of records answered, as one to a device, with the fault where there was no room: a new store has a number for each commit of it
+abbrev pub told_of : CopyFault → Result (Unit {0}) RecordsFault → Result (Unit {0}) CopyFault
+told_of no_room (Ok x) = Ok x
+told_of no_room (Err (Read read.Memory)) = Err Memory
+told_of no_room (Err (Read read.Device)) = Err Source
+told_of no_room (Err (Read read.Damaged)) = Err Damaged
+told_of no_room (Err (Write write.Full)) = Err no_room
+told_of no_room (Err (Write write.Memory)) = Err Memory
+told_of no_room (Err (Write write.Device)) = Err Device
+told_of no_room (Err (Write write.Number)) = Err no_room
 
 -- ---- the store of the mark alone
 
@@ -98,7 +100,7 @@ Marks g (Err Memory) old new = (is_size (g.state old).sectors ≡ true) × (new 
 Marks g (Err Source) old new = ⊥
 Marks g (Err Damaged) old new = ⊥
 Marks g (Err WrongSize) old new = (is_size (g.state old).sectors ≡ false) × (new ≡ old)
-Marks g (Err Full) old new = ⊥
+Marks g (Err (Full least)) old new = ⊥
 Marks g (Err Device) old new = (is_size (g.state old).sectors ≡ true) × WritesStore current mark (g.state old) (g.state new) × HasFailed (g.state old) (g.state new)
 
 -- the store of the mark alone is open
@@ -121,7 +123,7 @@ CannotBegin g Memory old new = IsNotBegun (g.state old) (g.state new)
 CannotBegin g Source old new = ⊥
 CannotBegin g Damaged old new = ⊥
 CannotBegin g WrongSize old new = (is_size (g.state old).sectors ≡ false) × (new ≡ old)
-CannotBegin g Full old new = ⊥
+CannotBegin g (Full least) old new = ⊥
 CannotBegin g Device old new = IsNotBegun (g.state old) (g.state new) × ((g.state old).faithful → HasFailed (g.state old) (g.state new))
 
 abbrev pub Begins : {D : Type 0} (g : Ghosts D) → D → Result (PageStore D g) (D × CopyFault) → Type 0

@@ -7,10 +7,12 @@ ghost use Rattle.device_copies.specs.Copies.{CopiesTo, HasSourceCause, told_of};
 
 use crate::fault::CopyFault;
 use crate::marked::marked_store;
+use crate::wanted::no_room_fault;
 use copying::copy_records;
 use kv_store::{Fault, Map, StoreFault, sound_images};
 use sector_device::Device;
 use std::alloc::Global;
+use storage_sizes::SECTORS_PER_PAGE;
 
 /// Copies the records of a map to a device of 64 to 65,536 whole pages, in the current spelling: those
 /// behind the mark of a copy, which of a database are all. What was on the device before is lost. The map is only read.
@@ -21,7 +23,8 @@ use std::alloc::Global;
 ///
 /// `Source`: a read of the map failed. `Damaged`: a record of it has a size that no store takes, which no record of a
 /// database has. `WrongSize`: the device has another size; nothing was written. `Full`: a commit found no room on the
-/// device, so the same copy wants a page more at least. `Device`: the device failed. `Memory`: an allocation failed.
+/// device; it names how many pages a copy wants at least: those of leaves that are full, and never fewer than one more than
+/// the device has. The records are read once more for it. `Device`: the device failed. `Memory`: an allocation failed.
 pub fn copy_to_device<M: Map, D: Device>(
     alloc: Global,
     source: &mut M,
@@ -35,18 +38,20 @@ pub fn copy_to_device<M: Map, D: Device>(
     ensures damaged { (M.state source.old).sound → IfErr result.1 (λ fault. fault ≡ CopyFault.Damaged
         → HasOutsized (behind_mark (M.state source.old).map)) }
 {
+    let pages = target.sectors() / SECTORS_PER_PAGE;
     let mut store = match marked_store(alloc, target) {
         Ok(store) => store,
         Err((target, fault)) => return (target, Err(fault)),
     };
     let copied = copy_records(alloc, source, &mut store);
     sound_images(&store);
-    (store.into_device(), told(copied))
+    let no_room = no_room_fault(source, pages, copied);
+    (store.into_device(), told(copied, no_room))
 }
 
-// What a copy of records answered.
-fn told(copied: Result<(), copying::CopyFault>) -> Result<(), CopyFault>
-    ensures { result ≡ told_of copied }
+// What a copy of records answered, with the fault where the target had no room.
+fn told(copied: Result<(), copying::CopyFault>, no_room: CopyFault) -> Result<(), CopyFault>
+    ensures { result ≡ told_of no_room copied }
 {
     match copied {
         Ok(()) => Ok(()),
@@ -54,9 +59,7 @@ fn told(copied: Result<(), copying::CopyFault>) -> Result<(), CopyFault>
         Err(copying::CopyFault::Read(Fault::Device)) => Err(CopyFault::Source),
         Err(copying::CopyFault::Read(Fault::Damaged)) => Err(CopyFault::Damaged),
         Err(copying::CopyFault::Write(StoreFault::Memory)) => Err(CopyFault::Memory),
-        Err(copying::CopyFault::Write(StoreFault::Full | StoreFault::Number)) => Err(
-            CopyFault::Full,
-        ),
+        Err(copying::CopyFault::Write(StoreFault::Full | StoreFault::Number)) => Err(no_room),
         Err(copying::CopyFault::Write(StoreFault::Device)) => Err(CopyFault::Device),
     }
 }

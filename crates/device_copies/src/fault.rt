@@ -11,8 +11,8 @@ pub enum CopyFault {
     Damaged,
     /// The device of the copy does not have 64 to 65,536 whole pages. Nothing was written.
     WrongSize,
-    /// The device of the copy has no room left.
-    Full,
+    /// The device of the copy has no room left. The copy wants so many pages at least.
+    Full(u64),
     /// The device of the copy failed.
     Device,
 }

@@ -5,6 +5,7 @@ mod copies;
 mod fault;
 mod marked;
 mod marks;
+mod wanted;
 
 pub use copies::copy_to_device;
 pub use fault::CopyFault;

@@ -62,7 +62,7 @@ module _ {D L : Type 0} (old mid new : SystemState D L) (partial target : List â
   copy_against_since (New command.Output) stands = absurd stands
   copy_against_since copy_fault.Partial stands = sym (same.names partial) âˆ™ stands
   copy_against_since (copy_fault.File why) stands = absurd stands
-  copy_against_since copy_fault.Full stands = absurd stands
+  copy_against_since (copy_fault.Full least) stands = absurd stands
 
 -- ---- a copy that is whole is named, or taken away
 

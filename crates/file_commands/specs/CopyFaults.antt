@@ -17,7 +17,7 @@ of_copy (copy.Source source.NotADatabase) = File command.NotADatabase
 of_copy (copy.Source source.Damaged) = File command.Damaged
 of_copy (copy.Source source.Device) = File (command.Device Other)
 of_copy copy.WrongSize = New command.WrongSize
-of_copy copy.Full = Full
+of_copy (copy.Full least) = Full least
 of_copy copy.Device = New (command.Device Other)
 
 -- of making the file under the name that it has until it is whole

@@ -16,8 +16,8 @@ pub enum CopyFault {
     New(CommandFault),
     /// There is something of the name that a copy has until it is whole.
     Partial,
-    /// The database has no room in so many pages.
-    Full,
+    /// The database has no room in so many pages. It wants so many at least.
+    Full(u64),
 }
 
 impl From<database_copies::CopyFault> for CopyFault {
@@ -39,7 +39,7 @@ impl From<database_copies::CopyFault> for CopyFault {
                 CopyFault::File(CommandFault::Device(SystemCause::Other))
             }
             database_copies::CopyFault::WrongSize => CopyFault::New(CommandFault::WrongSize),
-            database_copies::CopyFault::Full => CopyFault::Full,
+            database_copies::CopyFault::Full(least) => CopyFault::Full(least),
             database_copies::CopyFault::Device => {
                 CopyFault::New(CommandFault::Device(SystemCause::Other))
             }

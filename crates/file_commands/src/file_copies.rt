@@ -30,7 +30,7 @@ const PARTIAL: &str = ".partial";
 /// `target`, which is left as it is; `Device`, where the system does not make the file or name it, or
 /// a call on it fails; `Memory`, where an allocation failed. `Partial`: there is something of the name
 /// that the copy has until it is whole, which is left as it is. `Full`: the database has no room in so
-/// many pages, so it wants one more at least.
+/// many pages; it names how many it wants at least.
 pub fn copy_file<Y: System>(
     system: &mut Y,
     alloc: Global,

@@ -22,7 +22,7 @@ abbrev pub fault_of_copy : ℕ → CopyFault → ProgramFault
 fault_of_copy pages (copy.File f) = fault_of_command f
 fault_of_copy pages (copy.New f) = fault_of_command f
 fault_of_copy pages copy.Partial = fault.Partial
-fault_of_copy pages copy.Full = fault.NoRoom pages
+fault_of_copy pages (copy.Full least) = fault.NoRoom pages least
 
 -- what the end of a copy is about: the file, where that was refused; else the new one, or what it is called until it is whole
 abbrev pub copy_subject : Bor (List ℕ) → Bor (List ℕ) → Result (Unit {0}) CopyFault → Subject
@@ -30,7 +30,7 @@ copy_subject file new (Ok x) = subject.Named new
 copy_subject file new (Err (copy.File f)) = subject.Named file
 copy_subject file new (Err (copy.New f)) = subject.Named new
 copy_subject file new (Err copy.Partial) = subject.Partial new
-copy_subject file new (Err copy.Full) = subject.Named new
+copy_subject file new (Err (copy.Full least)) = subject.Named new
 
 -- where the copy was made that was printed; else its fault is the end, and nothing was
 abbrev pub IsCopyAnswered : Result (Unit {0}) CopyFault → ℕ → Known → Ending → Known → Type 0

@@ -43,8 +43,8 @@ pub enum ProgramFault {
     Exists,
     /// There is something of the name that a copy has until it is whole.
     Partial,
-    /// The database to be copied does not fit in so many pages.
-    NoRoom(u32),
+    /// The database to be copied does not fit in so many pages. It wants so many at least.
+    NoRoom { pages: u32, least: u64 },
     /// Another process has the file open.
     InUse,
     /// The port or the socket cannot be bound, for this cause, or a connection cannot be taken.
@@ -70,7 +70,7 @@ impl fmt::Display for ProgramFault {
             ProgramFault::WrongSize => write!(f, "WrongSize"),
             ProgramFault::NotADatabase => write!(f, "NotADatabase"),
             ProgramFault::Exists | ProgramFault::Partial => write!(f, "Exists"),
-            ProgramFault::NoRoom(_) => write!(f, "Full"),
+            ProgramFault::NoRoom { pages: _, least: _ } => write!(f, "Full"),
             ProgramFault::InUse => write!(f, "InUse"),
             ProgramFault::Net(_) => write!(f, "Net"),
             ProgramFault::Script(_) => write!(f, "Script"),
@@ -119,9 +119,10 @@ impl fmt::Display for Reason {
                 f,
                 "a copy is made there, or was stopped; once none is made it can be removed"
             ),
-            ProgramFault::NoRoom(pages) => {
-                write!(f, "the database does not fit in {pages} pages; take more")
-            }
+            ProgramFault::NoRoom { pages, least } => write!(
+                f,
+                "the database does not fit in {pages} pages; it wants at least {least}"
+            ),
             ProgramFault::InUse => write!(f, "another process has it open"),
             ProgramFault::Net(cause) => write!(f, "{cause}"),
             ProgramFault::Script(ScriptFault::Unread(cause)) => write!(f, "{cause}"),

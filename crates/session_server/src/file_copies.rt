@@ -52,7 +52,7 @@ fn program_fault(fault: CopyFault, pages: u32) -> ProgramFault
     match fault {
         CopyFault::File(fault) | CopyFault::New(fault) => ProgramFault::from(fault),
         CopyFault::Partial => ProgramFault::Partial,
-        CopyFault::Full => ProgramFault::NoRoom(pages),
+        CopyFault::Full(least) => ProgramFault::NoRoom { pages, least },
     }
 }
 
@@ -63,6 +63,6 @@ fn subject_of_copy<'a>(copied: Result<(), CopyFault>, file: &'a str, new: &'a st
     match copied {
         Err(CopyFault::File(_)) => Subject::Named(file),
         Err(CopyFault::Partial) => Subject::Partial(new),
-        Ok(()) | Err(CopyFault::New(_) | CopyFault::Full) => Subject::Named(new),
+        Ok(()) | Err(CopyFault::New(_) | CopyFault::Full(_)) => Subject::Named(new),
     }
 }
