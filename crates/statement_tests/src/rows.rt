@@ -4,14 +4,20 @@
 //! that passes its checks it writes each table with the keys among which its rows would be looked
 //! for: one key, a span of keys, or all keys. A line `new` begins again, over a new database.
 //!
+//! A line `record KEY / VALUE` puts a record of these bytes into the store, as if its file had been
+//! altered. A SELECT speaks of the records that it read, so it answers `failed Damaged` only where it
+//! came to one that spells no row.
+//!
 //! Which range each table gets, and that the answer is that of the whole table, is proved. Here stand
 //! conditions beside the range that a reader would expect, and the answers beside it; and 10,000
 //! random queries over small tables with the answers of another program (`random_queries.py` and
 //! `model.py` in `scripts/`).
 
 mod looked;
+mod records;
 
 use crate::rows::looked::looked_for;
+use crate::rows::records::put_record;
 use anyhow::{Result, bail};
 use catalogue::definitions::Catalogue;
 use catalogue::effect::Effect;
@@ -26,7 +32,7 @@ use sql_types::tag::Tag;
 use statements::Statements;
 use std::alloc::Global;
 use std::io::Write;
-use store::{MemStore, Stop, Store};
+use store::{Fault, MemStore, Stop, Store};
 use wire::answers::write_answer;
 use wire::output::CountedWriter;
 
@@ -71,6 +77,9 @@ impl OpenDatabase {
         }
         if let Some(rest) = line.strip_prefix("open ") {
             return self.open(alloc, rest, out);
+        }
+        if let Some(record) = line.strip_prefix("record ") {
+            return put_record(alloc, &mut self.store, record);
         }
         let Some((session, text)) = line.split_once(": ") else {
             bail!("a line is no event");
@@ -184,6 +193,7 @@ fn carry_out<W: Write>(
     match Statements.execute(alloc, store, catalogue, role, role, statement) {
         Ok(effect) => commit(store, &effect, out),
         Err(Stop::Refused(code)) => write_told(&Answer::Refused(code), out),
+        Err(Stop::Failed(Fault::Damaged)) => write_line(b"failed Damaged", out),
         Err(Stop::Failed(fault)) => bail!(fault),
     }
 }
