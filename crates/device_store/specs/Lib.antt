@@ -1,0 +1,5 @@
+pub mod Images
+pub mod Stores
+pub mod Reads
+pub mod StoreLaws
+pub mod Opening
