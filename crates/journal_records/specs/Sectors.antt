@@ -4,7 +4,7 @@ use Rattle.std.specs.Str.{bytes_eq}
 use Rattle.byteorder.specs.Endian.{big_number, big_bytes}
 use Rattle.journal_chain.specs.Chain.{Part, Sector, Blank, Holds, Malformed}
 use Rattle.journal_chain.specs.Journal.{IsInRange}
-use Rattle.journal_records.specs.declared.sector.Tag.{Tag}
+use Rattle.journal_records.specs.declared.sector.SectorTag.{SectorTag}
 use Rattle.journal_records.specs.declared.sector.JournalSector.{JournalSector}
 use Rattle.journal_records.specs.declared.sector.JournalSector.TheVariants as sector
 
@@ -55,7 +55,7 @@ sector_at room bytes =
     else (if begins_with_magic bytes && may_be room (part_at bytes) then Holds (part_at bytes) else Malformed)
 
 -- a tag and the bytes behind it
-abbrev pub part_with : Tag → List ℕ → Part
+abbrev pub part_with : SectorTag → List ℕ → Part
 part_with tag bytes = record { root = tag.root; number = tag.number; index = tag.index; count = tag.count; bytes = bytes }
 
 -- what was read of these bytes

@@ -12,5 +12,5 @@ mod sector;
 pub use batch::{batch_bytes, read_batch};
 pub use laws::{one_batch, one_part};
 pub use record::{part_bytes, write_sectors};
-pub use sector::{JournalSector, PART_SIZE, TAG_SIZE, Tag, read_sector};
+pub use sector::{JournalSector, PART_SIZE, SectorTag, TAG_SIZE, read_sector};
 pub use storage_sizes::SECTOR_SIZE;

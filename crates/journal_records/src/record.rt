@@ -4,7 +4,7 @@ ghost use Rattle.journal_chain.specs.Chain.{Holds, part_of};
 ghost use Rattle.journal_records.specs.Sectors.{sector_bytes, sector_at};
 ghost use Rattle.journal_records.specs.Records.{entry_of};
 
-use crate::sector::{PART_SIZE, TAG_SIZE, Tag};
+use crate::sector::{PART_SIZE, SectorTag, TAG_SIZE};
 use std::alloc::{AllocError, Global};
 use storage_sizes::SECTOR_SIZE;
 
@@ -36,7 +36,7 @@ pub fn write_sectors(
     let count = bytes.len() / PART_SIZE;
     let mut sectors = Vec::new(alloc);
     for index in 0..count {
-        let tag = Tag {
+        let tag = SectorTag {
             root,
             number,
             index: index as u16,

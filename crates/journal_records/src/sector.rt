@@ -17,7 +17,7 @@ const _: () = prove!(TAG_SIZE + PART_SIZE == SECTOR_SIZE);
 
 /// What a sector says of the part in it.
 #[derive(Clone, Copy, Debug, PartialEq, Eq, Drop)]
-pub struct Tag {
+pub struct SectorTag {
     /// The number of the root whose pages the record follows, at least 1.
     pub root: u64,
     /// The number of the record.
@@ -34,12 +34,12 @@ pub enum JournalSector {
     /// All bytes are zero.
     Blank,
     /// They are the spelling of a part with this tag.
-    Part(Tag),
+    Part(SectorTag),
     /// They are neither.
     Malformed,
 }
 
-impl Tag {
+impl SectorTag {
     /// The 512 bytes of the sector with this tag, and a part of 488 bytes behind it.
     pub fn sector_with(&self, part: &[u8]) -> [u8; SECTOR_SIZE]
         requires { length part.now ≡ PART_SIZE }
@@ -70,10 +70,10 @@ fn has_magic(bytes: &[u8; SECTOR_SIZE]) -> bool
 }
 
 // The tag whose fields stand in these bytes.
-fn tag_in(bytes: &[u8; SECTOR_SIZE]) -> Tag
+fn tag_in(bytes: &[u8; SECTOR_SIZE]) -> SectorTag
     ensures { part_with result (drop 24 bytes.now) ≡ part_at bytes.now }
 {
-    Tag {
+    SectorTag {
         root: u64_at(bytes, 4),
         number: u64_at(bytes, 12),
         index: u16_at(bytes, 20),
@@ -82,7 +82,7 @@ fn tag_in(bytes: &[u8; SECTOR_SIZE]) -> Tag
 }
 
 // Whether the root and the range of a tag are those of a part in a journal of so many sectors.
-fn may_be(room: u16, tag: Tag) -> bool
+fn may_be(room: u16, tag: SectorTag) -> bool
     ensures { (bytes : List ℕ) → result ≡ may_be room (part_with tag bytes) }
 {
     tag.root >= 1 && (tag.index < tag.count && tag.count <= room)

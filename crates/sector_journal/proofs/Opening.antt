@@ -12,7 +12,7 @@ use Rattle.journal_chain.specs.Journal.{IsInRange, MayStand, IsSound, IsJournal,
 use Rattle.journal_chain.proofs.Chaining.{one_chain, end_with}
 use Rattle.journal_records.specs.Sectors.{part_with, sector_at}
 use Rattle.journal_records.specs.Records.{parts_of, entry_of}
-use Rattle.journal_records.specs.declared.sector.Tag.{Tag}
+use Rattle.journal_records.specs.declared.sector.SectorTag.{SectorTag}
 use Rattle.sector_journal.specs.declared.journal.Journal.{Journal}
 use Rattle.sector_journal.specs.declared.journal.JournalRecord.{JournalRecord}
 use Rattle.sector_journal.specs.Journals.{region_in, HoldsJournal}
@@ -39,7 +39,7 @@ reads_none root room region = record {
   at = refl;
 }
 
-pub reads_more : (root last room : ℕ) (sectors : List (List ℕ)) (end : ℕ) (tag : Tag) (es : List Entry) → length sectors ≡ room
+pub reads_more : (root last room : ℕ) (sectors : List (List ℕ)) (end : ℕ) (tag : SectorTag) (es : List Entry) → length sectors ≡ room
     → ReadsChain root last room end (region_of room sectors) es → IsRecordAt root last room sectors end tag
     → ReadsChain root tag.number room (end + tag.count) (region_of room sectors) (es ++ entry_in tag.number tag.count end sectors ∷ [])
 reads_more root last room sectors end tag es long so_far here =
@@ -103,7 +103,7 @@ sound_where root room finish sectors es other long chain end journal q lt =
     (subst (λ (n : ℕ). IsSound root room n q (region_of room sectors q)) at (journal.sound q))
 
 -- a part has no fault where its tag may stand there
-pub sound_part : (root room finish q : ℕ) (bytes : List ℕ) (tag : Tag) (r : Bool) → Holds (part_with tag (drop 24 bytes)) ≡ sector_at room bytes → IsInRange room (part_with tag (drop 24 bytes))
+pub sound_part : (root room finish q : ℕ) (bytes : List ℕ) (tag : SectorTag) (r : Bool) → Holds (part_with tag (drop 24 bytes)) ≡ sector_at room bytes → IsInRange room (part_with tag (drop 24 bytes))
     → (IsTrue r ↔ ((tag.root ≤ root) × (finish < q → tag.root ≡ root → 1 ≤ tag.index)))
     → (IsTrue r → IsSound root room finish q (sector_at room bytes)) × (IsSound root room finish q (sector_at room bytes) → IsTrue r)
 sound_part root room finish q bytes tag r same range may = (

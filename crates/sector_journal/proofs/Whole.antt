@@ -6,7 +6,7 @@ use Rattle.journal_chain.specs.Chain.{Part, Blank, Holds, Entry, part_of, IsWhol
 use Rattle.journal_chain.proofs.Chaining.{one_part}
 use Rattle.journal_records.specs.Sectors.{sector_at}
 use Rattle.journal_records.proofs.Reading.{held_bytes}
-use Rattle.journal_records.specs.declared.sector.Tag.{Tag}
+use Rattle.journal_records.specs.declared.sector.SectorTag.{SectorTag}
 use Rattle.sector_journal.specs.Reading.{region_of, part_under, parts_at, entry_in, BeginsWith, IsRecordAt}
 
 pub inside_of : (room : ℕ) (sectors : List (List ℕ)) (q : ℕ) → q < room → region_of room sectors q ≡ sector_at room (get_or sectors q [])
@@ -32,7 +32,7 @@ module _ (root last room : ℕ) (sectors : List (List ℕ)) (place : ℕ) (long 
       ∙ ap (λ (sector : List ℕ). drop 24 sector) (run_is count i lt)
 
   -- the sectors of a run hold the parts of the record of a tag
-  pub whole_there : (tag : Tag) → BeginsWith root room tag (get_or sectors place []) → last < tag.number → tag.count ≤ room - place
+  pub whole_there : (tag : SectorTag) → BeginsWith root room tag (get_or sectors place []) → last < tag.number → tag.count ≤ room - place
       → ((i : ℕ) → i < length (take tag.count (drop place sectors)) → sector_at room (get_or (take tag.count (drop place sectors)) i [])
       ≡ Holds (part_under tag i (drop 24 (get_or (take tag.count (drop place sectors)) i []))))
       → IsRecordAt root last room sectors place tag
@@ -67,19 +67,19 @@ module _ (root last room : ℕ) (sectors : List (List ℕ)) (place : ℕ) (long 
       ap (λ (s : ℕ). sector_at room (get_or sectors s [])) (sym same) ∙ part_there e whole 0 (omega (arith, whole.some))
 
   -- a whole record that begins here has the tag of its first sector, its number is above the last one, and it has room
-  tag_is : (tag : Tag) → BeginsWith root room tag (get_or sectors place []) → (e : Entry) → IsWhole (region_of room sectors) root last place (room - place) e
+  tag_is : (tag : SectorTag) → BeginsWith root room tag (get_or sectors place []) → (e : Entry) → IsWhole (region_of room sectors) root last place (room - place) e
       → (e.number ≡ tag.number) × (length e.parts ≡ tag.count)
   tag_is tag begins e whole =
       let same : part_of root e 0 ≡ part_under tag 0 (drop 24 (get_or sectors place [])) = one_part _ _ (sym (begins_here e whole) ∙ begins.is) in
       (ap (λ (part : Part). part.number) same, ap (λ (part : Part). part.count) same)
 
-  pub none_low : (tag : Tag) → BeginsWith root room tag (get_or sectors place []) → tag.number ≤ last ⊎ room - place < tag.count
+  pub none_low : (tag : SectorTag) → BeginsWith root room tag (get_or sectors place []) → tag.number ≤ last ⊎ room - place < tag.count
       → (e : Entry) → IsWhole (region_of room sectors) root last place (room - place) e → ⊥
   none_low tag begins (inl low) e whole = let same = tag_is tag begins e whole in omega (arith, low, same.0, whole.rises)
   none_low tag begins (inr wide) e whole = let same = tag_is tag begins e whole in omega (arith, wide, same.1, whole.fits)
 
   -- where one of its sectors does not hold its part, no record is whole
-  pub parts_held : (tag : Tag) → BeginsWith root room tag (get_or sectors place []) → tag.count ≤ room - place → (e : Entry) → IsWhole (region_of room sectors) root last place (room - place) e
+  pub parts_held : (tag : SectorTag) → BeginsWith root room tag (get_or sectors place []) → tag.count ≤ room - place → (e : Entry) → IsWhole (region_of room sectors) root last place (room - place) e
       → (i : ℕ) → i < length (take tag.count (drop place sectors)) → sector_at room (get_or (take tag.count (drop place sectors)) i [])
       ≡ Holds (part_under tag i (drop 24 (get_or (take tag.count (drop place sectors)) i [])))
   parts_held tag begins fits e whole i lt =

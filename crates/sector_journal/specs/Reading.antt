@@ -5,7 +5,7 @@ use Rattle.journal_chain.specs.Chain.{Part, Sector, Region, Entry, Blank, Holds,
 use Rattle.journal_chain.specs.Journal.{IsJournal, IsGreatest}
 use Rattle.journal_records.specs.Sectors.{sector_at}
 use Rattle.journal_records.specs.Records.{entry_of}
-use Rattle.journal_records.specs.declared.sector.Tag.{Tag}
+use Rattle.journal_records.specs.declared.sector.SectorTag.{SectorTag}
 use Rattle.sector_journal.specs.declared.journal.Journal.{Journal}
 use Rattle.sector_journal.specs.declared.journal.JournalRecord.{JournalRecord}
 
@@ -29,11 +29,11 @@ abbrev pub region_of : ℕ → List (List ℕ) → Region
 region_of room sectors q = if nat_lt q room then sector_at room (get_or sectors q []) else Blank
 
 -- the part of an index of the record of a tag
-abbrev pub part_under : Tag → ℕ → List ℕ → Part
+abbrev pub part_under : SectorTag → ℕ → List ℕ → Part
 part_under tag index bytes = record { root = tag.root; number = tag.number; index = index; count = tag.count; bytes = bytes }
 
 -- a record of the root begins in this sector, with this tag
-pub record BeginsWith (root room : ℕ) (tag : Tag) (sector : List ℕ) : Type 0 where
+pub record BeginsWith (root room : ℕ) (tag : SectorTag) (sector : List ℕ) : Type 0 where
   pub is : sector_at room sector ≡ Holds (part_under tag 0 (drop 24 sector))
   pub of_root : tag.root ≡ root
   pub some : 1 ≤ tag.count
@@ -52,7 +52,7 @@ abbrev pub entry_in : ℕ → ℕ → ℕ → List (List ℕ) → Entry
 entry_in number count place sectors = record { number = number; parts = parts_at count place sectors }
 
 -- the record of a tag is whole in these sectors, from a place on
-pub record IsRecordAt (root last room : ℕ) (sectors : List (List ℕ)) (place : ℕ) (tag : Tag) : Type 0 where
+pub record IsRecordAt (root last room : ℕ) (sectors : List (List ℕ)) (place : ℕ) (tag : SectorTag) : Type 0 where
   pub some : 1 ≤ tag.count
   pub fits : tag.count ≤ room - place
   pub whole : IsWhole (region_of room sectors) root last place (room - place) (entry_in tag.number tag.count place sectors)

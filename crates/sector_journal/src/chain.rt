@@ -8,12 +8,12 @@ ghost use Rattle.sector_journal.specs.declared.journal.JournalFault.TheVariants 
 ghost use Rattle.sector_journal.specs.Reading.{region_of, part_under, entries_of, BeginsWith, AreWhole, IsNumberIn, IsRecordAt, IsReadAs};
 
 use crate::journal::{Journal, JournalFault, JournalRecord};
-use journal_records::{JournalSector, PART_SIZE, Tag, part_bytes, read_sector};
+use journal_records::{JournalSector, PART_SIZE, SectorTag, part_bytes, read_sector};
 use sector_device::SECTOR_SIZE;
 use std::alloc::{AllocError, Global};
 
 // Whether a tag is that of the part of this index of the record of another.
-fn is_part_of(found: Tag, tag: Tag, index: usize) -> bool
+fn is_part_of(found: SectorTag, tag: SectorTag, index: usize) -> bool
     ensures { IsTrue result ↔ ((found.root ≡ tag.root) × (found.number ≡ tag.number)
         × (found.index ≡ index) × (found.count ≡ tag.count)) }
 {
@@ -24,7 +24,7 @@ fn is_part_of(found: Tag, tag: Tag, index: usize) -> bool
 }
 
 // Whether a sector holds the part of this index of the record of a tag.
-fn holds_part(room: u16, tag: Tag, index: usize, sector: &[u8; SECTOR_SIZE]) -> bool
+fn holds_part(room: u16, tag: SectorTag, index: usize, sector: &[u8; SECTOR_SIZE]) -> bool
     ensures { IsTrue result
         ↔ (sector_at room sector.now ≡ Holds (part_under tag index (drop 24 sector.now))) }
 {
@@ -36,7 +36,7 @@ fn holds_part(room: u16, tag: Tag, index: usize, sector: &[u8; SECTOR_SIZE]) -> 
 }
 
 // The tag of the sector, where a record of this root begins in it.
-fn first_tag(root: u64, room: u16, sector: &[u8; SECTOR_SIZE]) -> Option<Tag>
+fn first_tag(root: u64, room: u16, sector: &[u8; SECTOR_SIZE]) -> Option<SectorTag>
     ensures found { IfSome result (λ tag. BeginsWith root room tag sector.now) }
     ensures only { (part : Part) → sector_at room sector.now ≡ Holds part → part.root ≡ root → part.index ≡ 0
         → IsSome result }
@@ -54,7 +54,7 @@ fn first_tag(root: u64, room: u16, sector: &[u8; SECTOR_SIZE]) -> Option<Tag>
 }
 
 // Whether the sectors hold the parts of the record of a tag, from the first on.
-fn holds_parts(room: u16, tag: Tag, sectors: &[[u8; SECTOR_SIZE]]) -> bool
+fn holds_parts(room: u16, tag: SectorTag, sectors: &[[u8; SECTOR_SIZE]]) -> bool
     ensures { IsTrue result ↔ ((i : ℕ) → i < length sectors.now → sector_at room (get_or sectors.now i [])
         ≡ Holds (part_under tag i (drop 24 (get_or sectors.now i [])))) }
 {
@@ -73,7 +73,7 @@ fn record_at(
     room: u16,
     sectors: &[[u8; SECTOR_SIZE]],
     place: usize,
-) -> Option<Tag>
+) -> Option<SectorTag>
     requires count { length sectors.now ≡ room }
     requires inside { place ≤ room }
     ensures found { IfSome result (λ tag. IsRecordAt root last room sectors.now place tag) }
@@ -146,7 +146,7 @@ fn read_chain(
 }
 
 // Whether a part with this tag may stand at its place, where the records of the root end at another.
-fn may_stand(root: u64, end: usize, place: usize, tag: Tag) -> bool
+fn may_stand(root: u64, end: usize, place: usize, tag: SectorTag) -> bool
     ensures { IsTrue result ↔ ((tag.root ≤ root) × (end < place → tag.root ≡ root → 1 ≤ tag.index)) }
 {
     if tag.root > root {

@@ -2,7 +2,7 @@
 use crate::checks::require::require;
 use anyhow::Result;
 use journal_records::{
-    JournalSector, PART_SIZE, Tag, batch_bytes, one_batch, one_part, part_bytes, read_batch,
+    JournalSector, PART_SIZE, SectorTag, batch_bytes, one_batch, one_part, part_bytes, read_batch,
     read_sector, write_sectors,
 };
 use std::alloc::Global;
@@ -57,7 +57,7 @@ pub fn a_sector_by_the_byte(alloc: Global) -> Result<()> {
         sector.starts_with(b"GDBJ\0\0\0\0\0\0\0\x07\0\0\0\0\0\0\x01\x02\0\0\0\x01\x05"),
         "magic, root, number, index, count",
     )?;
-    let tag = Tag {
+    let tag = SectorTag {
         root: 7,
         number: 258,
         index: 0,

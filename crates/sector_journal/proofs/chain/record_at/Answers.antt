@@ -1,13 +1,13 @@
 use Rattle.std.proofs.Common.{◌≡◌, ◌≤◌, ◌<◌, ◌+◌, ◌-◌, [], ℕ, List, true, false, length, take, drop, get_or, refl, sym, subst, arith}
 use Rattle.journal_chain.specs.Chain.{Holds}
 use Rattle.journal_records.specs.Sectors.{sector_at}
-use Rattle.journal_records.specs.declared.sector.Tag.{Tag}
+use Rattle.journal_records.specs.declared.sector.SectorTag.{SectorTag}
 use Rattle.sector_journal.specs.Reading.{part_under}
 use Rattle.sector_journal.proofs.Whole.{whole_there, parts_held}
 use Rattle.sector_journal.proofs.chain.record_at.Goals as goal
 
 -- these sectors hold the parts of the record of a tag
-abbrev AreParts : ℕ → Tag → List (List ℕ) → Type 0
+abbrev AreParts : ℕ → SectorTag → List (List ℕ) → Type 0
 AreParts room tag run = (i : ℕ) → i < length run → sector_at room (get_or run i []) ≡ Holds (part_under tag i (drop 24 (get_or run i [])))
 
 pub returns-then-not-holds_parts-clause-none : goal.returns-then-not-holds_parts-clause-none
