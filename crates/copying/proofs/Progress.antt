@@ -13,8 +13,8 @@ use Rattle.store.specs.declared.fault.StoreFault.TheVariants.{Full, Memory, Devi
 use Rattle.store.specs.declared.fault.Fault.TheVariants as reading
 use Rattle.store.specs.Readers.{HasRead, HasFaultCause}
 use Rattle.store.proofs.Reading.{rose_later, cause_later, fault_later}
-use Rattle.copying.specs.declared.fault.CopyFault.{CopyFault}
-use Rattle.copying.specs.declared.fault.CopyFault.TheVariants.{Read, Write}
+use Rattle.copying.specs.declared.fault.RecordCopyFault.{RecordCopyFault}
+use Rattle.copying.specs.declared.fault.RecordCopyFault.TheVariants.{Read, Write}
 use Rattle.copying.specs.Copying.{IsUnfinished, Fills, Finishes, HasMark, HasOutsized, HasWriteCause, HasCopyCause, AfterCopy, Copies, whole, mark, put_in, unmarked, behind_mark}
 use Rattle.copying.proofs.Copied.{grows, ends}
 
@@ -136,7 +136,7 @@ abbrev of : Spelling → Records → Contents
 of spelling records = record { spelling = spelling; records = records }
 
 -- the mark goes with the last records
-pub finished : (A : Records → Type 0) (source : Records) (old mid new : StoreState) (batch : Changes) (result : Result (Unit {0}) CopyFault) → IsOrdered (mark ∷ behind_mark source)
+pub finished : (A : Records → Type 0) (source : Records) (old mid new : StoreState) (batch : Changes) (result : Result (Unit {0}) RecordCopyFault) → IsOrdered (mark ∷ behind_mark source)
     → Finishes result batch mid new → ((fault : Fault) → result ≡ Err (Read fault) → new ≡ mid) → Grows A (behind_mark source) old mid
     → ((later : Records) → A later → batch ≡ put_in later []) → Copies result (whole old.spelling source) old new
 finished A source old mid new batch result o done same g fill = by_answer result done same
@@ -153,7 +153,7 @@ finished A source old mid new batch result o done same g fill = by_answer result
         contents : (s t : Spelling) (xs ys : Records) → s ≡ t → xs ≡ ys → of s xs ≡ of t ys
         contents s t xs ys a b = ap (λ (z : Spelling). of z xs) a ∙ ap (λ (zs : Records). of t zs) b
 
-    by_answer : (r : Result (Unit {0}) CopyFault) → Finishes r batch mid new → ((fault : Fault) → r ≡ Err (Read fault) → new ≡ mid) → Copies r (whole old.spelling source) old new
+    by_answer : (r : Result (Unit {0}) RecordCopyFault) → Finishes r batch mid new → ((fault : Fault) → r ≡ Err (Read fault) → new ≡ mid) → Copies r (whole old.spelling source) old new
     by_answer (Ok x) commits kept =
         let at = commits.at_once g.sound g.works in
         record {
@@ -182,8 +182,8 @@ all_put B false xs start new is none fills = fills ∙ ap (λ (cs : Changes). pu
 all_put B true xs start new is none fills = absurd cc
 
 -- the answer is this fault
-pub answered : (P : Result (Unit {0}) CopyFault → Type 0) (fault : CopyFault) (result : Result (Unit {0}) CopyFault) → IsErrAnd result (λ given. given ≡ fault) → P (Err fault) → P result
-answered P fault (Err given) is p = subst (λ (f : CopyFault). P (Err f)) (sym is) p
+pub answered : (P : Result (Unit {0}) RecordCopyFault → Type 0) (fault : RecordCopyFault) (result : Result (Unit {0}) RecordCopyFault) → IsErrAnd result (λ given. given ≡ fault) → P (Err fault) → P result
+answered P fault (Err given) is p = subst (λ (f : RecordCopyFault). P (Err f)) (sym is) p
 answered P fault (Ok x) is p = absurd is
 
 -- the source's part of a copy: it was only read, works as at first, and the records not taken yet are ahead
@@ -238,7 +238,7 @@ pub read_cause : {T : Type 0} (fault : Fault) (old mid new : StoreState) → Onl
 read_cause {T} fault old mid new reads same read = (fault_later {T = T} {U = Unit {0}} fault old mid new reads same read).cause
 
 -- what the last commit's fault stands in
-pub finished_cause : (result : Result (Unit {0}) CopyFault) (batch : Changes) (source read old mid new : StoreState) (commits_so_far : ℕ) → commits_so_far ≤ 2 ^ 62 → KeepsHistory old mid
+pub finished_cause : (result : Result (Unit {0}) RecordCopyFault) (batch : Changes) (source read old mid new : StoreState) (commits_so_far : ℕ) → commits_so_far ≤ 2 ^ 62 → KeepsHistory old mid
     → mid.has_failed ≡ old.has_failed → (old.sound → old.has_failed ≡ false → mid.number ≤ old.number + commits_so_far) → KeepsHistory mid new
     → ((fault : Fault) → result ≡ Err (Read fault) → (new ≡ mid) × (fault ≡ reading.Memory)) → Finishes result batch mid new → IfErr result (λ fault. HasCopyCause fault source read old new)
 finished_cause (Ok x) batch source read old mid new n most history same number later refused done = tt
@@ -246,7 +246,7 @@ finished_cause (Err (Read fault)) batch source read old mid new n most history s
     subst (λ (f : Fault). HasFaultCause f source read) (sym (refused fault refl).1) tt
 finished_cause (Err (Write fault)) batch source read old mid new n most history same number later refused done = write_cause fault old mid new n most history same number later done.cause
 
-abbrev fault_in : CopyFault → Fault
+abbrev fault_in : RecordCopyFault → Fault
 fault_in (Read fault) = fault
 fault_in (Write fault) = reading.Memory
 

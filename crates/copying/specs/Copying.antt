@@ -8,8 +8,8 @@ use Rattle.store.specs.Readers.{HasFaultCause}
 use Rattle.store.specs.Records.{Record, Records, Changes, IsChangeSize, changed, entries_where, is_from}
 use Rattle.store.specs.Contents.{changed_by_batch}
 use Rattle.store.specs.Store.{Contents, StoreState, Commits, Rose, HasDeviceCause, stored}
-use Rattle.copying.specs.declared.fault.CopyFault.{CopyFault}
-use Rattle.copying.specs.declared.fault.CopyFault.TheVariants.{Read, Write}
+use Rattle.copying.specs.declared.fault.RecordCopyFault.{RecordCopyFault}
+use Rattle.copying.specs.declared.fault.RecordCopyFault.TheVariants.{Read, Write}
 
 -- the record that a copy has until it is whole: no record of a database has a key that begins so
 abbrev pub mark : Record
@@ -42,7 +42,7 @@ abbrev pub unmarked : Changes → Changes
 unmarked changes = changed (0 ∷ []) (Some None) changes
 
 -- the last commit of a copy, if it was tried
-abbrev pub Finishes : Result (Unit {0}) CopyFault → Changes → StoreState → StoreState → Type 0
+abbrev pub Finishes : Result (Unit {0}) RecordCopyFault → Changes → StoreState → StoreState → Type 0
 Finishes (Ok x) changes old new = Commits (Ok x) (changed_by_batch (unmarked changes) (stored old)) old new
 Finishes (Err (Read fault)) changes old new = Unit {0}
 Finishes (Err (Write fault)) changes old new = Commits (Err fault) (changed_by_batch (unmarked changes) (stored old)) old new
@@ -62,7 +62,7 @@ pub record HasMark (s : StoreState) : Type 0 where
   pub left : (x : Option Contents) → s.time.left x → IsUnfinished x
 
 -- what the target is after a copy: whole with Ok, marked with a fault. After a fault of its device nobody can know
-abbrev pub AfterCopy : Result (Unit {0}) CopyFault → Contents → StoreState → Type 0
+abbrev pub AfterCopy : Result (Unit {0}) RecordCopyFault → Contents → StoreState → Type 0
 AfterCopy (Ok x) contents s = Contains contents s
 AfterCopy (Err (Read fault)) contents s = HasMark s
 AfterCopy (Err (Write Full)) contents s = HasMark s
@@ -71,7 +71,7 @@ AfterCopy (Err (Write Device)) contents s = Unit {0}
 AfterCopy (Err (Write Number)) contents s = HasMark s
 
 -- a copy: whenever a stop comes, what is left is not whole yet, or all of it
-pub record Copies (result : Result (Unit {0}) CopyFault) (contents : Contents) (old new : StoreState) : Type 0 where
+pub record Copies (result : Result (Unit {0}) RecordCopyFault) (contents : Contents) (old new : StoreState) : Type 0 where
   pub leaves : LeavesOnly (λ left. IsUnfinished left ⊎ (left ≡ Some contents)) old.time new.time
   pub after : AfterCopy result contents new
 
@@ -93,6 +93,6 @@ HasWriteCause Device old new = HasDeviceCause old new
 HasWriteCause Number old new = old.sound → old.has_failed ≡ false → 2 ^ 63 ≤ old.number
 
 -- why a copy answers a fault: that of a read stands in the source, that of a commit in the target
-abbrev pub HasCopyCause : CopyFault → StoreState → StoreState → StoreState → StoreState → Type 0
+abbrev pub HasCopyCause : RecordCopyFault → StoreState → StoreState → StoreState → StoreState → Type 0
 HasCopyCause (Read fault) source read target written = HasFaultCause fault source read
 HasCopyCause (Write fault) source read target written = HasWriteCause fault target written

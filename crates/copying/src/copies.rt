@@ -5,10 +5,10 @@ ghost use Rattle.store.specs.declared.fault.StoreFault.{StoreFault};
 ghost use Rattle.store.specs.Readers.{HasRead};
 ghost use Rattle.store.specs.Records.{entries_where, is_from};
 ghost use Rattle.store.specs.Store.{KeepsHistory, OnlyReads};
-ghost use Rattle.copying.specs.declared.fault.CopyFault.TheVariants.{Read, Write};
+ghost use Rattle.copying.specs.declared.fault.RecordCopyFault.TheVariants.{Read, Write};
 ghost use Rattle.copying.specs.Copying.{Copies, Finishes, HasCopyCause, HasOutsized, mark, behind_mark, whole};
 
-use crate::fault::CopyFault;
+use crate::fault::RecordCopyFault;
 use crate::mark::MARK;
 use crate::taking::take_records;
 use std::alloc::Global;
@@ -32,7 +32,7 @@ fn first_place<M: Map>(source: &mut M) -> Result<M::Place, Fault>
 }
 
 // Commits the last records of a copy, and that the mark goes.
-fn finish<S: Store>(target: &mut S, batch: Batch) -> Result<(), CopyFault>
+fn finish<S: Store>(target: &mut S, batch: Batch) -> Result<(), RecordCopyFault>
     ensures history { KeepsHistory (S.state target.old) (S.state target.new) }
     ensures refused { (fault : Fault) → result ≡ Err (Read fault)
         → (target.new ≡ target.old) × (fault ≡ Fault.Memory) }
@@ -57,7 +57,7 @@ pub fn copy_records<M: Map, S: Store>(
     alloc: Global,
     source: &mut M,
     target: &mut S,
-) -> Result<(), CopyFault>
+) -> Result<(), RecordCopyFault>
     ensures preserved { M.preserved source.old source.new }
     ensures reads { OnlyReads (M.state source.old) (M.state source.new) }
     ensures history { KeepsHistory (S.state target.old) (S.state target.new) }
@@ -80,5 +80,5 @@ pub fn copy_records<M: Map, S: Store>(
         }
         target.commit(&batch)?;
     }
-    Err(CopyFault::Read(Fault::Memory))
+    Err(RecordCopyFault::Read(Fault::Memory))
 }

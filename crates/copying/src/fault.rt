@@ -7,7 +7,7 @@ use store::{Fault, StoreFault};
 
 /// Why records were not copied.
 #[derive(Clone, Copy, Debug, Drop, PartialEq, Eq)]
-pub enum CopyFault {
+pub enum RecordCopyFault {
     /// A read of the source failed: `Memory` where an allocation failed, in the copy too; `Device`;
     /// `Damaged` where a record is of no size that a store takes.
     Read(Fault),
@@ -15,32 +15,32 @@ pub enum CopyFault {
     Write(StoreFault),
 }
 
-impl From<Fault> for CopyFault {
-    ghost use Rattle.copying.specs.declared.fault.CopyFault.TheVariants.{Read};
+impl From<Fault> for RecordCopyFault {
+    ghost use Rattle.copying.specs.declared.fault.RecordCopyFault.TheVariants.{Read};
 
     ghost from_gives = { λ fault given. given ≡ Read fault };
 
-    fn from(fault: Fault) -> CopyFault {
-        CopyFault::Read(fault)
+    fn from(fault: Fault) -> RecordCopyFault {
+        RecordCopyFault::Read(fault)
     }
 }
 
-impl From<StoreFault> for CopyFault {
-    ghost use Rattle.copying.specs.declared.fault.CopyFault.TheVariants.{Write};
+impl From<StoreFault> for RecordCopyFault {
+    ghost use Rattle.copying.specs.declared.fault.RecordCopyFault.TheVariants.{Write};
 
     ghost from_gives = { λ fault given. given ≡ Write fault };
 
-    fn from(fault: StoreFault) -> CopyFault {
-        CopyFault::Write(fault)
+    fn from(fault: StoreFault) -> RecordCopyFault {
+        RecordCopyFault::Write(fault)
     }
 }
 
-impl From<AllocError> for CopyFault {
-    ghost use Rattle.copying.specs.declared.fault.CopyFault.TheVariants.{Read};
+impl From<AllocError> for RecordCopyFault {
+    ghost use Rattle.copying.specs.declared.fault.RecordCopyFault.TheVariants.{Read};
 
     ghost from_gives = { λ _ given. given ≡ Read faults.Memory };
 
-    fn from(_refused: AllocError) -> CopyFault {
-        CopyFault::Read(Fault::Memory)
+    fn from(_refused: AllocError) -> RecordCopyFault {
+        RecordCopyFault::Read(Fault::Memory)
     }
 }

@@ -7,5 +7,5 @@ mod mark;
 mod taking;
 
 pub use copies::copy_records;
-pub use fault::CopyFault;
+pub use fault::RecordCopyFault;
 pub use mark::mark_of_a_copy;

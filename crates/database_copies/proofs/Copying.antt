@@ -26,12 +26,12 @@ use Rattle.stored_database.specs.Spellings.{Stands, spelled_in_second}
 use Rattle.transactions.specs.Views.{applied_all}
 use Rattle.migration.specs.Migrated.{in_second}
 use Rattle.copying.specs.Copying.{HasOutsized, behind_mark, whole}
-use Rattle.device_copies.specs.declared.fault.CopyFault.{CopyFault as RecordsFault}
-use Rattle.device_copies.specs.declared.fault.CopyFault.TheVariants as records
+use Rattle.device_copies.specs.declared.fault.DeviceCopyFault.{DeviceCopyFault as RecordsFault}
+use Rattle.device_copies.specs.declared.fault.DeviceCopyFault.TheVariants as records
 use Rattle.device_copies.specs.Copies.{CopiesAll, CopiesTo, HasSourceCause, IsCopied}
 use Rattle.device_databases.specs.Databases.{HoldsDatabase, MeansNone}
-use Rattle.database_copies.specs.declared.fault.CopyFault.{CopyFault}
-use Rattle.database_copies.specs.declared.fault.CopyFault.TheVariants.{Memory, Source, WrongSize, Full, Device}
+use Rattle.database_copies.specs.declared.fault.DatabaseCopyFault.{DatabaseCopyFault}
+use Rattle.database_copies.specs.declared.fault.DatabaseCopyFault.TheVariants.{Memory, Source, WrongSize, Full, Device}
 use Rattle.database_copies.specs.declared.fault.SourceFault.{SourceFault}
 use Rattle.database_copies.specs.declared.fault.SourceFault.TheVariants as source
 use Rattle.database_copies.specs.Databases.{Copies, CopiesDatabase, CopiesRead, CopiesStore, HasReadCause, IsCopyOf, IsRead, fault_of_copy, fault_of_pages, fault_of_reads, told_of}
@@ -145,7 +145,7 @@ module _ {E : Type 0} (state : E → DeviceState) (d e : DeviceState) (contents 
   none_held : ((db : Database) → Stands contents db → ⊥) → MeansNone (d.sectors / 8) d.content
   none_held none = record { contents = contents; has = has; none = none }
 
-  pub copies_database : (result : Result (Unit {0}) CopyFault) (old new : E) → CopiesStore contents state result old new → IfErr result (λ fault. HasReadCause fault s t) → CopiesDatabase d e state result old new
+  pub copies_database : (result : Result (Unit {0}) DatabaseCopyFault) (old new : E) → CopiesStore contents state result old new → IfErr result (λ fault. HasReadCause fault s t) → CopiesDatabase d e state result old new
   copies_database (Ok x) old new is cause = (
     held (Ok x) old new is,
     λ faithful image left. record { contents = in_second contents; has = is.2.1 faithful image left; stands = is.1 },

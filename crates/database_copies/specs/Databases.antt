@@ -15,30 +15,30 @@ use Rattle.abstract_database.specs.Database.{Database}
 use Rattle.stored_database.specs.Spellings.{Stands}
 use Rattle.migration.specs.Migrated.{in_second}
 use Rattle.migration.specs.Respelled.{AreRespelling}
-use Rattle.device_copies.specs.declared.fault.CopyFault.{CopyFault as RecordsFault}
-use Rattle.device_copies.specs.declared.fault.CopyFault.TheVariants as records
+use Rattle.device_copies.specs.declared.fault.DeviceCopyFault.{DeviceCopyFault as RecordsFault}
+use Rattle.device_copies.specs.declared.fault.DeviceCopyFault.TheVariants as records
 use Rattle.device_copies.specs.Copies.{CopiesAll}
 use Rattle.device_databases.specs.Databases.{HoldsDatabase, MeansDatabase, MeansNone}
-use Rattle.database_copies.specs.declared.fault.CopyFault.{CopyFault}
-use Rattle.database_copies.specs.declared.fault.CopyFault.TheVariants.{Memory, Source, WrongSize, Full, Device}
+use Rattle.database_copies.specs.declared.fault.DatabaseCopyFault.{DatabaseCopyFault}
+use Rattle.database_copies.specs.declared.fault.DatabaseCopyFault.TheVariants.{Memory, Source, WrongSize, Full, Device}
 use Rattle.database_copies.specs.declared.fault.SourceFault.{SourceFault}
 use Rattle.database_copies.specs.declared.fault.SourceFault.TheVariants as source
 
 -- ---- faults
 
-abbrev pub fault_of_pages : OpenFault → CopyFault
+abbrev pub fault_of_pages : OpenFault → DatabaseCopyFault
 fault_of_pages pages.WrongSize = Source source.WrongSize
 fault_of_pages pages.NotADatabase = Source source.NotADatabase
 fault_of_pages pages.Damaged = Source source.Damaged
 fault_of_pages pages.Device = Source source.Device
 fault_of_pages pages.Memory = Memory
 
-abbrev pub fault_of_reads : Fault → CopyFault
+abbrev pub fault_of_reads : Fault → DatabaseCopyFault
 fault_of_reads read.Memory = Memory
 fault_of_reads read.Device = Source source.Device
 fault_of_reads read.Damaged = Source source.Damaged
 
-abbrev pub fault_of_copy : RecordsFault → CopyFault
+abbrev pub fault_of_copy : RecordsFault → DatabaseCopyFault
 fault_of_copy records.Memory = Memory
 fault_of_copy records.Source = Source source.Device
 fault_of_copy records.Damaged = Source source.Damaged
@@ -46,7 +46,7 @@ fault_of_copy records.WrongSize = WrongSize
 fault_of_copy (records.Full least) = Full least
 fault_of_copy records.Device = Device
 
-abbrev pub told_of : Result (Unit {0}) RecordsFault → Result (Unit {0}) CopyFault
+abbrev pub told_of : Result (Unit {0}) RecordsFault → Result (Unit {0}) DatabaseCopyFault
 told_of (Ok x) = Ok x
 told_of (Err fault) = Err (fault_of_copy fault)
 
@@ -61,7 +61,7 @@ abbrev pub CopiesRead : {E : Type 0} → Contents → (E → DeviceState) → Re
 CopiesRead contents state result old new = (db : Database) × Stands contents db × CopiesAll state (in_second contents) result old new
 
 -- contents that stand for no database are not copied; of others a copy is tried
-abbrev pub CopiesStore : {E : Type 0} → Contents → (E → DeviceState) → Result (Unit {0}) CopyFault → E → E → Type 0
+abbrev pub CopiesStore : {E : Type 0} → Contents → (E → DeviceState) → Result (Unit {0}) DatabaseCopyFault → E → E → Type 0
 CopiesStore contents state (Ok x) old new = CopiesRead contents state (Ok x) old new
 CopiesStore contents state (Err Memory) old new = (new ≡ old) ⊎ CopiesRead contents state (Err records.Memory) old new
 CopiesStore contents state (Err (Source source.WrongSize)) old new = ⊥
@@ -73,7 +73,7 @@ CopiesStore contents state (Err (Full least)) old new = CopiesRead contents stat
 CopiesStore contents state (Err Device) old new = CopiesRead contents state (Err records.Device) old new
 
 -- why the source is told to be the cause
-abbrev pub HasReadCause : CopyFault → StoreState → StoreState → Type 0
+abbrev pub HasReadCause : DatabaseCopyFault → StoreState → StoreState → Type 0
 HasReadCause Memory old new = Unit {0}
 HasReadCause (Source source.WrongSize) old new = Unit {0}
 HasReadCause (Source source.NotADatabase) old new = Unit {0}
@@ -104,7 +104,7 @@ IsOfSource source.Device d e = HasFailed d e
 
 -- The whole database is copied; or nothing is written, for memory or for the source; or a copy is tried that stops for memory, for the
 -- source, for room or for its device
-abbrev pub CopiesDatabase : {E : Type 0} → DeviceState → DeviceState → (E → DeviceState) → Result (Unit {0}) CopyFault → E → E → Type 0
+abbrev pub CopiesDatabase : {E : Type 0} → DeviceState → DeviceState → (E → DeviceState) → Result (Unit {0}) DatabaseCopyFault → E → E → Type 0
 CopiesDatabase d e state (Ok x) old new = (copy : Copies d state (Ok x) old new) × ((state old).faithful → IsCopyOf copy.database (state new))
 CopiesDatabase d e state (Err Memory) old new = (new ≡ old) ⊎ Copies d state (Err records.Memory) old new
 CopiesDatabase d e state (Err (Source source.WrongSize)) old new = IsOfSource source.WrongSize d e × (new ≡ old)

@@ -6,7 +6,7 @@ ghost use Rattle.store.specs.Store.{KeepsHistory, stored};
 ghost use Rattle.cow_pages.specs.Held.{KeepsContent};
 ghost use Rattle.database_copies.specs.Databases.{CopiesDatabase, CopiesStore, HasReadCause, told_of};
 
-use crate::fault::CopyFault;
+use crate::fault::DatabaseCopyFault;
 use crate::source::read_source;
 use crate::under::copy_under;
 use device_copies::copied_records_stand;
@@ -30,7 +30,7 @@ pub fn copy_database<D: Device, E: Device>(
     alloc: Global,
     source: D,
     target: E,
-) -> (D, E, Result<(), CopyFault>)
+) -> (D, E, Result<(), DatabaseCopyFault>)
     ensures history { DeviceHistory (D.state source) (D.state result.0) }
     ensures unwritten { (D.state source).faithful → KeepsContent (D.state source) (D.state result.0) }
     ensures copies { (D.state source).faithful
@@ -39,7 +39,7 @@ pub fn copy_database<D: Device, E: Device>(
     let mut store = match PageStore::open(alloc, source) {
         Ok(store) => store,
         Err((source, fault)) => {
-            let fault = CopyFault::from(fault);
+            let fault = DatabaseCopyFault::from(fault);
             return (source, target, Err(fault));
         }
     };
@@ -52,7 +52,7 @@ fn copy_store<S: Store, E: Device>(
     alloc: Global,
     store: &mut S,
     target: E,
-) -> (E, Result<(), CopyFault>)
+) -> (E, Result<(), DatabaseCopyFault>)
     ensures preserved { S.preserved store.old store.new }
     ensures history { KeepsHistory (S.state store.old) (S.state store.new) }
     ensures copies { (S.state store.old).sound
@@ -63,7 +63,7 @@ fn copy_store<S: Store, E: Device>(
     let lists = match read_source(alloc, store) {
         Ok(lists) => lists,
         Err(fault) => {
-            let fault = CopyFault::from(fault);
+            let fault = DatabaseCopyFault::from(fault);
             return (target, Err(fault));
         }
     };
@@ -72,11 +72,11 @@ fn copy_store<S: Store, E: Device>(
 }
 
 // What a copy of records answered.
-fn told(copied: Result<(), device_copies::CopyFault>) -> Result<(), CopyFault>
+fn told(copied: Result<(), device_copies::DeviceCopyFault>) -> Result<(), DatabaseCopyFault>
     ensures { result ≡ told_of copied }
 {
     match copied {
         Ok(()) => Ok(()),
-        Err(fault) => Err(CopyFault::from(fault)),
+        Err(fault) => Err(DatabaseCopyFault::from(fault)),
     }
 }

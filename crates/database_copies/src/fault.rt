@@ -4,7 +4,7 @@ ghost use Rattle.std.specs.Prelude.{◌≡◌};
 
 /// Why a database was not copied.
 #[derive(Clone, Copy, Debug, Drop, PartialEq, Eq)]
-pub enum CopyFault {
+pub enum DatabaseCopyFault {
     /// An allocation failed.
     Memory,
     /// The source has no database, or its device failed.
@@ -31,49 +31,55 @@ pub enum SourceFault {
     Device,
 }
 
-impl From<kv_store::OpenFault> for CopyFault {
+impl From<kv_store::OpenFault> for DatabaseCopyFault {
     ghost use Rattle.database_copies.specs.Databases.{fault_of_pages};
 
     ghost from_gives = { λ fault given. given ≡ fault_of_pages fault };
 
-    fn from(fault: kv_store::OpenFault) -> CopyFault {
+    fn from(fault: kv_store::OpenFault) -> DatabaseCopyFault {
         match fault {
-            kv_store::OpenFault::WrongSize => CopyFault::Source(SourceFault::WrongSize),
-            kv_store::OpenFault::NotADatabase => CopyFault::Source(SourceFault::NotADatabase),
-            kv_store::OpenFault::Damaged => CopyFault::Source(SourceFault::Damaged),
-            kv_store::OpenFault::Device => CopyFault::Source(SourceFault::Device),
-            kv_store::OpenFault::Memory => CopyFault::Memory,
+            kv_store::OpenFault::WrongSize => DatabaseCopyFault::Source(SourceFault::WrongSize),
+            kv_store::OpenFault::NotADatabase => DatabaseCopyFault::Source(
+                SourceFault::NotADatabase,
+            ),
+            kv_store::OpenFault::Damaged => DatabaseCopyFault::Source(SourceFault::Damaged),
+            kv_store::OpenFault::Device => DatabaseCopyFault::Source(SourceFault::Device),
+            kv_store::OpenFault::Memory => DatabaseCopyFault::Memory,
         }
     }
 }
 
-impl From<store::Fault> for CopyFault {
+impl From<store::Fault> for DatabaseCopyFault {
     ghost use Rattle.database_copies.specs.Databases.{fault_of_reads};
 
     ghost from_gives = { λ fault given. given ≡ fault_of_reads fault };
 
-    fn from(fault: store::Fault) -> CopyFault {
+    fn from(fault: store::Fault) -> DatabaseCopyFault {
         match fault {
-            store::Fault::Memory => CopyFault::Memory,
-            store::Fault::Device => CopyFault::Source(SourceFault::Device),
-            store::Fault::Damaged => CopyFault::Source(SourceFault::Damaged),
+            store::Fault::Memory => DatabaseCopyFault::Memory,
+            store::Fault::Device => DatabaseCopyFault::Source(SourceFault::Device),
+            store::Fault::Damaged => DatabaseCopyFault::Source(SourceFault::Damaged),
         }
     }
 }
 
-impl From<device_copies::CopyFault> for CopyFault {
+impl From<device_copies::DeviceCopyFault> for DatabaseCopyFault {
     ghost use Rattle.database_copies.specs.Databases.{fault_of_copy};
 
     ghost from_gives = { λ fault given. given ≡ fault_of_copy fault };
 
-    fn from(fault: device_copies::CopyFault) -> CopyFault {
+    fn from(fault: device_copies::DeviceCopyFault) -> DatabaseCopyFault {
         match fault {
-            device_copies::CopyFault::Memory => CopyFault::Memory,
-            device_copies::CopyFault::Source => CopyFault::Source(SourceFault::Device),
-            device_copies::CopyFault::Damaged => CopyFault::Source(SourceFault::Damaged),
-            device_copies::CopyFault::WrongSize => CopyFault::WrongSize,
-            device_copies::CopyFault::Full(least) => CopyFault::Full(least),
-            device_copies::CopyFault::Device => CopyFault::Device,
+            device_copies::DeviceCopyFault::Memory => DatabaseCopyFault::Memory,
+            device_copies::DeviceCopyFault::Source => DatabaseCopyFault::Source(
+                SourceFault::Device,
+            ),
+            device_copies::DeviceCopyFault::Damaged => DatabaseCopyFault::Source(
+                SourceFault::Damaged,
+            ),
+            device_copies::DeviceCopyFault::WrongSize => DatabaseCopyFault::WrongSize,
+            device_copies::DeviceCopyFault::Full(least) => DatabaseCopyFault::Full(least),
+            device_copies::DeviceCopyFault::Device => DatabaseCopyFault::Device,
         }
     }
 }

@@ -7,4 +7,4 @@ mod source;
 mod under;
 
 pub use database::copy_database;
-pub use fault::{CopyFault, SourceFault};
+pub use fault::{DatabaseCopyFault, SourceFault};

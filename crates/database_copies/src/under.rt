@@ -6,7 +6,7 @@ ghost use Rattle.transactions.specs.Views.{applied_all};
 ghost use Rattle.copying.specs.Copying.{HasOutsized, behind_mark};
 ghost use Rattle.device_copies.specs.Copies.{CopiesTo, HasSourceCause};
 
-use device_copies::{CopyFault, copy_to_device};
+use device_copies::{DeviceCopyFault, copy_to_device};
 use sector_device::Device;
 use std::alloc::Global;
 use store::{Batch, Map};
@@ -18,13 +18,13 @@ pub(crate) fn copy_under<M: Map, E: Device>(
     map: &mut M,
     lists: &[Batch],
     target: E,
-) -> (E, Result<(), CopyFault>)
+) -> (E, Result<(), DatabaseCopyFault>)
     ensures preserved { M.preserved map.old map.new }
     ensures history { KeepsHistory (M.state map.old) (M.state map.new) }
     ensures copies { (M.state map.old).sound
         → CopiesTo E.state (applied_all lists.now (M.state map.old).map) result.1 target result.0 }
     ensures cause { IfErr result.1 (λ fault. HasSourceCause fault (M.state map.old) (M.state map.new)) }
-    ensures damaged { (M.state map.old).sound → IfErr result.1 (λ fault. fault ≡ CopyFault.Damaged
+    ensures damaged { (M.state map.old).sound → IfErr result.1 (λ fault. fault ≡ DatabaseCopyFault.Damaged
         → HasOutsized (behind_mark (applied_all lists.now (M.state map.old).map))) }
 {
     let mut view = View::new(alloc, map, lists);

@@ -26,8 +26,8 @@ use Rattle.kv_store.specs.Opening.{IsNamedFor, IsOpened, CannotOpen}
 use Rattle.kv_store.specs.declared.page_store.PageStore.{PageStore}
 use Rattle.kv_store.specs.PageStore.{pages_of, store_state}
 use Rattle.copying.specs.Copying.{mark}
-use Rattle.device_copies.specs.declared.fault.CopyFault.{CopyFault}
-use Rattle.device_copies.specs.declared.fault.CopyFault.TheVariants.{Memory, Source, Damaged, WrongSize, Full, Device}
+use Rattle.device_copies.specs.declared.fault.DeviceCopyFault.{DeviceCopyFault}
+use Rattle.device_copies.specs.declared.fault.DeviceCopyFault.TheVariants.{Memory, Source, Damaged, WrongSize, Full, Device}
 use Rattle.device_copies.specs.Copies.{CannotBegin, HasNoneOrMark, IsBegun, IsNotBegun, Marks, marked, records_on, told_opening}
 
 -- the root names as many pages as the device has
@@ -171,7 +171,7 @@ module _ (d e : DeviceState) (size : is_size d.sectors ≡ true) (writes : Write
       by_fault pages.Memory is = subst (λ (s : DeviceState). IsNotBegun s (g.state new)) (sym same) (not_begun (g.state new) pages.Memory is)
 
 -- the mark was not made
-pub not_marked : {D : Type 0} (g : Ghosts D) (fault : CopyFault) (old new : D) → ((device : D) → (g.state device).faithful → IsPresent (timeline (g.state device))) → Marks g (Err fault) old new
+pub not_marked : {D : Type 0} (g : Ghosts D) (fault : DeviceCopyFault) (old new : D) → ((device : D) → (g.state device).faithful → IsPresent (timeline (g.state device))) → Marks g (Err fault) old new
     → CannotBegin g fault old new
 not_marked g Memory old new present is = subst (λ (x : _). IsNotBegun (g.state old) (g.state x)) (sym is.1) (not_written (g.state old) is.0 (present old))
 not_marked g Source old new present is = is

@@ -14,11 +14,11 @@ use Rattle.cow_pages.specs.Cow.{device_below, device_of}
 use Rattle.kv_store.specs.Contents.{HasContents, IsReadAs}
 use Rattle.kv_store.specs.declared.page_store.PageStore.{PageStore}
 use Rattle.kv_store.specs.PageStore.{pages_of, store_state}
-use Rattle.copying.specs.declared.fault.CopyFault.{CopyFault as RecordsFault}
-use Rattle.copying.specs.declared.fault.CopyFault.TheVariants.{Read, Write}
+use Rattle.copying.specs.declared.fault.RecordCopyFault.{RecordCopyFault as RecordsFault}
+use Rattle.copying.specs.declared.fault.RecordCopyFault.TheVariants.{Read, Write}
 use Rattle.copying.specs.Copying.{Contains, Copies, HasCopyCause, HasMark, IsUnfinished, mark, whole}
-use Rattle.device_copies.specs.declared.fault.CopyFault.{CopyFault}
-use Rattle.device_copies.specs.declared.fault.CopyFault.TheVariants.{Memory, Source, Damaged, WrongSize, Full, Device}
+use Rattle.device_copies.specs.declared.fault.DeviceCopyFault.{DeviceCopyFault}
+use Rattle.device_copies.specs.declared.fault.DeviceCopyFault.TheVariants.{Memory, Source, Damaged, WrongSize, Full, Device}
 use Rattle.device_copies.proofs.Beginning.{sectors_are}
 use Rattle.device_copies.specs.Copies.{CannotBegin, CopiesAll, CopiesTo, HasNoneOrMark, HasNoneOrMarkOr, HasSourceCause, IsBegun, IsCopied, IsNotBegun, IsNotCopied, Tries, marked, records_on, told_of}
 use Rattle.device_copies.specs.Wanted.{TellsWanted}
@@ -37,7 +37,7 @@ tries_nothing contents d e is = record {
 not_copied : (d e : DeviceState) → IsNotBegun d e → IsNotCopied d e
 not_copied d e is = λ faithful blank. (is.leaves faithful blank).now
 
-pub cannot_begin : {D : Type 0} (g : Ghosts D) (contents : Contents) (fault : CopyFault) (old new : D) → CannotBegin g fault old new → CopiesAll g.state contents (Err fault) old new
+pub cannot_begin : {D : Type 0} (g : Ghosts D) (contents : Contents) (fault : DeviceCopyFault) (old new : D) → CannotBegin g fault old new → CopiesAll g.state contents (Err fault) old new
 cannot_begin g contents Memory old new is = (tries_nothing contents (g.state old) (g.state new) is, not_copied (g.state old) (g.state new) is)
 cannot_begin g contents Source old new is = absurd is
 cannot_begin g contents Damaged old new is = absurd is
@@ -46,7 +46,7 @@ cannot_begin g contents (Full least) old new is = absurd is
 cannot_begin g contents Device old new is = (tries_nothing contents (g.state old) (g.state new) is.0, is.1)
 
 -- before anything is read the source is not the cause
-pub no_source_cause : {D : Type 0} (g : Ghosts D) (fault : CopyFault) (old new : D) (s t : StoreState) → CannotBegin g fault old new → HasSourceCause fault s t
+pub no_source_cause : {D : Type 0} (g : Ghosts D) (fault : DeviceCopyFault) (old new : D) (s t : StoreState) → CannotBegin g fault old new → HasSourceCause fault s t
 no_source_cause g Memory old new s t is = tt
 no_source_cause g Source old new s t is = absurd is
 no_source_cause g Damaged old new s t is = tt
@@ -54,7 +54,7 @@ no_source_cause g WrongSize old new s t is = tt
 no_source_cause g (Full least) old new s t is = tt
 no_source_cause g Device old new s t is = tt
 
-pub no_damage : {D : Type 0} (g : Ghosts D) (P : Type 0) (fault : CopyFault) (old new : D) → CannotBegin g fault old new → fault ≡ Damaged → P
+pub no_damage : {D : Type 0} (g : Ghosts D) (P : Type 0) (fault : DeviceCopyFault) (old new : D) → CannotBegin g fault old new → fault ≡ Damaged → P
 no_damage g P Memory old new is bad = let no : Memory ≡ Damaged = bad in cc
 no_damage g P Source old new is bad = absurd is
 no_damage g P Damaged old new is bad = absurd is
@@ -115,9 +115,9 @@ module _ {D : Type 0} {g : Ghosts D} (d : DeviceState) (s t : PageStore D g) (be
 
 module _ {D : Type 0} {g : Ghosts D} (old : D) (s t : PageStore D g) (begun : IsBegun (g.state old) s) (history : KeepsHistory (store_state s) (store_state t)) (contents : Contents)
     (images : (store_state t).sound → (store_state t).has_failed ≡ false → (image : Image) → IsLeft (device_below (pages_of t)) image
-    → HasContents ((device_below (pages_of t)).sectors / 8) (stored (store_state t)) image) (source kept : StoreState) (no_room : CopyFault) (tells : TellsWanted ((g.state old).sectors / 8) contents.records no_room) where
+    → HasContents ((device_below (pages_of t)).sectors / 8) (stored (store_state t)) image) (source kept : StoreState) (no_room : DeviceCopyFault) (tells : TellsWanted ((g.state old).sectors / 8) contents.records no_room) where
   -- no room was left, for this fault
-  no_room_copied : (fault : CopyFault) → TellsWanted ((g.state old).sectors / 8) contents.records fault → Tries contents (g.state old) (device_below (pages_of t)) → IsNotCopied (g.state old) (device_below (pages_of t))
+  no_room_copied : (fault : DeviceCopyFault) → TellsWanted ((g.state old).sectors / 8) contents.records fault → Tries contents (g.state old) (device_below (pages_of t)) → IsNotCopied (g.state old) (device_below (pages_of t))
       → CopiesAll g.state contents (Err fault) old (device_of (pages_of t))
   no_room_copied Memory told tried not = (tried, not)
   no_room_copied Source told tried not = (tried, not)
@@ -139,7 +139,7 @@ module _ {D : Type 0} {g : Ghosts D} (old : D) (s t : PageStore D g) (begun : Is
   all_copied (Err (Write write.Number)) copies cause = no_room_copied no_room tells (tries (g.state old) s t begun history (Err (Write write.Number)) contents copies) (still_marked (g.state old) s t begun history (λ faithful. (copies faithful).after))
 
 -- Damaged is told where a record of the source has a size that no store takes
-pub told_damaged : (P : Type 0) (no_room : CopyFault) → (no_room ≡ Damaged → ⊥) → (result : Result (Unit {0}) RecordsFault) → IfErr result (λ fault. fault ≡ Read read.Damaged → P) → IfErr (told_of no_room result) (λ fault. fault ≡ Damaged → P)
+pub told_damaged : (P : Type 0) (no_room : DeviceCopyFault) → (no_room ≡ Damaged → ⊥) → (result : Result (Unit {0}) RecordsFault) → IfErr result (λ fault. fault ≡ Read read.Damaged → P) → IfErr (told_of no_room result) (λ fault. fault ≡ Damaged → P)
 told_damaged P no_room other (Ok x) is = tt
 told_damaged P no_room other (Err (Read read.Memory)) is = λ bad. let no : Memory ≡ Damaged = bad in cc
 told_damaged P no_room other (Err (Read read.Device)) is = λ bad. let no : Source ≡ Damaged = bad in cc
@@ -161,7 +161,7 @@ cause_stays old mid new later cause = record {
     rose_on a b c on (inr most) = elim (cases_lt a c) [ inl lt ↦ inl lt | inr from ↦ inr (omega (arith, from, on, most)) ]
 
 -- why there was no room stands in the source since it was read first
-no_room_since : (fault : CopyFault) (old mid new : StoreState) → KeepsHistory old mid → mid.has_failed ≡ old.has_failed → KeepsHistory mid new → HasSourceCause fault mid new → HasSourceCause fault old new
+no_room_since : (fault : DeviceCopyFault) (old mid new : StoreState) → KeepsHistory old mid → mid.has_failed ≡ old.has_failed → KeepsHistory mid new → HasSourceCause fault mid new → HasSourceCause fault old new
 no_room_since Memory old mid new first same later cause = tt
 no_room_since Source old mid new first same later cause = cause_later write.Device old mid new first same later cause
 no_room_since Damaged old mid new first same later cause = tt
@@ -170,7 +170,7 @@ no_room_since (Full least) old mid new first same later cause = tt
 no_room_since Device old mid new first same later cause = tt
 
 -- Source is told where a read of it failed: in the copy, or when its records were counted
-pub told_source : (no_room : CopyFault) (result : Result (Unit {0}) RecordsFault) (source kept counted target written : StoreState) → KeepsHistory source kept → KeepsHistory kept counted
+pub told_source : (no_room : DeviceCopyFault) (result : Result (Unit {0}) RecordsFault) (source kept counted target written : StoreState) → KeepsHistory source kept → KeepsHistory kept counted
     → ((fault : StoreFault) → result ≡ Err (Write fault) → kept.has_failed ≡ source.has_failed) → HasSourceCause no_room kept counted
     → IfErr result (λ fault. HasCopyCause fault source kept target written) → IfErr (told_of no_room result) (λ fault. HasSourceCause fault source counted)
 told_source no_room (Ok x) source kept counted target written first later works why is = tt
@@ -189,7 +189,7 @@ cause_of (Err given) P is fault same = subst P (given_is same) is
     given_is : ◌≡◌ {A = Result (Unit {0}) RecordsFault} (Err given) (Err fault) → given ≡ fault
     given_is h = cc
 
-pub copies_to : {D : Type 0} (g : Ghosts D) (old new : D) (s t : PageStore D g) (records : Records) (source kept : StoreState) (no_room : CopyFault) (result : Result (Unit {0}) RecordsFault) (told : Result (Unit {0}) CopyFault)
+pub copies_to : {D : Type 0} (g : Ghosts D) (old new : D) (s t : PageStore D g) (records : Records) (source kept : StoreState) (no_room : DeviceCopyFault) (result : Result (Unit {0}) RecordsFault) (told : Result (Unit {0}) DeviceCopyFault)
     → TellsWanted ((g.state old).sectors / 8) (whole current records).records no_room → IsBegun (g.state old) s → KeepsHistory (store_state s) (store_state t)
     → ((store_state t).sound → (store_state t).has_failed ≡ false → (image : Image) → IsLeft (device_below (pages_of t)) image → HasContents ((device_below (pages_of t)).sectors / 8) (stored (store_state t)) image)
     → ((store_state s).sound → (store_state s).has_failed ≡ false → (store_state s).map ≡ mark ∷ [] → Copies result (whole (store_state s).spelling records) (store_state s) (store_state t))
@@ -198,5 +198,5 @@ copies_to g old new s t records source kept no_room result told tells begun hist
     let all : CopiesTo g.state records (told_of no_room result) old (device_of (pages_of t)) =
     all_copied old s t begun history (whole current records) images source kept no_room tells result (λ faithful. spelled (g.state old) s t begun history result records faithful copies)
     (cause_of result (λ fault. HasCopyCause fault source kept (store_state s) (store_state t)) cause) in
-    subst (λ (r : Result (Unit {0}) CopyFault). CopiesTo g.state records r old new) (sym told_is)
+    subst (λ (r : Result (Unit {0}) DeviceCopyFault). CopiesTo g.state records r old new) (sym told_is)
     (subst (λ (x : _). CopiesTo g.state records (told_of no_room result) old x) (sym new_is) all)

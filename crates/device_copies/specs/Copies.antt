@@ -17,11 +17,11 @@ use Rattle.kv_store.specs.Contents.{HasContents, IsReadAs}
 use Rattle.kv_store.specs.Formatting.{WritesStore, IsMade}
 use Rattle.kv_store.specs.declared.page_store.PageStore.{PageStore}
 use Rattle.kv_store.specs.PageStore.{pages_of, store_state}
-use Rattle.copying.specs.declared.fault.CopyFault.{CopyFault as RecordsFault}
-use Rattle.copying.specs.declared.fault.CopyFault.TheVariants.{Read, Write}
+use Rattle.copying.specs.declared.fault.RecordCopyFault.{RecordCopyFault as RecordsFault}
+use Rattle.copying.specs.declared.fault.RecordCopyFault.TheVariants.{Read, Write}
 use Rattle.copying.specs.Copying.{IsUnfinished, mark, whole}
-use Rattle.device_copies.specs.declared.fault.CopyFault.{CopyFault}
-use Rattle.device_copies.specs.declared.fault.CopyFault.TheVariants.{Memory, Source, Damaged, WrongSize, Full, Device}
+use Rattle.device_copies.specs.declared.fault.DeviceCopyFault.{DeviceCopyFault}
+use Rattle.device_copies.specs.declared.fault.DeviceCopyFault.TheVariants.{Memory, Source, Damaged, WrongSize, Full, Device}
 use Rattle.device_copies.specs.Wanted.{wanted}
 
 -- what a stop leaves of a device, read as contents
@@ -55,7 +55,7 @@ IsNotCopied old new = old.faithful → IsBlank old → (x : Option Contents) →
 
 -- the contents are copied; or the copy stops for its source, for memory or for room, and is not whole, and where it was for room it is told how many pages are wanted
 -- at least; or the device fails, or has another size
-abbrev pub CopiesAll : {D : Type 0} → (D → DeviceState) → Contents → Result (Unit {0}) CopyFault → D → D → Type 0
+abbrev pub CopiesAll : {D : Type 0} → (D → DeviceState) → Contents → Result (Unit {0}) DeviceCopyFault → D → D → Type 0
 CopiesAll state contents (Ok x) old new = Tries contents (state old) (state new) × ((state old).faithful → IsCopied contents (state new))
 CopiesAll state contents (Err Memory) old new = Tries contents (state old) (state new) × IsNotCopied (state old) (state new)
 CopiesAll state contents (Err Source) old new = Tries contents (state old) (state new) × IsNotCopied (state old) (state new)
@@ -65,11 +65,11 @@ CopiesAll state contents (Err (Full least)) old new = Tries contents (state old)
 CopiesAll state contents (Err Device) old new = Tries contents (state old) (state new) × ((state old).faithful → HasFailed (state old) (state new))
 
 -- the records behind the mark are copied, in the current spelling
-abbrev pub CopiesTo : {D : Type 0} → (D → DeviceState) → Records → Result (Unit {0}) CopyFault → D → D → Type 0
+abbrev pub CopiesTo : {D : Type 0} → (D → DeviceState) → Records → Result (Unit {0}) DeviceCopyFault → D → D → Type 0
 CopiesTo state records result old new = CopiesAll state (whole current records) result old new
 
 -- why the source is told to be the cause
-abbrev pub HasSourceCause : CopyFault → StoreState → StoreState → Type 0
+abbrev pub HasSourceCause : DeviceCopyFault → StoreState → StoreState → Type 0
 HasSourceCause Memory old new = Unit {0}
 HasSourceCause Source old new = HasDeviceCause old new
 HasSourceCause Damaged old new = Unit {0}
@@ -78,7 +78,7 @@ HasSourceCause (Full least) old new = Unit {0}
 HasSourceCause Device old new = Unit {0}
 
 -- what a copy of records answered, as one to a device, with the fault where there was no room: a new store has a number for each commit of it
-abbrev pub told_of : CopyFault → Result (Unit {0}) RecordsFault → Result (Unit {0}) CopyFault
+abbrev pub told_of : DeviceCopyFault → Result (Unit {0}) RecordsFault → Result (Unit {0}) DeviceCopyFault
 told_of no_room (Ok x) = Ok x
 told_of no_room (Err (Read read.Memory)) = Err Memory
 told_of no_room (Err (Read read.Device)) = Err Source
@@ -94,7 +94,7 @@ abbrev pub marked : Contents
 marked = record { spelling = current; records = mark ∷ [] }
 
 -- a store of the mark alone is made, or the device has another size, or memory is refused, before anything is written; or the device fails
-abbrev pub Marks : {D : Type 0} (g : Ghosts D) → Result (Unit {0}) CopyFault → D → D → Type 0
+abbrev pub Marks : {D : Type 0} (g : Ghosts D) → Result (Unit {0}) DeviceCopyFault → D → D → Type 0
 Marks g (Ok x) old new = (is_size (g.state old).sectors ≡ true) × WritesStore current mark (g.state old) (g.state new) × ((g.state old).faithful → IsMade current mark (g.state old) (g.state new))
 Marks g (Err Memory) old new = (is_size (g.state old).sectors ≡ true) × (new ≡ old)
 Marks g (Err Source) old new = ⊥
@@ -118,7 +118,7 @@ pub record IsNotBegun (d e : DeviceState) : Type 0 where
   pub history : KeepsHistory d e
   pub leaves : d.faithful → IsBlank d → LeavesOnly HasNoneOrMark (records_on d) (records_on e)
 
-abbrev pub CannotBegin : {D : Type 0} (g : Ghosts D) → CopyFault → D → D → Type 0
+abbrev pub CannotBegin : {D : Type 0} (g : Ghosts D) → DeviceCopyFault → D → D → Type 0
 CannotBegin g Memory old new = IsNotBegun (g.state old) (g.state new)
 CannotBegin g Source old new = ⊥
 CannotBegin g Damaged old new = ⊥
@@ -126,12 +126,12 @@ CannotBegin g WrongSize old new = (is_size (g.state old).sectors ≡ false) × (
 CannotBegin g (Full least) old new = ⊥
 CannotBegin g Device old new = IsNotBegun (g.state old) (g.state new) × ((g.state old).faithful → HasFailed (g.state old) (g.state new))
 
-abbrev pub Begins : {D : Type 0} (g : Ghosts D) → D → Result (PageStore D g) (D × CopyFault) → Type 0
+abbrev pub Begins : {D : Type 0} (g : Ghosts D) → D → Result (PageStore D g) (D × DeviceCopyFault) → Type 0
 Begins g old (Ok store) = IsBegun (g.state old) store
 Begins g old (Err refused) = CannotBegin g refused.1 old refused.0
 
 -- why a store that has just been made is not opened: its device failed, unless memory was refused
-abbrev pub told_opening : OpenFault → CopyFault
+abbrev pub told_opening : OpenFault → DeviceCopyFault
 told_opening opening.WrongSize = Device
 told_opening opening.NotADatabase = Device
 told_opening opening.Damaged = Device

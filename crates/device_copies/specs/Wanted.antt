@@ -1,8 +1,8 @@
 -- How many pages a copy wants at least.
 use Rattle.std.specs.Prelude.{◌≡◌, ◌+◌, ℕ, if◌then◌else◌, nat_lt, [], ◌∷◌, length, min, max}
 use Rattle.store.specs.Records.{Record, Records}
-use Rattle.device_copies.specs.declared.fault.CopyFault.{CopyFault}
-use Rattle.device_copies.specs.declared.fault.CopyFault.TheVariants.{Memory, Source, Damaged, WrongSize, Full, Device}
+use Rattle.device_copies.specs.declared.fault.DeviceCopyFault.{DeviceCopyFault}
+use Rattle.device_copies.specs.declared.fault.DeviceCopyFault.TheVariants.{Memory, Source, Damaged, WrongSize, Full, Device}
 
 -- the bytes of a record in a leaf: those of two lengths, of its key and of its value, of sizes that a store takes
 abbrev pub cell_size : Record → ℕ
@@ -26,7 +26,7 @@ abbrev pub wanted : ℕ → Records → ℕ
 wanted pages records = max (leaves_of records + 2) (pages + 1)
 
 -- the fault of a copy that found no room on so many pages tells how many it wants, unless they were not counted
-abbrev pub TellsWanted : ℕ → Records → CopyFault → Type 0
+abbrev pub TellsWanted : ℕ → Records → DeviceCopyFault → Type 0
 TellsWanted pages records Memory = Unit {0}
 TellsWanted pages records Source = Unit {0}
 TellsWanted pages records Damaged = ⊥

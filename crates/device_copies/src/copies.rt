@@ -5,7 +5,7 @@ ghost use Rattle.store.specs.Store.{OnlyReads};
 ghost use Rattle.copying.specs.Copying.{HasOutsized, behind_mark};
 ghost use Rattle.device_copies.specs.Copies.{CopiesTo, HasSourceCause, told_of};
 
-use crate::fault::CopyFault;
+use crate::fault::DeviceCopyFault;
 use crate::marked::marked_store;
 use crate::wanted::no_room_fault;
 use copying::copy_records;
@@ -29,13 +29,13 @@ pub fn copy_to_device<M: Map, D: Device>(
     alloc: Global,
     source: &mut M,
     target: D,
-) -> (D, Result<(), CopyFault>)
+) -> (D, Result<(), DeviceCopyFault>)
     ensures preserved { M.preserved source.old source.new }
     ensures reads { OnlyReads (M.state source.old) (M.state source.new) }
     ensures copies { (M.state source.old).sound
         → CopiesTo D.state (M.state source.old).map result.1 target result.0 }
     ensures cause { IfErr result.1 (λ fault. HasSourceCause fault (M.state source.old) (M.state source.new)) }
-    ensures damaged { (M.state source.old).sound → IfErr result.1 (λ fault. fault ≡ CopyFault.Damaged
+    ensures damaged { (M.state source.old).sound → IfErr result.1 (λ fault. fault ≡ DeviceCopyFault.Damaged
         → HasOutsized (behind_mark (M.state source.old).map)) }
 {
     let pages = target.sectors() / SECTORS_PER_PAGE;
@@ -50,16 +50,19 @@ pub fn copy_to_device<M: Map, D: Device>(
 }
 
 // What a copy of records answered, with the fault where the target had no room.
-fn told(copied: Result<(), copying::CopyFault>, no_room: CopyFault) -> Result<(), CopyFault>
+fn told(
+    copied: Result<(), copying::RecordCopyFault>,
+    no_room: DeviceCopyFault,
+) -> Result<(), DeviceCopyFault>
     ensures { result ≡ told_of no_room copied }
 {
     match copied {
         Ok(()) => Ok(()),
-        Err(copying::CopyFault::Read(Fault::Memory)) => Err(CopyFault::Memory),
-        Err(copying::CopyFault::Read(Fault::Device)) => Err(CopyFault::Source),
-        Err(copying::CopyFault::Read(Fault::Damaged)) => Err(CopyFault::Damaged),
-        Err(copying::CopyFault::Write(StoreFault::Memory)) => Err(CopyFault::Memory),
-        Err(copying::CopyFault::Write(StoreFault::Full | StoreFault::Number)) => Err(no_room),
-        Err(copying::CopyFault::Write(StoreFault::Device)) => Err(CopyFault::Device),
+        Err(copying::RecordCopyFault::Read(Fault::Memory)) => Err(DeviceCopyFault::Memory),
+        Err(copying::RecordCopyFault::Read(Fault::Device)) => Err(DeviceCopyFault::Source),
+        Err(copying::RecordCopyFault::Read(Fault::Damaged)) => Err(DeviceCopyFault::Damaged),
+        Err(copying::RecordCopyFault::Write(StoreFault::Memory)) => Err(DeviceCopyFault::Memory),
+        Err(copying::RecordCopyFault::Write(StoreFault::Full | StoreFault::Number)) => Err(no_room),
+        Err(copying::RecordCopyFault::Write(StoreFault::Device)) => Err(DeviceCopyFault::Device),
     }
 }

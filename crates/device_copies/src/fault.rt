@@ -2,7 +2,7 @@
 
 /// Why records were not copied to a device.
 #[derive(Clone, Copy, Debug, Drop, PartialEq, Eq)]
-pub enum CopyFault {
+pub enum DeviceCopyFault {
     /// An allocation failed.
     Memory,
     /// The source failed, or what it gave was none of its own.

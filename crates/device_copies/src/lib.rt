@@ -8,5 +8,5 @@ mod marks;
 mod wanted;
 
 pub use copies::copy_to_device;
-pub use fault::CopyFault;
+pub use fault::DeviceCopyFault;
 pub use marks::{copied_records_stand, marked_records_stand_for_nothing};

@@ -3,7 +3,7 @@
 ghost use Rattle.std.specs.Prelude.{◌≡◌, IfErr, IfOk};
 ghost use Rattle.device_copies.specs.Copies.{Begins, Marks, told_opening};
 
-use crate::fault::CopyFault;
+use crate::fault::DeviceCopyFault;
 use copying::mark_of_a_copy;
 use cow_pages::page_count;
 use kv_store::{FormatFault, OpenFault, PageStore};
@@ -14,7 +14,7 @@ use std::alloc::Global;
 pub(crate) fn marked_store<D: Device>(
     alloc: Global,
     target: D,
-) -> Result<PageStore<D>, (D, CopyFault)>
+) -> Result<PageStore<D>, (D, DeviceCopyFault)>
     ensures { Begins D.Device target result }
 {
     let mut target = target;
@@ -29,29 +29,29 @@ pub(crate) fn marked_store<D: Device>(
 }
 
 // Why a store that has just been made is not opened: its device failed, unless memory was refused.
-fn fault_of_opening(fault: OpenFault) -> CopyFault
+fn fault_of_opening(fault: OpenFault) -> DeviceCopyFault
     ensures { result ≡ told_opening fault }
 {
     match fault {
-        OpenFault::Memory => CopyFault::Memory,
+        OpenFault::Memory => DeviceCopyFault::Memory,
         OpenFault::WrongSize | OpenFault::NotADatabase | OpenFault::Damaged | OpenFault::Device =>
-            CopyFault::Device,
+            DeviceCopyFault::Device,
     }
 }
 
 // Makes a store of the mark alone on a device.
-fn mark_device<D: Device>(alloc: Global, target: &mut D) -> Result<(), CopyFault>
+fn mark_device<D: Device>(alloc: Global, target: &mut D) -> Result<(), DeviceCopyFault>
     ensures { Marks D.Device result target.old target.new }
 {
     let Some(_pages) = page_count(target.sectors()) else {
-        return Err(CopyFault::WrongSize);
+        return Err(DeviceCopyFault::WrongSize);
     };
     let Ok(mark) = mark_of_a_copy(alloc) else {
-        return Err(CopyFault::Memory);
+        return Err(DeviceCopyFault::Memory);
     };
     match PageStore::format(alloc, target, &mark) {
         Ok(()) => Ok(()),
-        Err(FormatFault::Memory) => Err(CopyFault::Memory),
-        Err(FormatFault::Device) => Err(CopyFault::Device),
+        Err(FormatFault::Memory) => Err(DeviceCopyFault::Memory),
+        Err(FormatFault::Device) => Err(DeviceCopyFault::Device),
     }
 }

@@ -7,8 +7,8 @@ ghost use Rattle.copying.specs.Copying.{behind_mark};
 ghost use Rattle.device_copies.specs.Copies.{HasSourceCause};
 ghost use Rattle.device_copies.specs.Wanted.{TellsWanted, cell_size, leaves_of, placed, wanted};
 
-use crate::fault::CopyFault;
-use copying::CopyFault as RecordsFault;
+use crate::fault::DeviceCopyFault;
+use copying::RecordCopyFault as RecordsFault;
 use kv_store::{Fault, Map, StoreFault};
 use storage_sizes::{MAX_KEY_LENGTH, MAX_VALUE_LENGTH, PAGE_SIZE};
 use store::EntryRef;
@@ -80,35 +80,35 @@ pub(crate) fn no_room_fault<M: Map>(
     source: &mut M,
     pages: u32,
     copied: Result<(), RecordsFault>,
-) -> CopyFault
+) -> DeviceCopyFault
     ensures preserved { M.preserved source.old source.new }
     ensures reads { OnlyReads (M.state source.old) (M.state source.new) }
     ensures told { (M.state source.old).sound
         → TellsWanted pages (behind_mark (M.state source.old).map) result }
     ensures cause { HasSourceCause result (M.state source.old) (M.state source.new) }
-    ensures undamaged { result ≢ CopyFault.Damaged }
+    ensures undamaged { result ≢ DeviceCopyFault.Damaged }
 {
     match copied {
         Err(RecordsFault::Write(StoreFault::Full | StoreFault::Number)) => full_fault(
             source, pages,
         ),
-        _ => CopyFault::Memory,
+        _ => DeviceCopyFault::Memory,
     }
 }
 
 // The fault of a copy that found no room on so many pages: `Full`, with the number of pages that the copy wants at least.
 // `Source` and `Memory`: the records were not counted.
-fn full_fault<M: Map>(source: &mut M, pages: u32) -> CopyFault
+fn full_fault<M: Map>(source: &mut M, pages: u32) -> DeviceCopyFault
     ensures preserved { M.preserved source.old source.new }
     ensures reads { OnlyReads (M.state source.old) (M.state source.new) }
     ensures told { (M.state source.old).sound
         → TellsWanted pages (behind_mark (M.state source.old).map) result }
     ensures cause { HasSourceCause result (M.state source.old) (M.state source.new) }
-    ensures undamaged { result ≢ CopyFault.Damaged }
+    ensures undamaged { result ≢ DeviceCopyFault.Damaged }
 {
     match count_leaves(source) {
-        Ok(leaves) => CopyFault::Full((leaves + OTHER_PAGES).max(u64::from(pages) + 1)),
-        Err(Fault::Memory) => CopyFault::Memory,
-        Err(Fault::Device | Fault::Damaged) => CopyFault::Source,
+        Ok(leaves) => DeviceCopyFault::Full((leaves + OTHER_PAGES).max(u64::from(pages) + 1)),
+        Err(Fault::Memory) => DeviceCopyFault::Memory,
+        Err(Fault::Device | Fault::Damaged) => DeviceCopyFault::Source,
     }
 }

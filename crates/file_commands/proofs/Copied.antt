@@ -9,11 +9,11 @@ use Rattle.sector_device.specs.declared.open_file.FileFault.TheVariants as file
 use Rattle.sector_device.specs.declared.system_cause.SystemCause.{SystemCause}
 use Rattle.systems.specs.Systems.{Absent, Free, Shared, Reading, At, HasDevice, IsNamed, IsOpen, IsReadable, IsReading, IsSame, IsSameBut, IsSameButBoth, IsUnnamed, Rose, SystemState}
 use Rattle.cow_pages.proofs.Reading.{reads_none}
-use Rattle.database_copies.specs.declared.fault.CopyFault.{CopyFault as DatabaseFault}
+use Rattle.database_copies.specs.declared.fault.DatabaseCopyFault.{DatabaseCopyFault as DatabaseFault}
 use Rattle.device_databases.specs.Databases.{IsUnwritten}
-use Rattle.file_commands.specs.declared.copy_fault.CopyFault.{CopyFault}
-use Rattle.file_commands.specs.declared.copy_fault.CopyFault.TheVariants.{New}
-use Rattle.file_commands.specs.declared.copy_fault.CopyFault.TheVariants as copy_fault
+use Rattle.file_commands.specs.declared.copy_fault.FileCopyFault.{FileCopyFault}
+use Rattle.file_commands.specs.declared.copy_fault.FileCopyFault.TheVariants.{New}
+use Rattle.file_commands.specs.declared.copy_fault.FileCopyFault.TheVariants as copy_fault
 use Rattle.file_commands.specs.declared.fault.CommandFault.TheVariants as command
 use Rattle.file_commands.specs.CopyFaults.{of_partial}
 use Rattle.file_commands.specs.Copying.{CopiesBeside, CopiesFile, IsCopied, IsFileCopied, IsFileUncopied, IsNotBegun, IsNotNamed, IsNotRenamed, IsRenamed, IsSameButThree, IsStopped, IsTakenBack, IsTried, IsUncopied, KeepsFile, Renames, StandsAgainstCopy, partial_path}
@@ -48,7 +48,7 @@ against_since old mid new target same counts later file.Memory stands = tt
 against_since old mid new target same counts later (file.Device cause) stands = rose_between old.failures mid.failures new.failures new.failures counts later (omega arith) stands
 
 module _ {D L : Type 0} (old mid new : SystemState D L) (partial target : List ℕ) (same : IsSame old mid) (counts : old.failures ≤ mid.failures) (later : mid.failures ≤ new.failures) where
-  pub copy_against_since : (fault : CopyFault) → StandsAgainstCopy fault mid partial target new → StandsAgainstCopy fault old partial target new
+  pub copy_against_since : (fault : FileCopyFault) → StandsAgainstCopy fault mid partial target new → StandsAgainstCopy fault old partial target new
   copy_against_since (New command.Exists) stands = sym (same.names target) ∙ stands
   copy_against_since (New command.Memory) stands = tt
   copy_against_since (New (command.Device cause)) stands = rose_between old.failures mid.failures new.failures new.failures counts later (omega arith) stands
@@ -77,7 +77,7 @@ module _ {D L : Type 0} (g : Ghosts D) (old mid new : SystemState D L) (partial 
     listeners = λ place. second.listeners place ∙ first.listeners place;
   }
 
-  pub named_then : (result : Result (Unit {0}) CopyFault) → Renames mid partial target copy result new → CopiesBeside g old partial target pages device result left new
+  pub named_then : (result : Result (Unit {0}) FileCopyFault) → Renames mid partial target copy result new → CopiesBeside g old partial target pages device result left new
   named_then (Ok x) renamed = record {
     blank = blank;
     copy = copy;
@@ -126,7 +126,7 @@ module _ {D L : Type 0} (g : Ghosts D) (old mid new : SystemState D L) (partial 
     counts = omega (arith, counts, taken.counts);
   }
 
-  uncopied_since : (fault : CopyFault) → IsUncopied g mid partial target pages device fault left new → IsUncopied g old partial target pages device fault left new
+  uncopied_since : (fault : FileCopyFault) → IsUncopied g mid partial target pages device fault left new → IsUncopied g old partial target pages device fault left new
   uncopied_since fault (inl none) = inl (record {
     unread = none.unread;
     cause = λ is. copy_against_since old mid new partial target (same is) counts none.counts fault (none.cause ((same is).faithful is));
@@ -151,7 +151,7 @@ module _ {D L : Type 0} (g : Ghosts D) (old mid new : SystemState D L) (partial 
     taken = taken_since unnamed.taken;
   }))
 
-  pub copied_since : (result : Result (Unit {0}) CopyFault) → CopiesBeside g mid partial target pages device result left new → CopiesBeside g old partial target pages device result left new
+  pub copied_since : (result : Result (Unit {0}) FileCopyFault) → CopiesBeside g mid partial target pages device result left new → CopiesBeside g old partial target pages device result left new
   copied_since (Ok x) copied = record {
     blank = copied.blank;
     copy = copied.copy;
@@ -249,7 +249,7 @@ module _ {D L S : Type 0} (g : Ghosts D) (state : S → SystemState D L) (old ne
   }
 
   -- nothing was made, or what was made is no more
-  uncopied_by : (fault : CopyFault) → (old.faithful → IsSameBut partial (state first) (state last)) → (old.faithful → path ≢ partial) → (old.faithful → IsUnwritten (g.state device) (g.state left)) → IsUncopied g (state first) partial target pages device fault left (state last)
+  uncopied_by : (fault : FileCopyFault) → (old.faithful → IsSameBut partial (state first) (state last)) → (old.faithful → path ≢ partial) → (old.faithful → IsUnwritten (g.state device) (g.state left)) → IsUncopied g (state first) partial target pages device fault left (state last)
       → IsFileUncopied g state old path target pages fault new
   uncopied_by fault between other unwritten why = record {
     device = device;
@@ -265,7 +265,7 @@ module _ {D L S : Type 0} (g : Ghosts D) (state : S → SystemState D L) (old ne
     still : old.faithful → (state last).faithful
     still is = (between is).faithful ((opening is).faithful is)
 
-  pub uncopied_file : (fault : CopyFault) → IsUncopied g (state first) partial target pages device fault left (state last) → IsFileUncopied g state old path target pages fault new
+  pub uncopied_file : (fault : FileCopyFault) → IsUncopied g (state first) partial target pages device fault left (state last) → IsFileUncopied g state old path target pages fault new
   uncopied_file fault (inl none) = unbegun
     where
       at_begin : old.faithful → (state first).faithful
@@ -289,6 +289,6 @@ module _ {D L S : Type 0} (g : Ghosts D) (state : S → SystemState D L) (old ne
   uncopied_file fault (inr (inl stopped)) = uncopied_by fault (λ is. stopped.taken.others ((opening is).faithful is)) (λ is. is_other is partial (stopped.tried.is_blank ((opening is).faithful is)).new) (unwritten_by _ stopped.blank stopped.copy stopped.tried) (inr (inl stopped))
   uncopied_file fault (inr (inr unnamed)) = uncopied_by fault (λ is. unnamed.taken.others ((opening is).faithful is)) (λ is. is_other is partial (unnamed.tried.is_blank ((opening is).faithful is)).new) (unwritten_by _ unnamed.blank unnamed.copy unnamed.tried) (inr (inr unnamed))
 
-  pub copies_file : (result : Result (Unit {0}) CopyFault) → CopiesBeside g (state first) partial target pages device result left (state last) → CopiesFile g state old path target pages result new
+  pub copies_file : (result : Result (Unit {0}) FileCopyFault) → CopiesBeside g (state first) partial target pages device result left (state last) → CopiesFile g state old path target pages result new
   copies_file (Ok x) copied = copied_file copied
   copies_file (Err fault) uncopied = inr (inr (uncopied_file fault uncopied))

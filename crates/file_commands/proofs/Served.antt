@@ -1,7 +1,7 @@
 -- The connections that were served over the database that was opened, at the place that was asked for.
 use Rattle.std.proofs.Common.{◌≤◌, ◌∙◌, ℕ, Bool, List, Result, Ok, Err, Option, sym, subst}
 use Rattle.sector_device.specs.declared.device.Device.{Ghosts}
-use Rattle.systems.specs.declared.place.Place.{Place}
+use Rattle.systems.specs.declared.place.ListenPlace.{ListenPlace}
 use Rattle.systems.specs.Places.{the_place}
 use Rattle.systems.specs.Systems.{HasDevice, IsOpen, IsSameBut, SystemState}
 use Rattle.abstract_database.specs.Runs.{ReadingRelation}
@@ -22,7 +22,7 @@ use Rattle.file_commands.proofs.Changes.{but_then_same, closed_again, rose_betwe
 
 -- ---- at a place that was bound
 
-module _ {D L X C : Type 0} (g : Ghosts D) (c : SinkGhosts C) (Reads : ReadingRelation) (listening : L → Option Listening) (old new : SystemState D L) (place bound : Place) (asked : ℕ) (server : Server (PageStore D g) X) (before after : Known)
+module _ {D L X C : Type 0} (g : Ghosts D) (c : SinkGhosts C) (Reads : ReadingRelation) (listening : L → Option Listening) (old new : SystemState D L) (place bound : ListenPlace) (asked : ℕ) (server : Server (PageStore D g) X) (before after : Known)
     (listener ended : L) (left : D) (between : IsBoundBetween old place bound listener ended new) where
   pub served_at : (result : Result Served CommandFault) → ServesOn g c Reads bound asked server (listening listener) before result left (listening ended) after → ServesAt g c Reads listening old place asked server before result left new after
   served_at (Ok served) it = record { bound = bound; listener = listener; ended = ended; between = between; told = it.0; serves = it.1 }
@@ -40,10 +40,10 @@ module _ {D L X C : Type 0} (g : Ghosts D) (c : SinkGhosts C) (Reads : ReadingRe
 
 -- ---- once the database was opened
 
-module _ (X : Type 0) {D L C : Type 0} (g : Ghosts D) (c : SinkGhosts C) (Reads : ReadingRelation) (listening : L → Option Listening) (old mid end new : SystemState D L) (path : List ℕ) (place : Place) (asked : ℕ) (told : Bool) (before noted after : Known)
+module _ (X : Type 0) {D L C : Type 0} (g : Ghosts D) (c : SinkGhosts C) (Reads : ReadingRelation) (listening : L → Option Listening) (old mid end new : SystemState D L) (path : List ℕ) (place : ListenPlace) (asked : ℕ) (told : Bool) (before noted after : Known)
     (opened : Opened D X g) (at : IsOpenedAt g old path opened mid) (tells : TellsMigration opened.was_migrated path told before noted) where
   -- the device and the listener, from before the opening to after the closing
-  both_changed : (bound : Place) (listener ended : L) (left : D) → IsBoundBetween mid place bound listener ended end → (end.faithful → IsOpen end path → HasDevice new path left)
+  both_changed : (bound : ListenPlace) (listener ended : L) (left : D) → IsBoundBetween mid place bound listener ended end → (end.faithful → IsOpen end path → HasDevice new path left)
       → (end.faithful → IsSameBut path end new) → old.faithful → ChangesBoth old path (the_place bound) at.device left listener ended new
   both_changed bound listener ended left between closed closing is =
       let opening = at.others is in

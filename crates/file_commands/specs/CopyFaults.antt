@@ -2,15 +2,15 @@
 use Rattle.sector_device.specs.declared.open_file.FileFault.{FileFault}
 use Rattle.sector_device.specs.declared.open_file.FileFault.TheVariants as file
 use Rattle.sector_device.specs.declared.system_cause.SystemCause.TheVariants.{Other}
-use Rattle.database_copies.specs.declared.fault.CopyFault.{CopyFault as DatabaseFault}
-use Rattle.database_copies.specs.declared.fault.CopyFault.TheVariants as copy
+use Rattle.database_copies.specs.declared.fault.DatabaseCopyFault.{DatabaseCopyFault as DatabaseFault}
+use Rattle.database_copies.specs.declared.fault.DatabaseCopyFault.TheVariants as copy
 use Rattle.database_copies.specs.declared.fault.SourceFault.TheVariants as source
-use Rattle.file_commands.specs.declared.copy_fault.CopyFault.{CopyFault}
-use Rattle.file_commands.specs.declared.copy_fault.CopyFault.TheVariants.{File, New, Partial, Full}
+use Rattle.file_commands.specs.declared.copy_fault.FileCopyFault.{FileCopyFault}
+use Rattle.file_commands.specs.declared.copy_fault.FileCopyFault.TheVariants.{File, New, Partial, Full}
 use Rattle.file_commands.specs.declared.fault.CommandFault.TheVariants as command
 
 -- of a copy from one device to another
-abbrev pub of_copy : DatabaseFault → CopyFault
+abbrev pub of_copy : DatabaseFault → FileCopyFault
 of_copy copy.Memory = New command.Memory
 of_copy (copy.Source source.WrongSize) = File command.WrongSize
 of_copy (copy.Source source.NotADatabase) = File command.NotADatabase
@@ -21,7 +21,7 @@ of_copy (copy.Full least) = Full least
 of_copy copy.Device = New (command.Device Other)
 
 -- of making the file under the name that it has until it is whole
-abbrev pub of_partial : FileFault → CopyFault
+abbrev pub of_partial : FileFault → FileCopyFault
 of_partial file.Exists = Partial
 of_partial file.Memory = New command.Memory
 of_partial (file.Device cause) = New (command.Device cause)

@@ -7,13 +7,13 @@ use Rattle.systems.specs.declared.access.Access.TheVariants.{Read}
 use Rattle.systems.specs.Places.{ThePlace}
 use Rattle.systems.specs.Systems.{HasDevice, IsNamed, IsOpen, IsReadable, IsSame, IsSameBut, IsSameButBoth, IsUnnamed, Rose, SystemState}
 use Rattle.cow_pages.specs.Held.{KeepsContent}
-use Rattle.database_copies.specs.declared.fault.CopyFault.{CopyFault as DatabaseFault}
+use Rattle.database_copies.specs.declared.fault.DatabaseCopyFault.{DatabaseCopyFault as DatabaseFault}
 use Rattle.database_copies.specs.Databases.{CopiesDatabase}
 use Rattle.device_databases.specs.Databases.{IsUnwritten}
 use Rattle.file_commands.specs.declared.fault.CommandFault.{CommandFault}
 use Rattle.file_commands.specs.declared.fault.CommandFault.TheVariants as command
-use Rattle.file_commands.specs.declared.copy_fault.CopyFault.{CopyFault}
-use Rattle.file_commands.specs.declared.copy_fault.CopyFault.TheVariants.{File, New, Partial}
+use Rattle.file_commands.specs.declared.copy_fault.FileCopyFault.{FileCopyFault}
+use Rattle.file_commands.specs.declared.copy_fault.FileCopyFault.TheVariants.{File, New, Partial}
 use Rattle.file_commands.specs.CopyFaults.{of_copy}
 use Rattle.file_commands.specs.Faults.{of_file}
 use Rattle.file_commands.specs.Files.{IsNotOpened}
@@ -26,7 +26,7 @@ partial_path target = target ++ codes ".partial"
 -- ---- once the file is open
 
 -- why nothing was made for the copy: its name is taken, or that until it is whole; no memory was left; or a call of the system failed
-abbrev pub StandsAgainstCopy : {D L : Type 0} → CopyFault → SystemState D L → List ℕ → List ℕ → SystemState D L → Type 0
+abbrev pub StandsAgainstCopy : {D L : Type 0} → FileCopyFault → SystemState D L → List ℕ → List ℕ → SystemState D L → Type 0
 StandsAgainstCopy (New command.Exists) old partial target new = IsNamed old target
 StandsAgainstCopy (New command.Memory) old partial target new = Unit {0}
 StandsAgainstCopy (New (command.Device cause)) old partial target new = Rose old.failures new.failures
@@ -41,7 +41,7 @@ pub record IsRenamed {D L : Type 0} (old : SystemState D L) (partial target : Li
   pub others : old.faithful → IsSameButBoth partial target old new
   pub counts : old.failures ≤ new.failures
 
-pub record IsNotRenamed {D L : Type 0} (old : SystemState D L) (partial target : List ℕ) (fault : CopyFault) (new : SystemState D L) : Type 0 where
+pub record IsNotRenamed {D L : Type 0} (old : SystemState D L) (partial target : List ℕ) (fault : FileCopyFault) (new : SystemState D L) : Type 0 where
   pub why : FileFault
   pub is : fault ≡ New (of_file why)
   pub cause : old.faithful → StandsAgainst why old target new
@@ -49,7 +49,7 @@ pub record IsNotRenamed {D L : Type 0} (old : SystemState D L) (partial target :
   pub others : old.faithful → IsSameBut partial old new
   pub counts : old.failures ≤ new.failures
 
-abbrev pub Renames : {D L : Type 0} → SystemState D L → List ℕ → List ℕ → D → Result (Unit {0}) CopyFault → SystemState D L → Type 0
+abbrev pub Renames : {D L : Type 0} → SystemState D L → List ℕ → List ℕ → D → Result (Unit {0}) FileCopyFault → SystemState D L → Type 0
 Renames old partial target copy (Ok x) new = IsRenamed old partial target copy new
 Renames old partial target copy (Err fault) new = IsNotRenamed old partial target fault new
 
@@ -57,7 +57,7 @@ Renames old partial target copy (Err fault) new = IsNotRenamed old partial targe
 -- name of a copy until it is whole, and `target` its name then
 module _ {D L : Type 0} (g : Ghosts D) (old : SystemState D L) (partial target : List ℕ) (pages : ℕ) (device : D) where
   -- nothing was made: all is as it was, and so is the file
-  pub record IsNotBegun (fault : CopyFault) (left : D) (new : SystemState D L) : Type 0 where
+  pub record IsNotBegun (fault : FileCopyFault) (left : D) (new : SystemState D L) : Type 0 where
     pub unread : left ≡ device
     pub cause : old.faithful → StandsAgainstCopy fault old partial target new
     pub same : old.faithful → IsSame old new
@@ -77,7 +77,7 @@ module _ {D L : Type 0} (g : Ghosts D) (old : SystemState D L) (partial target :
     pub counts : old.failures ≤ new.failures
 
   -- it stopped
-  pub record IsStopped (fault : CopyFault) (left : D) (new : SystemState D L) : Type 0 where
+  pub record IsStopped (fault : FileCopyFault) (left : D) (new : SystemState D L) : Type 0 where
     pub why : DatabaseFault
     pub is : fault ≡ of_copy why
     pub blank : D
@@ -86,7 +86,7 @@ module _ {D L : Type 0} (g : Ghosts D) (old : SystemState D L) (partial target :
     pub taken : IsTakenBack new
 
   -- it was whole, and did not get its name
-  pub record IsNotNamed (fault : CopyFault) (left : D) (new : SystemState D L) : Type 0 where
+  pub record IsNotNamed (fault : FileCopyFault) (left : D) (new : SystemState D L) : Type 0 where
     pub why : FileFault
     pub is : fault ≡ New (of_file why)
     pub cause : old.faithful → StandsAgainst why old target new
@@ -106,10 +106,10 @@ module _ {D L : Type 0} (g : Ghosts D) (old : SystemState D L) (partial target :
     pub others : old.faithful → IsSameButBoth partial target old new
     pub counts : old.failures ≤ new.failures
 
-  abbrev pub IsUncopied : CopyFault → D → SystemState D L → Type 0
+  abbrev pub IsUncopied : FileCopyFault → D → SystemState D L → Type 0
   IsUncopied fault left new = IsNotBegun fault left new ⊎ IsStopped fault left new ⊎ IsNotNamed fault left new
 
-  abbrev pub CopiesBeside : Result (Unit {0}) CopyFault → D → SystemState D L → Type 0
+  abbrev pub CopiesBeside : Result (Unit {0}) FileCopyFault → D → SystemState D L → Type 0
   CopiesBeside (Ok x) left new = IsCopied left new
   CopiesBeside (Err fault) left new = IsUncopied fault left new
 
@@ -146,13 +146,13 @@ module _ {D L : Type 0} (g : Ghosts D) (old : SystemState D L) (path target : Li
     pub others : old.faithful → IsSameButThree path (partial_path target) target old new
 
   -- the file was not opened to be read, and all is as it was
-  pub record IsFileUnread (fault : CopyFault) (new : SystemState D L) : Type 0 where
+  pub record IsFileUnread (fault : FileCopyFault) (new : SystemState D L) : Type 0 where
     pub why : CommandFault
     pub is : fault ≡ File why
     pub unopened : IsNotOpened g old path Read why new
 
   -- no database is of so many pages, and nothing was done
-  pub record IsOfNoSize (fault : CopyFault) (new : SystemState D L) : Type 0 where
+  pub record IsOfNoSize (fault : FileCopyFault) (new : SystemState D L) : Type 0 where
     pub is : fault ≡ New command.WrongSize
     pub no_size : IsNoSize pages
     pub same : IsSame old new
@@ -161,7 +161,7 @@ module _ {D L : Type 0} (g : Ghosts D) (old : SystemState D L) (path target : Li
 module _ {D L S : Type 0} (g : Ghosts D) (state : S → SystemState D L) (old : SystemState D L) (path target : List ℕ) (pages : ℕ) where
   -- the file was opened and is there as it was, but not copied: this is how it went between `begun` and `ended`, and nothing is left
   -- of the copy unless the system failed
-  pub record IsFileUncopied (fault : CopyFault) (new : SystemState D L) : Type 0 where
+  pub record IsFileUncopied (fault : FileCopyFault) (new : SystemState D L) : Type 0 where
     pub device : D
     pub left : D
     pub begun : S
@@ -172,6 +172,6 @@ module _ {D L S : Type 0} (g : Ghosts D) (state : S → SystemState D L) (old : 
     pub closing : old.faithful → IsSameBut path (state ended) new
     pub others : old.faithful → IsSameButBoth path (partial_path target) old new
 
-  abbrev pub CopiesFile : Result (Unit {0}) CopyFault → SystemState D L → Type 0
+  abbrev pub CopiesFile : Result (Unit {0}) FileCopyFault → SystemState D L → Type 0
   CopiesFile (Ok x) new = IsFileCopied g old path target pages new
   CopiesFile (Err fault) new = IsOfNoSize g old path target pages fault new ⊎ IsFileUnread g old path target pages fault new ⊎ IsFileUncopied fault new

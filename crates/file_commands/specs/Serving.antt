@@ -2,8 +2,8 @@
 use Rattle.std.specs.Prelude.{◌≡◌, ◌≢◌, ◌≤◌, ◌++◌, ℕ, Bool, List, codes, decimal, Option, Result, Ok, Err}
 use Rattle.std.specs.Io.KnownBytes.{Appends}
 use Rattle.sector_device.specs.declared.device.Device.{Ghosts}
-use Rattle.systems.specs.declared.place.Place.{Place}
-use Rattle.systems.specs.declared.place.Place.TheVariants.{Port, Socket}
+use Rattle.systems.specs.declared.place.ListenPlace.{ListenPlace}
+use Rattle.systems.specs.declared.place.ListenPlace.TheVariants.{Port, Socket}
 use Rattle.systems.specs.Places.{IsBoundFor, IsOfKind, ThePlace, TheSocket, the_place}
 use Rattle.systems.specs.Systems.{HasDevice, Hears, IsSame, IsSameButAt, Rose, SystemState}
 use Rattle.abstract_database.specs.Runs.{ReadingRelation}
@@ -22,7 +22,7 @@ use Rattle.file_commands.specs.Commands.{IsFileOpened, IsFileUnopened}
 use Rattle.file_commands.specs.Files.{ChangesDevice}
 
 -- where the server listens
-abbrev pub listening_text : Place → List ℕ
+abbrev pub listening_text : ListenPlace → List ℕ
 listening_text (Port port) = codes "guarddb: listening on 127.0.0.1:" ++ (decimal port ++ codes "\n")
 listening_text (Socket path) = codes "guarddb: listening on " ++ (path.now ++ codes "\n")
 
@@ -30,7 +30,7 @@ listening_text (Socket path) = codes "guarddb: listening on " ++ (path.now ++ co
 
 -- it was told where the server listens, and then the connections that came to the listener were served, so many at most; or that
 -- was not taken, and none was taken then
-module _ {D X K : Type 0} (g : Ghosts D) (k : SinkGhosts K) (Reads : ReadingRelation) (place : Place) (asked : ℕ) (server : Server (PageStore D g) X) (before : Option Listening) (told_before : Known) where
+module _ {D X K : Type 0} (g : Ghosts D) (k : SinkGhosts K) (Reads : ReadingRelation) (place : ListenPlace) (asked : ℕ) (server : Server (PageStore D g) X) (before : Option Listening) (told_before : Known) where
   abbrev pub ServesOn : Result Served CommandFault → D → Option Listening → Known → Type 0
   ServesOn (Ok served) left after told_after = Appends told_before told_after (listening_text place) × ServesFrom g k Reads asked server before served left after
   ServesOn (Err Output) left after told_after = (left ≡ device_under server) × (after ≡ before)
@@ -39,7 +39,7 @@ module _ {D X K : Type 0} (g : Ghosts D) (k : SinkGhosts K) (Reads : ReadingRela
 -- ---- a place
 
 -- the place was bound, with this listener there, and given up, with that one there; nothing else has changed
-pub record IsBoundBetween {D L : Type 0} (old : SystemState D L) (place bound : Place) (listener ended : L) (new : SystemState D L) : Type 0 where
+pub record IsBoundBetween {D L : Type 0} (old : SystemState D L) (place bound : ListenPlace) (listener ended : L) (new : SystemState D L) : Type 0 where
   pub kind : IsOfKind (the_place place) (the_place bound)
   pub asked : old.faithful → IsBoundFor (the_place place) (the_place bound)
   pub heard : old.faithful → Hears old (the_place bound) listener
@@ -47,10 +47,10 @@ pub record IsBoundBetween {D L : Type 0} (old : SystemState D L) (place bound : 
   pub others : old.faithful → IsSameButAt (the_place bound) old new
 
 -- `c` is what is said of the sinks of connections, and `listening` of listeners
-module _ {D L X C : Type 0} (g : Ghosts D) (c : SinkGhosts C) (Reads : ReadingRelation) (listening : L → Option Listening) (old : SystemState D L) (place : Place) (asked : ℕ) (server : Server (PageStore D g) X) (before : Known) where
+module _ {D L X C : Type 0} (g : Ghosts D) (c : SinkGhosts C) (Reads : ReadingRelation) (listening : L → Option Listening) (old : SystemState D L) (place : ListenPlace) (asked : ℕ) (server : Server (PageStore D g) X) (before : Known) where
   -- it was bound and told, and the connections that came there were served
   pub record IsServedAt (served : Served) (left : D) (new : SystemState D L) (after : Known) : Type 0 where
-    pub bound : Place
+    pub bound : ListenPlace
     pub listener : L
     pub ended : L
     pub between : IsBoundBetween old place bound listener ended new
@@ -68,7 +68,7 @@ module _ {D L X C : Type 0} (g : Ghosts D) (c : SinkGhosts C) (Reads : ReadingRe
   -- it was bound, and standard error did not take where that is: no connection was taken
   pub record IsUntoldAt (left : D) (new : SystemState D L) : Type 0 where
     pub left_is : left ≡ device_under server
-    pub bound : Place
+    pub bound : ListenPlace
     pub listener : L
     pub ended : L
     pub between : IsBoundBetween old place bound listener ended new
@@ -100,13 +100,13 @@ pub record ChangesBoth {D L : Type 0} (old : SystemState D L) (path : List ℕ) 
   pub others : IsSameBeside path place old new
 
 -- `X` decides events, and `path` is that of the file
-module _ (X : Type 0) {D L C : Type 0} (g : Ghosts D) (c : SinkGhosts C) (Reads : ReadingRelation) (listening : L → Option Listening) (old : SystemState D L) (path : List ℕ) (place : Place) (asked : ℕ) where
+module _ (X : Type 0) {D L C : Type 0} (g : Ghosts D) (c : SinkGhosts C) (Reads : ReadingRelation) (listening : L → Option Listening) (old : SystemState D L) (path : List ℕ) (place : ListenPlace) (asked : ℕ) where
   -- the database was opened and the place bound, it was told where, and the connections that came to its listener were served, so
   -- many at most; the file is there as the server has left it
   pub record IsFileServed (told : Bool) (before : Known) (served : Served) (new : SystemState D L) (after : Known) : Type 0 where
     pub noted : Known
     pub file : IsFileOpened X g old path told before noted
-    pub bound : Place
+    pub bound : ListenPlace
     pub kind : IsOfKind (the_place place) (the_place bound)
     pub asked_for : old.faithful → IsBoundFor (the_place place) (the_place bound)
     pub tells : Appends noted after (listening_text bound)
@@ -127,7 +127,7 @@ module _ (X : Type 0) {D L C : Type 0} (g : Ghosts D) (c : SinkGhosts C) (Reads 
   pub record IsFileUntold (told : Bool) (before : Known) (new : SystemState D L) : Type 0 where
     pub noted : Known
     pub file : IsFileOpened X g old path told before noted
-    pub bound : Place
+    pub bound : ListenPlace
     pub kind : IsOfKind (the_place place) (the_place bound)
     pub asked_for : old.faithful → IsBoundFor (the_place place) (the_place bound)
     pub listener : L

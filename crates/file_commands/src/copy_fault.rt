@@ -9,7 +9,7 @@ use sector_device::SystemCause;
 
 /// Why the database in a file was not copied to a new file.
 #[derive(Clone, Copy, Debug, PartialEq, Eq)]
-pub enum CopyFault {
+pub enum FileCopyFault {
     /// The file was refused, for this fault of `read_file`.
     File(CommandFault),
     /// The new file was refused: `Exists`, `WrongSize`, `Memory` or `Device`.
@@ -20,28 +20,30 @@ pub enum CopyFault {
     Full(u64),
 }
 
-impl From<database_copies::CopyFault> for CopyFault {
+impl From<database_copies::DatabaseCopyFault> for FileCopyFault {
     ghost from_gives = { λ fault given. given ≡ of_copy fault };
 
-    fn from(fault: database_copies::CopyFault) -> CopyFault {
+    fn from(fault: database_copies::DatabaseCopyFault) -> FileCopyFault {
         match fault {
-            database_copies::CopyFault::Memory => CopyFault::New(CommandFault::Memory),
-            database_copies::CopyFault::Source(SourceFault::WrongSize) => {
-                CopyFault::File(CommandFault::WrongSize)
+            database_copies::DatabaseCopyFault::Memory => FileCopyFault::New(CommandFault::Memory),
+            database_copies::DatabaseCopyFault::Source(SourceFault::WrongSize) => {
+                FileCopyFault::File(CommandFault::WrongSize)
             }
-            database_copies::CopyFault::Source(SourceFault::NotADatabase) => {
-                CopyFault::File(CommandFault::NotADatabase)
+            database_copies::DatabaseCopyFault::Source(SourceFault::NotADatabase) => {
+                FileCopyFault::File(CommandFault::NotADatabase)
             }
-            database_copies::CopyFault::Source(SourceFault::Damaged) => {
-                CopyFault::File(CommandFault::Damaged)
+            database_copies::DatabaseCopyFault::Source(SourceFault::Damaged) => {
+                FileCopyFault::File(CommandFault::Damaged)
             }
-            database_copies::CopyFault::Source(SourceFault::Device) => {
-                CopyFault::File(CommandFault::Device(SystemCause::Other))
+            database_copies::DatabaseCopyFault::Source(SourceFault::Device) => {
+                FileCopyFault::File(CommandFault::Device(SystemCause::Other))
             }
-            database_copies::CopyFault::WrongSize => CopyFault::New(CommandFault::WrongSize),
-            database_copies::CopyFault::Full(least) => CopyFault::Full(least),
-            database_copies::CopyFault::Device => {
-                CopyFault::New(CommandFault::Device(SystemCause::Other))
+            database_copies::DatabaseCopyFault::WrongSize => FileCopyFault::New(
+                CommandFault::WrongSize,
+            ),
+            database_copies::DatabaseCopyFault::Full(least) => FileCopyFault::Full(least),
+            database_copies::DatabaseCopyFault::Device => {
+                FileCopyFault::New(CommandFault::Device(SystemCause::Other))
             }
         }
     }

@@ -4,7 +4,7 @@ ghost use Rattle.std.specs.Prelude.{◌≡◌, ◌≢◌, ◌≤◌, IfOk, strin
 ghost use Rattle.file_commands.specs.CopyFaults.{of_partial};
 ghost use Rattle.file_commands.specs.Copying.{CopiesBeside, CopiesFile, Renames, partial_path};
 
-use crate::copy_fault::CopyFault;
+use crate::copy_fault::FileCopyFault;
 use crate::fault::CommandFault;
 use cow_pages::page_count;
 use database_copies::copy_database;
@@ -37,19 +37,19 @@ pub fn copy_file<Y: System>(
     path: &str,
     target: &str,
     pages: u32,
-) -> Result<(), CopyFault>
+) -> Result<(), FileCopyFault>
     ensures { CopiesFile Y.Device.Device Y.state (Y.state system.old) path.now target.now pages result
         (Y.state system.new) }
 {
     if pages > MAX_PAGES {
-        return Err(CopyFault::New(CommandFault::WrongSize));
+        return Err(FileCopyFault::New(CommandFault::WrongSize));
     }
     let Some(_pages) = page_count(SECTORS_PER_PAGE * pages) else {
-        return Err(CopyFault::New(CommandFault::WrongSize));
+        return Err(FileCopyFault::New(CommandFault::WrongSize));
     };
     let device = match system.open(path, Access::Read) {
         Ok(device) => device,
-        Err(fault) => return Err(CopyFault::File(CommandFault::from(fault))),
+        Err(fault) => return Err(FileCopyFault::File(CommandFault::from(fault))),
     };
     let (left, copied) = copy_beside(system, alloc, device, target, pages);
     system.close(path, left);
@@ -64,21 +64,21 @@ fn copy_beside<Y: System>(
     device: Y::Device,
     target: &str,
     pages: u32,
-) -> (Y::Device, Result<(), CopyFault>)
+) -> (Y::Device, Result<(), FileCopyFault>)
     requires { pages ≤ MAX_PAGES }
     ensures { CopiesBeside Y.Device.Device (Y.state system.old) (partial_path target.now)
         target.now pages device result.1 result.0 (Y.state system.new) }
 {
     let found = match system.has_name(target) {
         Ok(found) => found,
-        Err(cause) => return (device, Err(CopyFault::New(CommandFault::Device(cause)))),
+        Err(cause) => return (device, Err(FileCopyFault::New(CommandFault::Device(cause)))),
     };
     if found {
-        return (device, Err(CopyFault::New(CommandFault::Exists)));
+        return (device, Err(FileCopyFault::New(CommandFault::Exists)));
     }
     match partial_name(alloc, target) {
         Ok(partial) => copy_as(system, alloc, device, partial.as_str(), target, pages),
-        Err(_) => (device, Err(CopyFault::New(CommandFault::Memory))),
+        Err(_) => (device, Err(FileCopyFault::New(CommandFault::Memory))),
     }
 }
 
@@ -100,7 +100,7 @@ fn copy_as<Y: System>(
     partial: &str,
     target: &str,
     pages: u32,
-) -> (Y::Device, Result<(), CopyFault>)
+) -> (Y::Device, Result<(), FileCopyFault>)
     requires size { pages ≤ MAX_PAGES }
     requires names { target.now ≢ partial.now }
     ensures { CopiesBeside Y.Device.Device (Y.state system.old) partial.now target.now pages device
@@ -115,19 +115,19 @@ fn copy_as<Y: System>(
         Ok(()) => (left, rename_copy(system, partial, target, copy)),
         Err(fault) => {
             let _ = system.remove(partial, copy);
-            (left, Err(CopyFault::from(fault)))
+            (left, Err(FileCopyFault::from(fault)))
         }
     }
 }
 
 // Why nothing was made under the name that a copy has until it is whole.
-fn partial_fault(fault: FileFault) -> CopyFault
+fn partial_fault(fault: FileFault) -> FileCopyFault
     ensures { result ≡ of_partial fault }
 {
     match fault {
-        FileFault::Exists => CopyFault::Partial,
-        FileFault::Memory => CopyFault::New(CommandFault::Memory),
-        FileFault::Device(cause) => CopyFault::New(CommandFault::Device(cause)),
+        FileFault::Exists => FileCopyFault::Partial,
+        FileFault::Memory => FileCopyFault::New(CommandFault::Memory),
+        FileFault::Device(cause) => FileCopyFault::New(CommandFault::Device(cause)),
     }
 }
 
@@ -137,14 +137,14 @@ fn rename_copy<Y: System>(
     partial: &str,
     target: &str,
     copy: Y::Device,
-) -> Result<(), CopyFault>
+) -> Result<(), FileCopyFault>
     ensures { Renames (Y.state system.old) partial.now target.now copy result (Y.state system.new) }
 {
     match system.rename(partial, target, copy) {
         Ok(()) => Ok(()),
         Err((copy, fault)) => {
             let _ = system.remove(partial, copy);
-            Err(CopyFault::New(CommandFault::from(fault)))
+            Err(FileCopyFault::New(CommandFault::from(fault)))
         }
     }
 }

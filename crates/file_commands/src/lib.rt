@@ -10,7 +10,7 @@ mod reading;
 mod run;
 mod serve;
 
-pub use copy_fault::CopyFault;
+pub use copy_fault::FileCopyFault;
 pub use fault::CommandFault;
 pub use file_copies::copy_file;
 pub use format::format_file;

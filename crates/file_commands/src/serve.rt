@@ -18,7 +18,7 @@ use std::alloc::Global;
 use std::io;
 use std::io::Write;
 use std::time::Duration;
-use systems::{Place, System};
+use systems::{ListenPlace, System};
 
 /// How much a server serves.
 #[derive(Clone, Copy, Debug)]
@@ -44,7 +44,7 @@ pub fn serve_file<Y: System, X: Decide + Drop, E: Write>(
     alloc: Global,
     decider: X,
     path: &str,
-    place: Place<'_>,
+    place: ListenPlace<'_>,
     limits: Limits,
     err: &mut E,
 ) -> CommandEnd<Served>
@@ -67,7 +67,7 @@ fn serve_at<Y: System, X: Decide + Drop, E: Write>(
     system: &mut Y,
     alloc: Global,
     server: Server<PageStore<Y::Device>, X>,
-    place: Place<'_>,
+    place: ListenPlace<'_>,
     limits: Limits,
     err: &mut E,
 ) -> (Y::Device, Result<Served, CommandFault>)
@@ -96,7 +96,7 @@ pub fn serve_on<D: Device + Drop, X: Decide + Drop, L: Listen, E: Write>(
     alloc: Global,
     server: Server<PageStore<D>, X>,
     listener: &mut L,
-    place: Place<'_>,
+    place: ListenPlace<'_>,
     connections: u32,
     err: &mut E,
 ) -> (D, Result<Served, CommandFault>)
@@ -113,12 +113,12 @@ pub fn serve_on<D: Device + Drop, X: Decide + Drop, L: Listen, E: Write>(
 }
 
 // Tells where the server listens.
-fn tell_place<E: Write>(place: Place<'_>, err: &mut E) -> io::Result<()>
+fn tell_place<E: Write>(place: ListenPlace<'_>, err: &mut E) -> io::Result<()>
     ensures { OnOk result (Appends (E.contents err.old) (E.contents err.new)
         (listening_text place.entry)) }
 {
     match place {
-        Place::Port(port) => writeln!(err, "guarddb: listening on 127.0.0.1:{port}"),
-        Place::Socket(path) => writeln!(err, "guarddb: listening on {path}"),
+        ListenPlace::Port(port) => writeln!(err, "guarddb: listening on 127.0.0.1:{port}"),
+        ListenPlace::Socket(path) => writeln!(err, "guarddb: listening on {path}"),
     }
 }

@@ -12,7 +12,7 @@ use std::net::{Ipv4Addr, Net, SocketAddr, TcpListener, TcpStream};
 use std::os::unix::net::UnixListener;
 use std::rt::Files;
 use std::time::Duration;
-use systems::Place;
+use systems::ListenPlace;
 
 /// A port of 127.0.0.1, or a socket that has a name among the files of this machine.
 #[derive(Drop)]
@@ -26,18 +26,18 @@ impl PlaceListener {
     /// error is one of the system.
     pub(crate) fn bind<'p, R: Files<File = File> + Net<Listener = TcpListener, Stream = TcpStream>>(
         rt: &R,
-        place: Place<'p>,
-    ) -> io::Result<(PlaceListener, Place<'p>)>
+        place: ListenPlace<'p>,
+    ) -> io::Result<(PlaceListener, ListenPlace<'p>)>
         ensures { IfOk result (λ it. IsOfKind (the_place place.entry) (the_place it.1)) }
     {
         match place {
-            Place::Port(port) => {
+            ListenPlace::Port(port) => {
                 let address = SocketAddr::from((Ipv4Addr::LOCALHOST, port));
                 let listener = TcpListener::bind(rt, address)?;
                 let bound = listener.local_addr()?.port();
-                Ok((PlaceListener::Port(listener), Place::Port(bound)))
+                Ok((PlaceListener::Port(listener), ListenPlace::Port(bound)))
             }
-            Place::Socket(path) => {
+            ListenPlace::Socket(path) => {
                 let listener = bind_socket(rt, path)?;
                 Ok((PlaceListener::Socket(listener), place))
             }

@@ -13,7 +13,7 @@ use std::io;
 use std::net::{Net, TcpListener, TcpStream};
 use std::rt::Files;
 use std::time::{Clock, Duration};
-use systems::{Access, OpenPathFault, Place, System, TextFault};
+use systems::{Access, ListenPlace, OpenPathFault, System, TextFault};
 
 /// The files, the ports and the sockets of a machine. No contract can know what they do, so none
 /// promises anything here: `faithful` is met by no system of a machine. That this one does what
@@ -145,12 +145,12 @@ impl<
 
     fn bind<'p>(
         &mut self,
-        place: Place<'p>,
+        place: ListenPlace<'p>,
         idle: Option<Duration>,
-    ) -> Result<(SystemListener<'r, R, PlaceListener>, Place<'p>), SystemCause> {
+    ) -> Result<(SystemListener<'r, R, PlaceListener>, ListenPlace<'p>), SystemCause> {
         match PlaceListener::bind(self.rt, place) {
             Ok((listener, bound)) => {
-                if let Place::Socket(path) = place {
+                if let ListenPlace::Socket(path) = place {
                     self.made = file_at(self.rt, path);
                 }
                 let listener = SystemListener::new(self.rt, self.alloc, listener, idle);
@@ -163,8 +163,8 @@ impl<
         }
     }
 
-    fn unbind(&mut self, place: Place<'_>, _listener: SystemListener<'r, R, PlaceListener>) {
-        if let Place::Socket(path) = place {
+    fn unbind(&mut self, place: ListenPlace<'_>, _listener: SystemListener<'r, R, PlaceListener>) {
+        if let ListenPlace::Socket(path) = place {
             remove_made(self.rt, path, self.made);
         }
     }

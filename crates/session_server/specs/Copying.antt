@@ -4,8 +4,8 @@ use Rattle.std.specs.Borrow.{Bor}
 use Rattle.sector_device.specs.declared.device.Device.{Ghosts}
 use Rattle.script_runs.specs.ScriptRun.{Known}
 use Rattle.systems.specs.Systems.{SystemState}
-use Rattle.file_commands.specs.declared.copy_fault.CopyFault.{CopyFault}
-use Rattle.file_commands.specs.declared.copy_fault.CopyFault.TheVariants as copy
+use Rattle.file_commands.specs.declared.copy_fault.FileCopyFault.{FileCopyFault}
+use Rattle.file_commands.specs.declared.copy_fault.FileCopyFault.TheVariants as copy
 use Rattle.file_commands.specs.Copying.{CopiesFile}
 use Rattle.session_server.specs.declared.ending.ProgramFault.{ProgramFault}
 use Rattle.session_server.specs.declared.ending.ProgramFault.TheVariants as fault
@@ -18,14 +18,14 @@ use Rattle.session_server.specs.Ending.{Exits, fault_of_command}
 use Rattle.session_server.specs.Printing.{IsPrinted}
 
 -- the fault of a copy to so many pages
-abbrev pub fault_of_copy : ℕ → CopyFault → ProgramFault
+abbrev pub fault_of_copy : ℕ → FileCopyFault → ProgramFault
 fault_of_copy pages (copy.File f) = fault_of_command f
 fault_of_copy pages (copy.New f) = fault_of_command f
 fault_of_copy pages copy.Partial = fault.Partial
 fault_of_copy pages (copy.Full least) = fault.NoRoom pages least
 
 -- what the end of a copy is about: the file, where that was refused; else the new one, or what it is called until it is whole
-abbrev pub copy_subject : Bor (List ℕ) → Bor (List ℕ) → Result (Unit {0}) CopyFault → Subject
+abbrev pub copy_subject : Bor (List ℕ) → Bor (List ℕ) → Result (Unit {0}) FileCopyFault → Subject
 copy_subject file new (Ok x) = subject.Named new
 copy_subject file new (Err (copy.File f)) = subject.Named file
 copy_subject file new (Err (copy.New f)) = subject.Named new
@@ -33,13 +33,13 @@ copy_subject file new (Err copy.Partial) = subject.Partial new
 copy_subject file new (Err (copy.Full least)) = subject.Named new
 
 -- where the copy was made that was printed; else its fault is the end, and nothing was
-abbrev pub IsCopyAnswered : Result (Unit {0}) CopyFault → ℕ → Known → Ending → Known → Type 0
+abbrev pub IsCopyAnswered : Result (Unit {0}) FileCopyFault → ℕ → Known → Ending → Known → Type 0
 IsCopyAnswered (Ok x) pages before e after = IsPrinted (codes "ok COPY\n") before e after
 IsCopyAnswered (Err f) pages before e after = (e ≡ ending.Fault (fault_of_copy pages f)) × (after ≡ before)
 
 -- the database in the file was copied to a new file, or why not was told; `state` is what a system is at one moment
 pub record Copies {D L S : Type 0} (g : Ghosts D) (state : S → SystemState D L) (old : SystemState D L) (file target : Bor (List ℕ)) (pages : ℕ) (exit : Exit) (new : SystemState D L) (out_before out_after err_before err_after : Known) : Type 0 where
-  pub copied : Result (Unit {0}) CopyFault
+  pub copied : Result (Unit {0}) FileCopyFault
   pub copies : CopiesFile g state old file.now target.now pages copied new
   pub ending : Ending
   pub answered : IsCopyAnswered copied pages out_before ending out_after

@@ -22,8 +22,8 @@ use Rattle.file_commands.specs.declared.opened.CommandEnd.{CommandEnd}
 use Rattle.file_commands.specs.Commands.{ChecksFile, RunsFile}
 use Rattle.file_commands.specs.Formatting.{FormatsFile}
 use Rattle.file_commands.specs.Serving.{ServesFile}
-use Rattle.systems.specs.declared.place.Place.{Place}
-use Rattle.systems.specs.declared.place.Place.TheVariants.{Port, Socket}
+use Rattle.systems.specs.declared.place.ListenPlace.{ListenPlace}
+use Rattle.systems.specs.declared.place.ListenPlace.TheVariants.{Port, Socket}
 use Rattle.systems.specs.Systems.{IsSame, SystemState}
 use Rattle.session_server.specs.declared.ending.ProgramFault.{ProgramFault}
 use Rattle.session_server.specs.declared.ending.ProgramFault.TheVariants as fault
@@ -168,23 +168,23 @@ ending_of_server (Ok served) = ending_of_serving served
 ending_of_server (Err f) = ending.Fault (fault_of_command f)
 
 -- the place where a server listens, as messages name it
-abbrev pub place_subject : Place → Subject
+abbrev pub place_subject : ListenPlace → Subject
 place_subject (Port port) = subject.Port port
 place_subject (Socket path) = subject.Named path
 
 -- what a fault of a server is about: the place, once the database is open, where it is not bound
-abbrev pub fault_subject : Subject → Place → CommandFault → Subject
+abbrev pub fault_subject : Subject → ListenPlace → CommandFault → Subject
 fault_subject file place (command.Net cause) = place_subject place
 fault_subject file place f = file
 
 -- what the end of a server is about
-abbrev pub server_subject : Subject → Place → Result Served CommandFault → Subject
+abbrev pub server_subject : Subject → ListenPlace → Result Served CommandFault → Subject
 server_subject file place (Ok served) = place_subject place
 server_subject file place (Err f) = fault_subject file place f
 
 -- so many connections at most were served at a place over the database in a file, or why they were not was told; that the file
 -- was migrated was told, where it was
-pub record Serves (X : Type 0) {D L C : Type 0} (g : Ghosts D) (c : SinkGhosts C) (Reads : ReadingRelation) (listening : L → Option Listening) (old : SystemState D L) (file : Subject) (path : List ℕ) (place : Place) (connections : ℕ) (exit : Exit) (new : SystemState D L) (err_before err_after : Known) : Type 0 where
+pub record Serves (X : Type 0) {D L C : Type 0} (g : Ghosts D) (c : SinkGhosts C) (Reads : ReadingRelation) (listening : L → Option Listening) (old : SystemState D L) (file : Subject) (path : List ℕ) (place : ListenPlace) (connections : ℕ) (exit : Exit) (new : SystemState D L) (err_before err_after : Known) : Type 0 where
   pub end : CommandEnd Served
   pub heard : Known
   pub serves : ServesFile X g c Reads listening old path place connections err_before end new heard

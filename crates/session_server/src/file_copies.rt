@@ -5,7 +5,7 @@ ghost use Rattle.session_server.specs.Copying.{Copies, IsCopyAnswered, copy_subj
 
 use crate::ending::{Ending, Exit, ProgramFault, Subject, exit_with};
 use crate::printing::print_text;
-use file_commands::{CopyFault, copy_file};
+use file_commands::{FileCopyFault, copy_file};
 use script_runs::sink::Sink;
 use script_runs::text_sink::TakesText;
 use sector_device::Device;
@@ -36,7 +36,7 @@ pub(crate) fn copy<Y: System, K: TakesText, E: Write>(
 }
 
 // How a copy ended: where it was made, that is printed.
-fn end_of_copy<K: TakesText>(copied: Result<(), CopyFault>, pages: u32, out: &mut K) -> Ending
+fn end_of_copy<K: TakesText>(copied: Result<(), FileCopyFault>, pages: u32, out: &mut K) -> Ending
     ensures { IsCopyAnswered copied pages (K.held out.old) result (K.held out.new) }
 {
     match copied {
@@ -46,23 +46,27 @@ fn end_of_copy<K: TakesText>(copied: Result<(), CopyFault>, pages: u32, out: &mu
 }
 
 // The fault of a copy to so many pages.
-fn program_fault(fault: CopyFault, pages: u32) -> ProgramFault
+fn program_fault(fault: FileCopyFault, pages: u32) -> ProgramFault
     ensures { result ≡ fault_of_copy pages fault }
 {
     match fault {
-        CopyFault::File(fault) | CopyFault::New(fault) => ProgramFault::from(fault),
-        CopyFault::Partial => ProgramFault::Partial,
-        CopyFault::Full(least) => ProgramFault::NoRoom { pages, least },
+        FileCopyFault::File(fault) | FileCopyFault::New(fault) => ProgramFault::from(fault),
+        FileCopyFault::Partial => ProgramFault::Partial,
+        FileCopyFault::Full(least) => ProgramFault::NoRoom { pages, least },
     }
 }
 
 // What the end of a copy is about: the file, where that was refused; else the new one.
-fn subject_of_copy<'a>(copied: Result<(), CopyFault>, file: &'a str, new: &'a str) -> Subject<'a>
+fn subject_of_copy<'a>(
+    copied: Result<(), FileCopyFault>,
+    file: &'a str,
+    new: &'a str,
+) -> Subject<'a>
     ensures { result ≡ copy_subject file.entry new.entry copied }
 {
     match copied {
-        Err(CopyFault::File(_)) => Subject::Named(file),
-        Err(CopyFault::Partial) => Subject::Partial(new),
-        Ok(()) | Err(CopyFault::New(_) | CopyFault::Full(_)) => Subject::Named(new),
+        Err(FileCopyFault::File(_)) => Subject::Named(file),
+        Err(FileCopyFault::Partial) => Subject::Partial(new),
+        Ok(()) | Err(FileCopyFault::New(_) | FileCopyFault::Full(_)) => Subject::Named(new),
     }
 }

@@ -22,7 +22,7 @@ use sql_types::name::Name;
 use std::alloc::Global;
 use std::io::Write;
 use std::time::Duration;
-use systems::{Place, System};
+use systems::{ListenPlace, System};
 
 /// What `format` prints where it has made a database.
 const FORMATTED: &str = "ok FORMAT\n";
@@ -87,7 +87,7 @@ pub fn perform<Y: System, X: Decide + Drop, K: TakesText, E: Write>(
             alloc,
             decider,
             *file,
-            Place::Port(*port),
+            ListenPlace::Port(*port),
             limits(*connections, *idle),
             err,
         ),
@@ -101,7 +101,7 @@ pub fn perform<Y: System, X: Decide + Drop, K: TakesText, E: Write>(
             alloc,
             decider,
             *file,
-            Place::Socket(*socket),
+            ListenPlace::Socket(*socket),
             limits(*connections, *idle),
             err,
         ),
@@ -189,7 +189,7 @@ fn serve<Y: System, X: Decide + Drop, E: Write>(
     alloc: Global,
     decider: X,
     file: &str,
-    place: Place<'_>,
+    place: ListenPlace<'_>,
     limits: Limits,
     err: &mut E,
 ) -> Exit
@@ -216,7 +216,7 @@ fn end_of_server(outcome: Result<Served, CommandFault>) -> Ending
 fn subject_of_server<'a>(
     outcome: Result<Served, CommandFault>,
     file: &'a str,
-    place: Place<'a>,
+    place: ListenPlace<'a>,
 ) -> Subject<'a>
     ensures { result ≡ server_subject (Subject.Named file.entry) place.entry outcome }
 {
@@ -226,12 +226,12 @@ fn subject_of_server<'a>(
     }
 }
 
-fn subject_of_place(place: Place<'_>) -> Subject<'_>
+fn subject_of_place(place: ListenPlace<'_>) -> Subject<'_>
     ensures { result ≡ place_subject place.entry }
 {
     match place {
-        Place::Port(port) => Subject::Port(port),
-        Place::Socket(path) => Subject::Named(path),
+        ListenPlace::Port(port) => Subject::Port(port),
+        ListenPlace::Socket(path) => Subject::Named(path),
     }
 }
 

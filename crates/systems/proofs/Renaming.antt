@@ -4,7 +4,7 @@ use Rattle.std.proofs.lemmas.Bool.{false≢true}
 use Rattle.std.specs.Prelude.{IfSome}
 use Rattle.systems.specs.declared.entries.Content.{Content}
 use Rattle.systems.specs.declared.entries.Content.TheVariants as content
-use Rattle.systems.specs.declared.entries.Entry.{Entry}
+use Rattle.systems.specs.declared.entries.NamedContent.{NamedContent}
 use Rattle.systems.specs.Entries.{content_of, is_something}
 
 -- an exchange of a content that was there
@@ -12,11 +12,11 @@ exchanged : (result : Option Content) (was : Content) (P : Type 0) → result �
 exchanged result was P is holds = subst (λ (r : Option Content). IfSome r (λ old. P)) is holds
 
 -- a name of which there is nothing is another than that of an open device
-pub free_is_other : (entries : List Entry) (from to : List ℕ) → content_of entries from ≡ Some content.Open → is_something (content_of entries to) ≡ false → from ≢ to
+pub free_is_other : (entries : List NamedContent) (from to : List ℕ) → content_of entries from ≡ Some content.Open → is_something (content_of entries to) ≡ false → from ≢ to
 free_is_other entries from to is_open free same = false≢true (sym free ∙ ap (λ (p : List ℕ). is_something (content_of entries p)) (sym same) ∙ ap is_something is_open)
 
 -- `first` are the entries before, `second` those once the old name has nothing, and `last` once the new one has the content
-module _ (first second last : List Entry) (from to : List ℕ) (taken given : Option Content) (new : Content) (is_open : content_of first from ≡ Some content.Open) (free : content_of first to ≡ Some content.Removed)
+module _ (first second last : List NamedContent) (from to : List ℕ) (taken given : Option Content) (new : Content) (is_open : content_of first from ≡ Some content.Open) (free : content_of first to ≡ Some content.Removed)
     (was_taken : taken ≡ content_of first from) (is_taken : IfSome taken (λ old. content_of second from ≡ Some content.Removed)) (beside_taken : (p : List ℕ) → p ≢ from → content_of second p ≡ content_of first p)
     (was_given : given ≡ content_of second to) (is_given : IfSome given (λ old. content_of last to ≡ Some new)) (beside_given : (p : List ℕ) → p ≢ to → content_of last p ≡ content_of second p) where
   differ : from ≢ to

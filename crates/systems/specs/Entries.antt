@@ -3,11 +3,11 @@ use Rattle.std.specs.Prelude.{if◌then◌else◌, ℕ, Bool, true, false, List,
 use Rattle.sector_device.specs.declared.history.HistoryDevice.{HistoryDevice}
 use Rattle.systems.specs.declared.entries.Content.{Content}
 use Rattle.systems.specs.declared.entries.Content.TheVariants as content
-use Rattle.systems.specs.declared.entries.Entry.{Entry}
+use Rattle.systems.specs.declared.entries.NamedContent.{NamedContent}
 use Rattle.systems.specs.Systems.{At, Absent, Free, Shared, Open, Reading, Taken}
 
 -- what the first entry of this name is
-abbrev pub content_of : List Entry → List ℕ → Option Content
+abbrev pub content_of : List NamedContent → List ℕ → Option Content
 content_of [] path = None
 content_of (entry ∷ entries) path = if bytes_eq (string_bytes entry.path) path then Some entry.content else content_of entries path
 

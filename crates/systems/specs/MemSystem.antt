@@ -1,14 +1,14 @@
 -- The system in memory: what its fields are to its callers.
 use Rattle.std.specs.Prelude.{ℕ, List, Option}
 use Rattle.sector_device.specs.declared.history.HistoryDevice.{HistoryDevice}
-use Rattle.systems.specs.declared.entries.Entry.{Entry}
+use Rattle.systems.specs.declared.entries.NamedContent.{NamedContent}
 use Rattle.systems.specs.declared.listener.MemListener.{MemListener}
 use Rattle.systems.specs.declared.memory.MemSystem.{MemSystem}
 use Rattle.systems.specs.Systems.{SystemState}
 use Rattle.systems.specs.Memory.{memory_state}
 
 -- its entries
-abbrev pub entries_of : MemSystem → List Entry
+abbrev pub entries_of : MemSystem → List NamedContent
 entries_of s = s.entries.items
 
 -- its port, and who listens there; none where that is bound

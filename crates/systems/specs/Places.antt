@@ -1,14 +1,14 @@
 -- Places to listen at, as they are named.
 use Rattle.std.specs.Prelude.{◌≡◌, ◌≢◌, ℕ, List}
-use Rattle.systems.specs.declared.place.Place.{Place}
-use Rattle.systems.specs.declared.place.Place.TheVariants.{Port, Socket}
+use Rattle.systems.specs.declared.place.ListenPlace.{ListenPlace}
+use Rattle.systems.specs.declared.place.ListenPlace.TheVariants.{Port, Socket}
 
 -- a port of this machine, or a socket by the path of its file
 pub data ThePlace : Type 0 where
   ThePort : ℕ → ThePlace
   TheSocket : List ℕ → ThePlace
 
-abbrev pub the_place : Place → ThePlace
+abbrev pub the_place : ListenPlace → ThePlace
 the_place (Port port) = ThePort port
 the_place (Socket path) = TheSocket path.now
 

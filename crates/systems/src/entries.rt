@@ -28,13 +28,13 @@ pub enum Content {
 
 /// A name, and what it names. Of two entries of one name only the first counts.
 #[derive(Drop)]
-pub struct Entry {
+pub struct NamedContent {
     pub path: String,
     pub content: Content,
 }
 
 // Where the first entry of this name stands. `None`: there is none.
-fn find(entries: &[Entry], path: &str) -> Option<usize>
+fn find(entries: &[NamedContent], path: &str) -> Option<usize>
     ensures { result ≡ position (λ entry. bytes_eq (string_bytes entry.path) path.now) entries.now }
 {
     entries.iter().position(|entry| entry.path.as_str() == path)
@@ -42,7 +42,11 @@ fn find(entries: &[Entry], path: &str) -> Option<usize>
 
 /// Gives the first entry of this name another content, and answers the one that it had. `None`:
 /// there is no entry of this name, and nothing is changed.
-pub(crate) fn exchange(entries: &mut Vec<Entry>, path: &str, content: Content) -> Option<Content>
+pub(crate) fn exchange(
+    entries: &mut Vec<NamedContent>,
+    path: &str,
+    content: Content,
+) -> Option<Content>
     ensures old { result ≡ content_of entries.old.items path.now }
     ensures new { IfSome result (λ old. content_of entries.new.items path.now ≡ Some content) }
     ensures others { (p : List ℕ) → p ≢ path.now
@@ -56,7 +60,7 @@ pub(crate) fn exchange(entries: &mut Vec<Entry>, path: &str, content: Content) -
 }
 
 /// What the first entry of this name has. `None`: there is no entry of this name.
-pub(crate) fn find_content<'a>(entries: &'a [Entry], path: &str) -> Option<&'a Content>
+pub(crate) fn find_content<'a>(entries: &'a [NamedContent], path: &str) -> Option<&'a Content>
     ensures { option_copied result ≡ content_of entries.now path.now }
 {
     match find(entries, path) {
@@ -66,7 +70,7 @@ pub(crate) fn find_content<'a>(entries: &'a [Entry], path: &str) -> Option<&'a C
 }
 
 /// Whether there is something of this name.
-pub(crate) fn is_named(entries: &[Entry], path: &str) -> bool
+pub(crate) fn is_named(entries: &[NamedContent], path: &str) -> bool
     ensures { result ≡ is_something (content_of entries.now path.now) }
 {
     match find_content(entries, path) {
@@ -76,7 +80,7 @@ pub(crate) fn is_named(entries: &[Entry], path: &str) -> bool
 }
 
 /// Whether this program has the device of this name open, to read and to write it.
-pub(crate) fn is_open(entries: &[Entry], path: &str) -> bool
+pub(crate) fn is_open(entries: &[NamedContent], path: &str) -> bool
     ensures { result ≡ true → content_of entries.now path.now ≡ Some Content.Open }
 {
     match find_content(entries, path) {
@@ -86,7 +90,7 @@ pub(crate) fn is_open(entries: &[Entry], path: &str) -> bool
 }
 
 /// Gives a content the name `to`, of which there is nothing, in place of the open device `from`.
-pub(crate) fn rename_open(entries: &mut Vec<Entry>, from: &str, to: &str, content: Content)
+pub(crate) fn rename_open(entries: &mut Vec<NamedContent>, from: &str, to: &str, content: Content)
     requires open { content_of entries.old.items from.now ≡ Some Content.Open }
     requires free { content_of entries.old.items to.now ≡ Some Content.Removed }
     ensures to { content_of entries.new.items to.now ≡ Some content }
@@ -101,7 +105,7 @@ pub(crate) fn rename_open(entries: &mut Vec<Entry>, from: &str, to: &str, conten
 /// Adds an entry of a name of which there is none. An error: an allocation failed.
 pub(crate) fn add(
     alloc: Global,
-    entries: &mut Vec<Entry>,
+    entries: &mut Vec<NamedContent>,
     path: &str,
     content: Content,
 ) -> Result<(), AllocError>
@@ -111,7 +115,7 @@ pub(crate) fn add(
         → content_of entries.new.items p ≡ content_of entries.old.items p }
     ensures kept { OnErr result (entries.new.items ≡ entries.old.items) }
 {
-    let entry = Entry {
+    let entry = NamedContent {
         path: String::from_str(alloc, path)?,
         content,
     };
@@ -123,7 +127,7 @@ pub(crate) fn add(
 /// failed.
 pub(crate) fn add_removed(
     alloc: Global,
-    entries: &mut Vec<Entry>,
+    entries: &mut Vec<NamedContent>,
     path: &str,
 ) -> Result<(), AllocError>
     requires { is_something (content_of entries.old.items path.now) ≡ false }

@@ -11,10 +11,10 @@ mod place;
 mod system;
 
 pub use access::Access;
-pub use entries::{Content, Entry};
+pub use entries::{Content, NamedContent};
 pub use fault::{OpenPathFault, TextFault};
 pub use listener::{MemListener, MemReader};
 pub use memory::{MemSystem, memory_is_faithful};
-pub use place::Place;
+pub use place::ListenPlace;
 pub use sector_device::{FileFault, SystemCause};
 pub use system::System;

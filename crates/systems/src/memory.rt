@@ -5,11 +5,11 @@ ghost use Rattle.systems.specs.Memory.{memory_state};
 
 use crate::access::Access;
 use crate::entries::{
-    Content, Entry, add, add_removed, exchange, find_content, is_named, is_open, rename_open,
+    Content, NamedContent, add, add_removed, exchange, find_content, is_named, is_open, rename_open,
 };
 use crate::fault::{OpenPathFault, TextFault};
 use crate::listener::MemListener;
-use crate::place::Place;
+use crate::place::ListenPlace;
 use crate::system::System;
 use sector_device::{FileFault, HistoryDevice, SystemCause};
 use std::alloc::Global;
@@ -21,7 +21,7 @@ use std::time::Duration;
 #[derive(Drop)]
 pub struct MemSystem {
     alloc: Global,
-    entries: Vec<Entry>,
+    entries: Vec<NamedContent>,
     port: u16,
     listener: Option<MemListener>,
     failures: u64,
@@ -32,7 +32,12 @@ impl MemSystem {
     ghost use Rattle.systems.specs.MemSystem.{entries_of, port_of, listener_of, system_state};
 
     /// A system of these entries, with this listener at this port. None of its calls has failed.
-    pub fn new(alloc: Global, entries: Vec<Entry>, port: u16, listener: MemListener) -> MemSystem
+    pub fn new(
+        alloc: Global,
+        entries: Vec<NamedContent>,
+        port: u16,
+        listener: MemListener,
+    ) -> MemSystem
         ensures entries { entries_of result ≡ entries.items }
         ensures port { port_of result ≡ port }
         ensures listener { listener_of result ≡ Some listener }
@@ -180,24 +185,24 @@ impl System for MemSystem {
 
     fn bind<'p>(
         &mut self,
-        place: Place<'p>,
+        place: ListenPlace<'p>,
         _idle: Option<Duration>,
-    ) -> Result<(MemListener, Place<'p>), SystemCause> {
+    ) -> Result<(MemListener, ListenPlace<'p>), SystemCause> {
         let is_here = match place {
-            Place::Port(port) => port == 0 || port == self.port,
-            Place::Socket(_) => false,
+            ListenPlace::Port(port) => port == 0 || port == self.port,
+            ListenPlace::Socket(_) => false,
         };
         if is_here {
             if let Some(listener) = self.listener.take() {
-                return Ok((listener, Place::Port(self.port)));
+                return Ok((listener, ListenPlace::Port(self.port)));
             }
         }
         self.failures = self.failures.saturating_add(1);
         Err(SystemCause::AddressInUse)
     }
 
-    fn unbind(&mut self, place: Place<'_>, listener: MemListener) {
-        if let Place::Port(port) = place {
+    fn unbind(&mut self, place: ListenPlace<'_>, listener: MemListener) {
+        if let ListenPlace::Port(port) = place {
             if port == self.port {
                 self.listener = Some(listener);
             }

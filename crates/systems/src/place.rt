@@ -2,7 +2,7 @@
 
 /// Where a server listens.
 #[derive(Clone, Copy, Debug)]
-pub enum Place<'a> {
+pub enum ListenPlace<'a> {
     /// A port of 127.0.0.1. For port 0 the system chooses one.
     Port(u16),
     /// A Unix socket, whose file is made at this path.

@@ -6,7 +6,7 @@ ghost use Rattle.systems.specs.Systems.{At, Absent, SystemState, HasDevice, IsHe
 
 use crate::access::Access;
 use crate::fault::{OpenPathFault, TextFault};
-use crate::place::Place;
+use crate::place::ListenPlace;
 use connections::listen::Listen;
 use sector_device::{Device, FileFault, SystemCause};
 use std::alloc::Global;
@@ -160,9 +160,9 @@ pub trait System {
     /// idle for so long. An error: the system does not bind it.
     fn bind<'p>(
         &mut self,
-        place: Place<'p>,
+        place: ListenPlace<'p>,
         idle: Option<Duration>,
-    ) -> Result<(Self::Listener, Place<'p>), SystemCause>
+    ) -> Result<(Self::Listener, ListenPlace<'p>), SystemCause>
         ensures counts { (state self.old).failures ≤ (state self.new).failures }
         ensures kind { IfOk result (λ it. IsOfKind (the_place place.entry) (the_place it.1)) }
         ensures place { (state self.old).faithful → IfOk result
@@ -179,7 +179,7 @@ pub trait System {
 
     /// Unbinds a place that was bound, with who listens there as it was left. The file of a socket is
     /// taken away, if it is still the one that was made.
-    fn unbind(&mut self, place: Place<'_>, listener: Self::Listener)
+    fn unbind(&mut self, place: ListenPlace<'_>, listener: Self::Listener)
         ensures counts { (state self.old).failures ≤ (state self.new).failures }
         ensures unbound { (state self.old).faithful
             → IsBound (state self.old) (the_place place.entry)

@@ -8,7 +8,7 @@ use crate::stops::restarts::check_restarts;
 use crate::stops::servers::{Opened, end_and_scan, open_device, try_opening};
 use crate::stops::tally::Tally;
 use crate::stores::SMALL_PAGES;
-use database_copies::{CopyFault, copy_database};
+use database_copies::{DatabaseCopyFault, copy_database};
 use kv_store::{DEFAULT_CACHE_PAGES, OpenFault};
 use opening::OpeningFault;
 use sector_device::MemDevice;
@@ -62,7 +62,7 @@ fn stopped(alloc: Global, source: MemDevice, writes: u64) -> Result<(Image, bool
     let (_, target, copied) = copy_database(alloc, source, target);
     let is_copied = match copied {
         Ok(()) => true,
-        Err(CopyFault::Device) => false,
+        Err(DatabaseCopyFault::Device) => false,
         Err(_) => return Err(TrialFault::CopyRefused),
     };
     Ok((Image::of(alloc, target)?, is_copied))

@@ -1,6 +1,6 @@
 use Rattle.std.proofs.Common.{◌≡◌, IfErr, ap, arith, ◌∙◌}
 use Rattle.store.proofs.Reading.{reads_joined, history_joined}
-use Rattle.copying.specs.declared.fault.CopyFault.TheVariants.{Read, Write}
+use Rattle.copying.specs.declared.fault.RecordCopyFault.TheVariants.{Read, Write}
 use Rattle.store.specs.declared.fault.Fault.TheVariants.{Damaged}
 use Rattle.copying.specs.Copying.{Copies, HasOutsized, whole, behind_mark}
 use Rattle.copying.proofs.Copied.{marked_in_order}

@@ -5,7 +5,7 @@ use Rattle.store.specs.Store.{stored}
 use Rattle.kv_store.proofs.Unwritten.{content_since}
 use Rattle.cow_pages.specs.Cow.{device_below}
 use Rattle.kv_store.specs.PageStore.{pages_of, store_state}
-use Rattle.database_copies.specs.declared.fault.CopyFault.{CopyFault}
+use Rattle.database_copies.specs.declared.fault.DatabaseCopyFault.{DatabaseCopyFault}
 use Rattle.database_copies.specs.Databases.{CopiesDatabase}
 use Rattle.database_copies.proofs.Copying.{copies_database, failed_from, refused_pages}
 use Rattle.database_copies.proofs.database.copy_database.Goals as goal
@@ -14,7 +14,7 @@ pub returns-in-Err-clause-copies : goal.returns-in-Err-clause-copies
 returns-in-Err-clause-copies g c = λ faithful.
     let d = g.D.Device.state c.args.source in
     let e = g.D.Device.state c.in-Err.source in
-    subst (λ (f : CopyFault). CopiesDatabase d e g.E.Device.state (Err f) c.args.target c.args.target) (sym c.from-fault.ensures)
+    subst (λ (f : DatabaseCopyFault). CopiesDatabase d e g.E.Device.state (Err f) c.args.target c.args.target) (sym c.from-fault.ensures)
     (refused_pages g.E.Device.state d e c.in-Err.fault c.args.target (c.in-Err.ensures.named faithful) c.in-Err.ensures.cause)
 
 pub returns-clause-history : goal.returns-clause-history

@@ -2,7 +2,7 @@ use Rattle.std.proofs.Common.{◌≡◌, ◌/◌, IfErr, sym, subst}
 use Rattle.store.proofs.Reading.{reads_joined}
 use Rattle.copying.specs.Copying.{HasOutsized, behind_mark, whole}
 use Rattle.storage_sizes.specs.Spellings.{current}
-use Rattle.device_copies.specs.declared.fault.CopyFault.TheVariants.{Damaged}
+use Rattle.device_copies.specs.declared.fault.DeviceCopyFault.TheVariants.{Damaged}
 use Rattle.device_copies.specs.Copies.{HasSourceCause}
 use Rattle.device_copies.specs.Wanted.{TellsWanted}
 use Rattle.device_copies.proofs.Copied.{cannot_begin, copies_to, told_damaged, told_source}

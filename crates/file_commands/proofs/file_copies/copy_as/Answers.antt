@@ -1,8 +1,8 @@
 use Rattle.std.proofs.Common.{Result, Err, Ok, arith, inl, inr, refl, subst, sym}
 use Rattle.systems.specs.Systems.{IsUnnamed, Rose}
-use Rattle.database_copies.specs.declared.fault.CopyFault.{CopyFault as DatabaseFault}
+use Rattle.database_copies.specs.declared.fault.DatabaseCopyFault.{DatabaseCopyFault as DatabaseFault}
 use Rattle.database_copies.specs.Databases.{CopiesDatabase}
-use Rattle.file_commands.specs.declared.copy_fault.CopyFault.{CopyFault}
+use Rattle.file_commands.specs.declared.copy_fault.FileCopyFault.{FileCopyFault}
 use Rattle.file_commands.specs.Copying.{IsTried, StandsAgainstCopy}
 use Rattle.file_commands.proofs.Blank.{blank_of_zeros}
 use Rattle.file_commands.proofs.Changes.{but_joined, rose_between}
@@ -16,7 +16,7 @@ returns-in-Err g c =
     let new = g.Y.System.state c.make.new.self in
     inl (record {
       unread = refl;
-      cause = λ is. subst (λ (f : CopyFault). StandsAgainstCopy f old c.args.partial.now c.args.target.now new) (sym c.partial_fault.ensures)
+      cause = λ is. subst (λ (f : FileCopyFault). StandsAgainstCopy f old c.args.partial.now c.args.target.now new) (sym c.partial_fault.ensures)
           (stands_partial old new c.args.partial.now c.args.target.now c.in-Err.fault (c.in-Err.ensures.exists is) c.in-Err.ensures.cause);
       same = c.in-Err.ensures.kept;
       counts = c.in-Err.ensures.counts;

@@ -1,6 +1,6 @@
 use Rattle.std.proofs.Common.{◌∙◌, arith, ap, inl, inr}
 use Rattle.systems.specs.Systems.{IsUnnamed, Rose}
-use Rattle.file_commands.specs.declared.copy_fault.CopyFault.TheVariants.{New}
+use Rattle.file_commands.specs.declared.copy_fault.FileCopyFault.TheVariants.{New}
 use Rattle.file_commands.proofs.Changes.{rose_between, same_then_but}
 use Rattle.file_commands.proofs.Copied.{stands_against}
 use Rattle.file_commands.proofs.Taken.{done_or_failed}

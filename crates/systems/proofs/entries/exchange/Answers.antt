@@ -1,5 +1,5 @@
 use Rattle.std.proofs.Common.{◌≡◌, ◌∙◌, sym, ap, Some, position, slice_index_or}
-use Rattle.systems.specs.declared.entries.Entry.{Entry}
+use Rattle.systems.specs.declared.entries.NamedContent.{NamedContent}
 use Rattle.systems.proofs.EntryLemmas.{is_of, content_found, content_changed, found_is, is_other, others_set, not_found}
 use Rattle.systems.proofs.entries.exchange.Goals as goal
 
@@ -21,7 +21,7 @@ returns-in-Some-clause-others c = λ p other.
     let found = found_at c in
     let was = found_is c.args.path.now c.args.entries.now.items c.in-Some.i c.index_mut.result.now found in
     let is = ap (is_of c.args.path.now) c.index_mut.ensures.value ∙ was in
-    let new : Entry = record { path = c.index_mut.result.now.path; content = c.replace.new.dest } in
+    let new : NamedContent = record { path = c.index_mut.result.now.path; content = c.replace.new.dest } in
     others_set p c.args.entries.now.items c.in-Some.i c.index_mut.result.now new (is_other c.args.path.now p (slice_index_or c.args.entries.now.items c.in-Some.i c.index_mut.result.now) was other) (is_other c.args.path.now p new is other)
 
 pub returns-in-None-clause-old : goal.returns-in-None-clause-old
