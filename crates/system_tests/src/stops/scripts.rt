@@ -7,7 +7,7 @@ use crate::servers::open_server;
 use crate::stops::fault::TrialFault;
 use crate::stops::moments::Moment;
 use crate::stops::requests::{add_commit, is_io_error};
-use crate::stops::servers::{Answering, DeviceServer, DeviceStore, end_and_scan, open_device};
+use crate::stops::servers::{Answering, DeviceServer, StoreOnDevice, end_and_scan, open_device};
 use sector_device::MemDevice;
 use sql_types::answer::Answer;
 use sql_types::event::Event;
@@ -17,7 +17,7 @@ use std::slice::from_ref;
 /// The store on a device, and the number of the moment whose map it has: how many events came before it.
 #[derive(Drop)]
 pub struct FoundStore {
-    pub store: DeviceStore,
+    pub store: StoreOnDevice,
     pub moment: usize,
 }
 
@@ -201,7 +201,7 @@ fn is_answered(alloc: Global, answer: &Answer, expected: &str) -> Result<bool, T
 }
 
 /// The device of a store on which one more commit is made.
-fn commit_on(alloc: Global, store: DeviceStore) -> Result<MemDevice, TrialFault> {
+fn commit_on(alloc: Global, store: StoreOnDevice) -> Result<MemDevice, TrialFault> {
     let mut server = open_server(alloc, store)?;
     add_commit(alloc, &mut server)?;
     Ok(server.end())

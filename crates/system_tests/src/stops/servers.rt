@@ -16,10 +16,10 @@ use std::alloc::Global;
 use store::Store;
 
 /// A store on a device.
-pub type DeviceStore = PageStore<MemDevice>;
+pub type StoreOnDevice = PageStore<MemDevice>;
 
 /// A server over a store on a device.
-pub type OnDevice = ServerOver<DeviceStore>;
+pub type OnDevice = ServerOver<StoreOnDevice>;
 
 /// A server, of which nothing is known but that it answers events.
 pub trait Answering {
@@ -76,7 +76,7 @@ pub fn try_opening(
 }
 
 /// Opens a server over a store on a device. A refusal other than that the device failed is an error.
-fn try_server(alloc: Global, store: DeviceStore) -> Result<OpeningOutcome, TrialFault> {
+fn try_server(alloc: Global, store: StoreOnDevice) -> Result<OpeningOutcome, TrialFault> {
     match open(alloc, store, Decider::new(Statements)) {
         Ok(server) => Ok(OpeningOutcome::Server(server)),
         Err(Refused { store, fault }) => without_server(store, fault),
@@ -84,7 +84,7 @@ fn try_server(alloc: Global, store: DeviceStore) -> Result<OpeningOutcome, Trial
 }
 
 /// What an opening came to that opened no server over a store.
-fn without_server(store: DeviceStore, fault: OpeningFault) -> Result<OpeningOutcome, TrialFault> {
+fn without_server(store: StoreOnDevice, fault: OpeningFault) -> Result<OpeningOutcome, TrialFault> {
     match fault {
         OpeningFault::Device => Ok(OpeningOutcome::Device(store.into_device())),
         _ => Err(TrialFault::NoServer(fault)),
