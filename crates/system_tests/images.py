@@ -50,8 +50,10 @@ def records_of(db, form):
         found[b'\3' + name.encode()] = table_value(numbers[name], table)
         found |= {b'\5' + number(numbers[name], 4) + policy.encode(): policy_value(of) for policy, of in table.policies.items()}
         found |= {b'\6' + number(numbers[name], 4) + key: value for key, value in (row_parts(table, row) for row in table.rows)}
-    for (grantor, grantee, name, action), option in db.descriptors.items():
-        found[descriptor_key(numbers[name], grantor, grantee, action, b'' if form == 1 else b'\0')] = bits(option)
+    for (grantor, grantee, name, action, column), option in db.descriptors.items():
+        place = 0 if column is None else column + 1
+        assert form == 2 or place == 0
+        found[descriptor_key(numbers[name], grantor, grantee, action, b'' if form == 1 else number(place, 1))] = bits(option)
     return sorted(found.items())
 
 
