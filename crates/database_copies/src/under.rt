@@ -18,13 +18,13 @@ pub(crate) fn copy_under<M: Map, E: Device>(
     map: &mut M,
     lists: &[Batch],
     target: E,
-) -> (E, Result<(), DatabaseCopyFault>)
+) -> (E, Result<(), DeviceCopyFault>)
     ensures preserved { M.preserved map.old map.new }
     ensures history { KeepsHistory (M.state map.old) (M.state map.new) }
     ensures copies { (M.state map.old).sound
         → CopiesTo E.state (applied_all lists.now (M.state map.old).map) result.1 target result.0 }
     ensures cause { IfErr result.1 (λ fault. HasSourceCause fault (M.state map.old) (M.state map.new)) }
-    ensures damaged { (M.state map.old).sound → IfErr result.1 (λ fault. fault ≡ DatabaseCopyFault.Damaged
+    ensures damaged { (M.state map.old).sound → IfErr result.1 (λ fault. fault ≡ DeviceCopyFault.Damaged
         → HasOutsized (behind_mark (applied_all lists.now (M.state map.old).map))) }
 {
     let mut view = View::new(alloc, map, lists);

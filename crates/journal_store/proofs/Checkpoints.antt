@@ -1,5 +1,5 @@
 -- All that waits is committed to the pages: the journal is left alone, and behind the next root it has no record.
-use Rattle.std.proofs.Common.{◌≡◌, ◌<◌, ◌⊎◌, ◌+◌, ◌^◌, inl, inr, ⊎_elim, ℕ, Bool, true, false, List, [], Option, Some, Ok, Err, refl, sym, ap, subst, ◌∙◌, arith}
+use Rattle.std.proofs.Common.{max, ◌≡◌, ◌<◌, ◌⊎◌, ◌+◌, ◌^◌, inl, inr, ⊎_elim, ℕ, Bool, true, false, List, [], Option, Some, Ok, Err, refl, sym, ap, subst, ◌∙◌, arith}
 use Rattle.std.proofs.Math.Path.{fun_ext}
 use Rattle.std.proofs.lemmas.Bool.{false≢true, cases_lt}
 use Rattle.sector_device.specs.Timeline.{Timeline, LeavesOnly, Passes, Implies, IsPresent, read_by, weakened}
