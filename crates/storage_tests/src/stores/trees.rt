@@ -39,19 +39,18 @@ impl MemoryTree {
         }
     }
 
-    /// Makes the first change of a batch.
+    /// Makes the first changes of each piece of a batch, as many as belong into one leaf.
     fn make_first(&mut self, batch: &Batch) -> Result<()> {
-        let Some(piece) = batch.pieces().first() else {
-            bail!("no change of a tree");
-        };
-        let changes = piece.as_slice();
-        if changes.is_empty() {
-            bail!("no change of a tree");
+        for piece in batch.pieces() {
+            let changes = piece.as_slice();
+            if changes.is_empty() {
+                bail!("no change of a tree");
+            }
+            if change_first(&mut self.pages, &mut self.scratch, changes).is_err() {
+                bail!("a tree is not changed");
+            }
         }
-        match change_first(&mut self.pages, &mut self.scratch, changes) {
-            Ok(_) => Ok(()),
-            Err(_) => bail!("a tree is not changed"),
-        }
+        Ok(())
     }
 
     /// Appends the bytes of a page.
