@@ -3,9 +3,9 @@
 use crate::stops::fault::TrialFault;
 use crate::stops::first_stops::MAX_WRITES;
 use crate::stops::images::Image;
-use crate::stops::places::Place;
+use crate::stops::places::TrialPlace;
 use crate::stops::restarts::check_restarts;
-use crate::stops::servers::{Opened, end_and_scan, open_device, try_opening};
+use crate::stops::servers::{OpeningOutcome, end_and_scan, open_device, try_opening};
 use crate::stops::tally::Tally;
 use crate::stores::SMALL_PAGES;
 use database_copies::{DatabaseCopyFault, copy_database};
@@ -19,7 +19,7 @@ use std::alloc::Global;
 pub fn stop_copies(alloc: Global, source: &Image, tally: &mut Tally) -> Result<(), TrialFault> {
     match stop_each(alloc, source, tally) {
         Ok(()) => Ok(()),
-        Err(fault) => tally.disagree(Place::after(0), fault),
+        Err(fault) => tally.disagree(TrialPlace::after(0), fault),
     }
 }
 
@@ -44,9 +44,9 @@ fn is_copied_before(
     tally: &mut Tally,
 ) -> Result<bool, TrialFault> {
     let (left, is_copied) = stopped(alloc, source.running(alloc)?, writes)?;
-    let place = Place {
+    let place = TrialPlace {
         stop: Some(writes),
-        ..Place::after(0)
+        ..TrialPlace::after(0)
     };
     tally.count_tried();
     check_restarts(alloc, &left, place, tally, |_, device| {
@@ -76,7 +76,7 @@ fn check_copy(
     is_copied: bool,
 ) -> Result<(), TrialFault> {
     match try_opening(alloc, device, DEFAULT_CACHE_PAGES) {
-        Ok(Opened::Server(server)) => {
+        Ok(OpeningOutcome::Server(server)) => {
             let (_, found) = end_and_scan(alloc, server)?;
             if found.as_slice() == records {
                 Ok(())
@@ -84,7 +84,7 @@ fn check_copy(
                 Err(TrialFault::AnotherMap)
             }
         }
-        Ok(Opened::Device(_)) => Err(TrialFault::Device),
+        Ok(OpeningOutcome::Device(_)) => Err(TrialFault::Device),
         Err(fault) => {
             if !is_copied && is_no_database(fault) {
                 Ok(())
