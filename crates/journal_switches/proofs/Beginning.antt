@@ -1,6 +1,6 @@
 -- A journal is made behind the roots of pages: zeros in its sectors, and then the root that says so.
 use Rattle.std.specs.Prelude.{MatchResult, OnOk}
-use Rattle.std.proofs.Common.{◌≡◌, ◌<◌, ◌≤◌, ◌⊎◌, ◌+◌, inl, inr, ⊎_elim, ℕ, Bool, true, false, List, [], Result, Ok, Err, refl, sym, ap, subst, ◌∙◌, arith}
+use Rattle.std.proofs.Common.{◌≡◌, ◌<◌, ◌≤◌, ◌⊎◌, ◌+◌, inl, inr, ⊎_elim, ℕ, Bool, true, false, [], Result, Ok, Err, refl, ap, subst, ◌∙◌, arith}
 use Rattle.sector_device.specs.Timeline.{LeavesOnly, IsPresent, weakened, joined}
 use Rattle.sector_device.specs.Device.{DeviceState, Image, HasFailed, IsLeft, IsBehindRoots, KeepsHistory, KeepsSize, timeline}
 use Rattle.sector_device.specs.declared.device.Device.{Ghosts}
@@ -26,7 +26,7 @@ use Rattle.journal_store.proofs.Checkpoints.{journal_leaves}
 use Rattle.journal_store.proofs.Clearing.{cleared_holds, no_numbers, no_parts_blank}
 use Rattle.journal_store.proofs.Formatted.{failed_later}
 use Rattle.journal_store.proofs.Records.{both}
-use Rattle.journal_switches.specs.Beginning.{HasBegun, HasNotBegun, HadNoMapRoom, CannotBegin, Begins}
+use Rattle.journal_switches.specs.Beginning.{HasBegun, HasNotBegun, HadNoMapRoom, Begins}
 
 -- what a stop leaves of pages that hold contents
 pub left_under : {D : Type 0} {g : Ghosts D} (contents : Contents) (p : CowPages D g) → HoldsContents contents p → (image : Image) → IsLeft (device_below p) image

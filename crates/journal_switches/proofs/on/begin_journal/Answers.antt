@@ -1,15 +1,11 @@
-use Rattle.std.specs.Prelude.{OnOk, Result, Ok, Err}
-use Rattle.std.proofs.Common.{◌≡◌, ◌+◌, Bool, false, refl, sym, ap, subst, ◌∙◌, ⊎_elim}
+use Rattle.std.proofs.Common.{◌≡◌, false, sym, ap, subst, ◌∙◌, ⊎_elim}
 use Rattle.std.proofs.lemmas.Bool.{false≢true}
-use Rattle.sector_device.specs.Timeline.{LeavesOnly, weakened}
-use Rattle.sector_device.specs.Device.{DeviceState, Image, HasFailed, timeline}
+use Rattle.sector_device.specs.Timeline.{LeavesOnly}
+use Rattle.sector_device.specs.Device.{timeline}
 use Rattle.page_roots.specs.Formats.{has_journal}
 use Rattle.page_roots.specs.Root.{RootFields}
-use Rattle.sector_journal.proofs.Appending.{on_ok_both}
 use Rattle.cow_pages.specs.Cow.{device_below, root_of}
-use Rattle.store.specs.Store.{Contents}
 use Rattle.kv_store.specs.Contents.{contents_of, is_journaled}
-use Rattle.kv_store.specs.Numbered.{HasContentsUnder, LeavesBefore}
 use Rattle.kv_store.specs.TreeStore.{pages_of}
 use Rattle.journal_store.proofs.Clearing.{clears_some, all_cleared}
 use Rattle.journal_store.specs.Images.{HasContents}
