@@ -1,1 +1,3 @@
 pub mod Beginning
+pub mod Faults
+pub mod TurningOn
