@@ -1,3 +1,1 @@
 pub mod Beginning
-pub mod Faults
-pub mod TurningOn

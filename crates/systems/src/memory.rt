@@ -11,35 +11,33 @@ use crate::fault::{OpenPathFault, TextFault};
 use crate::listener::MemListener;
 use crate::place::ListenPlace;
 use crate::system::System;
-use sector_device::{FileFault, Guarded, HistoryDevice, SystemCause};
+use sector_device::{FileFault, HistoryDevice, SystemCause};
 use std::alloc::Global;
 use std::time::Duration;
 
 /// What its entries name, the first of each name, and a listener at a port. Somebody else listens at
 /// every other place. Its calls fail where a text is asked for that is a device, and where a place is
 /// asked for that is not free; these failures are counted.
-///
-/// It is a `System` of devices that keep their history and have room for a journal.
 #[derive(Drop)]
-pub struct MemSystem<D> {
+pub struct MemSystem {
     alloc: Global,
-    entries: Vec<NamedContent<D>>,
+    entries: Vec<NamedContent>,
     port: u16,
     listener: Option<MemListener>,
     failures: u64,
 }
 
-impl<D: Drop> MemSystem<D> {
+impl MemSystem {
     ghost use Rattle.std.specs.Prelude.{◌≡◌, Some};
     ghost use Rattle.systems.specs.MemSystem.{entries_of, port_of, listener_of, system_state};
 
     /// A system of these entries, with this listener at this port. None of its calls has failed.
     pub fn new(
         alloc: Global,
-        entries: Vec<NamedContent<D>>,
+        entries: Vec<NamedContent>,
         port: u16,
         listener: MemListener,
-    ) -> MemSystem<D>
+    ) -> MemSystem
         ensures entries { entries_of result ≡ entries.items }
         ensures port { port_of result ≡ port }
         ensures listener { listener_of result ≡ Some listener }
@@ -55,12 +53,12 @@ impl<D: Drop> MemSystem<D> {
     }
 }
 
-impl System for MemSystem<Guarded<HistoryDevice>> {
+impl System for MemSystem {
     ghost use Rattle.std.specs.Prelude.{◌≡◌, ◌≢◌, ◌≤◌, ◌⊎◌, ◌*◌, List, IfOk, IfErr, OnOk, OnErr};
     ghost use Rattle.systems.specs.Entries.{content_of};
     ghost use Rattle.systems.specs.MemoryLaws.{no_device_in, no_text_in};
 
-    type Device = Guarded<HistoryDevice>;
+    type Device = HistoryDevice;
 
     type Listener = MemListener;
 
@@ -94,11 +92,7 @@ impl System for MemSystem<Guarded<HistoryDevice>> {
         Ok(is_named(self.entries.as_slice(), path))
     }
 
-    fn open(
-        &mut self,
-        path: &str,
-        access: Access,
-    ) -> Result<Guarded<HistoryDevice>, OpenPathFault> {
+    fn open(&mut self, path: &str, access: Access) -> Result<HistoryDevice, OpenPathFault> {
         match find_content(self.entries.as_slice(), path) {
             None | Some(Content::Removed) => Err(OpenPathFault::Missing),
             Some(Content::Open | Content::Reading | Content::Taken) => Err(OpenPathFault::InUse),
@@ -127,7 +121,7 @@ impl System for MemSystem<Guarded<HistoryDevice>> {
     }
 
     // Who else has read the device meanwhile has ended.
-    fn close(&mut self, path: &str, device: Guarded<HistoryDevice>) {
+    fn close(&mut self, path: &str, device: HistoryDevice) {
         match exchange(&mut self.entries, path, Content::Device(device)) {
             None | Some(Content::Open | Content::Reading) => {}
             Some(other) => {
@@ -136,11 +130,10 @@ impl System for MemSystem<Guarded<HistoryDevice>> {
         }
     }
 
-    fn make(&mut self, path: &str, pages: u32) -> Result<Guarded<HistoryDevice>, FileFault> {
+    fn make(&mut self, path: &str, pages: u32) -> Result<HistoryDevice, FileFault> {
         let Ok(device) = HistoryDevice::new(self.alloc, pages) else {
             return Err(FileFault::Memory);
         };
-        let device = Guarded::new(device);
         match find_content(self.entries.as_slice(), path) {
             None => match add(self.alloc, &mut self.entries, path, Content::Open) {
                 Ok(()) => Ok(device),
@@ -154,7 +147,7 @@ impl System for MemSystem<Guarded<HistoryDevice>> {
         }
     }
 
-    fn remove(&mut self, path: &str, device: Guarded<HistoryDevice>) -> Result<(), SystemCause> {
+    fn remove(&mut self, path: &str, device: HistoryDevice) -> Result<(), SystemCause> {
         match exchange(&mut self.entries, path, Content::Removed) {
             Some(Content::Open) => Ok(()),
             None => {
@@ -173,8 +166,8 @@ impl System for MemSystem<Guarded<HistoryDevice>> {
         &mut self,
         from: &str,
         to: &str,
-        device: Guarded<HistoryDevice>,
-    ) -> Result<(), (Guarded<HistoryDevice>, FileFault)> {
+        device: HistoryDevice,
+    ) -> Result<(), (HistoryDevice, FileFault)> {
         if is_named(self.entries.as_slice(), to) {
             return Err((device, FileFault::Exists));
         }
@@ -227,6 +220,6 @@ impl System for MemSystem<Guarded<HistoryDevice>> {
 
 /// A system in memory does what `System` says, always: so what is promised of a faithful system is
 /// promised of something.
-pub fn memory_is_faithful(system: &MemSystem<Guarded<HistoryDevice>>)
-    ensures { (⟦<MemSystem<Guarded<HistoryDevice>> as System>⟧.state system.now).faithful }
+pub fn memory_is_faithful(system: &MemSystem)
+    ensures { (⟦<MemSystem as System>⟧.state system.now).faithful }
 {}
