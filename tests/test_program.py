@@ -358,11 +358,12 @@ class Program(unittest.TestCase):
         self.assertEqual(run('run', larger, more)[1], 'ok OPEN\nok INSERT 1\n')
         again = ''.join(f"r: INSERT INTO big VALUES ({k}, '{'o' * 1000}')\n" for k in range(300, 500))
         run('run', larger, self.write('again', 'open r root\n' + again))
-        # 500 records of something over 1,000 bytes, and those of the definitions: three or four fill a leaf
+        # records of something over 1,000 bytes, and those of the definitions: three or four fill a leaf
+        count = int(run('run', larger, self.write('count', 'open r root\nr: SELECT count(*) FROM big\n'))[1].split('\n')[2])
         status, _, messages = run('copy', larger, smaller, '--pages', '64')
         wanted = int(re.search('64 pages; it wants at least ([0-9]+)\n', messages)[1])
         self.assertEqual((status, messages), self.told('Full', smaller, f'the database does not fit in 64 pages; it wants at least {wanted}')[::2])
-        self.assertTrue(500 / 4 < wanted < 500 / 3 + 8, wanted)
+        self.assertTrue(count / 4 < wanted < count / 3 + 8, (count, wanted))
         fewer = f'the database does not fit in {wanted - 1} pages; it wants at least {wanted}'
         self.refuses_copy(self.told('Full', smaller, fewer), larger, smaller, wanted - 1)
         self.assertEqual(self.copied(larger, smaller, wanted + 8), (0, 'ok COPY\n', ''))

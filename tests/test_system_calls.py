@@ -106,7 +106,7 @@ class Files(unittest.TestCase):
     def test_a_file_that_is_locked_before_its_zeros(self):
         """Where the lock is refused, nothing is written and the file is taken away."""
         calls, printed = self.traced('format', self.path('db'), '--pages', str(PAGES), '--admin', 'root',
-                                     inject=('-e', 'inject=flock:error=EWOULDBLOCK:when=1'))
+                                     inject=('-e', 'inject=flock:error=EAGAIN:when=1'))
         self.assertEqual((printed, writes_and_syncs(calls)), ('', []))
         self.assertFalse(os.path.exists(self.path('db')))
 
