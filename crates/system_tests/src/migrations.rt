@@ -15,7 +15,7 @@ use crate::reports::report;
 use crate::stops::fault::TrialFault;
 use crate::stops::images::Image;
 use crate::stops::records::scan;
-use crate::stops::servers::{Answering, DeviceServer, StoreOnDevice, OnDevice, open_device};
+use crate::stops::servers::{Answering, DeviceServer, OnDevice, StoreOnDevice, open_device};
 use kv_store::PageStore;
 use opening::{Refused, open};
 use sector_device::MemDevice;
@@ -141,7 +141,10 @@ fn open_or_why(
 }
 
 /// Opens a server over a store on a device, as above.
-fn open_over(alloc: Global, store: StoreOnDevice) -> Result<(MemDevice, Option<String>), AllocError> {
+fn open_over(
+    alloc: Global,
+    store: StoreOnDevice,
+) -> Result<(MemDevice, Option<String>), AllocError> {
     match open(alloc, store, Decider::new(Statements)) {
         Ok(server) => Ok((server.end(), None)),
         Err(Refused { store, fault }) => {
