@@ -30,7 +30,3 @@ pub mod RemovalSteps
 pub mod RemovalFollows
 pub mod RemovalBelow
 pub mod Spans
-mod Edits
-mod LeafChanges
-mod Bounded
-mod Made

@@ -11,5 +11,3 @@ pub mod RemovalCalls
 pub mod Check
 pub mod Taking
 pub mod Counts
-pub mod Bounds
-pub mod Changed
