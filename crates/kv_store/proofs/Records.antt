@@ -32,15 +32,6 @@ remove_is key (e ∷ es) = go (key_cmp key e.0) refl (remove_is key es)
     go Equal is later = rw (below_is e.0 key, reversed_is key e.0 Equal is, below_is key e.0, is) refl
     go Greater is later = rw (below_is e.0 key, reversed_is key e.0 Greater is) (ap (λ (xs : Records). e ∷ xs) later)
 
--- where the key and the value of a change are given
-pub put_as : (key value k : List ℕ) (v : Option (List ℕ)) (es : Records) → key ≡ k → v ≡ Some value → with_entry key value es ≡ changed k v es
-put_as key value k v es same is =
-    put_is key value es ∙ ap (λ (x : List ℕ). changed x (Some value) es) same ∙ ap (λ (x : Option (List ℕ)). changed k x es) (sym is)
-
-pub remove_as : (key k : List ℕ) (v : Option (List ℕ)) (es : Records) → key ≡ k → v ≡ None → without key es ≡ changed k v es
-remove_as key k v es same is =
-    remove_is key es ∙ ap (λ (x : List ℕ). changed x None es) same ∙ ap (λ (x : Option (List ℕ)). changed k x es) (sym is)
-
 -- a key before all has no value
 none_above : (key : List ℕ) (es : Records) → AllAbove key es → lookup key es ≡ None
 none_above key [] all = refl

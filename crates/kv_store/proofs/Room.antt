@@ -69,14 +69,15 @@ module _ {D : Type 0} {g : Ghosts D} (old new : CowPages D g) (preserved : IsPre
   fewer_free most few = record { free = map now_at others; few = omega (arith, few, length-map others now_at); all = was_free }
 
 module _ {D : Type 0} {g : Ghosts D} (records : Records) (old : CowPages D g) where
-  -- one change alone
-  pub lacks_one : (c : List ℕ × Option (List ℕ)) (represents : Represents records (working_array old)) → HasFewerFree (most_taken represents.is_tree.depth) old → LacksRoom (c ∷ []) records old
-  lacks_one c represents few = record {
+  -- the first of changes
+  pub lacks_first : (changes : Changes) → 0 < length changes → (represents : Represents records (working_array old)) → HasFewerFree (most_taken represents.is_tree.depth) old → LacksRoom changes records old
+  lacks_first [] some represents few = absurd (omega (arith, some))
+  lacks_first (c ∷ cs) some represents few = record {
     mid = old;
     preserved = preserved_same old;
     made = [];
     next = c;
-    rest = [];
+    rest = cs;
     whole = refl;
     holds = represents;
     few = few;
@@ -96,15 +97,7 @@ module _ {D : Type 0} {g : Ghosts D} (records : Records) (old : CowPages D g) wh
     few = l.few;
   }
 
--- the changes before one of them, and those after it
-pub change_within : (cs : Changes) (index : ℕ) (c : List ℕ × Option (List ℕ)) → index < length cs → c ≡ get_or cs index c → (rest : Changes) × (cs ≡ take index cs ++ (c ∷ rest))
-change_within [] index c inside is = absurd (omega (arith, inside))
-change_within (x ∷ xs) zero c inside is = (xs, ap (λ y. y ∷ xs) (sym is))
-change_within (x ∷ xs) (suc index) c inside is =
-    let r = change_within xs index c (omega (arith, inside)) is in
-    (r.0, ap (λ (ys : Changes). x ∷ ys) r.1)
-
--- and of a piece
+-- the changes of the pieces before one, and those after it
 pub piece_within : (pieces : List Changes) (index : ℕ) (p : Changes) → index < length pieces → p ≡ get_or pieces index p → (rest : Changes) × (all_changes pieces ≡ all_changes (take index pieces) ++ (p ++ rest))
 piece_within [] index p inside is = absurd (omega (arith, inside))
 piece_within (q ∷ pieces) zero p inside is = (all_changes pieces, ap (λ (cs : Changes). cs ++ all_changes pieces) (sym is))

@@ -16,29 +16,11 @@ ghost use Rattle.kv_store.specs.Numbered.{LeavesNumbered};
 ghost use Rattle.kv_store.specs.Switches.{IsAnew, KeepsKind};
 
 use cow_pages::{CommitFault, CowPages, Format, PageFault, preserved_stays};
-use page_tree::{Scratch, put, remove};
+use page_tree::{Scratch, change_first};
 use sector_device::Device;
 use store::{Batch, Change, Piece, StoreFault};
 
-// Makes one change in the working array.
-fn make_change<D: Device>(
-    pages: &mut CowPages<D>,
-    scratch: &mut Scratch,
-    change: &Change,
-) -> Result<(), PageFault>
-    requires { IsChangeSize change.now }
-    ensures preserved { IsPreserved pages.old pages.new }
-    ensures works { OnOk result (has_failed pages.new ≡ false) }
-    ensures made { MakesChanges (change.now ∷ []) result pages.old pages.new }
-    ensures room { IsFullFor (change.now ∷ []) result pages.old }
-{
-    match change.value() {
-        Some(value) => put(pages, scratch, change.key(), value),
-        None => remove(pages, scratch, change.key()),
-    }
-}
-
-// Makes changes one after another, from the first on.
+// Makes changes one after another, from the first on: as many at a time as belong into one leaf.
 fn make_changes<D: Device>(
     pages: &mut CowPages<D>,
     scratch: &mut Scratch,
@@ -50,8 +32,11 @@ fn make_changes<D: Device>(
     ensures made { MakesChanges changes.now result pages.old pages.new }
     ensures room { IsFullFor changes.now result pages.old }
 {
-    for change in changes {
-        make_change(pages, scratch, change)?;
+    let mut made = 0;
+    while made < changes.len() {
+        let rest = &changes[made..];
+        let more = change_first(pages, scratch, rest)?;
+        made += more;
     }
     Ok(())
 }

@@ -30,3 +30,7 @@ pub mod RemovalSteps
 pub mod RemovalFollows
 pub mod RemovalBelow
 pub mod Spans
+mod Edits
+mod LeafChanges
+mod Bounded
+mod Made

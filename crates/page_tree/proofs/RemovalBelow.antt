@@ -5,12 +5,12 @@ use Rattle.std.proofs.lemmas.List.{append-nil}
 use Rattle.std.specs.Prelude.{IsSome}
 use Rattle.pages.specs.State.{Array, PagesState, OnlyReads, Writes, Frees}
 use Rattle.page_nodes.specs.declared.cell.NodeKind.TheVariants.{Leaf, Inner}
-use Rattle.page_nodes.specs.Map.{Entry, without}
+use Rattle.page_nodes.specs.Map.{Entry}
 use Rattle.page_nodes.specs.Node.{four_bytes, IsNode}
 use Rattle.page_tree.specs.Forest.{Forest, no_trees, leaf, inner, append, cells, entries, Meets, next, Holds, HoldsChildren, IsSound, IsFull, Represents}
 use Rattle.page_tree.specs.Removal.{Moves, SpellsTrees, Becomes, IsAround, IsBetween, HasNoEntry, HasOneChild}
 use Rattle.page_tree.proofs.Trees.{in_use, keep, full_left, full_right, meets_left, meets_right, meets_append}
-use Rattle.page_tree.proofs.Place.{Place, placed, cells_around, edited_place}
+use Rattle.page_tree.proofs.Place.{Place, placed, cells_around}
 use Rattle.page_tree.proofs.Descent.{Numbered, AtInner, AtLeaf, look, not_gone}
 use Rattle.page_tree.proofs.RemovalPages.{moves_same, moves_then, moves_between, moves_under, stays, stays_out, sound_still, apart_still, some_as}
 use Rattle.page_tree.proofs.RemovalNodes.{page_same}
@@ -20,11 +20,11 @@ use Rattle.page_tree.proofs.RemovalJoins.{becomes_after, becomes_read}
 some_key : (a b : List ℕ) → Some a ≡ Some b → a ≡ b
 some_key a b e = cc
 
-pub leaf_becomes : (S T U : PagesState) (t : Forest) (low : List ℕ) (page : ℕ) (es : List Entry) (key : List ℕ) (R : Forest → Type 0) → t ≡ leaf low page es no_trees → OnlyReads S T → Becomes T U (leaf low page es no_trees) (without key es) R → Becomes S U t (without key (entries t)) R
-leaf_becomes S T U t low page es key R is only_reads b =
-    let later = becomes_read S T U (leaf low page es no_trees) (without key es) R only_reads b in
-    subst (λ (y : Forest). Becomes S U y (without key (entries y)) R) (sym is)
-    (record { sound = later.sound; trees = later.trees; moves = later.moves; entries_are = later.entries_are ∙ ap (λ (xs : List Entry). without key xs) (sym (append-nil es)); result = later.result })
+pub leaf_becomes : (S T U : PagesState) (t : Forest) (low : List ℕ) (page : ℕ) (es : List Entry) (edit : List Entry → List Entry) (R : Forest → Type 0) → t ≡ leaf low page es no_trees → OnlyReads S T → Becomes T U (leaf low page es no_trees) (edit es) R → Becomes S U t (edit (entries t)) R
+leaf_becomes S T U t low page es edit R is only_reads b =
+    let later = becomes_read S T U (leaf low page es no_trees) (edit es) R only_reads b in
+    subst (λ (y : Forest). Becomes S U y (edit (entries y)) R) (sym is)
+    (record { sound = later.sound; trees = later.trees; moves = later.moves; entries_are = later.entries_are ∙ ap (λ (xs : List Entry). edit xs) (sym (append-nil es)); result = later.result })
 
 -- the page of a tree is met
 pub top_met : (A : Array) → Numbered A → (t : Forest) (d : ℕ) (low : List ℕ) (high : Option (List ℕ)) (page : ℕ) → IsSound A d high t → cells t ≡ (low, four_bytes page) ∷ [] → page < 4294967296 → Meets page t
@@ -36,18 +36,19 @@ two_at_least head [] some = absurd (omega (arith, some))
 two_at_least head (c ∷ cs) some = (c, cs, refl)
 
 -- what an inner node above a changed child stands on
-pub record Follow (S T : PagesState) (tree : Forest) (page d : ℕ) (low : List ℕ) (high : Option (List ℕ)) (key : List ℕ) (child : ℕ) (first from : List ℕ) (before trees after : Forest) : Type 1 where
+pub record Follow (S T : PagesState) (tree : Forest) (page d : ℕ) (low : List ℕ) (high : Option (List ℕ)) (key : List ℕ) (child : ℕ) (first from : List ℕ) (before trees after : Forest) (edit : List Entry → List Entry) : Type 1 where
   pub c : Entry
   pub cs : List Entry
   pub around : IsAround T.array page d low high key child first (c ∷ cs) from before after
   pub between : IsBetween page before trees after
   pub holds : Holds T.array page Inner first (c ∷ cs)
-  pub above : (U : PagesState) (R : Forest → Type 0) → Becomes T U (inner low page (append before (append trees after)) no_trees) (entries (append before (append trees after))) R → Becomes S U tree (without key (entries tree)) R
+  pub above : (U : PagesState) (R : Forest → Type 0) → Becomes T U (inner low page (append before (append trees after)) no_trees) (entries (append before (append trees after))) R → Becomes S U tree (edit (entries tree)) R
 
 pub inner_follow : (S M T : PagesState) (tree : Forest) (d : ℕ) (low : List ℕ) (high : Option (List ℕ)) (page : ℕ) (key : List ℕ) (child : ℕ) → Numbered S.array → child < 4294967296 → IsSound S.array d high tree → (i : AtInner S.array tree d low high page) → (p : Place key high i.c)
-    → 1 < length (cells i.c) → IsFull i.c → cells p.at ≡ (p.from, four_bytes child) ∷ [] → OnlyReads S M → (R : Forest → Type 0) → (b : Becomes M T p.at (without key (entries p.at)) R)
-    → Follow S T tree page i.below low high key child i.head.1 p.from p.before b.trees p.after
-inner_follow S M T tree d low high page key child numbered small sound i p many full top only_reads R b =
+    → 1 < length (cells i.c) → IsFull i.c → cells p.at ≡ (p.from, four_bytes child) ∷ [] → OnlyReads S M → (R : Forest → Type 0) → (edit : List Entry → List Entry)
+    → ((u : Forest) → entries u ≡ edit (entries p.at) → entries (append p.before (append u p.after)) ≡ edit (entries i.c)) → (b : Becomes M T p.at (edit (entries p.at)) R)
+    → Follow S T tree page i.below low high key child i.head.1 p.from p.before b.trees p.after edit
+inner_follow S M T tree d low high page key child numbered small sound i p many full top only_reads R edit inside b =
     let A = S.array in
     let B = T.array in
     let pl = placed A i.below key high i.c p i.sound in
@@ -100,7 +101,7 @@ inner_follow S M T tree d low high page key child numbered small sound i p many 
             sound = later.sound;
             trees = later.trees;
             moves = later.moves;
-            entries_are = later.entries_are ∙ (edited_place A i.below key high i.c p pl b.trees None b.entries_are ∙ ap (λ (xs : List Entry). without key xs) (sym entries_of));
+            entries_are = later.entries_are ∙ (inside b.trees b.entries_are ∙ ap (λ (xs : List Entry). edit xs) (sym entries_of));
             result = later.result;
           };
     }

@@ -15,7 +15,7 @@ without_sizes kind key [] sizes = tt
 without_sizes kind key (c ∷ cs) sizes = ⊎_elim (λ yes. rw yes (sizes.0, sizes.1, without_sizes kind key cs sizes.2))
     (λ past. rw past (⊎_elim (λ less. rw less sizes) (λ same. rw same sizes.2) (cases_Bool (is_below key c.0)))) (cases_Bool (is_below c.0 key))
 
-without_long : (kind : NodeKind) (key : List ℕ) (cs : List Entry) → length (cells_bytes kind (without key cs)) ≤ length (cells_bytes kind cs)
+pub without_long : (kind : NodeKind) (key : List ℕ) (cs : List Entry) → length (cells_bytes kind (without key cs)) ≤ length (cells_bytes kind cs)
 without_long kind key [] = omega arith
 without_long kind key (c ∷ cs) =
     let old = length-append (cell_bytes kind c) (cells_bytes kind cs) in

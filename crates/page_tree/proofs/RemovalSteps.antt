@@ -1,11 +1,10 @@
 -- The steps of a removal, one after another.
 use Rattle.std.proofs.Common.{◌≡◌, ⊎_elim, inl, ℕ, suc, ◌<◌, Option, List, [], ◌∷◌, length, refl, sym, ◌∙◌, arith, subst}
-use Rattle.std.proofs.lemmas.Bool.{cases_Bool}
 use Rattle.std.proofs.lemmas.List.{append-nil}
 use Rattle.std.specs.Prelude.{IsSome}
 use Rattle.pages.specs.State.{Array, PagesState}
 use Rattle.page_nodes.specs.declared.cell.NodeKind.TheVariants.{Leaf, Inner}
-use Rattle.page_nodes.specs.Map.{is_below, Entry, without, AllAbove, IsRising}
+use Rattle.page_nodes.specs.Map.{Entry, without, IsRising}
 use Rattle.page_nodes.specs.Node.{four_bytes}
 use Rattle.page_nodes.specs.Search.{pair_from}
 use Rattle.page_tree.specs.Forest.{Forest, no_trees, leaf, inner, append, entries, Meets, AllFrom, AllUnder, next, Holds, IsSound}
@@ -101,54 +100,32 @@ same_becomes S page d low high first cs f sound p some holds = record {
   result = under_page S.array page d low high first cs f p.spells.sound p.spells.full p.spells.spelled some p.apart holds;
 }
 
--- entries without one of them
-module _ (key : List ℕ) where
-  without_from : (k : List ℕ) (es : List Entry) → AllFrom k es → AllFrom k (without key es)
-  without_from k [] all = tt
-  without_from k (e ∷ es) all = ⊎_elim (λ yes. rw yes (all.0, without_from k es all.1))
-      (λ past. rw past (⊎_elim (λ less. rw less all) (λ same. rw same all.1) (cases_Bool (is_below key e.0)))) (cases_Bool (is_below e.0 key))
+no_entries : (es : List Entry) → length es ≡ 0 → es ≡ []
+no_entries [] e = refl
+no_entries (x ∷ xs) e = absurd (omega (arith, e))
 
-  without_under : (high : Option (List ℕ)) (es : List Entry) → AllUnder high es → AllUnder high (without key es)
-  without_under high [] all = tt
-  without_under high (e ∷ es) all = ⊎_elim (λ yes. rw yes (all.0, without_under high es all.1))
-      (λ past. rw past (⊎_elim (λ less. rw less all) (λ same. rw same all.1) (cases_Bool (is_below key e.0)))) (cases_Bool (is_below e.0 key))
+-- a leaf loses its last entries
+pub leaf_emptied : (S : PagesState) (d : ℕ) (low : List ℕ) (high : Option (List ℕ)) (page : ℕ) (es new : List Entry) → S.sound → IsSound S.array d high (leaf low page es no_trees) → length new ≡ 0
+    → Becomes S S (leaf low page es no_trees) new (λ u. HasNoEntry S.array d low page u)
+leaf_emptied S d low high page es new sound s none = record {
+  sound = sound;
+  trees = leaf low page [] no_trees;
+  moves = moves_as S.array S.array (leaf low page es no_trees) (leaf low page es no_trees) (leaf low page es no_trees) (leaf low page [] no_trees) (λ q m. m) (λ q m. m) (λ q m. m) (λ q m. m) (moves_same S.array S.array (leaf low page es no_trees) (λ q. refl));
+  entries_are = sym (no_entries new none);
+  result = record { flat = s.1; is = refl; there = in_use S.array d high (leaf low page es no_trees) s page (inl refl) };
+}
 
-  without_above : (k : List ℕ) (es : List Entry) → AllAbove k es → AllAbove k (without key es)
-  without_above k [] all = tt
-  without_above k (e ∷ es) all = ⊎_elim (λ yes. rw yes (all.0, without_above k es all.1))
-      (λ past. rw past (⊎_elim (λ less. rw less all) (λ same. rw same all.1) (cases_Bool (is_below key e.0)))) (cases_Bool (is_below e.0 key))
-
-  without_rising : (es : List Entry) → IsRising es → IsRising (without key es)
-  without_rising [] r = tt
-  without_rising (e ∷ es) r = ⊎_elim (λ yes. rw yes (without_above e.0 es r.0, without_rising es r.1))
-      (λ past. rw past (⊎_elim (λ less. rw less r) (λ same. rw same r.1) (cases_Bool (is_below key e.0)))) (cases_Bool (is_below e.0 key))
-
-  no_entries : (es : List Entry) → length es ≡ 0 → es ≡ []
-  no_entries [] e = refl
-  no_entries (x ∷ xs) e = absurd (omega (arith, e))
-
-  -- a leaf loses its last entry
-  pub leaf_emptied : (S : PagesState) (d : ℕ) (low : List ℕ) (high : Option (List ℕ)) (page : ℕ) (es : List Entry) → S.sound → IsSound S.array d high (leaf low page es no_trees) → length (without key es) ≡ 0
-      → Becomes S S (leaf low page es no_trees) (without key es) (λ u. HasNoEntry S.array d low page u)
-  leaf_emptied S d low high page es sound s none = record {
-    sound = sound;
-    trees = leaf low page [] no_trees;
-    moves = moves_as S.array S.array (leaf low page es no_trees) (leaf low page es no_trees) (leaf low page es no_trees) (leaf low page [] no_trees) (λ q m. m) (λ q m. m) (λ q m. m) (λ q m. m) (moves_same S.array S.array (leaf low page es no_trees) (λ q. refl));
-    entries_are = sym (no_entries (without key es) none);
-    result = record { flat = s.1; is = refl; there = in_use S.array d high (leaf low page es no_trees) s page (inl refl) };
-  }
-
-  -- a leaf loses an entry
-  pub leaf_removed : (S T : PagesState) (d : ℕ) (low : List ℕ) (high : Option (List ℕ)) (page : ℕ) (es : List Entry) → T.sound → IsSound S.array d high (leaf low page es no_trees) → 0 < length (without key es) → AreWritten Leaf [] (without key es) page S.array T.array
-      → Becomes S T (leaf low page es no_trees) (without key es) (λ u. SpellsTrees T.array d high ((low, four_bytes page) ∷ []) u)
-  leaf_removed S T d low high page es sound s some w = record {
-    sound = sound;
-    trees = leaf low page (without key es) no_trees;
-    moves = record { others = λ q off still. w.others q (λ at. off (inl at)); freed = λ q m not. absurd (not m); taken = λ q m not. absurd (not m) };
-    entries_are = append-nil (without key es);
-    result = record {
-      sound = ((w.bytes, w.here, w.node), s.1, (without_from low es s.2.0, without_under high es s.2.1, without_rising es s.2.2), s.3, (λ m. m), tt);
-      full = (some, tt);
-      spelled = refl;
-    };
-  }
+-- a leaf gets other entries
+pub leaf_changed : (S T : PagesState) (d : ℕ) (low : List ℕ) (high : Option (List ℕ)) (page : ℕ) (es new : List Entry) → T.sound → IsSound S.array d high (leaf low page es no_trees) → 0 < length new → AllFrom low new → AllUnder high new → IsRising new
+    → AreWritten Leaf [] new page S.array T.array → Becomes S T (leaf low page es no_trees) new (λ u. SpellsTrees T.array d high ((low, four_bytes page) ∷ []) u)
+leaf_changed S T d low high page es new sound s some from under rising w = record {
+  sound = sound;
+  trees = leaf low page new no_trees;
+  moves = record { others = λ q off still. w.others q (λ at. off (inl at)); freed = λ q m not. absurd (not m); taken = λ q m not. absurd (not m) };
+  entries_are = append-nil new;
+  result = record {
+    sound = ((w.bytes, w.here, w.node), s.1, (from, under, rising), s.3, (λ m. m), tt);
+    full = (some, tt);
+    spelled = refl;
+  };
+}

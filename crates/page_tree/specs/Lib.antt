@@ -11,3 +11,5 @@ pub mod RemovalCalls
 pub mod Check
 pub mod Taking
 pub mod Counts
+pub mod Bounds
+pub mod Changed

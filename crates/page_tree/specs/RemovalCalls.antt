@@ -4,13 +4,12 @@ use Rattle.pages.specs.declared.array.PageFault.{PageFault}
 use Rattle.pages.specs.declared.array.PageFault.TheVariants.{Memory}
 use Rattle.pages.specs.declared.array.Pages.{Ghosts}
 use Rattle.page_nodes.specs.declared.cell.NodeKind.{NodeKind}
-use Rattle.page_nodes.specs.declared.cell.NodeKind.TheVariants.{Leaf, Inner}
+use Rattle.page_nodes.specs.declared.cell.NodeKind.TheVariants.{Inner}
 use Rattle.page_nodes.specs.declared.search.Pair.{Pair}
-use Rattle.page_nodes.specs.Map.{Entry, without}
+use Rattle.page_nodes.specs.Map.{Entry}
 use Rattle.page_nodes.specs.Node.{four_bytes, IsNode}
 use Rattle.page_nodes.specs.Search.{pair_from}
-use Rattle.page_tree.specs.Forest.{Forest, no_trees, leaf, inner, append, entries, MeetsAll, next, Holds, IsSound, Represents}
-use Rattle.page_tree.specs.Site.{Site, IsSubtree}
+use Rattle.page_tree.specs.Forest.{Forest, no_trees, inner, append, entries, MeetsAll, next, Holds, Represents}
 use Rattle.page_tree.specs.Puts.{AreInScratch, AreWritten, made_cells}
 use Rattle.page_tree.specs.Removal.{SpellsTrees, Describes, Becomes, IsParent, Surroundings, Surround, AreNodeOf, around, IsBetween, IsRest, IsJoined, HasNoEntry, HasOneChild}
 use Rattle.page_tree.specs.Calls.{Gives}
@@ -23,13 +22,6 @@ abbrev pub WritesCells : {P : Type 0} (g : Ghosts P) (old new : P) (page : ℕ) 
 WritesCells g old new page kind first cells count result =
     (g.state old).sound → IsSome ((g.state old).array page) → (cs : List Entry) → AreInScratch kind cs cells count
     → Gives g old new result (λ _. (g.state new).sound × AreWritten kind first cs page (g.state old).array (g.state new).array)
-
--- the entry of a key is taken from the leaf that a page in use holds
-abbrev pub RemovesEntry : {P : Type 0} (g : Ghosts P) (old new : P) (page : ℕ) (bytes key separator : List ℕ) (result : Result Underflow PageFault) → Type 0
-RemovesEntry g old new page bytes key separator result =
-    (g.state old).sound → IsSome ((g.state old).array page) → (es : List Entry) → IsNode Leaf [] es bytes
-    → Gives g old new result (λ u. (d : ℕ) (low : List ℕ) (high : Option (List ℕ)) → IsSound (g.state old).array d high (leaf low page es no_trees)
-    → Becomes (g.state old) (g.state new) (leaf low page es no_trees) (without key es) (λ f. Describes u (g.state new).array d low high page separator f))
 
 -- the child of a key is found beside its neighbour
 abbrev pub PairsChildren : (bytes key : List ℕ) (result : Result Pair PageFault) → Type 0
@@ -99,13 +91,6 @@ FollowsChild g old new page child underflow key made later result =
     → Gives g old new result (λ u. Becomes (g.state old) (g.state new) (inner w.low page (around w between) no_trees) (entries (around w between))
     (λ f. Describes u (g.state new).array (suc w.depth) w.low w.high page later f))
 
--- the entry of a key is taken from a tree
-abbrev pub RemovesBelow : {P : Type 0} (g : Ghosts P) (old new : P) (page levels : ℕ) (key separator : List ℕ) (result : Result Underflow PageFault) → Type 0
-RemovesBelow g old new page levels key separator result =
-    (g.state old).sound → (s : Site) → IsSubtree (g.state old).array s page key levels
-    → Gives g old new result (λ u. Becomes (g.state old) (g.state new) s.tree (without key (entries s.tree))
-    (λ f. Describes u (g.state new).array s.depth s.low s.high page separator f))
-
 -- the root, of which no entry is left, becomes an empty leaf
 abbrev pub ClearsRoot : {P : Type 0} (g : Ghosts P) (old new : P) (result : Result (Unit {0}) PageFault) → Type 0
 ClearsRoot g old new result =
@@ -118,3 +103,9 @@ abbrev pub CollapsesRoot : {P : Type 0} (g : Ghosts P) (old new : P) (child : �
 CollapsesRoot g old new child result =
     (g.state old).sound → (d : ℕ) (f : Forest) → HasOneChild (g.state old).array d [] None 0 child f
     → Gives g old new result (λ _. MeetsAll (g.state old).array f → (g.state new).sound × Represents (entries f) (g.state new).array)
+
+-- what changes have left of a tree becomes one tree at the root
+abbrev pub SettlesRoot : {P : Type 0} (g : Ghosts P) (old new : P) (left : Underflow) (separator : List ℕ) (result : Result (Unit {0}) PageFault) → Type 0
+SettlesRoot g old new left separator result =
+    (g.state old).sound → (d : ℕ) (f : Forest) → Describes left (g.state old).array d [] None 0 separator f → MeetsAll (g.state old).array f
+    → Gives g old new result (λ _. (g.state new).sound × Represents (entries f) (g.state new).array)

@@ -7,6 +7,10 @@ use Rattle.pages.specs.State.{GetOwn, HasNoOwn}
 use Rattle.page_nodes.specs.Map.{Entry}
 use Rattle.page_tree.specs.Forest.{Represents}
 use Rattle.page_tree.specs.Site.{Site, IsSubtree}
+use Rattle.store.specs.Records.{Changes}
+use Rattle.page_tree.specs.Bounds.{IsBound}
+use Rattle.page_tree.specs.declared.bound.KeyBound.{KeyBound}
+use Rattle.page_tree.specs.declared.changes.Changed.{Changed}
 use Rattle.page_tree.specs.declared.removal.Underflow.{Underflow}
 use Rattle.page_tree.specs.declared.removal.Underflow.TheVariants.{Nothing, Child, Trees}
 
@@ -42,7 +46,7 @@ TakesToGrow g old new result =
     IfErr result (λ f. f ≡ Full → TakesPages g old new [] 0 ⊎ (TakesPages g old new [] 1 × HasNoOwn 0 (g.own new)))
 
 -- a change that finds no page left took two before for each level of the tree, at most
-abbrev pub TakesToChange : {P : Type 0} (g : Ghosts P) (old new : P) (result : Result (Unit {0}) PageFault) → Type 0
+abbrev pub TakesToChange : {P T : Type 0} (g : Ghosts P) (old new : P) (result : Result T PageFault) → Type 0
 TakesToChange g old new result =
     (g.state old).sound → (map : List Entry) → (represents : Represents map (g.state old).array)
     → IfErr result (λ f. f ≡ Full → TakesPages g old new [] (2 * (represents.is_tree.depth + 1)))
@@ -69,8 +73,20 @@ TakesToFollow {P} g old new underflow result =
     (before : P) (depth : ℕ) → ((child : ℕ) → underflow ≡ Child child → 0 < depth) → TakesPages g before old [] (most_left depth underflow)
     → TakesAtMost g before new result (λ left. most_left (suc depth) left) (2 * suc depth + 2)
 
--- an entry is removed from a tree that stands there
-abbrev pub TakesToRemove : {P : Type 0} (g : Ghosts P) (old new : P) (page levels : ℕ) (key : List ℕ) (result : Result Underflow PageFault) → Type 0
-TakesToRemove g old new page levels key result =
-    (g.state old).sound → (s : Site) → IsSubtree (g.state old).array s page key levels
-    → TakesAtMost g old new result (λ left. most_left s.depth left) (2 * s.depth + 2)
+-- changes that are made in a tree take what its leaf takes, and none where none is made
+abbrev pub most_changed : ℕ → Option Changed → ℕ
+most_changed depth None = 0
+most_changed depth (Some c) = most_left depth c.left
+
+-- changes are made in a tree that stands there
+abbrev pub TakesToChangeBelow : {P : Type 0} (g : Ghosts P) (old new : P) (page levels : ℕ) (bound : KeyBound) (changes : Changes)
+    (result : Result (Option Changed) PageFault) → Type 0
+TakesToChangeBelow g old new page levels bound changes result =
+    (g.state old).sound → (s : Site) (first : List ℕ × Option (List ℕ)) (rest : Changes) → changes ≡ first ∷ rest → IsSubtree (g.state old).array s page first.0 levels → IsBound bound s.high
+    → TakesAtMost g old new result (λ c. most_changed s.depth c) (2 * s.depth + 2)
+
+-- the root becomes one tree, with the pages that were taken for it since an earlier state
+abbrev pub TakesToSettle : {P : Type 0} (g : Ghosts P) (old new : P) (left : Underflow) (result : Result (Unit {0}) PageFault) → Type 0
+TakesToSettle {P} g old new left result =
+    (before : P) (depth : ℕ) → TakesPages g before old [] (most_left depth left)
+    → IfErr result (λ f. f ≡ Full → TakesPages g before new [] (2 * (depth + 1)))

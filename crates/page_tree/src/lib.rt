@@ -1,6 +1,8 @@
 //! An ordered map of byte strings in an array of pages: a tree from logical page 0.
 #![tactic(auto)]
 
+mod bound;
+mod changes;
 mod check;
 mod counting;
 mod cursor;
@@ -13,12 +15,11 @@ mod scratch;
 mod search;
 mod tree_walk;
 
+pub use changes::change_first;
 pub use check::check_tree;
 pub use counting::count;
 pub use cursor::{Cursor, first_from, first_on, next};
 pub use laws::{leaf_alone, represented_map};
-pub use puts::put;
-pub use removal::remove;
 pub use scratch::Scratch;
 pub use search::{MAX_HEIGHT, contains, get};
 pub use tree_walk::{TreeWalk, step};

@@ -1,20 +1,17 @@
-//! Changes of the tree: an entry is removed.
+//! Changes of the tree: nodes follow what a removal has left of one below.
 ghost use Rattle.std.specs.Prelude.{◌≡◌, ◌≢◌, ◌↔◌, IsTrue, length, OnOk, IfOk, IfErr, IfSome};
 ghost use Rattle.page_nodes.specs.Map.{without};
 ghost use Rattle.page_nodes.specs.Node.{four_bytes, IsKeySize, IsShortKey, IsFirst, IsCount, FitsPage};
 ghost use Rattle.page_nodes.specs.declared.cell.NodeKind.TheVariants.{Inner};
-ghost use Rattle.page_tree.specs.Calls.{Changes, CopiesCells};
+ghost use Rattle.page_tree.specs.Calls.{CopiesCells};
 ghost use Rattle.page_tree.specs.Removal.{IsPageNumber, HasSeparator};
-ghost use Rattle.page_tree.specs.Taking.{TakesAtMost, TakesToChange, TakesToFollow, TakesToRemove, most_left, most_stored, most_merged};
-ghost use Rattle.page_tree.specs.RemovalCalls.{WritesCells, RemovesEntry, PairsChildren, CopiesRest, StoresRest, RemovesChild, JoinsBefore, JoinsNeighbour, MergesChild, FollowsChild, RemovesBelow, ClearsRoot, CollapsesRoot};
+ghost use Rattle.page_tree.specs.Taking.{TakesAtMost, TakesToFollow, most_left, most_stored, most_merged};
+ghost use Rattle.page_tree.specs.RemovalCalls.{WritesCells, PairsChildren, CopiesRest, StoresRest, RemovesChild, JoinsBefore, JoinsNeighbour, MergesChild, FollowsChild, ClearsRoot, CollapsesRoot};
 
 use crate::cuts::Place;
-use crate::puts::{copy_with, grow_root, put_child, set_separator, store_cells};
-use crate::scratch::{NodeScratch, Scratch};
-use crate::search::{MAX_HEIGHT, read_node};
-use page_nodes::{
-    NodeKind, PageView, Pair, child_for, edit_cells, first_child, pair_for, write_node,
-};
+use crate::puts::{copy_with, put_child, set_separator, store_cells};
+use crate::scratch::NodeScratch;
+use page_nodes::{NodeKind, Pair, edit_cells, first_child, pair_for, write_node};
 use pages::{PageFault, Pages};
 use storage_sizes::PAGE_SIZE;
 
@@ -58,7 +55,7 @@ fn copy_without(
 }
 
 /// Writes to a page the node that has these cells.
-fn write_cells<P: Pages>(
+pub fn write_cells<P: Pages>(
     pages: &mut P,
     bytes: &mut [u8; PAGE_SIZE],
     page: u32,
@@ -78,38 +75,6 @@ fn write_cells<P: Pages>(
 {
     write_node(bytes, kind, first, cells, count);
     pages.write(page, bytes)
-}
-
-/// Removes the entry of a key from the leaf that has been read.
-fn remove_entry<P: Pages>(
-    pages: &mut P,
-    bytes: &[u8; PAGE_SIZE],
-    page: u32,
-    key: &[u8],
-    scratch: &mut NodeScratch,
-) -> Result<Underflow, PageFault>
-    requires { IsShortKey key.now }
-    ensures preserved { P.preserved pages.old pages.new }
-    ensures works { P.works pages.old → OnOk result (P.works pages.new) }
-    ensures size { IfOk result (λ left. HasSeparator left scratch.new.separator.items) }
-    ensures removed { RemovesEntry P.Pages pages.old pages.new page bytes.now key.now
-        scratch.new.separator.items result }
-    ensures takes { TakesAtMost P.Pages pages.old pages.new result (λ left. most_left 0 left) 0 }
-{
-    let count = copy_without(bytes, NodeKind::Leaf, key, &mut scratch.cells)?;
-    if count == 0 {
-        return Ok(Underflow::Nothing);
-    }
-    write_cells(
-        pages,
-        &mut scratch.page,
-        page,
-        NodeKind::Leaf,
-        b"",
-        scratch.cells.as_slice(),
-        count,
-    )?;
-    Ok(Underflow::Trees(None))
 }
 
 /// The child of a key beside the one before it; the first child beside the one after it. Malformed: these bytes are no
@@ -315,7 +280,7 @@ fn merge_child<P: Pages>(
 }
 
 /// Changes an inner node as the child of a key has changed.
-fn follow_child<P: Pages>(
+pub fn follow_child<P: Pages>(
     pages: &mut P,
     bytes: &mut [u8; PAGE_SIZE],
     page: u32,
@@ -354,41 +319,8 @@ fn follow_child<P: Pages>(
     }
 }
 
-/// Removes the entry of a key from a tree, from its page on.
-fn remove_below<P: Pages>(
-    pages: &mut P,
-    bytes: &mut [u8; PAGE_SIZE],
-    page: u32,
-    levels: u32,
-    key: &[u8],
-    scratch: &mut NodeScratch,
-) -> Result<Underflow, PageFault>
-    requires { IsShortKey key.now }
-    ensures preserved { P.preserved pages.old pages.new }
-    ensures works { OnOk result (P.works pages.new) }
-    ensures size { IfOk result (λ left. HasSeparator left scratch.new.separator.items) }
-    ensures removed { RemovesBelow P.Pages pages.old pages.new page levels key.now
-        scratch.new.separator.items result }
-    ensures takes { TakesToRemove P.Pages pages.old pages.new page levels key.now result }
-{
-    if levels == 0 {
-        return Err(PageFault::Malformed);
-    }
-    match read_node(pages, page, bytes)? {
-        NodeKind::Leaf => remove_entry(pages, bytes, page, key, scratch),
-        NodeKind::Inner => {
-            let Some(branch) = child_for(PageView::plain(bytes), key) else {
-                return Err(PageFault::Malformed);
-            };
-            let child = branch.child;
-            let underflow = remove_below(pages, bytes, child, levels - 1, key, scratch)?;
-            follow_child(pages, bytes, page, child, underflow, key, scratch)
-        }
-    }
-}
-
 /// Makes the root a leaf without entries.
-fn clear_root<P: Pages>(pages: &mut P, bytes: &mut [u8; PAGE_SIZE]) -> Result<(), PageFault>
+pub fn clear_root<P: Pages>(pages: &mut P, bytes: &mut [u8; PAGE_SIZE]) -> Result<(), PageFault>
     ensures preserved { P.preserved pages.old pages.new }
     ensures works { OnOk result (P.works pages.new) }
     ensures cleared { ClearsRoot P.Pages pages.old pages.new result }
@@ -399,7 +331,7 @@ fn clear_root<P: Pages>(pages: &mut P, bytes: &mut [u8; PAGE_SIZE]) -> Result<()
 }
 
 /// Gives the root the content of its only child.
-fn collapse_root<P: Pages>(
+pub fn collapse_root<P: Pages>(
     pages: &mut P,
     bytes: &mut [u8; PAGE_SIZE],
     child: u32,
@@ -412,27 +344,4 @@ fn collapse_root<P: Pages>(
     pages.read(child, bytes)?;
     pages.write(0, bytes)?;
     pages.free_page(child)
-}
-
-/// Removes a key with its value, and leaves every other entry as it is; where the map has no such key, it stays as it is. A
-/// key has at most 205 bytes. Faults come as from `put`, and after one nothing is known of the array.
-pub fn remove<P: Pages>(pages: &mut P, scratch: &mut Scratch, key: &[u8]) -> Result<(), PageFault>
-    requires { IsShortKey key.now }
-    ensures preserved { P.preserved pages.old pages.new }
-    ensures works { OnOk result (P.works pages.new) }
-    ensures removed { Changes P.Pages pages.old pages.new (without key.now) result }
-    ensures takes { TakesToChange P.Pages pages.old pages.new result }
-{
-    let bytes = &mut scratch.page;
-    let nodes = &mut scratch.nodes;
-    match remove_below(pages, bytes, 0, MAX_HEIGHT, key, nodes)? {
-        Underflow::Nothing => clear_root(pages, bytes),
-        Underflow::Child(child) => collapse_root(pages, bytes, child),
-        Underflow::Trees(made) => {
-            let Some(second) = made else {
-                return Ok(());
-            };
-            grow_root(pages, second, nodes)
-        }
-    }
 }

@@ -1,5 +1,6 @@
 //! Memory in which a tree is changed.
 
+use crate::bound::KeyBound;
 use std::alloc::Global;
 use storage_sizes::PAGE_SIZE;
 
@@ -13,17 +14,22 @@ pub struct NodeScratch {
     pub(crate) last: Vec<u8>,
 }
 
-/// Memory in which a tree is changed: that in which nodes are, and the page of a node from which something is removed. A
-/// caller keeps it from one change of a tree to the next, so that it is made once.
+/// Memory in which a tree is changed: that in which nodes are, the page of a node that is read, and what bounds the keys of
+/// a leaf. A caller keeps it from one change of a tree to the next, so that it is made once.
 pub struct Scratch {
     pub(crate) nodes: NodeScratch,
     pub(crate) page: [u8; PAGE_SIZE],
+    pub(crate) bound: KeyBound,
 }
 
 // Written and not derived: where a value is dropped this is one call, and not its parts one by one.
 impl Drop for Scratch {
     fn drop(self) {
-        let Scratch { nodes: _, page: _ } = self;
+        let Scratch {
+            nodes: _,
+            page: _,
+            bound: _,
+        } = self;
     }
 }
 
@@ -38,6 +44,10 @@ impl Scratch {
                 last: Vec::new(alloc),
             },
             page: [0; PAGE_SIZE],
+            bound: KeyBound {
+                is_set: false,
+                key: Vec::new(alloc),
+            },
         }
     }
 }

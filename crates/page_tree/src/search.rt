@@ -39,6 +39,7 @@ pub(crate) fn fetch_node<P: Pages>(pages: &mut P, page: u32) -> Result<NodeKind,
     ensures only_reads { LeavesPages P.Pages pages.old pages.new }
     ensures found { ReadsNode P.Pages pages.old pages.new page (P.fetched pages.new) result }
     ensures faults { IfErr result (λ f. f ≢ PageFault.Full) }
+    ensures own { OnOk result (GetOwn [] (P.own pages.old) (P.own pages.new)) }
 {
     pages.fetch(page)?;
     match kind_of(pages.fetched().bytes()) {

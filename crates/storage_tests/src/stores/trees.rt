@@ -4,10 +4,10 @@ use crate::stores::call::{CallWords, fill, number_in};
 use crate::stores::callee::Callee;
 use crate::stores::table::{Table, make_on};
 use anyhow::{Result, bail};
-use page_tree::{Cursor, Scratch, first_from, get, next, put, remove};
+use page_tree::{Cursor, Scratch, change_first, first_from, get, next};
 use pages::{MemPages, PAGE_SIZE, Pages};
 use std::alloc::Global;
-use store::{Entry, MAX_KEY_LENGTH, MAX_VALUE_LENGTH, StoreFault};
+use store::{Batch, Entry, MAX_KEY_LENGTH, MAX_VALUE_LENGTH, StoreFault};
 
 /// A tree over pages in memory.
 #[derive(Drop)]
@@ -39,6 +39,20 @@ impl MemoryTree {
         }
     }
 
+    /// Makes the first changes of each piece of a batch, as many as belong into one leaf.
+    fn make_first(&mut self, batch: &Batch) -> Result<()> {
+        for piece in batch.pieces() {
+            let changes = piece.as_slice();
+            if changes.is_empty() {
+                bail!("no change of a tree");
+            }
+            if change_first(&mut self.pages, &mut self.scratch, changes).is_err() {
+                bail!("a tree is not changed");
+            }
+        }
+        Ok(())
+    }
+
     /// Appends the bytes of a page.
     fn answer_page(&mut self, call: &CallWords<'_>, out: &mut String) -> Result<()> {
         let mut page = [0; PAGE_SIZE];
@@ -55,17 +69,13 @@ impl Table for MemoryTree {
         if key.is_empty() || key.len() > MAX_KEY_LENGTH {
             bail!("no key of a tree");
         }
-        let changed = match value {
-            None => remove(&mut self.pages, &mut self.scratch, key),
-            Some(value) if value.len() <= MAX_VALUE_LENGTH => {
-                put(&mut self.pages, &mut self.scratch, key, value)
-            }
+        let mut batch = Batch::new(*self.value.allocator());
+        match value {
+            None => batch.remove(key)?,
+            Some(value) if value.len() <= MAX_VALUE_LENGTH => batch.put(key, value)?,
             Some(_) => bail!("no value of a tree"),
-        };
-        if changed.is_err() {
-            bail!("a tree is not changed");
         }
-        Ok(())
+        self.make_first(&batch)
     }
 
     fn get(&mut self, key: &[u8], out: &mut Entry) -> Result<bool, StoreFault> {
