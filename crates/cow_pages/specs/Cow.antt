@@ -13,8 +13,8 @@ use Rattle.cow_pages.specs.Held.{IsSettled}
 use Rattle.cow_pages.specs.PageMap.{HasNoMapRoom}
 use Rattle.cow_pages.specs.Commit.{IsEither}
 use Rattle.cow_pages.specs.Dirty.{overlaid_array}
-use Rattle.cow_pages.specs.declared.cow.Place.{Place}
-use Rattle.cow_pages.specs.declared.cow.Place.TheVariants.{Dirty, Cached, Read}
+use Rattle.cow_pages.specs.declared.cow.PageLocation.{PageLocation}
+use Rattle.cow_pages.specs.declared.cow.PageLocation.TheVariants.{Dirty, Cached, Read}
 use Rattle.cow_pages.specs.declared.dirty_pages.DirtyPages.{DirtyPages}
 use Rattle.cow_pages.specs.DirtyPages.{dirty_bytes, HasSpace}
 use Rattle.page_cache.specs.declared.cache.PageCache.{PageCache}
@@ -52,7 +52,7 @@ abbrev pub working_array : {D : Type 0} {g : Ghosts D} → CowPages D g → Arra
 working_array {D} {g} p = overlaid_array (dirty_bytes p.dirty) (g.state p.device).content p.map.working.items
 
 -- the bytes that are lent of the page that was fetched last
-abbrev pub bytes_at : Place → DirtyPages → PageCache → List ℕ → List ℕ
+abbrev pub bytes_at : PageLocation → DirtyPages → PageCache → List ℕ → List ℕ
 bytes_at (Dirty index) dirty cache page = get_or dirty.bytes.items index page
 bytes_at (Cached slot) dirty cache page = unwrap_or (bytes_in cache slot) page
 bytes_at Read dirty cache page = page

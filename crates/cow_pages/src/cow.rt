@@ -26,7 +26,7 @@ pub const MAX_CACHE_PAGES: usize = 4_096;
 
 // Where in memory the page is that was fetched last.
 #[derive(Clone, Copy, Drop)]
-pub(crate) enum Place {
+pub(crate) enum PageLocation {
     // Among the dirty pages, at this index.
     Dirty(usize),
     // In this slot of the cache.
@@ -51,7 +51,7 @@ pub struct CowPages<D: Device> {
     dirty: DirtyPages,
     cache: PageCache,
     // The page that was fetched last, and the page that was read from the device last.
-    place: Place,
+    place: PageLocation,
     page: [u8; PAGE_SIZE],
     has_failed: bool,
     ghost sized: { (D.state device).sectors ≡ 8 * map.root.pages },
@@ -133,7 +133,7 @@ impl<D: Device> CowPages<D> {
                 map,
                 dirty,
                 cache,
-                place: Place::Read,
+                place: PageLocation::Read,
                 page: [0; PAGE_SIZE],
                 has_failed: false,
             }),
@@ -168,14 +168,14 @@ impl<D: Device> CowPages<D> {
             return Err(PageFault::Malformed);
         }
         if let Some(index) = self.dirty.find(physical) {
-            self.place = Place::Dirty(index);
+            self.place = PageLocation::Dirty(index);
             return Ok(());
         }
         if let Some(slot) = self.cache.find(physical) {
-            self.place = Place::Cached(slot);
+            self.place = PageLocation::Cached(slot);
             return Ok(());
         }
-        self.place = Place::Read;
+        self.place = PageLocation::Read;
         let sector = SECTORS_PER_PAGE * physical;
         match read_page(&mut self.device, sector, &mut self.page) {
             Ok(()) => {
@@ -194,12 +194,12 @@ impl<D: Device> CowPages<D> {
         ensures { bytes_of result ≡ fetched_bytes self.now }
     {
         let held = match self.place {
-            Place::Dirty(index) => match self.dirty.lend(index) {
+            PageLocation::Dirty(index) => match self.dirty.lend(index) {
                 Some(bytes) => Some(PageView::plain(bytes)),
                 None => None,
             },
-            Place::Cached(slot) => self.cache.lend(slot),
-            Place::Read => None,
+            PageLocation::Cached(slot) => self.cache.lend(slot),
+            PageLocation::Read => None,
         };
         match held {
             Some(page) => page,

@@ -15,7 +15,7 @@ use Rattle.cow_pages.proofs.Preserving.{open_holds}
 use Rattle.page_tree.specs.Forest.{Represents}
 use Rattle.page_tree.specs.Walk.{records_of}
 use Rattle.page_tree.specs.Kept.{KeepsPlace}
-use Rattle.page_tree.specs.declared.cursor.Cursor.{Cursor}
+use Rattle.page_tree.specs.declared.cursor.TreeCursor.{TreeCursor}
 use Rattle.page_tree.proofs.Represented.{map_of_same}
 use Rattle.store.specs.Store.{Contents}
 use Rattle.kv_store.specs.declared.tree_store.TreeStore.{TreeStore}
@@ -67,6 +67,6 @@ module _ {D : Type 0} {g : Ghosts D} (present : (device : D) → (g.state device
           (records_same (durable_array p) (durable_array q) (stays (durable (contents_of p) held)).same (subst (λ (x : CowPages D g). Represents (records_of (durable_array x)) (durable_array x)) below sound.represents));
       works = λ is. subst (λ (x : CowPages D g). HoldsContents (contents_of x) x) (sym above)
           (subst (λ (c : Contents). HoldsContents c q) (sym (contents_at (durable (contents_of p) held))) (holds_beside (contents_of p) held (works is)));
-      place = subst (λ (k : Cursor). KeepsPlace (contents_of (pages_of t)).records k) (sym cursor)
+      place = subst (λ (k : TreeCursor). KeepsPlace (contents_of (pages_of t)).records k) (sym cursor)
           (subst (λ (c : Contents). KeepsPlace c.records s.cursor) (sym contents_kept) sound.place);
     }

@@ -25,7 +25,7 @@ ghost use Rattle.kv_store.specs.TreeLaws.{keys_rise, present_now, settled_now};
 use crate::commit::{Switch, commit_batch};
 use crate::read_only::ReadOnlyPages;
 use cow_pages::{CowPages, Format, MAX_CACHE_PAGES, OpenFault, PageFault, preserved_stays};
-use page_tree::{Cursor, Scratch, TreeWalk, check_tree, contains, count, first_on, get, step};
+use page_tree::{Scratch, TreeCursor, TreeWalk, check_tree, contains, count, first_on, get, step};
 use sector_device::Device;
 use std::alloc::Global;
 use store::{Batch, Entry, EntryRef, Map, Spelling, Store, StoreFault};
@@ -38,7 +38,7 @@ pub struct TreeStore<D: Device> {
     pub(crate) pages: ReadOnlyPages<D>,
     scratch: Scratch,
     value: Vec<u8>,
-    cursor: Cursor,
+    cursor: TreeCursor,
     pub(crate) has_failed: bool,
     fulls: u64,
     failures: u64,
@@ -94,7 +94,7 @@ impl<D: Device> TreeStore<D> {
             pages: ReadOnlyPages { below: pages },
             scratch: Scratch::new(alloc),
             value: Vec::new(alloc),
-            cursor: Cursor::new(alloc),
+            cursor: TreeCursor::new(alloc),
             has_failed: false,
             fulls: 0,
             failures: 0,

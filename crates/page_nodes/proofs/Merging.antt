@@ -5,7 +5,7 @@ use Rattle.std.specs.Prelude.{IfSome}
 use Rattle.std.specs.Borrow.{Bor}
 use Rattle.page_nodes.specs.declared.cell.NodeKind.{NodeKind}
 use Rattle.page_nodes.specs.declared.cell.NodeKind.TheVariants.{Leaf}
-use Rattle.page_nodes.specs.declared.merge.Merge.{Merge}
+use Rattle.page_nodes.specs.declared.merge.LeafMerge.{LeafMerge}
 use Rattle.page_nodes.specs.Map.{is_below, Entry, with_entry, without, edited, lent_bytes, low_entries, rest_entries}
 use Rattle.page_nodes.specs.Node.{cell_bytes, cells_bytes, HasSizes, IsKeySize, IsPayloadSize, IsNode, zeros_after}
 use Rattle.page_nodes.specs.Search.{AreCellsAt, IsPosition}
@@ -66,15 +66,15 @@ new_sizes key (Some value) size value_size = (size, value_size, tt)
 new_sizes key None size value_size = tt
 
 -- all cells of a merge
-pub merged_sizes : (bytes scratch last : List ℕ) (cells : List Entry) (m : Merge) → AreMerged bytes scratch last cells m → HasSizes Leaf cells
+pub merged_sizes : (bytes scratch last : List ℕ) (cells : List Entry) (m : LeafMerge) → AreMerged bytes scratch last cells m → HasSizes Leaf cells
 merged_sizes bytes scratch last cells m a = subst (λ (xs : List Entry). HasSizes Leaf xs) (sym a.whole) (sizes_append Leaf a.front a.rest a.sizes a.here.sizes)
 
-pub front_few : (bytes scratch last : List ℕ) (cells : List Entry) (m : Merge) → AreMerged bytes scratch last cells m → m.count ≤ 4096
+pub front_few : (bytes scratch last : List ℕ) (cells : List Entry) (m : LeafMerge) → AreMerged bytes scratch last cells m → m.count ≤ 4096
 front_few bytes scratch last cells m a =
     let all = ap (λ (xs : List Entry). length (cells_bytes Leaf xs)) a.whole ∙ (ap (λ (xs : List ℕ). length xs) (cells_append Leaf a.front a.rest) ∙ length-append (cells_bytes Leaf a.front) (cells_bytes Leaf a.rest)) in
     omega (arith, a.count_is, few_cells Leaf a.front, all, a.fits)
 
-pub rest_few : (bytes scratch last : List ℕ) (cells : List Entry) (m : Merge) → AreMerged bytes scratch last cells m → m.left ≤ 4096
+pub rest_few : (bytes scratch last : List ℕ) (cells : List Entry) (m : LeafMerge) → AreMerged bytes scratch last cells m → m.left ≤ 4096
 rest_few bytes scratch last cells m a =
     let all = ap (λ (xs : List Entry). length (cells_bytes Leaf xs)) a.whole ∙ (ap (λ (xs : List ℕ). length xs) (cells_append Leaf a.front a.rest) ∙ length-append (cells_bytes Leaf a.front) (cells_bytes Leaf a.rest)) in
     omega (arith, a.left_is, few_cells Leaf a.rest, all, a.fits)
@@ -84,21 +84,21 @@ rest_long : (bytes : List ℕ) (at end : ℕ) (cells : List Entry) (after : List
 rest_long bytes at end cells after here is size at_in end_in =
     omega (arith, ap (λ (xs : List ℕ). length xs) here.spelled, ap (λ (xs : List ℕ). length xs) is, length-append (cells_bytes Leaf cells) after, length-drop at bytes, length-drop end bytes, size, at_in, end_in)
 
-pub merged_end : (bytes scratch last : List ℕ) (cells : List Entry) (m : Merge) → (a : AreMerged bytes scratch last cells m) → length bytes ≡ 4096 → m.at ≤ 4096 → m.end ≤ 4096 → m.at + length (cells_bytes Leaf a.rest) ≡ m.end
+pub merged_end : (bytes scratch last : List ℕ) (cells : List Entry) (m : LeafMerge) → (a : AreMerged bytes scratch last cells m) → length bytes ≡ 4096 → m.at ≤ 4096 → m.end ≤ 4096 → m.at + length (cells_bytes Leaf a.rest) ≡ m.end
 merged_end bytes scratch last cells m a size at_in end_in = rest_long bytes m.at m.end a.rest a.after a.here a.end_is size at_in end_in
 
 -- the rest of the cells follows in scratch
-pub all_spelled : (bytes scratch last : List ℕ) (cells : List Entry) (m : Merge) → (a : AreMerged bytes scratch last cells m) → length bytes ≡ 4096 → m.at ≤ m.end → m.end ≤ 4096 → (out : List ℕ) → out ≡ scratch ++ take (m.end - m.at) (drop m.at bytes)
+pub all_spelled : (bytes scratch last : List ℕ) (cells : List Entry) (m : LeafMerge) → (a : AreMerged bytes scratch last cells m) → length bytes ≡ 4096 → m.at ≤ m.end → m.end ≤ 4096 → (out : List ℕ) → out ≡ scratch ++ take (m.end - m.at) (drop m.at bytes)
     → out ≡ cells_bytes Leaf cells
 all_spelled bytes scratch last cells m a size order inside out is =
     let slice = slice_is m.at m.end bytes (cells_bytes Leaf a.rest) (a.here.spelled ∙ ap (λ (xs : List ℕ). cells_bytes Leaf a.rest ++ xs) (sym a.end_is)) order (omega (arith, inside, size)) in
     is ∙ (ap (λ (xs : List ℕ). scratch ++ xs) slice ∙ (ap (λ (xs : List ℕ). xs ++ cells_bytes Leaf a.rest) a.spelled ∙ (sym (cells_append Leaf a.front a.rest) ∙ ap (λ (xs : List Entry). cells_bytes Leaf xs) (sym a.whole))))
 
-pub all_counted : (bytes scratch last : List ℕ) (cells : List Entry) (m : Merge) → AreMerged bytes scratch last cells m → m.count + m.left ≡ length cells
+pub all_counted : (bytes scratch last : List ℕ) (cells : List Entry) (m : LeafMerge) → AreMerged bytes scratch last cells m → m.count + m.left ≡ length cells
 all_counted bytes scratch last cells m a = omega (arith, ap (λ (xs : List Entry). length xs) a.whole, length-append a.front a.rest, a.count_is, a.left_is)
 
 -- no cell is in scratch yet
-pub begun : (bytes : List ℕ) (cells : List Entry) (m : Merge) → (node : IsNode Leaf [] cells bytes) → m.count ≡ 0 → m.at ≡ 4 → m.left ≡ length cells → drop m.end bytes ≡ zeros_after Leaf [] cells → AreMerged bytes [] [] cells m
+pub begun : (bytes : List ℕ) (cells : List Entry) (m : LeafMerge) → (node : IsNode Leaf [] cells bytes) → m.count ≡ 0 → m.at ≡ 4 → m.left ≡ length cells → drop m.end bytes ≡ zeros_after Leaf [] cells → AreMerged bytes [] [] cells m
 begun bytes cells m node count at left end =
     let b = begins Leaf bytes [] cells node in
     record {
@@ -117,7 +117,7 @@ begun bytes cells m node count at left end =
     }
 
 -- one edit
-module _ (bytes scratch last key : List ℕ) (value : Option (List ℕ)) (cells : List Entry) (m : Merge) (a : AreMerged bytes scratch last cells m) (order : is_below last key ≡ true) (size : length bytes ≡ 4096) (at_in : m.at ≤ 4096) (end_in : m.end ≤ 4096)
+module _ (bytes scratch last key : List ℕ) (value : Option (List ℕ)) (cells : List Entry) (m : LeafMerge) (a : AreMerged bytes scratch last cells m) (order : is_below last key ≡ true) (size : length bytes ≡ 4096) (at_in : m.at ≤ 4096) (end_in : m.end ≤ 4096)
     (at index left to over : ℕ) (sought : IsPosition Leaf bytes key a.rest a.after at index left) (begins : m.at ≤ at) (ends : at ≤ 4096)
     (tail_at : AreCellsAt Leaf bytes to (cells_after key (rest_entries key a.rest)) a.after) (over_is : over ≡ length (cells_after key (rest_entries key a.rest))) (to_in : to ≤ 4096) where
   abbrev pub low : List Entry
@@ -154,7 +154,7 @@ module _ (bytes scratch last key : List ℕ) (value : Option (List ℕ)) (cells 
   pub to_before : to ≤ m.end
   to_before = let behind = rest_long bytes to m.end tail a.after tail_at a.end_is size to_in end_in in omega (arith, behind)
 
-  pub edit_merged : (scratch_one scratch_two : List ℕ) (added : ℕ) (n : Merge) → scratch_one ≡ scratch ++ take (at - m.at) (drop m.at bytes) → scratch_two ≡ scratch_one ++ cells_bytes Leaf new → added ≡ length new
+  pub edit_merged : (scratch_one scratch_two : List ℕ) (added : ℕ) (n : LeafMerge) → scratch_one ≡ scratch ++ take (at - m.at) (drop m.at bytes) → scratch_two ≡ scratch_one ++ cells_bytes Leaf new → added ≡ length new
       → IsKeySize key → HasSizes Leaf new → 4 + length (cells_bytes Leaf (edited key value cells)) ≤ 4096
       → n.count ≡ m.count + index + added → n.at ≡ to → n.left ≡ over → n.end ≡ m.end → AreMerged bytes scratch_two key (edited key value cells) n
   unfolding edit_is front_spelled

@@ -1,7 +1,7 @@
 -- Cells of a leaf that are edited one after another, in the order of their keys.
 use Rattle.std.specs.Prelude.{◌≡◌, ℕ, true, List, [], ◌∷◌, ◌++◌, length, drop}
 use Rattle.page_nodes.specs.declared.cell.NodeKind.TheVariants.{Leaf}
-use Rattle.page_nodes.specs.declared.merge.Merge.{Merge}
+use Rattle.page_nodes.specs.declared.merge.LeafMerge.{LeafMerge}
 use Rattle.page_nodes.specs.Map.{is_below, Entry}
 use Rattle.page_nodes.specs.Node.{cells_bytes, HasSizes, FitsPage}
 use Rattle.page_nodes.specs.Search.{AreCellsAt}
@@ -12,7 +12,7 @@ AllBelow key [] = Unit {0}
 AllBelow key (e ∷ es) = (is_below e.0 key ≡ true) × AllBelow key es
 
 -- Of these cells the first are in scratch, where none has a key after the last one that was edited, and the others in the page still; together they fit in it.
-pub record AreMerged (bytes scratch last : List ℕ) (cells : List Entry) (merge : Merge) : Type 0 where
+pub record AreMerged (bytes scratch last : List ℕ) (cells : List Entry) (merge : LeafMerge) : Type 0 where
   pub front : List Entry
   pub rest : List Entry
   pub after : List ℕ

@@ -10,7 +10,7 @@ mod search;
 mod start;
 
 pub use cell::{CellView, NodeKind, cell_at, is_less, push_cell};
-pub use merge::Merge;
+pub use merge::LeafMerge;
 pub use offsets::{IndexedPage, PageView};
 pub use page::{first_child, first_of, fits, kind_of, node_kind, one_node, write_node};
 pub use scratch::{

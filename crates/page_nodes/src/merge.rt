@@ -14,7 +14,7 @@ use storage_sizes::PAGE_SIZE;
 /// The cells of a leaf that are edited in the order of their keys: so many are in scratch, edited, and so many in the page
 /// still, from one index to another.
 #[derive(Clone, Copy, Drop)]
-pub struct Merge {
+pub struct LeafMerge {
     count: usize,
     at: usize,
     left: usize,
@@ -36,18 +36,18 @@ fn cell_length(key: &[u8], value: Option<&[u8]>) -> usize
     }
 }
 
-impl Merge {
+impl LeafMerge {
     ghost use Rattle.page_nodes.specs.Merge.{AreMerged};
 
     /// The cells of a leaf, of which none is in scratch yet. None: these bytes are no leaf.
-    pub fn new(bytes: &[u8; PAGE_SIZE]) -> Option<Merge>
+    pub fn new(bytes: &[u8; PAGE_SIZE]) -> Option<LeafMerge>
         ensures { (cells : List Entry) → IsNode Leaf [] cells bytes.now
             → MatchOption result ⊥ (λ merge. AreMerged bytes.now [] [] cells merge) }
     {
         let left = two_at(bytes, 2);
         let at = NodeKind::Leaf.start();
         let end = cells_end(bytes, NodeKind::Leaf, at, left)?;
-        Some(Merge {
+        Some(LeafMerge {
             count: 0,
             at,
             left,
@@ -64,7 +64,7 @@ impl Merge {
         key: &[u8],
         value: Option<&[u8]>,
         scratch: &mut Vec<u8>,
-    ) -> Result<Option<Merge>, AllocError>
+    ) -> Result<Option<LeafMerge>, AllocError>
         requires key { IsKeySize key.now }
         requires value { IfSome value (λ b. IsPayloadSize Leaf b.now) }
         ensures edited { (last : List ℕ) (cells : List Entry)
@@ -92,7 +92,7 @@ impl Merge {
         }
         scratch.extend_from_slice(&bytes[self.at..sought.at])?;
         let added = push_payload(scratch, NodeKind::Leaf, key, value)?;
-        Ok(Some(Merge {
+        Ok(Some(LeafMerge {
             count: self.count + sought.index + added,
             at: to,
             left,

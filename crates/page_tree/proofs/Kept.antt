@@ -12,16 +12,16 @@ use Rattle.page_nodes.proofs.Order.{lt_lt}
 use Rattle.page_nodes.proofs.Scan.{IsHead, head_of, low_rest}
 use Rattle.page_tree.specs.Search.{key_of, value_of, IsFound}
 use Rattle.page_tree.specs.Kept.{AreLeft, IsTakenFrom, IsPlaced, KeepsPlace, IsFoundIn}
-use Rattle.page_tree.specs.declared.cursor.Cursor.{Cursor}
+use Rattle.page_tree.specs.declared.cursor.TreeCursor.{TreeCursor}
 
 -- the first of the cells that are left is read
-pub head_left : (cells : List Entry) (cursor : Cursor) (key payload : List ℕ) (end : ℕ) → (left : AreLeft cells cursor) → 0 < cursor.leaf.left → IsCellAt Leaf cursor.leaf.page cursor.leaf.at key payload end
+pub head_left : (cells : List Entry) (cursor : TreeCursor) (key payload : List ℕ) (end : ℕ) → (left : AreLeft cells cursor) → 0 < cursor.leaf.left → IsCellAt Leaf cursor.leaf.page cursor.leaf.at key payload end
     → IsHead Leaf cursor.leaf.page cells left.after key payload end
 head_left cells cursor key payload end left some view =
     head_of Leaf cursor.leaf.page cursor.leaf.at cells left.after key payload end left.spelled (omega (arith, left.count, some)) view
 
 -- and taken
-pub taken_from : (cells : List Entry) (before cursor : Cursor) (key payload : List ℕ) (end : ℕ) → AreLeft cells before → 0 < before.leaf.left → IsCellAt Leaf before.leaf.page before.leaf.at key payload end
+pub taken_from : (cells : List Entry) (before cursor : TreeCursor) (key payload : List ℕ) (end : ℕ) → AreLeft cells before → 0 < before.leaf.left → IsCellAt Leaf before.leaf.page before.leaf.at key payload end
     → key_of cursor ≡ key → value_of cursor ≡ payload → cursor.leaf.page ≡ before.leaf.page → cursor.leaf.at ≡ end → cursor.leaf.left ≡ before.leaf.left - 1 → IsTakenFrom cells true cursor
 taken_from cells before cursor key payload end left some view key_is payload_is page at count =
     let h = head_left cells before key payload end left some view in
@@ -47,7 +47,7 @@ first_is key [] = refl
 first_is key (e ∷ es) = ⊎_elim (λ yes. rw yes (first_is key es)) (λ no. rw no refl) (cases_Bool (is_below e.0 key))
 
 -- the first of the last entries of a map is taken
-found_as_first : (map low rest : List Entry) (key : List ℕ) (found : Bool) (cursor : Cursor) → map ≡ low ++ rest → first_at key map ≡ first_of rest → IsTakenFrom rest found cursor → IsFoundIn map key found cursor
+found_as_first : (map low rest : List Entry) (key : List ℕ) (found : Bool) (cursor : TreeCursor) → map ≡ low ++ rest → first_at key map ≡ first_of rest → IsTakenFrom rest found cursor → IsFoundIn map key found cursor
 unfolding first_of
 found_as_first map low [] key found cursor whole first taken =
     (rw first taken.0, λ some. absurd (omega (arith, taken.1, some)))
@@ -62,7 +62,7 @@ found_as_first map low (c ∷ cs) key found cursor whole first taken = (
   },
 )
 
-pub entry_taken : (key : List ℕ) (es : List Entry) (cursor : Cursor) (r : Result Bool PageFault)
+pub entry_taken : (key : List ℕ) (es : List Entry) (cursor : TreeCursor) (r : Result Bool PageFault)
     → MatchResult r (λ found. IsTakenFrom (rest_entries key es) found cursor) (λ f. (f ≡ Memory) × (cursor.leaf.left ≡ 0)) → MatchResult r (λ found. IsFoundIn es key found cursor) (λ f. f ≡ Memory)
 entry_taken key es cursor (Ok found) is = found_as_first es (low_entries key es) (rest_entries key es) key found cursor (low_rest key es) (first_is key es) is
 entry_taken key es cursor (Err f) is = is.0
@@ -82,12 +82,12 @@ answer_is : (a b : Bool) → ◌≡◌ {A = Result Bool PageFault} (Ok a) (Ok b)
 answer_is a b same = cc
 
 -- where there is a first cell, it is taken, or the call fails
-pub takes_some : (c : Entry) (cs : List Entry) (cursor : Cursor) (r : Result Bool PageFault) (Q : PageFault → Type 0) → MatchResult r (λ found. IsTakenFrom (c ∷ cs) found cursor) Q → r ≢ Ok false
+pub takes_some : (c : Entry) (cs : List Entry) (cursor : TreeCursor) (r : Result Bool PageFault) (Q : PageFault → Type 0) → MatchResult r (λ found. IsTakenFrom (c ∷ cs) found cursor) Q → r ≢ Ok false
 takes_some c cs cursor (Ok found) Q is none = absurd (false≢true (sym (answer_is found false none) ∙ is.0))
 takes_some c cs cursor (Err f) Q is none = absurd cc
 
 -- a step of a cursor
-module _ (map : List Entry) (key : List ℕ) (before cursor : Cursor) (rising : IsRising map) (p : IsPlaced map before) (c : Entry) (cs : List Entry) (cells_are : p.cells ≡ c ∷ cs)
+module _ (map : List Entry) (key : List ℕ) (before cursor : TreeCursor) (rising : IsRising map) (p : IsPlaced map before) (c : Entry) (cs : List Entry) (cells_are : p.cells ≡ c ∷ cs)
     (below : is_below (key_of before) key ≡ true) (not : is_below c.0 key ≡ false) where
   map_is : map ≡ p.front ++ ((key_of before, value_of before) ∷ (c ∷ (cs ++ p.behind)))
   map_is = p.map_is ∙ ap (λ (xs : List Entry). p.front ++ ((key_of before, value_of before) ∷ (xs ++ p.behind))) cells_are
@@ -114,7 +114,7 @@ module _ (map : List Entry) (key : List ℕ) (before cursor : Cursor) (rising : 
   stepped (Err f) is = (is.0, λ some. absurd (omega (arith, is.1, some)))
 
 -- a place in a map is one in a map around it
-pub place_within : (before map after : List Entry) (cursor : Cursor) → KeepsPlace map cursor → KeepsPlace (before ++ (map ++ after)) cursor
+pub place_within : (before map after : List Entry) (cursor : TreeCursor) → KeepsPlace map cursor → KeepsPlace (before ++ (map ++ after)) cursor
 place_within before map after cursor keeps = λ some.
     let p = keeps some in
     let e : Entry = (key_of cursor, value_of cursor) in

@@ -3,7 +3,7 @@ use Rattle.std.proofs.Common.{◌≡◌, ◌⊎◌, ⊎_elim, inl, inr, ℕ, zer
 use Rattle.std.proofs.lemmas.List.{take_more}
 use Rattle.std.specs.Prelude.{IsSome, MatchOption}
 use Rattle.page_nodes.specs.declared.cell.NodeKind.TheVariants.{Leaf}
-use Rattle.page_nodes.specs.declared.merge.Merge.{Merge}
+use Rattle.page_nodes.specs.declared.merge.LeafMerge.{LeafMerge}
 use Rattle.page_nodes.specs.Map.{is_below, Entry, edited}
 use Rattle.page_nodes.specs.Node.{cells_bytes}
 use Rattle.page_nodes.specs.Merge.{AreMerged}
@@ -18,7 +18,7 @@ use Rattle.page_tree.proofs.Edits.{in_turn_more, within_more}
 use Rattle.page_tree.proofs.RemovalNodes.{without_long}
 
 -- the first changes are made, and the key of the last of them is known
-pub record Merging (bytes scratch : List ℕ) (es : List Entry) (high : Option (List ℕ)) (first : Change) (changes : Changes) (made : ℕ) (merge : Merge) (last : List ℕ) : Type 0 where
+pub record Merging (bytes scratch : List ℕ) (es : List Entry) (high : Option (List ℕ)) (first : Change) (changes : Changes) (made : ℕ) (merge : LeafMerge) (last : List ℕ) : Type 0 where
   pub merged : AreMerged bytes scratch last (edited_in_turn (take made changes) es) merge
   pub within : AreWithin first.0 high (take made changes)
   pub none : made ≡ 0 → last ≡ []
@@ -29,7 +29,7 @@ unfolding is_below
 some_below [] long = absurd (omega (arith, long))
 some_below (x ∷ xs) long = refl
 
-pub merging_begins : (bytes scratch : List ℕ) (es : List Entry) (high : Option (List ℕ)) (first : Change) (changes : Changes) (m : Merge) → AreMerged bytes scratch [] es m → Merging bytes scratch es high first changes 0 m []
+pub merging_begins : (bytes scratch : List ℕ) (es : List Entry) (high : Option (List ℕ)) (first : Change) (changes : Changes) (m : LeafMerge) → AreMerged bytes scratch [] es m → Merging bytes scratch es high first changes 0 m []
 merging_begins bytes scratch es high first changes m a = record { merged = a; within = tt; none = λ is. refl; reached = λ some. absurd (omega (arith, some)) }
 
 pub first_is : (first c : Change) (rest changes : Changes) (made : ℕ) → changes ≡ first ∷ rest → c ≡ get_or changes made c → made ≡ 0 → c ≡ first
@@ -40,7 +40,7 @@ none_or_some zero = inl refl
 none_or_some (suc n) = inr (omega arith)
 
 -- all changes are made
-pub stopped_last : (bytes scratch : List ℕ) (es : List Entry) (high : Option (List ℕ)) (first : Change) (rest changes : Changes) (made : ℕ) (merge : Merge) (last : List ℕ) → Merging bytes scratch es high first changes made merge last
+pub stopped_last : (bytes scratch : List ℕ) (es : List Entry) (high : Option (List ℕ)) (first : Change) (rest changes : Changes) (made : ℕ) (merge : LeafMerge) (last : List ℕ) → Merging bytes scratch es high first changes made merge last
     → changes ≡ first ∷ rest → length changes ≤ made → made ≤ length changes → AreMerging bytes scratch es high first changes (length changes) merge
 stopped_last bytes scratch es high first rest changes made merge last m whole all most =
     let same : made ≡ length changes = omega (arith, all, most) in
@@ -51,20 +51,20 @@ stopped_last bytes scratch es high first rest changes made merge last m whole al
       some = λ none. absurd (let long = ap (λ (cs : Changes). length cs) whole in omega (arith, none, long));
     }
 
-pub none_exceeds : (made : Option Merge) (X : Type 0) (Y : Merge → Type 0) → made ≡ None → MatchOption made X Y → X
-none_exceeds made X Y is all = subst (λ (o : Option Merge). MatchOption o X Y) is all
+pub none_exceeds : (made : Option LeafMerge) (X : Type 0) (Y : LeafMerge → Type 0) → made ≡ None → MatchOption made X Y → X
+none_exceeds made X Y is all = subst (λ (o : Option LeafMerge). MatchOption o X Y) is all
 
-pub some_merged : (made : Option Merge) (m : Merge) (X : Type 0) (Y : Merge → Type 0) → made ≡ Some m → MatchOption made X Y → Y m
-some_merged made m X Y is all = subst (λ (o : Option Merge). MatchOption o X Y) is all
+pub some_merged : (made : Option LeafMerge) (m : LeafMerge) (X : Type 0) (Y : LeafMerge → Type 0) → made ≡ Some m → MatchOption made X Y → Y m
+some_merged made m X Y is all = subst (λ (o : Option LeafMerge). MatchOption o X Y) is all
 
-pub scratch_as : (bytes a b : List ℕ) (es : List Entry) (high : Option (List ℕ)) (first : Change) (changes : Changes) (made : ℕ) (merge : Merge) → b ≡ a → AreMerging bytes a es high first changes made merge → AreMerging bytes b es high first changes made merge
+pub scratch_as : (bytes a b : List ℕ) (es : List Entry) (high : Option (List ℕ)) (first : Change) (changes : Changes) (made : ℕ) (merge : LeafMerge) → b ≡ a → AreMerging bytes a es high first changes made merge → AreMerging bytes b es high first changes made merge
 scratch_as bytes a b es high first changes made merge same m = subst (λ (xs : List ℕ). AreMerging bytes xs es high first changes made merge) (sym same) m
 
-pub last_as : (bytes scratch : List ℕ) (es : List Entry) (high : Option (List ℕ)) (first : Change) (changes : Changes) (made : ℕ) (merge : Merge) (a b : List ℕ) → b ≡ a → Merging bytes scratch es high first changes made merge a → Merging bytes scratch es high first changes made merge b
+pub last_as : (bytes scratch : List ℕ) (es : List Entry) (high : Option (List ℕ)) (first : Change) (changes : Changes) (made : ℕ) (merge : LeafMerge) (a b : List ℕ) → b ≡ a → Merging bytes scratch es high first changes made merge a → Merging bytes scratch es high first changes made merge b
 last_as bytes scratch es high first changes made merge a b same m = subst (λ (xs : List ℕ). Merging bytes scratch es high first changes made merge xs) (sym same) m
 
 -- why no change was made
-module _ (bytes scratch : List ℕ) (es : List Entry) (high : Option (List ℕ)) (first c : Change) (rest changes : Changes) (made : ℕ) (merge : Merge) (last : List ℕ) (m : Merging bytes scratch es high first changes made merge last)
+module _ (bytes scratch : List ℕ) (es : List Entry) (high : Option (List ℕ)) (first c : Change) (rest changes : Changes) (made : ℕ) (merge : LeafMerge) (last : List ℕ) (m : Merging bytes scratch es high first changes made merge last)
     (whole : changes ≡ first ∷ rest) (is : c ≡ get_or changes made c) where
   stopped : (made ≡ 0 → IsSome first.1) → AreMerging bytes scratch es high first changes made merge
   stopped some = record { last = last; merged = m.merged; within = m.within; some = some }
@@ -93,7 +93,7 @@ module _ (bytes scratch : List ℕ) (es : List Entry) (high : Option (List ℕ))
       subst (λ (d : Change). IsSome d.1) same (value_there c.1 (λ gone. removal_fits c gone fits over_now)))
 
   -- one change more
-  pub merging_on : (scratch_now : List ℕ) (merge_now : Merge) → made < length changes → is_below last c.0 ≡ true → IsUnder c.0 high → AreMerged bytes scratch_now c.0 (edited c.0 c.1 (edited_in_turn (take made changes) es)) merge_now
+  pub merging_on : (scratch_now : List ℕ) (merge_now : LeafMerge) → made < length changes → is_below last c.0 ≡ true → IsUnder c.0 high → AreMerged bytes scratch_now c.0 (edited c.0 c.1 (edited_in_turn (take made changes) es)) merge_now
       → Merging bytes scratch_now es high first changes (made + 1) merge_now c.0
   merging_on scratch_now merge_now inside order under a =
       let more : take (made + 1) changes ≡ take made changes ++ (c ∷ []) = take_more changes made c inside ∙ ap (λ (x : Change). take made changes ++ (x ∷ [])) (sym is) in
@@ -108,7 +108,7 @@ module _ (bytes scratch : List ℕ) (es : List Entry) (high : Option (List ℕ))
       }
 
 -- all cells are in scratch
-pub all_changed : (bytes scratch out : List ℕ) (es : List Entry) (high : Option (List ℕ)) (first : Change) (changes : Changes) (made count : ℕ) (merge : Merge) → (m : AreMerging bytes scratch es high first changes made merge)
+pub all_changed : (bytes scratch out : List ℕ) (es : List Entry) (high : Option (List ℕ)) (first : Change) (changes : Changes) (made count : ℕ) (merge : LeafMerge) → (m : AreMerging bytes scratch es high first changes made merge)
     → count ≡ length (edited_in_turn (take made changes) es) → out ≡ cells_bytes Leaf (edited_in_turn (take made changes) es) → AreChanged out es high first changes made count
 all_changed bytes scratch out es high first changes made count merge m number spelled = record {
   cells = record {
@@ -125,7 +125,7 @@ all_changed bytes scratch out es high first changes made count merge m number sp
 pub over_as : (es : List Entry) (key k : List ℕ) (value v : Option (List ℕ)) → key ≡ k → value ≡ v → 4096 < 4 + length (cells_bytes Leaf (edited key value es)) → 4096 < 4 + length (cells_bytes Leaf (edited k v es))
 over_as es key k value v same is over = subst (λ (x : List ℕ). 4096 < 4 + length (cells_bytes Leaf (edited x v es))) same (subst (λ (x : Option (List ℕ)). 4096 < 4 + length (cells_bytes Leaf (edited key x es))) is over)
 
-pub merged_as : (bytes scratch : List ℕ) (es : List Entry) (merge : Merge) (key k : List ℕ) (value v : Option (List ℕ)) → key ≡ k → value ≡ v → AreMerged bytes scratch key (edited key value es) merge → AreMerged bytes scratch k (edited k v es) merge
+pub merged_as : (bytes scratch : List ℕ) (es : List Entry) (merge : LeafMerge) (key k : List ℕ) (value v : Option (List ℕ)) → key ≡ k → value ≡ v → AreMerged bytes scratch key (edited key value es) merge → AreMerged bytes scratch k (edited k v es) merge
 merged_as bytes scratch es merge key k value v same is a = subst (λ (x : List ℕ). AreMerged bytes scratch x (edited x v es) merge) same (subst (λ (x : Option (List ℕ)). AreMerged bytes scratch key (edited key x es) merge) is a)
 
 -- a key between another one and a bound
@@ -140,7 +140,7 @@ pub first_long : (first : Change) (rest changes : Changes) → changes ≡ first
 first_long first rest changes whole all = (subst (λ (cs : Changes). AllByRecursion IsChangeSize cs) whole all).0.0.0
 
 -- scratch is empty at first
-pub cleared_as : (bytes items : List ℕ) (es : List Entry) (m : Merge) → items ≡ [] → AreMerged bytes [] [] es m → AreMerged bytes items [] es m
+pub cleared_as : (bytes items : List ℕ) (es : List Entry) (m : LeafMerge) → items ≡ [] → AreMerged bytes [] [] es m → AreMerged bytes items [] es m
 cleared_as bytes items es m none a = subst (λ (xs : List ℕ). AreMerged bytes xs [] es m) (sym none) a
 
 pub some_number : (found : Option ℕ) (a b : ℕ) → found ≡ Some a → found ≡ Some b → a ≡ b

@@ -12,7 +12,7 @@ use Rattle.page_tree.specs.Forest.{Forest, no_trees, leaf, inner, append, cells,
 use Rattle.page_tree.specs.Site.{IsSubtree, site_of}
 use Rattle.page_tree.specs.Search.{IsFound, first_after}
 use Rattle.page_tree.specs.Kept.{KeepsPlace}
-use Rattle.page_tree.specs.declared.cursor.Cursor.{Cursor}
+use Rattle.page_tree.specs.declared.cursor.TreeCursor.{TreeCursor}
 use Rattle.page_tree.proofs.Trees.{parts, cells_append, entries_append, next_append, full_left}
 use Rattle.page_tree.proofs.Bounds.{first_key, all_from, irreflexive, under_rest}
 use Rattle.page_tree.proofs.Place.{Place, placed, entries_around, first_place, after_place, later_place}
@@ -153,11 +153,11 @@ module _ (A : Array) (t : Forest) (d : ℕ) (low : List ℕ) (high : Option (Lis
   entries_here : entries t ≡ entries p.before ++ (entries p.at ++ entries p.after)
   entries_here = ap entries i.is ∙ (append-nil (entries i.c) ∙ (ap entries p.whole ∙ entries_around p.before p.at p.after))
 
-  pub place_here : (cursor : Cursor) → KeepsPlace (entries p.at) cursor → KeepsPlace (entries t) cursor
+  pub place_here : (cursor : TreeCursor) → KeepsPlace (entries p.at) cursor → KeepsPlace (entries t) cursor
   place_here cursor keeps =
       subst (λ (es : List Entry). KeepsPlace es cursor) (sym entries_here) (place_within (entries p.before) (entries p.at) (entries p.after) cursor keeps)
 
-  pub place_later : (r : FirstTree p.after) (cursor : Cursor) → KeepsPlace (entries r.at) cursor → KeepsPlace (entries t) cursor
+  pub place_later : (r : FirstTree p.after) (cursor : TreeCursor) → KeepsPlace (entries r.at) cursor → KeepsPlace (entries t) cursor
   place_later r cursor keeps =
       let apart : entries t ≡ (entries p.before ++ entries p.at) ++ (entries r.at ++ entries r.after) =
       entries_here ∙ (sym (append_assoc (entries p.before) (entries p.at) (entries p.after)) ∙ ap (λ (es : List Entry). (entries p.before ++ entries p.at) ++ es) (ap entries r.whole ∙ entries_append r.at r.after)) in
@@ -212,7 +212,7 @@ pub least_inner : (A : Array) (t : Forest) (d : ℕ) (low : List ℕ) (high : Op
 least_inner A t d low high page i r full =
     ap (λ (x : Forest). first_at [] (entries x)) i.is ∙ (ap (λ (xs : List Entry). first_at [] xs) (append-nil (entries i.c)) ∙ least_first_tree i.c r full)
 
-pub place_least : (A : Array) (t : Forest) (d : ℕ) (low : List ℕ) (high : Option (List ℕ)) (page : ℕ) (i : AtInner A t d low high page) (r : FirstTree i.c) (cursor : Cursor) → KeepsPlace (entries r.at) cursor → KeepsPlace (entries t) cursor
+pub place_least : (A : Array) (t : Forest) (d : ℕ) (low : List ℕ) (high : Option (List ℕ)) (page : ℕ) (i : AtInner A t d low high page) (r : FirstTree i.c) (cursor : TreeCursor) → KeepsPlace (entries r.at) cursor → KeepsPlace (entries t) cursor
 place_least A t d low high page i r cursor keeps =
     let apart : entries t ≡ entries r.at ++ entries r.after = ap entries i.is ∙ (append-nil (entries i.c) ∙ (ap entries r.whole ∙ entries_append r.at r.after)) in
     subst (λ (es : List Entry). KeepsPlace es cursor) (sym apart) (place_within [] (entries r.at) (entries r.after) cursor keeps)

@@ -17,7 +17,7 @@ use Rattle.page_nodes.proofs.Scan.{head_of}
 use Rattle.page_tree.specs.Kept.{AreLeft, IsLastAt}
 use Rattle.page_tree.specs.Ahead.{AreInLeaf, HasAhead, IsFoundBy, IsStepped}
 use Rattle.page_tree.specs.Counts.{is_within, count_within, IsPassed}
-use Rattle.page_tree.specs.declared.cursor.Cursor.{Cursor}
+use Rattle.page_tree.specs.declared.cursor.TreeCursor.{TreeCursor}
 use Rattle.page_tree.specs.declared.tree_walk.TreeWalk.{TreeWalk}
 use Rattle.page_tree.proofs.Stepping.{rest_behind}
 
@@ -123,7 +123,7 @@ ahead_rises map walk entries rising ahead = ⊎_elim
 -- ---- the cells of a leaf
 
 -- the first cells up to an index are passed
-pub record AreUpTo (cells : List Entry) (at passed : ℕ) (cursor : Cursor) : Type 0 where
+pub record AreUpTo (cells : List Entry) (at passed : ℕ) (cursor : TreeCursor) : Type 0 where
   pub front : List Entry
   pub rest : List Entry
   pub after : List ℕ
@@ -132,10 +132,10 @@ pub record AreUpTo (cells : List Entry) (at passed : ℕ) (cursor : Cursor) : Ty
   pub count : length rest + passed ≡ length cells + 1
   pub here : AreCellsAt Leaf cursor.leaf.page at rest after
 
-pub first_up_to : (cells : List Entry) (cursor : Cursor) → AreLeft cells cursor → 0 < length cells → AreUpTo cells cursor.leaf.at 1 cursor
+pub first_up_to : (cells : List Entry) (cursor : TreeCursor) → AreLeft cells cursor → 0 < length cells → AreUpTo cells cursor.leaf.at 1 cursor
 first_up_to cells cursor left some = record { front = []; rest = cells; after = left.after; cells_are = refl; some = some; count = refl; here = left.spelled }
 
-pub next_up_to : (cells : List Entry) (at passed : ℕ) (cursor : Cursor) (key payload : List ℕ) (end : ℕ) → AreUpTo cells at passed cursor → passed < length cells → IsCellAt Leaf cursor.leaf.page at key payload end → AreUpTo cells end (passed + 1) cursor
+pub next_up_to : (cells : List Entry) (at passed : ℕ) (cursor : TreeCursor) (key payload : List ℕ) (end : ℕ) → AreUpTo cells at passed cursor → passed < length cells → IsCellAt Leaf cursor.leaf.page at key payload end → AreUpTo cells end (passed + 1) cursor
 next_up_to cells at passed cursor key payload end up more view =
     let h = head_of Leaf cursor.leaf.page at up.rest up.after key payload end up.here up.some view in
     let long = ap (λ (es : List Entry). length es) h.cells_are in
@@ -149,7 +149,7 @@ next_up_to cells at passed cursor key payload end up more view =
       here = h.rest;
     }
 
-pub last_up_to : (cells : List Entry) (at passed : ℕ) (cursor : Cursor) → AreUpTo cells at passed cursor → length cells ≤ passed → IsLastAt cells at cursor
+pub last_up_to : (cells : List Entry) (at passed : ℕ) (cursor : TreeCursor) → AreUpTo cells at passed cursor → length cells ≤ passed → IsLastAt cells at cursor
 last_up_to cells at passed cursor up all = go up.rest up.cells_are up.some up.count up.here
   where
     go : (rest : List Entry) → cells ≡ up.front ++ rest → 0 < length rest → length rest + passed ≡ length cells + 1 → AreCellsAt Leaf cursor.leaf.page at rest up.after → IsLastAt cells at cursor

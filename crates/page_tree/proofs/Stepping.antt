@@ -12,7 +12,7 @@ use Rattle.page_tree.proofs.Kept.{head_left}
 use Rattle.page_tree.specs.Search.{IsFound, key_of, value_of}
 use Rattle.page_tree.specs.Kept.{KeepsPlace}
 use Rattle.page_tree.specs.Ahead.{AreInLeaf, IsFoundAt, IsStepped}
-use Rattle.page_tree.specs.declared.cursor.Cursor.{Cursor}
+use Rattle.page_tree.specs.declared.cursor.TreeCursor.{TreeCursor}
 use Rattle.page_tree.specs.declared.leaf.CellStart.{CellStart}
 use Rattle.page_tree.specs.declared.tree_walk.TreeWalk.{TreeWalk}
 
@@ -176,7 +176,7 @@ cell_read bytes at entry end key payload other is read =
     (one.key, one.payload)
 
 -- a cursor that keeps a place in each map keeps no leaf
-pub none_left : (cursor : Cursor) → KeepsPlace [] cursor → 0 < cursor.leaf.left → ⊥
+pub none_left : (cursor : TreeCursor) → KeepsPlace [] cursor → 0 < cursor.leaf.left → ⊥
 none_left cursor place some =
     let p = place some in
     let long = ap (λ (xs : List Entry). length xs) p.map_is in

@@ -9,7 +9,7 @@ use Rattle.page_tree.specs.Forest.{Represents}
 use Rattle.page_tree.specs.Search.{key_of, value_of}
 use Rattle.page_tree.specs.Kept.{AreLeft}
 use Rattle.page_tree.specs.Calls.{Gives}
-use Rattle.page_tree.specs.declared.cursor.Cursor.{Cursor}
+use Rattle.page_tree.specs.declared.cursor.TreeCursor.{TreeCursor}
 use Rattle.page_tree.specs.declared.leaf.CellStart.{CellStart}
 use Rattle.page_tree.specs.declared.tree_walk.TreeWalk.{TreeWalk}
 
@@ -28,7 +28,7 @@ pub record HasAhead (map : List Entry) (walk : TreeWalk) (entries : List Entry) 
   pub at_key : walk.cursor.leaf.left ≡ 0 → entries ≡ rest_entries walk.next.items map
 
 -- an entry was found: the first one in a leaf, which the cursor has, or at a cell of the leaf
-abbrev pub IsFoundAt : Option CellStart → Cursor → Entry → Type 0
+abbrev pub IsFoundAt : Option CellStart → TreeCursor → Entry → Type 0
 IsFoundAt None cursor entry = (key_of cursor ≡ entry.0) × (value_of cursor ≡ entry.1)
 IsFoundAt (Some begin) cursor entry = (end : ℕ) × IsCellAt Leaf cursor.leaf.page begin.at entry.0 entry.1 end
 

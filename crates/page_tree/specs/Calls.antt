@@ -7,8 +7,8 @@ use Rattle.pages.specs.State.{OnlyReads}
 use Rattle.page_nodes.specs.declared.cell.NodeKind.{NodeKind}
 use Rattle.page_nodes.specs.declared.cell.NodeKind.TheVariants.{Leaf, Inner}
 use Rattle.page_nodes.specs.declared.scratch.Edit.{Edit}
-use Rattle.page_tree.specs.declared.cuts.Place.{Place}
-use Rattle.page_tree.specs.declared.cuts.Place.TheVariants.{End}
+use Rattle.page_tree.specs.declared.cuts.SplitPoint.{SplitPoint}
+use Rattle.page_tree.specs.declared.cuts.SplitPoint.TheVariants.{End}
 use Rattle.page_nodes.specs.Scratch.{EndFits}
 use Rattle.page_nodes.specs.Map.{Entry, value_for, first_at, with_entry, IsRising}
 use Rattle.page_nodes.specs.Node.{four_bytes, cells_bytes, IsNode, HasSizes}
@@ -17,7 +17,7 @@ use Rattle.page_tree.specs.Site.{Site, IsSubtree}
 use Rattle.page_tree.specs.Search.{IsLookedUp, IsFound, HasLeafOf, key_of, value_of}
 use Rattle.page_tree.specs.Kept.{AreLeft, IsTakenFrom, KeepsPlace, IsFoundIn}
 use Rattle.page_tree.specs.Puts.{AreInScratch, IsTaken, AreStored, IsCutAtEnd, IsPutBelow}
-use Rattle.page_tree.specs.declared.cursor.Cursor.{Cursor}
+use Rattle.page_tree.specs.declared.cursor.TreeCursor.{TreeCursor}
 
 -- a fault is one that the pages gave, or a failed allocation; no page is found malformed
 pub record IsCaused (failed_with : PageFault → Type 0) (fault : PageFault) : Type 0 where
@@ -44,18 +44,18 @@ Contains g old new key result =
     (g.state old).sound → (map : List Entry) → Represents map (g.state old).array → Gives g old new result (λ found. found ≡ is_some (value_for key map))
 
 -- an entry of the map is found, which the cursor lends
-abbrev pub Finds : {P : Type 0} (g : Ghosts P) (old new : P) (entry_in : List Entry → Option Entry) (cursor : Cursor) (result : Result Bool PageFault)
+abbrev pub Finds : {P : Type 0} (g : Ghosts P) (old new : P) (entry_in : List Entry → Option Entry) (cursor : TreeCursor) (result : Result Bool PageFault)
     → Type 0
 Finds g old new entry_in cursor result =
     (g.state old).sound → (map : List Entry) → Represents map (g.state old).array
     → Gives g old new result (λ found. IsFound (entry_in map) found (key_of cursor) (value_of cursor))
 
 -- the cursor keeps a place in the map, if it keeps one
-abbrev pub LeavesPlace : {P : Type 0} (g : Ghosts P) (old : P) (cursor : Cursor) → Type 0
+abbrev pub LeavesPlace : {P : Type 0} (g : Ghosts P) (old : P) (cursor : TreeCursor) → Type 0
 LeavesPlace g old cursor = (g.state old).sound → (map : List Entry) → Represents map (g.state old).array → KeepsPlace map cursor
 
 -- an entry of the map is found from a place in it on, and a place in it is kept, whatever the result is
-abbrev pub FindsOn : {P : Type 0} (g : Ghosts P) (old new : P) (entry_in : List Entry → Option Entry) (before cursor : Cursor) (result : Result Bool PageFault)
+abbrev pub FindsOn : {P : Type 0} (g : Ghosts P) (old new : P) (entry_in : List Entry → Option Entry) (before cursor : TreeCursor) (result : Result Bool PageFault)
     → Type 0
 FindsOn g old new entry_in before cursor result =
     (g.state old).sound → (map : List Entry) → Represents map (g.state old).array → KeepsPlace map before
@@ -80,29 +80,29 @@ FindsLeaf g old new page levels key bytes result =
     → Gives g old new result (λ _. HasLeafOf key s.tree bytes)
 
 -- the first of the cells that are left to a cursor goes to it
-abbrev pub TakesNext : (before cursor : Cursor) (result : Result Bool PageFault) → Type 0
+abbrev pub TakesNext : (before cursor : TreeCursor) (result : Result Bool PageFault) → Type 0
 TakesNext before cursor result =
     (cells : List Entry) → AreLeft cells before → MatchResult result (λ found. IsTakenFrom cells found cursor) (λ f. (f ≡ Memory) × (cursor.leaf.left ≡ 0))
 
 -- the first entry of a leaf at or after a key goes to the cursor, which keeps its place
-abbrev pub TakesEntry : (bytes key : List ℕ) (cursor : Cursor) (result : Result Bool PageFault) → Type 0
+abbrev pub TakesEntry : (bytes key : List ℕ) (cursor : TreeCursor) (result : Result Bool PageFault) → Type 0
 TakesEntry bytes key cursor result =
     (es : List Entry) → IsNode Leaf [] es bytes → MatchResult result (λ found. IsFoundIn es key found cursor) (λ f. f ≡ Memory)
 
 -- a cursor goes on to the first entry of its map at or after a key, or stays as it was, or memory is refused
-abbrev pub Steps : (key : List ℕ) (before cursor : Cursor) (result : Result Bool PageFault) → Type 0
+abbrev pub Steps : (key : List ℕ) (before cursor : TreeCursor) (result : Result Bool PageFault) → Type 0
 Steps key before cursor result =
     (map : List Entry) → IsRising map → KeepsPlace map before
     → MatchResult result (λ found. found ≡ true → IsFound (first_at key map) true (key_of cursor) (value_of cursor)) (λ f. f ≡ Memory) × KeepsPlace map cursor
 
 -- the first entry of a tree is found, and a place is kept
-abbrev pub FindsLeast : {P : Type 0} (g : Ghosts P) (old new : P) (page levels : ℕ) (cursor : Cursor) (result : Result Bool PageFault) → Type 0
+abbrev pub FindsLeast : {P : Type 0} (g : Ghosts P) (old new : P) (page levels : ℕ) (cursor : TreeCursor) (result : Result Bool PageFault) → Type 0
 FindsLeast g old new page levels cursor result =
     (g.state old).sound → (s : Site) (key : List ℕ) → IsSubtree (g.state old).array s page key levels
     → Gives g old new result (λ found. (IsFull s.tree → IsFound (first_at [] (entries s.tree)) found (key_of cursor) (value_of cursor)) × KeepsPlace (entries s.tree) cursor)
 
 -- the first entry of a tree at or after a key is found, and a place is kept
-abbrev pub FindsBelow : {P : Type 0} (g : Ghosts P) (old new : P) (page levels : ℕ) (key : List ℕ) (cursor : Cursor) (result : Result Bool PageFault)
+abbrev pub FindsBelow : {P : Type 0} (g : Ghosts P) (old new : P) (page levels : ℕ) (key : List ℕ) (cursor : TreeCursor) (result : Result Bool PageFault)
     → Type 0
 FindsBelow g old new page levels key cursor result =
     (g.state old).sound → (s : Site) → IsSubtree (g.state old).array s page key levels
@@ -135,7 +135,7 @@ StoresCells g old new page kind first scratch count separator result =
     → Gives g old new result (λ made. (g.state new).sound × AreStored kind first cs page made separator (g.state old).array (g.state new).array)
 
 -- cells that are to be cut at their end, and that fit in a page without the last ones, are cut there if they exceed the page
-abbrev pub CutsAtEnd : {P : Type 0} (g : Ghosts P) (old new : P) (page : ℕ) (kind : NodeKind) (first scratch : List ℕ) (count : ℕ) (place : Place)
+abbrev pub CutsAtEnd : {P : Type 0} (g : Ghosts P) (old new : P) (page : ℕ) (kind : NodeKind) (first scratch : List ℕ) (count : ℕ) (place : SplitPoint)
     (result : Result (Option ℕ) PageFault) → Type 0
 CutsAtEnd g old new page kind first scratch count place result =
     place ≡ End → (g.state old).sound → IsSome ((g.state old).array page) → (cs : List Entry) → AreInScratch kind cs scratch count → (fits : EndFits kind cs)

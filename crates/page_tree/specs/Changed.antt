@@ -5,7 +5,7 @@ use Rattle.pages.specs.declared.array.PageFault.TheVariants.{Memory}
 use Rattle.pages.specs.declared.array.Pages.{Ghosts}
 use Rattle.pages.specs.State.{OnlyReads}
 use Rattle.page_nodes.specs.declared.cell.NodeKind.TheVariants.{Leaf}
-use Rattle.page_nodes.specs.declared.merge.Merge.{Merge}
+use Rattle.page_nodes.specs.declared.merge.LeafMerge.{LeafMerge}
 use Rattle.page_nodes.specs.Map.{is_below, Entry, edited}
 use Rattle.page_nodes.specs.Node.{IsNode}
 use Rattle.page_nodes.specs.Merge.{AreMerged}
@@ -35,7 +35,7 @@ AreWithin low high [] = Unit {0}
 AreWithin low high (c ∷ cs) = (is_below c.0 low ≡ false) × IsUnder c.0 high × AreWithin low high cs
 
 -- The first of these changes, so many, are made in the cells of a leaf, all within its bounds. Where none is, the first one puts a value.
-pub record AreMerging (bytes scratch : List ℕ) (es : List Entry) (high : Option (List ℕ)) (first : Change) (changes : Changes) (made : ℕ) (merge : Merge) : Type 0 where
+pub record AreMerging (bytes scratch : List ℕ) (es : List Entry) (high : Option (List ℕ)) (first : Change) (changes : Changes) (made : ℕ) (merge : LeafMerge) : Type 0 where
   pub last : List ℕ
   pub merged : AreMerged bytes scratch last (edited_in_turn (take made changes) es) merge
   pub within : AreWithin first.0 high (take made changes)
@@ -48,7 +48,7 @@ pub record AreChanged (scratch : List ℕ) (es : List Entry) (high : Option (Lis
   pub some : made ≡ 0 → IsSome first.1
 
 -- changes are made in the cells of a leaf, from the first one on, whose key belongs there
-abbrev pub MergesChanges : (bytes before scratch : List ℕ) (bound : KeyBound) (changes : Changes) (merge : Merge) (result : Result Merged PageFault) → Type 0
+abbrev pub MergesChanges : (bytes before scratch : List ℕ) (bound : KeyBound) (changes : Changes) (merge : LeafMerge) (result : Result Merged PageFault) → Type 0
 MergesChanges bytes before scratch bound changes merge result =
     (es : List Entry) (high : Option (List ℕ)) (first : Change) (rest : Changes) → changes ≡ first ∷ rest → IsBound bound high → IsUnder first.0 high
     → AreMerged bytes before [] es merge → MatchResult result (λ m. AreMerging bytes scratch es high first changes m.made m.merge) (λ f. f ≡ Memory)

@@ -4,13 +4,13 @@ use Rattle.page_nodes.specs.Map.{is_below, Entry, value_for}
 use Rattle.page_nodes.specs.Node.{IsNode}
 use Rattle.page_nodes.specs.declared.cell.NodeKind.TheVariants.{Leaf}
 use Rattle.page_tree.specs.Forest.{Forest, entries}
-use Rattle.page_tree.specs.declared.cursor.Cursor.{Cursor}
+use Rattle.page_tree.specs.declared.cursor.TreeCursor.{TreeCursor}
 
 -- the key and the value that a cursor lends
-abbrev pub key_of : Cursor → List ℕ
+abbrev pub key_of : TreeCursor → List ℕ
 key_of cursor = cursor.key.items
 
-abbrev pub value_of : Cursor → List ℕ
+abbrev pub value_of : TreeCursor → List ℕ
 value_of cursor = cursor.value.items
 
 -- whether there is a value, and if so the value

@@ -19,7 +19,7 @@ use crate::puts::{grow_root, put};
 use crate::removal::{Underflow, clear_root, collapse_root, follow_child, write_cells};
 use crate::scratch::{NodeScratch, Scratch};
 use crate::search::{MAX_HEIGHT, fetch_node};
-use page_nodes::{Merge, NodeKind, PageView, is_less, turn_for};
+use page_nodes::{LeafMerge, NodeKind, PageView, is_less, turn_for};
 use pages::{PageFault, Pages};
 use storage_sizes::PAGE_SIZE;
 use store::Change;
@@ -28,7 +28,7 @@ use store::Change;
 #[derive(Clone, Copy, Drop)]
 struct Merged {
     made: usize,
-    merge: Merge,
+    merge: LeafMerge,
 }
 
 /// So many changes are made in the cells of a leaf, which are so many now.
@@ -59,7 +59,7 @@ fn merge_changes(
     bytes: &[u8; PAGE_SIZE],
     changes: &[Change],
     bound: &KeyBound,
-    begun: Merge,
+    begun: LeafMerge,
     cells: &mut Vec<u8>,
 ) -> Result<Merged, PageFault>
     requires { AllByRecursion IsChangeSize changes.now }
@@ -104,7 +104,7 @@ fn copy_changed(
     ensures faults { IfErr result (λ f. f ≢ PageFault.Full) }
 {
     cells.clear();
-    let Some(merge) = Merge::new(bytes) else {
+    let Some(merge) = LeafMerge::new(bytes) else {
         return Err(PageFault::Malformed);
     };
     let merged = merge_changes(bytes, changes, bound, merge, cells)?;

@@ -13,7 +13,7 @@ use std::alloc::{AllocError, Global};
 
 /// A position in a scan: the entry that was found last, and the leaf in which it was found, as long as the map stays as it
 /// is. So the entry behind it is found without a page being read.
-pub struct Cursor {
+pub struct TreeCursor {
     key: Vec<u8>,
     value: Vec<u8>,
     // The leaf of the entry: the cells behind the entry come next.
@@ -21,9 +21,9 @@ pub struct Cursor {
 }
 
 // Written and not derived: where a value is dropped this is one call, and not its parts one by one.
-impl Drop for Cursor {
+impl Drop for TreeCursor {
     fn drop(self) {
-        let Cursor {
+        let TreeCursor {
             key: _,
             value: _,
             leaf: _,
@@ -39,13 +39,13 @@ fn replace(bytes: &mut Vec<u8>, by: &[u8]) -> Result<(), AllocError>
     bytes.extend_from_slice(by)
 }
 
-impl Cursor {
+impl TreeCursor {
     /// A cursor before any entry is found.
     pub fn new(alloc: Global) -> Self
         ensures key { key_of result ≡ [] }
         ensures place { (map : List Entry) → KeepsPlace map result }
     {
-        Cursor {
+        TreeCursor {
             key: Vec::new(alloc),
             value: Vec::new(alloc),
             leaf: KeptLeaf::none(),
@@ -132,7 +132,7 @@ fn least_below<P: Pages>(
     pages: &mut P,
     page: u32,
     levels: u32,
-    cursor: &mut Cursor,
+    cursor: &mut TreeCursor,
 ) -> Result<bool, PageFault>
     ensures preserved { P.preserved pages.old pages.new }
     ensures works { OnOk result (P.works pages.new) }
@@ -161,7 +161,7 @@ fn entry_below<P: Pages>(
     page: u32,
     levels: u32,
     key: &[u8],
-    cursor: &mut Cursor,
+    cursor: &mut TreeCursor,
 ) -> Result<bool, PageFault>
     ensures preserved { P.preserved pages.old pages.new }
     ensures works { OnOk result (P.works pages.new) }
@@ -199,7 +199,7 @@ fn entry_below<P: Pages>(
 pub fn first_from<P: Pages>(
     pages: &mut P,
     key: &[u8],
-    cursor: &mut Cursor,
+    cursor: &mut TreeCursor,
 ) -> Result<bool, PageFault>
     ensures preserved { P.preserved pages.old pages.new }
     ensures works { OnOk result (P.works pages.new) }
@@ -219,7 +219,11 @@ pub fn first_from<P: Pages>(
 
 /// Finds the first entry at or after a key as `first_from` does. No page is read where it is the one behind the cursor's in
 /// the leaf that the cursor keeps. A cursor that kept a leaf of this map, or none, does so afterwards, whatever is answered.
-pub fn first_on<P: Pages>(pages: &mut P, key: &[u8], cursor: &mut Cursor) -> Result<bool, PageFault>
+pub fn first_on<P: Pages>(
+    pages: &mut P,
+    key: &[u8],
+    cursor: &mut TreeCursor,
+) -> Result<bool, PageFault>
     ensures preserved { P.preserved pages.old pages.new }
     ensures works { P.works pages.old → OnOk result (P.works pages.new) }
     ensures only_reads { LeavesPages P.Pages pages.old pages.new }
@@ -245,7 +249,7 @@ fn key_after(key: &Vec<u8>) -> Result<Vec<u8>, AllocError>
 
 /// Finds the first entry after the cursor's, which the cursor then lends. False: there is none. After false or a fault
 /// nothing is known of the cursor. A fault comes as from `first_from`.
-pub fn next<P: Pages>(pages: &mut P, cursor: &mut Cursor) -> Result<bool, PageFault>
+pub fn next<P: Pages>(pages: &mut P, cursor: &mut TreeCursor) -> Result<bool, PageFault>
     ensures preserved { P.preserved pages.old pages.new }
     ensures works { OnOk result (P.works pages.new) }
     ensures only_reads { LeavesPages P.Pages pages.old pages.new }

@@ -4,13 +4,13 @@ ghost use Rattle.page_nodes.specs.Map.{Entry};
 ghost use Rattle.page_nodes.specs.Node.{cells_bytes, HasSizes, FitsPage, ExceedsPage};
 ghost use Rattle.page_nodes.specs.Search.{AreCellsAt};
 ghost use Rattle.page_nodes.specs.Scratch.{IsOneCellOver, IsCut, IsLeastAfter, EndFits};
-ghost use Rattle.page_tree.specs.declared.cuts.Place.TheVariants.{End, After};
+ghost use Rattle.page_tree.specs.declared.cuts.SplitPoint.TheVariants.{End, After};
 
 use page_nodes::{Cut, CutPlace, NodeKind, cell_at, cut_for, fits};
 
 /// Where cells that are too long for one page are to be cut.
 #[derive(Clone, Copy, Debug, Drop, PartialEq, Eq)]
-pub enum Place {
+pub enum SplitPoint {
     /// Near the middle: both parts have room for more cells.
     Middle,
     /// Before the last cell, in an inner node before the last two: the first part stays full.
@@ -86,7 +86,7 @@ fn cut_beside(cells: &[u8], kind: NodeKind, count: usize, index: usize) -> Optio
 
 /// Where so many cells, too long for one page, are cut into two pages: at the place that is asked for, or near the middle
 /// where the parts do not fit in their pages. None: these bytes are not so many cells.
-pub fn cut_cells(cells: &[u8], kind: NodeKind, count: usize, place: Place) -> Option<Cut>
+pub fn cut_cells(cells: &[u8], kind: NodeKind, count: usize, place: SplitPoint) -> Option<Cut>
     requires { ExceedsPage kind (length cells.now) }
     ensures cut { (cs : List Entry) → HasSizes kind cs → cells.now ≡ cells_bytes kind cs
         → count ≡ length cs → IsOneCellOver kind (length cells.now)
@@ -106,9 +106,9 @@ pub fn cut_cells(cells: &[u8], kind: NodeKind, count: usize, place: Place) -> Op
     ensures few { IfSome result (λ cut. cut.index < count) }
 {
     match place {
-        Place::Middle => cut_for(cells, kind, count, CutPlace::Middle),
-        Place::End => cut_for(cells, kind, count, CutPlace::End),
-        Place::After(index) => match cut_beside(cells, kind, count, index) {
+        SplitPoint::Middle => cut_for(cells, kind, count, CutPlace::Middle),
+        SplitPoint::End => cut_for(cells, kind, count, CutPlace::End),
+        SplitPoint::After(index) => match cut_beside(cells, kind, count, index) {
             Some(cut) => Some(cut),
             None => cut_for(cells, kind, count, CutPlace::Middle),
         },

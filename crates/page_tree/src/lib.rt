@@ -18,7 +18,7 @@ mod tree_walk;
 pub use changes::change_first;
 pub use check::check_tree;
 pub use counting::count;
-pub use cursor::{Cursor, first_from, first_on, next};
+pub use cursor::{TreeCursor, first_from, first_on, next};
 pub use laws::{leaf_alone, represented_map};
 pub use scratch::Scratch;
 pub use search::{MAX_HEIGHT, contains, get};

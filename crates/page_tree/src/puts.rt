@@ -4,11 +4,11 @@ ghost use Rattle.page_nodes.specs.Map.{Entry, with_entry};
 ghost use Rattle.page_tree.specs.Forest.{AllUnder};
 ghost use Rattle.page_nodes.specs.Node.{cells_bytes, IsKeySize, IsValueSize, IsPayloadSize, IsFirst, IsCount, IsNode, FitsPage};
 ghost use Rattle.page_nodes.specs.declared.cell.NodeKind.TheVariants.{Inner};
-ghost use Rattle.page_tree.specs.declared.cuts.Place.TheVariants.{End};
+ghost use Rattle.page_tree.specs.declared.cuts.SplitPoint.TheVariants.{End};
 ghost use Rattle.page_tree.specs.Taking.{TakesAtMost, TakesToPut, TakesToPutBelow, TakesToGrow, TakesToChange};
 ghost use Rattle.page_tree.specs.Calls.{Changes, PutsCell, CutsAtEnd, StoresAfter, TakesSecond, StoresCells, StoresEntry, StoresChild, PutsBelow, GrowsRoot};
 
-use crate::cuts::{Place, cut_cells};
+use crate::cuts::{SplitPoint, cut_cells};
 use crate::scratch::{NodeScratch, Scratch};
 use crate::search::{MAX_HEIGHT, read_node};
 use page_nodes::{
@@ -43,13 +43,13 @@ pub fn copy_with(
 
 /// Where a node is cut, should its edited cells be too long for a page: where the key comes last, at the end. So leaves
 /// stay full when keys are put in rising order.
-pub fn place_for(edit: Edit) -> Place
+pub fn place_for(edit: Edit) -> SplitPoint
     ensures { result ≡ End ↔ edit.after ≡ 0 }
 {
     if edit.after == 0 {
-        Place::End
+        SplitPoint::End
     } else {
-        Place::Middle
+        SplitPoint::Middle
     }
 }
 
@@ -80,15 +80,15 @@ fn remember(last: &mut Vec<u8>, key: &[u8])
 /// Where a leaf is cut, should its edited cells be too long for a page: at the end where the key comes last, and beside
 /// the key where it comes right after the one that was put before it. So leaves stay full when keys are put in rising order, also
 /// where other keys come after them.
-fn place_in_leaf(scratch: &NodeScratch, key: &[u8], edit: Edit) -> Place
+fn place_in_leaf(scratch: &NodeScratch, key: &[u8], edit: Edit) -> SplitPoint
     ensures { result ≡ End ↔ edit.after ≡ 0 }
 {
     let place = place_for(edit);
-    if place == Place::Middle
+    if place == SplitPoint::Middle
         && !fits(NodeKind::Leaf, scratch.cells.len())
         && comes_next(&scratch.page, scratch.last.as_slice(), key)
     {
-        return Place::After(edit.count.saturating_sub(edit.after).saturating_sub(1));
+        return SplitPoint::After(edit.count.saturating_sub(edit.after).saturating_sub(1));
     }
     place
 }
@@ -144,7 +144,7 @@ pub fn store_cells<P: Pages>(
     kind: NodeKind,
     first: &[u8],
     count: usize,
-    place: Place,
+    place: SplitPoint,
     scratch: &mut NodeScratch,
 ) -> Result<Option<u32>, PageFault>
     requires first { IsFirst kind first.now }

@@ -8,7 +8,7 @@ ghost use Rattle.page_tree.specs.Removal.{IsPageNumber, HasSeparator};
 ghost use Rattle.page_tree.specs.Taking.{TakesAtMost, TakesToFollow, most_left, most_stored, most_merged};
 ghost use Rattle.page_tree.specs.RemovalCalls.{WritesCells, PairsChildren, CopiesRest, StoresRest, RemovesChild, JoinsBefore, JoinsNeighbour, MergesChild, FollowsChild, ClearsRoot, CollapsesRoot};
 
-use crate::cuts::Place;
+use crate::cuts::SplitPoint;
 use crate::puts::{copy_with, put_child, set_separator, store_cells};
 use crate::scratch::NodeScratch;
 use page_nodes::{NodeKind, Pair, edit_cells, first_child, pair_for, write_node};
@@ -149,7 +149,7 @@ fn store_rest<P: Pages>(
         NodeKind::Inner,
         &first,
         rest.count,
-        Place::Middle,
+        SplitPoint::Middle,
         scratch,
     )?;
     Ok(Underflow::Trees(made))
@@ -209,7 +209,7 @@ fn join_before<P: Pages>(
         NodeKind::Inner,
         &child.to_be_bytes(),
         edit.count,
-        Place::Middle,
+        SplitPoint::Middle,
         scratch,
     )
 }

@@ -7,7 +7,7 @@ ghost use Rattle.page_tree.specs.Counts.{IsPassed};
 ghost use Rattle.page_tree.specs.Ahead.{HasAhead, IsFoundAt, IsFoundBy, GoesOn, IsSteppedInLeaf};
 
 use crate::counting::is_within;
-use crate::cursor::{Cursor, first_from};
+use crate::cursor::{TreeCursor, first_from};
 use crate::leaf::CellStart;
 use page_nodes::{NodeKind, cell_at};
 use pages::{PageFault, Pages};
@@ -18,7 +18,7 @@ use std::alloc::{AllocError, Global};
 #[derive(Drop)]
 pub struct TreeWalk {
     // The leaf, and the first entry that was found in it.
-    cursor: Cursor,
+    cursor: TreeCursor,
     // Where the cell of the entry that was found last begins, if it is a later one.
     begin: Option<CellStart>,
     // The key from which on the walk goes on where no cell of the leaf is left.
@@ -41,7 +41,7 @@ fn go_behind(next: &mut Vec<u8>, left: usize, key: &[u8]) -> Result<(), AllocErr
 }
 
 // Where the last of the cells of a leaf that are left begins, or `None` where one of them is no cell.
-fn last_cell(cursor: &Cursor) -> Option<CellStart>
+fn last_cell(cursor: &TreeCursor) -> Option<CellStart>
     ensures { (cells : List Entry) → AreLeft cells cursor.now → 0 < length cells
         → MatchOption result ⊥ (λ last. IsLastAt cells last.at cursor.now) }
 {
@@ -56,7 +56,7 @@ fn last_cell(cursor: &Cursor) -> Option<CellStart>
 }
 
 // The key and the value of the entry that was found last: the first one in a leaf, or at a cell of it.
-fn found_entry(cursor: &Cursor, begin: Option<CellStart>) -> (&[u8], &[u8])
+fn found_entry(cursor: &TreeCursor, begin: Option<CellStart>) -> (&[u8], &[u8])
     ensures { (entry : Entry) → IsFoundAt begin cursor.now entry
         → (result.0.now ≡ entry.0) × (result.1.now ≡ entry.1) }
 {
@@ -77,7 +77,7 @@ impl TreeWalk {
             → HasAhead map walk (rest_entries key.now map)) }
     {
         Ok(TreeWalk {
-            cursor: Cursor::new(alloc),
+            cursor: TreeCursor::new(alloc),
             begin: None,
             next: Vec::from_slice(alloc, key)?,
         })

@@ -4,7 +4,7 @@ use crate::stores::call::{CallWords, fill, number_in};
 use crate::stores::callee::Callee;
 use crate::stores::table::{Table, make_on};
 use anyhow::{Result, bail};
-use page_tree::{Cursor, Scratch, change_first, first_from, get, next};
+use page_tree::{Scratch, TreeCursor, change_first, first_from, get, next};
 use pages::{MemPages, PAGE_SIZE, Pages};
 use std::alloc::Global;
 use store::{Batch, Entry, MAX_KEY_LENGTH, MAX_VALUE_LENGTH, StoreFault};
@@ -14,7 +14,7 @@ use store::{Batch, Entry, MAX_KEY_LENGTH, MAX_VALUE_LENGTH, StoreFault};
 pub struct MemoryTree {
     pages: MemPages,
     scratch: Scratch,
-    cursor: Cursor,
+    cursor: TreeCursor,
     value: Vec<u8>,
 }
 
@@ -24,7 +24,7 @@ impl MemoryTree {
         MemoryTree {
             pages: MemPages::new(alloc),
             scratch: Scratch::new(alloc),
-            cursor: Cursor::new(alloc),
+            cursor: TreeCursor::new(alloc),
             value: Vec::new(alloc),
         }
     }

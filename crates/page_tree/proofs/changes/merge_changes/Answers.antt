@@ -1,6 +1,6 @@
 use Rattle.std.proofs.Common.{◌+◌, Option, Ok, ap, refl, sym, ◌∙◌, take, arith}
 use Rattle.std.proofs.lemmas.Bool.{false≢true}
-use Rattle.page_nodes.specs.declared.merge.Merge.{Merge}
+use Rattle.page_nodes.specs.declared.merge.LeafMerge.{LeafMerge}
 use Rattle.page_tree.specs.Changed.{edited_in_turn}
 use Rattle.page_tree.proofs.Edits.{lent_is}
 use Rattle.page_tree.proofs.LeafChanges.{none_exceeds, some_merged, scratch_as, last_as, merging_begins, stopped_between, stopped_full, stopped_last, merging_on, over_as, merged_as, between_as, first_long}
@@ -25,7 +25,7 @@ returns-in_default-clause-merged c es high first rest whole bound under a =
     let now = edited_in_turn (take l.made c.args.changes.now) es in
     let order = between_as l.last.now c.key.result.now c.key-in-loop-made.result.now high (c.key.ensures ∙ sym c.key-in-loop-made.ensures) ((c.if-not-comes_between.ensures high bound).0 refl) in
     let over = none_exceeds _ _ _ c.in_default.is (c.in_ok-edited.ensures.edited l.last.now now m.merged order.0) in
-    scratch_as c.args.bytes.now l.cells.items c.edit.new.scratch.items es high first c.args.changes.now l.made l.merge (c.in_ok-edited.ensures.stays (ap (λ (o : Option Merge). Ok o) c.in_default.is))
+    scratch_as c.args.bytes.now l.cells.items c.edit.new.scratch.items es high first c.args.changes.now l.made l.merge (c.in_ok-edited.ensures.stays (ap (λ (o : Option LeafMerge). Ok o) c.in_default.is))
     (stopped_full c.args.bytes.now l.cells.items es high first item.result rest c.args.changes.now l.made l.merge l.last.now m whole item.is
     (over_as now c.key-in-loop-made.result.now item.result.0 _ item.result.1 c.key-in-loop-made.ensures (lent_is _ item.result.1 c.value.ensures) over))
 

@@ -3,7 +3,7 @@ use Rattle.sector_device.specs.Device.{KeepsHistory}
 use Rattle.page_roots.specs.Formats.{spelling_of}
 use Rattle.cow_pages.specs.Cow.{device_below}
 use Rattle.page_tree.specs.Kept.{KeepsPlace}
-use Rattle.page_tree.specs.declared.cursor.Cursor.{Cursor}
+use Rattle.page_tree.specs.declared.cursor.TreeCursor.{TreeCursor}
 use Rattle.store.specs.Contents.{changed_in}
 use Rattle.store.specs.declared.fault.StoreFault.{StoreFault}
 use Rattle.kv_store.specs.declared.read_only.ReadOnlyPages.{ReadOnlyPages}
@@ -59,7 +59,7 @@ returns-in-Err g c =
       kind = subst (λ (p : ReadOnlyPages g.row.D.Denot g.D.Device). is_journaled p.below ≡ is_journaled old.pages.below) pages c.in-Err.ensures.kind;
       commits = none_committed g.met.D.Device.only_now g.met.D.Device.content_left old new after c.requires.works
           (subst (λ (p : ReadOnlyPages g.row.D.Denot g.D.Device). KeepsHistory (device_below old.pages.below) (device_below p.below)) pages c.in-Err.ensures.history)
-          c.count.ensures.fulls c.count.ensures.failures (λ map. subst (λ (k : Cursor). KeepsPlace map k) (sym c.count.ensures.cursor) (c.forget.ensures map)) c.args.batch.now fault (counted_as fault mid old new refl refl refl c.count.ensures.counted)
+          c.count.ensures.fulls c.count.ensures.failures (λ map. subst (λ (k : TreeCursor). KeepsPlace map k) (sym c.count.ensures.cursor) (c.forget.ensures map)) c.args.batch.now fault (counted_as fault mid old new refl refl refl c.count.ensures.counted)
           (λ is. c.in-Err.ensures.number (ap (λ (f : StoreFault). Err f) is))
           (λ sound. subst (λ (p : ReadOnlyPages g.row.D.Denot g.D.Device). CommitsBatch c.args.batch.now (Err fault) (contents_of old.pages.below) after old.pages.below p.below) pages
           (c.in-Err.ensures.batch (contents_of old.pages.below) (sound.works c.requires.works)));

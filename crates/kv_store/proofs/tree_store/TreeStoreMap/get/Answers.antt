@@ -3,7 +3,7 @@ use Rattle.pages.specs.declared.array.PageFault.TheVariants.{Memory}
 use Rattle.cow_pages.specs.Cow.{working_array}
 use Rattle.cow_pages.specs.Preserved.{IsPreserved, FailedWith}
 use Rattle.page_tree.specs.Kept.{KeepsPlace}
-use Rattle.page_tree.specs.declared.cursor.Cursor.{Cursor}
+use Rattle.page_tree.specs.declared.cursor.TreeCursor.{TreeCursor}
 use Rattle.store.specs.Records.{entry_at, IsFound}
 use Rattle.kv_store.specs.declared.read_only.ReadOnlyPages.{ReadOnlyPages}
 use Rattle.kv_store.specs.declared.tree_store.TreeStore.{TreeStore}
@@ -90,7 +90,7 @@ returns-in-Err g c =
       reads = read_refused g.met.D.Device.only_now g.met.D.Device.content_left old mid new c.if-self.false
           (subst (λ (p : ReadOnlyPages g.row.D.Denot g.D.Device). IsPreserved old.pages.below p.below) (sym refuse.pages) is.preserved.preserved)
           (λ faithful l. ap (λ (p : ReadOnlyPages g.row.D.Denot g.D.Device). working_array p.below l) refuse.pages ∙ (is.only_reads faithful).same l)
-          (λ sound. subst (λ (k : Cursor). KeepsPlace (contents_of old.pages.below).records k) (sym refuse.cursor) sound.place)
+          (λ sound. subst (λ (k : TreeCursor). KeepsPlace (contents_of old.pages.below).records k) (sym refuse.cursor) sound.place)
           refl refl refuse.fulls refuse.failures _ c.args.out.now fault is.faults
           (λ sound.
           let held = working_holds (contents_of old.pages.below) old.pages.below (sound.works c.if-self.false) in

@@ -4,7 +4,7 @@ use Rattle.cow_pages.specs.Cow.{working_array}
 use Rattle.cow_pages.specs.Preserved.{IsPreserved, FailedWith}
 use Rattle.page_tree.specs.Kept.{KeepsPlace}
 use Rattle.page_tree.specs.Search.{key_of, value_of}
-use Rattle.page_tree.specs.declared.cursor.Cursor.{Cursor}
+use Rattle.page_tree.specs.declared.cursor.TreeCursor.{TreeCursor}
 use Rattle.store.specs.Records.{Record, first_from, IsFound}
 use Rattle.kv_store.specs.declared.read_only.ReadOnlyPages.{ReadOnlyPages}
 use Rattle.kv_store.specs.declared.tree_store.TreeStore.{TreeStore}
@@ -93,7 +93,7 @@ returns-in-Err g c =
       reads = read_refused g.met.D.Device.only_now g.met.D.Device.content_left old mid new c.if-self.false
           (subst (λ (p : ReadOnlyPages g.row.D.Denot g.D.Device). IsPreserved old.pages.below p.below) (sym refuse.pages) is.preserved.preserved)
           (λ faithful l. ap (λ (p : ReadOnlyPages g.row.D.Denot g.D.Device). working_array p.below l) refuse.pages ∙ (is.only_reads faithful).same l)
-          (λ sound. subst (λ (k : Cursor). KeepsPlace (contents_of old.pages.below).records k) (sym refuse.cursor)
+          (λ sound. subst (λ (k : TreeCursor). KeepsPlace (contents_of old.pages.below).records k) (sym refuse.cursor)
           (is.found sound.faithful (contents_of old.pages.below).records (working_holds (contents_of old.pages.below) old.pages.below (sound.works c.if-self.false)) sound.place).1)
           refl refl refuse.fulls refuse.failures _ c.args.out.now fault is.faults
           (λ sound.

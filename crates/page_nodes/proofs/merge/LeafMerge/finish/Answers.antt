@@ -1,7 +1,7 @@
 use Rattle.std.proofs.Common.{ℕ, List, length, ap, Some, arith}
 use Rattle.std.proofs.lemmas.Bool.{false≢true}
 use Rattle.page_nodes.proofs.Merging.{front_few, rest_few, merged_end, all_spelled, all_counted}
-use Rattle.page_nodes.proofs.merge.Merge.finish.Goals as goal
+use Rattle.page_nodes.proofs.merge.LeafMerge.finish.Goals as goal
 
 pub returns-then-self-clause-finished : goal.returns-then-self-clause-finished
 returns-then-self-clause-finished c last cells a =

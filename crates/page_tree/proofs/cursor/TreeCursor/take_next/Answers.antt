@@ -2,7 +2,7 @@ use Rattle.std.proofs.Common.{refl, arith}
 use Rattle.page_nodes.specs.declared.cell.NodeKind.TheVariants.{Leaf}
 use Rattle.page_nodes.proofs.Scan.{unread}
 use Rattle.page_tree.proofs.Kept.{taken_from}
-use Rattle.page_tree.proofs.cursor.Cursor.take_next.Goals as goal
+use Rattle.page_tree.proofs.cursor.TreeCursor.take_next.Goals as goal
 
 pub returns-in_default-clause-taken : goal.returns-in_default-clause-taken
 returns-in_default-clause-taken c cells left =

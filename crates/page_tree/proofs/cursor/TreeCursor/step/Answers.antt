@@ -4,7 +4,7 @@ use Rattle.page_nodes.specs.Map.{is_below, Entry}
 use Rattle.page_tree.specs.Search.{key_of}
 use Rattle.page_tree.specs.Kept.{AreLeft}
 use Rattle.page_tree.proofs.Kept.{head_left, stepped, takes_some}
-use Rattle.page_tree.proofs.cursor.Cursor.step.Goals as goal
+use Rattle.page_tree.proofs.cursor.TreeCursor.step.Goals as goal
 
 first_same : (c d : Entry) (cs ds : List Entry) → c ∷ cs ≡ d ∷ ds → c ≡ d
 first_same c d cs ds same = cc

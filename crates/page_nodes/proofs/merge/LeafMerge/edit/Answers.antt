@@ -5,7 +5,7 @@ use Rattle.page_nodes.specs.Map.{lent_bytes, rest_entries}
 use Rattle.page_nodes.specs.Search.{AreCellsAt, IsPosition}
 use Rattle.page_nodes.specs.Scratch.{cells_after}
 use Rattle.page_nodes.proofs.Merging.{exceeds, front_few, to_before, long_is, edit_merged, new_sizes}
-use Rattle.page_nodes.proofs.merge.Merge.edit.Goals as goal
+use Rattle.page_nodes.proofs.merge.LeafMerge.edit.Goals as goal
 
 pub returns-then-to-self-clause-edited : goal.returns-then-to-self-clause-edited
 returns-then-to-self-clause-edited c last cells a order =

@@ -4,7 +4,7 @@ use Rattle.page_nodes.specs.Node.{zeros_after}
 use Rattle.page_nodes.proofs.Cells.{two_same}
 use Rattle.page_nodes.proofs.Scan.{begins}
 use Rattle.page_nodes.proofs.Merging.{begun}
-use Rattle.page_nodes.proofs.merge.Merge.new.Goals as goal
+use Rattle.page_nodes.proofs.merge.LeafMerge.new.Goals as goal
 
 pub returns-in_err-end : goal.returns-in_err-end
 returns-in_err-end c cells node =

@@ -4,7 +4,7 @@ use Rattle.page_nodes.specs.Map.{rest_entries}
 use Rattle.page_nodes.specs.Node.{zeros_after}
 use Rattle.page_nodes.specs.Search.{IsPosition}
 use Rattle.page_tree.proofs.Kept.{entry_taken}
-use Rattle.page_tree.proofs.cursor.Cursor.take_entry.Goals as goal
+use Rattle.page_tree.proofs.cursor.TreeCursor.take_entry.Goals as goal
 
 pub returns-in_default-clause-taken : goal.returns-in_default-clause-taken
 returns-in_default-clause-taken c es node = absurd (c.in_default.ensures.sought [] es node)
