@@ -6,3 +6,5 @@ pub mod CheckLemmas
 pub mod RowOrder
 pub mod ValueTypes
 pub mod DescriptorOrder
+pub mod ReadValues
+pub mod NewRows

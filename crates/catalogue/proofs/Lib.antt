@@ -12,3 +12,4 @@ pub mod Placing
 pub mod Regranting
 pub mod Setting
 pub mod PartsAfter
+pub mod NameLemmas

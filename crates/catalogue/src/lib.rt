@@ -10,6 +10,7 @@ pub mod descriptor_change;
 pub mod effect;
 pub(crate) mod grants;
 pub mod laws;
+pub mod names;
 pub mod numbers;
 pub mod order;
 pub mod policy;

@@ -10,14 +10,13 @@ use Rattle.store.specs.Store.{StoreState, KeepsHistory}
 use Rattle.abstract_database.specs.Runs.{ReadingRelation}
 use Rattle.server.specs.declared.server.Server.{Server}
 use Rattle.server.specs.Runs.{Runs}
-use Rattle.server.proofs.Running.{runs_none, runs_more}
+use Rattle.server.proofs.Running.{runs_none, runs_more, runs_joined}
 use Rattle.script_runs.specs.declared.sink.Sink.{Ghosts}
 use Rattle.wire.specs.AnswerFrames.{answer_frames}
 use Rattle.wire.specs.AnswerText.{answer_text}
 use Rattle.script_runs.specs.Telling.{session_of, Told, Tells, Breaks}
 use Rattle.script_runs.proofs.Told.{each_none, each_joined, each_one}
 use Rattle.connections.specs.Answers.{frames_of, all_frames, AnswersAll, AnswersSome}
-use Rattle.connections.proofs.Running.{runs_joined}
 
 frames_joined : (es fs : List Event) (answers others : List Answer) → length answers ≡ length es → all_frames (es ++ fs) (answers ++ others) ≡ all_frames es answers ++ all_frames fs others
 frames_joined [] fs [] others same = refl

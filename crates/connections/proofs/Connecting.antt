@@ -4,13 +4,12 @@ use Rattle.store.specs.Store.{StoreState}
 use Rattle.abstract_database.specs.Machine.{Machine}
 use Rattle.abstract_database.specs.Runs.{ReadingRelation}
 use Rattle.server.specs.declared.server.Server.{Server}
-use Rattle.server.proofs.Running.{runs_none}
+use Rattle.server.proofs.Running.{runs_none, runs_joined}
 use Rattle.script_runs.specs.declared.sink.Sink.{Ghosts}
 use Rattle.script_runs.specs.Closing.{closing_events, closed_answers, StandsWithinLimit, Closes, LeavesNoSession}
 use Rattle.script_runs.proofs.Closings.{within_then}
 use Rattle.connections.specs.declared.connection.End.{End}
 use Rattle.connections.specs.Connection.{HasRun, InputState, IsConnection}
-use Rattle.connections.proofs.Running.{runs_joined}
 use Rattle.connections.proofs.Serving.{ran_to}
 
 module _ {S X : Type 0} (Reads : ReadingRelation) (state : S → StoreState) where

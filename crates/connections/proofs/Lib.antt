@@ -1,4 +1,3 @@
-pub mod Running
 pub mod Answered
 pub mod Serving
 pub mod Connecting

@@ -20,7 +20,7 @@ use Rattle.script_runs.specs.declared.sink.Sink.{Ghosts}
 use Rattle.script_runs.specs.Telling.{answers_of}
 use Rattle.connections.specs.Connection.{HasRun, InputState, SoFar, AnswersUntaken, IsServed, ServesPiece}
 use Rattle.connections.proofs.Answered.{history_kept, none_answered, answered_joined}
-use Rattle.connections.proofs.Running.{runs_joined}
+use Rattle.server.proofs.Running.{runs_joined}
 
 -- an end is none, or another
 pub no_end : (e : End) → None ≡ Some e → ⊥

@@ -30,7 +30,6 @@ pub mod WholePrivileges
 pub mod WholeLayouts
 pub mod WholeTables
 pub mod WholePolicies
-pub mod WholeValues
 pub mod WholeRows
 pub mod WholeSound
 pub mod StatementLemmas

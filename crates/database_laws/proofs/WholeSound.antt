@@ -13,7 +13,7 @@ use Rattle.expressions.specs.Operators.{is_null}
 use Rattle.abstract_database.specs.Lists.{Among, Rising}
 use Rattle.abstract_database.specs.Changes.{has_double_key, keeps_not_null}
 use Rattle.database_laws.specs.WholeDatabases.{whole_databases_are_sound}
-use Rattle.database_laws.proofs.WholeRows.{types_of}
+use Rattle.abstract_database.proofs.NewRows.{types_of}
 
 -- ---- nulls
 

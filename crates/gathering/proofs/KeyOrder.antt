@@ -1,15 +1,14 @@
 -- Sort keys in whose order the rows of a table stand already.
-use Rattle.std.proofs.Common.{◌≡◌, ℕ, zero, suc, arith, Bool, true, false, not, ◌&&◌, if◌then◌else◌, nat_eq, List, [], ◌∷◌, map, take, Option, Some, None, Result, Ok, Err, refl, sym, ap, ◌∙◌, subst, ◌⊎◌, inl, inr}
+use Rattle.std.proofs.Common.{◌≡◌, ℕ, zero, suc, arith, Bool, true, false, not, if◌then◌else◌, nat_eq, List, [], ◌∷◌, map, take, Option, Some, None, Result, Ok, Err, refl, sym, ap, ◌∙◌, subst, ◌⊎◌, inl, inr}
 use Rattle.std.proofs.lemmas.Bool.Decides.{nat_tests}
 use Rattle.std.specs.Ordering.{ordering_then, is_gt}
 use Rattle.std.specs.declared.cmp.Ordering.{Ordering}
 use Rattle.std.specs.declared.cmp.Ordering.TheVariants.{Less, Equal, Greater}
-use Rattle.sql_types.specs.Row.{Row, value_at}
+use Rattle.sql_types.specs.Row.{value_at}
 use Rattle.sql_types.specs.Value.{order_of}
 use Rattle.sql_types.specs.declared.state.SqlState.{SqlState}
 use Rattle.sql_types.specs.declared.value.Value.{Value}
 use Rattle.sql_types.specs.declared.value.Value.TheVariants.{Null, Int, Text, Bool as Boolean}
-use Rattle.sql_ast.specs.Rows.{row_cmp}
 use Rattle.sql_ast.specs.declared.scope.ColumnIndex.{ColumnIndex}
 use Rattle.sql_ast.specs.Term.{Term, literal, column, current_user, session_user, comparison, operation, minus, conjunction, disjunction, negation, null_test, not_null_test, member_test}
 use Rattle.expressions.specs.Meaning.{UserNames}
@@ -21,9 +20,9 @@ use Rattle.abstract_database.specs.Lists.{Among, Rising}
 use Rattle.abstract_database.specs.Queries.{BoundList, each_column, each_value, their_count, Combination, Keyed, all_columns, condition_value, cut, keys_cmp, listed, ordered, put_before, sorted, with_keys}
 use Rattle.gathering.specs.declared.query.TypedSortKey.{TypedSortKey}
 use Rattle.gathering.specs.Joins.{column_in}
-use Rattle.gathering.specs.KeyOrder.{is_own_column, is_ascending_by, are_first_of, first_row_cmp, unsorted, KeyOrderIsSorted}
+use Rattle.gathering.specs.KeyOrder.{is_own_column, is_ascending_by, are_first_of, first_row_cmp, KeyOrderIsSorted}
 use Rattle.gathering.specs.Queries.{key_of, list_of, terms}
-use Rattle.gathering.proofs.Quietness.{both_true}
+use Rattle.std.proofs.lemmas.Bool.{and_parts as both_true}
 
 -- ---- the rows that pass stay in their order
 

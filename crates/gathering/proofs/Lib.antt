@@ -15,7 +15,6 @@ pub mod Narrowed
 pub mod Numbered
 pub mod Ordered
 pub mod Cutting
-pub mod Quietness
 pub mod ReadsOnly
 pub mod Rising
 pub mod Searches

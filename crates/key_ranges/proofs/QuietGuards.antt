@@ -18,7 +18,7 @@ use Rattle.guards.specs.declared.guard.Formula.{Formula}
 use Rattle.guards.specs.Guards.{Cells, terms, formula_value, guard_value, cells_of, row_guard}
 use Rattle.row_codec.proofs.Layouts.{and_parts}
 use Rattle.key_ranges.specs.Quiet.{are_lent_quiet, is_formula_quiet, are_formulas_quiet, GuardNeverFails}
-use Rattle.key_ranges.proofs.Quietness.{HasValue, quiet_value}
+use Rattle.expressions.proofs.Quietness.{HasValue, quiet_value}
 
 both_are : (a b : Bool) → a ≡ true → b ≡ true → (a && b) ≡ true
 both_are a b h k = rw (h, k) refl

@@ -27,7 +27,7 @@ use Rattle.key_ranges.specs.Quiet.{AreQuiet, GuardNeverFails}
 use Rattle.stored_database.specs.Spelling.{row_record}
 use Rattle.key_ranges.specs.Ranges.{is_in, is_in_any, is_inside, is_inside_any, HasKeysBehind, IsBehind}
 use Rattle.key_ranges.specs.Laws.{IsHarmless, AreGuardsQuiet, HaveKeysBehind, RangesLoseNothing, LookUpsLoseNothing, OutsideRowsAreNotChosen, OutsideRowsAreNotMet}
-use Rattle.key_ranges.proofs.Quietness.{HasValue, and_value_of}
+use Rattle.expressions.proofs.Quietness.{HasValue, and_value_of}
 use Rattle.key_ranges.proofs.Products.{RefusesBehind, RefusesOutside, same_kept, same_kept_behind}
 
 -- ---- stages in which nothing fails

@@ -1,5 +1,5 @@
 -- Parts and columns, one more at a time.
-use Rattle.std.proofs.Common.{◌≡◌, ℕ, zero, suc, ◌+◌, ◌<◌, ◌≤◌, Bool, true, false, ◌&&◌, List, [], ◌∷◌, ◌++◌, map, take, drop, length, get_or, refl, sym, ap, ◌∙◌, append_assoc, append-nil, add-one, arith, Bor}
+use Rattle.std.proofs.Common.{◌≡◌, ℕ, zero, suc, ◌+◌, ◌<◌, ◌≤◌, Bool, true, false, ◌&&◌, List, [], ◌∷◌, ◌++◌, map, take, drop, length, get_or, refl, sym, ap, ◌∙◌, append-nil, add-one, arith}
 use Rattle.std.specs.List.{list_all, range_with_len}
 use Rattle.std.proofs.Math.Seq.{drop-cons}
 use Rattle.std.proofs.lemmas.List.{nil_from_length}
@@ -10,11 +10,6 @@ use Rattle.sql_ast.specs.Scope.{Table as ScopeTable}
 use Rattle.sql_ast.specs.Term.{Term}
 use Rattle.expressions.specs.Parts.{Part}
 use Rattle.abstract_database.specs.Checks.{value_parts}
-use Rattle.abstract_database.specs.Queries.{BoundQuery}
-use Rattle.stored_database.specs.Definitions.{TableDefinition}
-use Rattle.planner.specs.declared.rights.Rights.{Rights}
-use Rattle.planner.specs.Inserted.{cut_as}
-use Rattle.planner.specs.Selected.{may_read, may_read_each}
 
 -- ---- values beside their columns
 

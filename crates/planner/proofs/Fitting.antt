@@ -38,8 +38,8 @@ use Rattle.planner.specs.Selected.{tables_of_plan, scope_of_plan}
 use Rattle.planner.specs.Tables.{table_in, definitions_in}
 use Rattle.planner.specs.Inserted.{checked_of as checked_insert_of}
 use Rattle.planner.specs.Updated.{checked_of as checked_update_of}
-use Rattle.planner.proofs.NewRows.{types_of, row_of, inserted_is_row, assigned_is_row, fits_row}
-use Rattle.planner.proofs.ReadValues.{AreTexts, name_is_text}
+use Rattle.abstract_database.proofs.NewRows.{types_of, row_of, inserted_is_row, assigned_is_row, fits_row}
+use Rattle.abstract_database.proofs.ReadValues.{AreTexts, name_is_text}
 
 -- ---- lists
 

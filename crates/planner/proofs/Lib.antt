@@ -1,7 +1,6 @@
 pub mod Stages
 pub mod Splits
 pub mod Typing
-pub mod NameLemmas
 pub mod Finding
 pub mod Checking
 pub mod Named
@@ -18,7 +17,5 @@ pub mod Adding
 pub mod Deleting
 pub mod Inserting
 pub mod Updating
-pub mod ReadValues
-pub mod NewRows
 pub mod Fitting
 pub mod Joining

@@ -9,13 +9,13 @@ ghost use Rattle.planner.specs.Rights.{AreItsRoles, AreRightsOf};
 ghost use Rattle.planner.specs.Tables.{IsTableNamed};
 ghost use Rattle.planner.specs.Inserted.{checked_in, insert_from, IsInsertPlan, IsInsertRefusal};
 
-use crate::names::has_double;
 use crate::rights::Rights;
 use crate::sources::{Source, guard};
 use crate::tables::find_table;
 use crate::targets::{list_names, target_columns};
 use crate::values::{bind_rows, counts_fit};
 use catalogue::definitions::Catalogue;
+use catalogue::names::has_double;
 use catalogue::table::TableDefinition;
 use expressions::types::Typed;
 use role_membership::RoleSet;

@@ -8,7 +8,6 @@ mod delete;
 mod insert;
 pub mod laws;
 mod masks;
-mod names;
 mod parts;
 mod plans;
 mod reading;

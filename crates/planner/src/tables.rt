@@ -10,8 +10,8 @@ ghost use Rattle.abstract_database.specs.Queries.{references_of, tables_in, name
 ghost use Rattle.planner.specs.Answers.{AnswersBy};
 ghost use Rattle.planner.specs.Tables.{table_in, tables_for, definitions_in};
 
-use crate::names::has_double;
 use catalogue::definitions::Catalogue;
+use catalogue::names::has_double;
 use catalogue::table::TableDefinition;
 use sql_ast::scope::ScopeTable;
 use sql_ast::statement::{FromClause, Join, TableExpression, TableReference};

@@ -9,13 +9,13 @@ ghost use Rattle.planner.specs.Tables.{IsTableNamed};
 ghost use Rattle.planner.specs.Updated.{checked_in, update_from, IsUpdatePlan, IsUpdateRefusal};
 
 use crate::changes::bind_changes;
-use crate::names::has_double;
 use crate::reading::changes_read;
 use crate::rights::Rights;
 use crate::sources::{Source, guard};
 use crate::tables::find_table;
 use crate::targets::{find_columns, set_names};
 use catalogue::definitions::Catalogue;
+use catalogue::names::has_double;
 use catalogue::table::TableDefinition;
 use expressions::types::Typed;
 use role_membership::RoleSet;

@@ -1,4 +1,4 @@
--- Runs go on by one event.
+-- Runs go on by one event, or by another run.
 use Rattle.std.proofs.Common.{◌≡◌, ◌≤◌, ℕ, List, [], ◌∷◌, ◌++◌, ◌+◌, length, Option, refl, ap, subst, arith}
 use Rattle.sector_device.specs.Timeline.{Timeline}
 use Rattle.sql_types.specs.declared.answer.Answer.{Answer}
@@ -13,6 +13,10 @@ use Rattle.server.specs.Runs.{Steps, Runs}
 events_more : (es : List Event) (e : Event) → events_of (es ++ e ∷ []) ≡ events_of es ++ event_of e ∷ []
 events_more [] e = refl
 events_more (f ∷ es) e = ap (λ (l : List (MachineEvent TheText)). event_of f ∷ l) (events_more es e)
+
+events_joined : (es fs : List Event) → events_of (es ++ fs) ≡ events_of es ++ events_of fs
+events_joined [] fs = refl
+events_joined (e ∷ es) fs = ap (λ (l : List (MachineEvent TheText)). event_of e ∷ l) (events_joined es fs)
 
 module _ (Reads : ReadingRelation) where
   -- moments do not go back
@@ -54,6 +58,14 @@ module _ (Reads : ReadingRelation) where
   ran_more Leave w mid end [] (a ∷ answers) e answer ran more = absurd ran
   ran_more Leave w mid end (f ∷ es) [] e answer ran more = absurd ran
 
+  -- another run
+  ran_joined : (Leave : Stops) (w mid end : At) (es fs : List (MachineEvent TheText)) (answers others : List Answer)
+      → RanBy (Happens Reads Leave) w es answers mid → RanBy (Happens Reads Leave) mid fs others end → RanBy (Happens Reads Leave) w (es ++ fs) (answers ++ others) end
+  ran_joined Leave w mid end [] fs [] others ran more = subst (λ (z : At). RanBy (Happens Reads Leave) z fs others end) ran more
+  ran_joined Leave w mid end (e ∷ es) fs (a ∷ answers) others ran more = (ran.0, ran.1, ran_joined Leave ran.0 mid end es fs answers others ran.2 more)
+  ran_joined Leave w mid end [] fs (a ∷ answers) others ran more = absurd ran
+  ran_joined Leave w mid end (e ∷ es) fs [] others ran more = absurd ran
+
 pub length_more : {A : Type 0} (xs : List A) (x : A) → length (xs ++ x ∷ []) ≡ length xs + 1
 length_more [] x = refl
 length_more (y ∷ xs) x = let rest = length_more xs x in omega (arith, rest)
@@ -79,5 +91,25 @@ runs_more Reads state first mid new es told e answer lasts ran stepped sound w a
       now.0,
       now.1,
       rw (events_more es e) (ran_more Reads (stops_of late) w before.0 now.0 (events_of es) told (event_of e) answer passed now.2),
+      λ a b x le stop. before.3 a b x le (now.3 a b x (omega (arith, le, since)) stop),
+    )
+
+-- a run and then another
+pub runs_joined : {S X : Type 0} (Reads : ReadingRelation) (state : S → StoreState) (first mid new : Server S X) (es fs : List Event) (answers others : List Answer)
+    → ((state first.store).sound → (state mid.store).sound) → Runs Reads state first es answers mid → Runs Reads state mid fs others new → Runs Reads state first (es ++ fs) (answers ++ others) new
+runs_joined Reads state first mid new es fs answers others lasts ran more sound w at =
+    let before = ran sound w at in
+    let now = more (lasts sound) before.0 before.1 in
+    let old = (state mid.store).time in
+    let late = (state new.store).time in
+    let here = before.1.moment in
+    let same : before.0.moment ≤ old.moment = omega (arith, here) in
+    let passed = ran_past Reads old late old.moment now.3 w before.0 (events_of es) answers same before.2 in
+    let first_later = ran_later Reads (stops_of old) w before.0 (events_of es) answers before.2 in
+    let began = at.moment in
+    let since : (state first.store).time.moment ≤ old.moment = omega (arith, first_later, here, began) in (
+      now.0,
+      now.1,
+      rw (events_joined es fs) (ran_joined Reads (stops_of late) w before.0 now.0 (events_of es) (events_of fs) answers others passed now.2),
       λ a b x le stop. before.3 a b x le (now.3 a b x (omega (arith, le, since)) stop),
     )

@@ -1,4 +1,3 @@
-pub mod NameLemmas
 pub mod ColumnLemmas
 pub mod LayoutLemmas
 pub mod Carrying

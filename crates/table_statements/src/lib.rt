@@ -5,7 +5,6 @@
 mod altering;
 mod creating;
 mod dropping;
-mod names;
 mod new_columns;
 mod new_table;
 mod owners;

@@ -9,7 +9,7 @@ ghost use Rattle.abstract_database.specs.Definitions.{definitions_of as definiti
 ghost use Rattle.abstract_database.specs.Checks.{checked_layout};
 ghost use Rattle.table_statements.specs.Refusing.{Refines};
 
-use crate::names::has_double;
+use catalogue::names::has_double;
 use sql_ast::columns::{Column, Columns, MAX_COLUMNS};
 use sql_ast::statement::{ColumnConstraint, ColumnDefinition, TableElement};
 use sql_types::items::Items;

@@ -1,10 +1,9 @@
-use Rattle.std.proofs.Common.{None, Err, sym, ap, ◌∙◌, subst}
+use Rattle.std.proofs.Common.{None, Err, ap, ◌∙◌}
 use Rattle.sql_types.specs.declared.tag.Tag.TheVariants as tag
 use Rattle.store.specs.declared.fault.Fault.{Fault}
 use Rattle.abstract_database.specs.Lists.{TheName}
 use Rattle.abstract_database.specs.Statements.{drop_table}
 use Rattle.catalogue.specs.declared.change.SchemaChange.TheVariants as change
-use Rattle.catalogue.specs.declared.effect.Effect.{Effect}
 use Rattle.catalogue_changes.specs.Carried.{IsCurrent}
 use Rattle.catalogue_changes.specs.Defined.{effect_defined}
 use Rattle.catalogue_changes.proofs.DefiningLemmas.{handed_on}

@@ -1,6 +1,6 @@
 use Rattle.std.proofs.Common.{◌≡◌, ◌∙◌, sym, bytes_eq, Bor, true, false, map, refl}
 use Rattle.abstract_database.specs.Lists.{TheName, has_name}
-use Rattle.table_statements.proofs.NameLemmas.{any_map}
+use Rattle.catalogue.proofs.NameLemmas.{any_map}
 use Rattle.table_statements.proofs.new_columns.is_not_null.Goals as goal
 
 pub returns-then-is_named_by : goal.returns-then-is_named_by

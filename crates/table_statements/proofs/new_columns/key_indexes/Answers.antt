@@ -6,7 +6,7 @@ use Rattle.std.proofs.lemmas.Grind.{flat_map-append}
 use Rattle.abstract_database.specs.Definitions.{index_of}
 use Rattle.sql_ast.specs.declared.statement.ColumnDefinition.{ColumnDefinition}
 use Rattle.abstract_database.specs.Lists.{TheName}
-use Rattle.table_statements.proofs.NameLemmas.{any_map}
+use Rattle.catalogue.proofs.NameLemmas.{any_map}
 use Rattle.table_statements.proofs.ColumnLemmas.{position_map, any_placed, any_unplaced, all_map, fails_at, found_more}
 use Rattle.table_statements.proofs.new_columns.key_indexes.Goals as goal
 

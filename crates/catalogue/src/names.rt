@@ -7,8 +7,8 @@ use sql_types::name::Name;
 use std::alloc::{AllocError, Global};
 use std::collections::HashSet;
 
-/// Whether two of the names are the same.
-pub(crate) fn has_double(alloc: Global, names: &[&Name]) -> Result<bool, AllocError>
+/// Whether two of the names are the same. The only error is that an allocation failed.
+pub fn has_double(alloc: Global, names: &[&Name]) -> Result<bool, AllocError>
     ensures { IfOk result (λ double. double ≡ double_name (map (λ n. n.now) names.now)) }
 {
     let mut seen = HashSet::new(alloc);

@@ -5,8 +5,8 @@ use Rattle.std.specs.List.{list_any}
 use Rattle.std.specs.HashSet.{contains}
 use Rattle.std.specs.Cmp.Lexicographic.{pointwise}
 use Rattle.abstract_database.specs.Lists.{TheName, has_double}
-use Rattle.table_statements.proofs.NameLemmas.{any_map, new_differs, stands_twice, still_double, told_true, told_false, cond_or}
-use Rattle.table_statements.proofs.names.has_double.Goals as goal
+use Rattle.catalogue.proofs.NameLemmas.{any_map, new_differs, stands_twice, still_double, told_true, told_false, cond_or}
+use Rattle.catalogue.proofs.names.has_double.Goals as goal
 
 pub returns-then-not-branch : goal.returns-then-not-branch
 returns-then-not-branch c =

@@ -30,7 +30,7 @@ use Rattle.abstract_database.specs.Whole.{Each}
 use Rattle.abstract_database.proofs.RowOrder.{RowFits}
 use Rattle.abstract_database.proofs.ResultLemmas.{bind_ok, ok_inside, each_from}
 use Rattle.abstract_database.proofs.ValueTypes.{by_names}
-use Rattle.planner.proofs.ReadValues.{AreTexts, value_read}
+use Rattle.abstract_database.proofs.ReadValues.{AreTexts, value_read}
 
 -- ---- values and columns
 

@@ -3,7 +3,7 @@ use Rattle.std.specs.List.{list_any}
 use Rattle.std.specs.HashSet.{contains}
 use Rattle.std.specs.Cmp.Lexicographic.{pointwise}
 use Rattle.abstract_database.specs.Lists.{has_double}
-use Rattle.table_statements.proofs.names.has_double.Given as goal
+use Rattle.catalogue.proofs.names.has_double.Given as goal
 
 -- the names before differ, and are those that were seen
 abbrev pub invariant-loop-name : goal.invariant-loop-name

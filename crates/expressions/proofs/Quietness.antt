@@ -1,5 +1,6 @@
 -- Expressions without arithmetic have a value on each row.
-use Rattle.std.proofs.Common.{◌≡◌, Bool, true, false, not, ◌&&◌, Ok, Err, refl}
+use Rattle.std.proofs.Common.{◌≡◌, true, false, not, Ok, Err, refl}
+use Rattle.std.proofs.lemmas.Bool.{and_parts}
 use Rattle.sql_types.specs.declared.value.Value.{Value}
 use Rattle.sql_types.specs.declared.value.Value.TheVariants.{Null, Int, Text, Bool as Boolean}
 use Rattle.sql_ast.specs.Term.{Term, literal, column, current_user, session_user, comparison, operation, minus, conjunction, disjunction, negation, null_test, not_null_test, member_test}
@@ -7,11 +8,6 @@ use Rattle.expressions.specs.Outcome.{Outcome, with_value, with_both}
 use Rattle.expressions.specs.Operators.{compared, and_value, or_value, not_value, is_null}
 use Rattle.expressions.specs.Meaning.{UserNames, value_of, member_value, and_then, or_else}
 use Rattle.expressions.specs.Quiet.{has_no_arithmetic}
-
-pub both_true : (a b : Bool) → (a && b) ≡ true → (a ≡ true) × (b ≡ true)
-both_true true true e = (refl, refl)
-both_true true false e = cc
-both_true false b e = cc
 
 -- an outcome that is a value
 abbrev pub HasValue : Outcome → Type 0
@@ -50,15 +46,15 @@ quiet_value cell users (column c) h = (cell c, refl)
 quiet_value cell users current_user h = (Text users.current, refl)
 quiet_value cell users session_user h = (Text users.session, refl)
 quiet_value cell users (comparison op a b) h =
-    let parts = both_true (has_no_arithmetic a) (has_no_arithmetic b) h in
+    let parts = and_parts (has_no_arithmetic a) (has_no_arithmetic b) h in
     two_values (value_of cell users a) (value_of cell users b) (λ x y. compared op x y) (quiet_value cell users a parts.0) (quiet_value cell users b parts.1)
 quiet_value cell users (operation op a b) h = cc
 quiet_value cell users (minus a) h = cc
 quiet_value cell users (conjunction a b) h =
-    let parts = both_true (has_no_arithmetic a) (has_no_arithmetic b) h in
+    let parts = and_parts (has_no_arithmetic a) (has_no_arithmetic b) h in
     and_value_of (value_of cell users a) (value_of cell users b) (quiet_value cell users a parts.0) (quiet_value cell users b parts.1)
 quiet_value cell users (disjunction a b) h =
-    let parts = both_true (has_no_arithmetic a) (has_no_arithmetic b) h in
+    let parts = and_parts (has_no_arithmetic a) (has_no_arithmetic b) h in
     or_value_of (value_of cell users a) (value_of cell users b) (quiet_value cell users a parts.0) (quiet_value cell users b parts.1)
 quiet_value cell users (negation a) h = one_value (value_of cell users a) (λ x. not_value x) (quiet_value cell users a h)
 quiet_value cell users (null_test a) h = one_value (value_of cell users a) (λ x. Boolean (is_null x)) (quiet_value cell users a h)
