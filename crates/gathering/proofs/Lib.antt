@@ -19,6 +19,7 @@ pub mod ReadsOnly
 pub mod Rising
 pub mod Searches
 pub mod Sorting
+pub mod RowOrder
 pub mod Passed
 pub mod Stable
 pub mod Stages

@@ -3,6 +3,7 @@ pub mod Answers
 pub mod Chains
 pub mod SortValues
 pub mod Entries
+pub mod RowOrder
 pub mod Found
 pub mod Fits
 pub mod Reads

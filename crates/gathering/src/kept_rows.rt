@@ -1,10 +1,12 @@
 //! Rows under their sort keys, of which those that are behind the limit are let go.
 ghost use Rattle.std.specs.Prelude.{◌≡◌, ◌≤◌, ◌+◌, ◌-◌, ◌++◌, ◌∷◌, [], List, length, map, slice_get, true, IfOk, OnOk};
-ghost use Rattle.std.specs.List.Sorted.{IsSortedWithin, IsSortedBy, IsStableBy};
+ghost use Rattle.std.specs.List.Sorted.{IsSortedWithin};
 ghost use Rattle.std.specs.Option.{option_copied};
-ghost use Rattle.gathering.specs.Entries.{comes_before, entry_of, follows, in_order, worst_of, Entry, HasFew};
+ghost use Rattle.abstract_database.specs.Queries.{sorted};
+ghost use Rattle.gathering.specs.Entries.{comes_before, entry_of, follows, in_order, row_cmp, worst_of, Entry, HasFew};
 
 use crate::keyed_row::KeyedRow;
+use crate::row_order::in_order_of_keys;
 use std::alloc::{AllocError, Global};
 
 /// The rows, of which so many are in order, from the first on.
@@ -93,17 +95,14 @@ impl KeptRows {
 
     /// The rows in order, of which those with the same keys stay in their order. An error means that memory was refused.
     pub(crate) fn into_sorted(self) -> Result<Vec<KeyedRow>, AllocError>
-        ensures sorted { IfOk result (λ rows. IsSortedBy comes_before rows.items) }
-        ensures stable { IfOk result
-            (λ rows. IsStableBy comes_before self.rows.items rows.items) }
+        ensures { IfOk result (λ rows. rows.items ≡ sorted row_cmp self.rows.items) }
     {
         let sorted = self.sorted;
-        let mut rows = self.rows;
+        let rows = self.rows;
         if sorted == rows.len() {
             return Ok(rows);
         }
-        rows.sort()?;
-        Ok(rows)
+        in_order_of_keys(rows)
     }
 }
 
