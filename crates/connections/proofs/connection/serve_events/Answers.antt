@@ -1,4 +1,4 @@
-use Rattle.std.proofs.Common.{take, length-take-le, arith}
+use Rattle.std.proofs.Common.{take, arith}
 use Rattle.connections.specs.declared.connection.End.TheVariants.{Writer}
 use Rattle.connections.specs.Connection.{input_of}
 use Rattle.connections.proofs.Serving.{none_read, never_begun, open_yet, reader_fails, reads_more, ends_here, no_end, end_is}
