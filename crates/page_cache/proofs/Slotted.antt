@@ -2,18 +2,22 @@
 use Rattle.std.proofs.Common.{◌≡◌, ◌≢◌, ◌<◌, ◌≤◌, ◌-◌, ℕ, List, [], ◌∷◌, inl, inr, Option, Some, None, IfSome, Result, Ok, Err, OnOk, OnErr, take, set, length, refl, sym, ap, ◌∙◌, subst, arith, get_or, cond}
 use Rattle.std.proofs.lemmas.Bool.{ne_eqb}
 use Rattle.std.proofs.lemmas.Bool.Decides.{eqb_tells}
-use Rattle.std.proofs.lemmas.List.{take_all, length-take-le, get_or-set_other}
-use Rattle.std.specs.Prelude.{nat_eq, option_map, option_and_then}
+use Rattle.std.proofs.lemmas.List.{take_all, length-take-le, get_or-set_same, get_or-set_other}
+use Rattle.std.specs.Prelude.{nat_eq, option_map, option_and_then, Box}
+use Rattle.std.specs.declared.alloc.Global.{Global}
 use Rattle.std.specs.List.{IsDistinct}
 use Rattle.std.specs.Map.{lookup, keys_of}
 use Rattle.lru.specs.LruCache.{LruCache, lru_cache, promoted, last_entry, put_entries}
 use Rattle.lru.proofs.CallerLemmas.{Contains-promoted, Contains-take}
 use Rattle.lru.proofs.Splits.{Contains-cons}
 use Rattle.page_nodes.specs.declared.offsets.IndexedPage.{IndexedPage}
-use Rattle.page_nodes.specs.Views.{kept_bytes}
 use Rattle.page_cache.specs.declared.cache.PageCache.{PageCache}
-use Rattle.page_cache.specs.Slots.{AreFirst, AreApart, IsSpare}
+use Rattle.page_cache.specs.Slots.{AreFirst, AreApart, IsSpare, boxed_bytes}
 use Rattle.page_cache.proofs.Entries.{Entries, entry_of, lookup-promoted, length-promoted, lookup-take, put_new, last_slot}
+
+-- a page in memory of its own
+abbrev pub Kept : Type 0
+Kept = Box IndexedPage Global
 
 -- what holds of the pages of each cache of so many slots
 pub record IsKept (pages : LruCache ℕ ℕ) (slots : ℕ) : Type 0 where
@@ -140,16 +144,26 @@ module _ (old new : LruCache ℕ ℕ) (page slot : ℕ) (free : lookup (nat_eq p
       by (Some at) found = lookup-take (nat_eq other) (old.cap - 1) old.entries at (sym stayed ∙ found)
 
 -- new bytes in the slot of a page leave those of each other
-pub put_others : (entries : Entries) (page other slot : ℕ) (before : Option ℕ) (items : List (Option IndexedPage)) (bytes : Option IndexedPage)
+pub put_others : (entries : Entries) (page other slot : ℕ) (before : Option ℕ) (items : List (Option Kept)) (bytes : Option Kept)
     → AreApart entries → lookup (nat_eq page) entries ≡ Some slot → other ≢ page
     → IfSome (lookup (nat_eq other) entries) (λ found. before ≡ Some found)
-    → IfSome (option_and_then (λ (at : ℕ). option_map kept_bytes (get_or (set items slot bytes) at None)) (lookup (nat_eq other) entries))
-    (λ there. option_and_then (λ (at : ℕ). option_map kept_bytes (get_or items at None)) before ≡ Some there)
+    → IfSome (option_and_then (λ (at : ℕ). option_map boxed_bytes (get_or (set items slot bytes) at None)) (lookup (nat_eq other) entries))
+    (λ there. option_and_then (λ (at : ℕ). option_map boxed_bytes (get_or items at None)) before ≡ Some there)
 put_others entries page other slot before items bytes apart is differs shrinks = by (lookup (nat_eq other) entries) refl shrinks
   where
     by : (found : Option ℕ) → lookup (nat_eq other) entries ≡ found → IfSome found (λ at. before ≡ Some at)
-        → IfSome (option_and_then (λ (at : ℕ). option_map kept_bytes (get_or (set items slot bytes) at None)) found) (λ there. option_and_then (λ (at : ℕ). option_map kept_bytes (get_or items at None)) before ≡ Some there)
+        → IfSome (option_and_then (λ (at : ℕ). option_map boxed_bytes (get_or (set items slot bytes) at None)) found) (λ there. option_and_then (λ (at : ℕ). option_map boxed_bytes (get_or items at None)) before ≡ Some there)
     by None found was = tt
     by (Some at) found was = no_more _ _
-        (ap (option_map kept_bytes) (get_or-set_other items slot at bytes None (λ same. differs (apart (other, at) (page, slot) (entry_of entries other at found) (entry_of entries page slot is) same)))
-        ∙ sym (ap (option_and_then (λ (k : ℕ). option_map kept_bytes (get_or items k None))) was))
+        (ap (option_map boxed_bytes) (get_or-set_other items slot at bytes None (λ same. differs (apart (other, at) (page, slot) (entry_of entries other at found) (entry_of entries page slot is) same)))
+        ∙ sym (ap (option_and_then (λ (k : ℕ). option_map boxed_bytes (get_or items k None))) was))
+
+-- the bytes in the slot of a page are those that were put there, if any are
+pub put_here : (entries : Entries) (page slot : ℕ) (items : List (Option Kept)) (kept : Option Kept) (bytes : List ℕ)
+    → lookup (nat_eq page) entries ≡ Some slot → slot < length items → IfSome kept (λ it. boxed_bytes it ≡ bytes)
+    → IfSome (option_and_then (λ (at : ℕ). option_map boxed_bytes (get_or (set items slot kept) at None)) (lookup (nat_eq page) entries)) (λ there. there ≡ bytes)
+put_here entries page slot items kept bytes is inside has = rw is (rw (get_or-set_same items slot kept None inside) (by kept has))
+  where
+    by : (it : Option Kept) → IfSome it (λ it. boxed_bytes it ≡ bytes) → IfSome (option_map boxed_bytes it) (λ there. there ≡ bytes)
+    by None has = tt
+    by (Some it) has = has

@@ -1,7 +1,7 @@
 -- What a cache holds of each page.
 use Rattle.std.specs.Prelude.{◌≡◌, ℕ, List, Option, Some, None, IsSome, IfSome, get_or, nat_eq, option_map, option_and_then}
 use Rattle.std.specs.Map.{lookup}
-use Rattle.page_nodes.specs.Views.{kept_bytes}
+use Rattle.page_cache.specs.Slots.{boxed_bytes}
 use Rattle.page_cache.specs.declared.cache.PageCache.{PageCache}
 
 -- the slot of a page
@@ -10,7 +10,7 @@ slot_of cache page = lookup (nat_eq page) cache.pages.entries
 
 -- the bytes in a slot
 abbrev pub bytes_in : PageCache → ℕ → Option (List ℕ)
-bytes_in cache slot = option_map kept_bytes (get_or cache.slots.items slot None)
+bytes_in cache slot = option_map boxed_bytes (get_or cache.slots.items slot None)
 
 -- the bytes that are held of a page
 abbrev pub held_bytes : PageCache → ℕ → Option (List ℕ)

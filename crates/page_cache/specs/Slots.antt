@@ -1,5 +1,12 @@
 -- The slots of pages: each entry is a page and its slot.
-use Rattle.std.specs.Prelude.{◌≡◌, ◌≢◌, ◌<◌, ◌≤◌, ℕ, List, length, Contains}
+use Rattle.std.specs.Prelude.{◌≡◌, ◌≢◌, ◌<◌, ◌≤◌, ℕ, List, Box, length, Contains}
+use Rattle.std.specs.declared.alloc.Global.{Global}
+use Rattle.page_nodes.specs.declared.offsets.IndexedPage.{IndexedPage}
+use Rattle.page_nodes.specs.Views.{kept_bytes}
+
+-- the bytes of the page in a box
+abbrev pub boxed_bytes : Box IndexedPage Global → List ℕ
+boxed_bytes page = kept_bytes page.value
 
 -- the slots in use are the first, as many as there are pages
 abbrev pub AreFirst : List (ℕ × ℕ) → Type 0

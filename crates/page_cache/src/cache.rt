@@ -1,7 +1,7 @@
 //! A cache of pages.
 
-ghost use Rattle.std.specs.Prelude.{◌<◌, ◌≤◌, ◌≡◌, length};
-ghost use Rattle.page_cache.specs.Slots.{AreFirst, AreApart};
+ghost use Rattle.std.specs.Prelude.{◌<◌, ◌≤◌, ◌≡◌, length, IfSome};
+ghost use Rattle.page_cache.specs.Slots.{AreFirst, AreApart, boxed_bytes};
 
 use lru::LruCache;
 use page_nodes::{IndexedPage, PageView};
@@ -16,8 +16,9 @@ pub struct PageCache {
     // Each page that has a slot, and the slot. A page that was forgotten keeps its empty slot until
     // it gives it up.
     pages: LruCache<u32, usize>,
-    // The page in each slot.
-    slots: Vec<Option<IndexedPage>>,
+    // The page in each slot. Memory for a page is taken once one is put into the slot.
+    slots: Vec<Option<Box<IndexedPage>>>,
+    alloc: Global,
     ghost capacity: { 0 < length slots.items → pages.cap ≡ length slots.items },
     ghost room: { length pages.entries ≤ length slots.items },
     ghost first: { AreFirst pages.entries },
@@ -27,18 +28,23 @@ pub struct PageCache {
 // Written and not derived: where a value is dropped this is one call, and not its parts one by one.
 impl Drop for PageCache {
     fn drop(self) {
-        let PageCache { pages: _, slots: _ } = self;
+        let PageCache {
+            pages: _,
+            slots: _,
+            alloc: _,
+        } = self;
     }
 }
 
 impl PageCache {
-    ghost use Rattle.std.specs.Prelude.{◌-◌, ◌≢◌, ℕ, None, Some, MatchOption, IfOk, IfSome, take};
+    ghost use Rattle.std.specs.Prelude.{◌-◌, ◌≢◌, ℕ, None, Some, MatchOption, IfOk, take};
     ghost use Rattle.page_nodes.specs.Views.{bytes_of};
     ghost use Rattle.page_cache.specs.Slots.{IsSpare};
     ghost use Rattle.page_cache.specs.Held.{slot_of, bytes_in, held_bytes, HoldsAsBefore, HoldsNoMore, IsSlotOf};
 
     /// A cache that holds no page, with as many slots of those wanted as memory is granted for,
-    /// perhaps none. It fails where memory is refused for the table of the pages.
+    /// perhaps none. A page takes its memory when it is put. It fails where memory is refused for
+    /// the table of the pages.
     pub fn new(alloc: Global, wanted: usize) -> Result<PageCache, AllocError>
         ensures { IfOk result (λ cache. (page : ℕ) → held_bytes cache page ≡ None) }
     {
@@ -50,7 +56,11 @@ impl PageCache {
         }
         let capacity = NonZeroUsize::new(slots.len()).unwrap_or(NonZeroUsize::MIN);
         let pages = LruCache::new(alloc, capacity)?;
-        Ok(PageCache { pages, slots })
+        Ok(PageCache {
+            pages,
+            slots,
+            alloc,
+        })
     }
 
     /// The slot with the bytes that are held of a page, which is then the most recently used; `lend` lends them. None: none
@@ -94,7 +104,7 @@ impl PageCache {
             → HoldsNoMore self.old self.new other }
     {
         if let Some(slot) = self.take_slot(page) {
-            self.slots[slot] = Some(IndexedPage::new(bytes));
+            self.slots[slot] = boxed_page(self.alloc, bytes);
         }
     }
 
@@ -146,4 +156,11 @@ impl PageCache {
             self.slots[slot] = None;
         }
     }
+}
+
+// The page of these bytes in memory of its own, or `None` where memory is refused.
+fn boxed_page(alloc: Global, bytes: &[u8; PAGE_SIZE]) -> Option<Box<IndexedPage>>
+    ensures { IfSome result (λ page. boxed_bytes page ≡ bytes.now) }
+{
+    Box::new(alloc, IndexedPage::new(bytes)).ok()
 }
