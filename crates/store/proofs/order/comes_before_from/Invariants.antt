@@ -1,6 +1,6 @@
 use Rattle.std.proofs.Common.{◌≡◌, drop}
 use Rattle.store.specs.Records.{key_cmp}
-use Rattle.store.proofs.order.comes_before.Given as goal
+use Rattle.store.proofs.order.comes_before_from.Given as goal
 
 -- what is left of the keys is in the order of the keys
 abbrev pub invariant-loop-at : goal.invariant-loop-at
