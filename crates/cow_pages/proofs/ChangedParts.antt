@@ -4,7 +4,8 @@ use Rattle.std.proofs.Math.ListN.{set, length-set}
 use Rattle.std.proofs.lemmas.Bool.{cases_eq}
 use Rattle.std.proofs.lemmas.List.{get_or-set_same, get_or-set_other, ext_get_or}
 use Rattle.cow_pages.specs.Held.{part_of}
-use Rattle.cow_pages.specs.PageMap.{AreChangedParts, EndsWith, IsUsedBelow}
+use Rattle.cow_pages.specs.declared.page_map.Span.{Span}
+use Rattle.cow_pages.specs.PageMap.{AreChangedParts, IsOutside, DiffersWithin, EndsWith, IsUsedBelow}
 use Rattle.cow_pages.proofs.Parts.{parts_same, part_entry}
 
 -- where both maps are the same one
@@ -69,6 +70,23 @@ module _ (durable working : List ℕ) (changed_parts : List Bool) (old : AreChan
       → part_of working index ≡ part_of durable index
   unchanged_part index inside count durable_count none =
       parts_same working durable index (omega (arith, inside, count)) (count ∙ sym durable_count) (λ l least lt. old.same index l none least lt)
+
+-- an entry changes, and a span includes it
+pub within_more : (old new : Span) (durable working : List ℕ) (l page : ℕ) → DiffersWithin old durable working
+    → ((k : ℕ) → IsOutside new k → IsOutside old k × (k ≢ l)) → DiffersWithin new durable (set working l page)
+within_more old new durable working l page within more k outside =
+    let is = more k outside in
+    get_or-set_other working l k page 0 is.1 ∙ within k is.0
+
+-- an entry is the durable one again
+pub within_restored : (span : Span) (durable working : List ℕ) (l : ℕ) → DiffersWithin span durable working → l < length working
+    → DiffersWithin span durable (set working l (get_or durable l 0))
+within_restored span durable working l within inside k outside = elim (cases_eq k l) [
+  | inl is ↦
+      ap (λ (n : ℕ). get_or (set working l (get_or durable l 0)) n 0) is ∙ get_or-set_same working l (get_or durable l 0) 0 inside
+      ∙ ap (λ (n : ℕ). get_or durable n 0) (sym is)
+  | inr other ↦ get_or-set_other working l k (get_or durable l 0) 0 other ∙ within k outside
+]
 
 -- a part after the durable map pages in which none is in use
 pub unchanged_after : (maps durable working : List ℕ) (changed_parts : List Bool) (index l : ℕ) → AreChangedParts durable working changed_parts → EndsWith maps durable

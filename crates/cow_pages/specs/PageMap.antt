@@ -3,6 +3,7 @@ use Rattle.std.specs.Prelude.{◌<◌, ◌≡◌, ◌≢◌, ◌≤◌, ◌+◌,
 use Rattle.page_roots.specs.Root.{RootFields}
 use Rattle.page_roots.specs.Reach.{IsSound, InReach, is_reached}
 use Rattle.cow_pages.specs.Held.{part_of}
+use Rattle.cow_pages.specs.declared.page_map.Span.{Span}
 use Rattle.page_allocator.specs.TakenPages.{TakenPages, AreReached}
 
 -- the maps of the durable and of the working root, and the pages reserved for map pages of the working root, 0 for none
@@ -32,6 +33,14 @@ pub record IsConsistent (pages : ℕ) (maps durable reserved working : List ℕ)
 pub record AreChangedParts (durable working : List ℕ) (changed_parts : List Bool) : Type 0 where
   pub count : length changed_parts ≡ 64
   pub same : (j l : ℕ) → slice_index_or changed_parts j false ≡ false → 1024 * j ≤ l → l < 1024 * j + 1024 → slice_index working l ≡ slice_index durable l
+
+-- an entry is not in a span
+abbrev pub IsOutside : Span → ℕ → Type 0
+IsOutside span l = (l < span.from) ⊎ (span.to ≤ l)
+
+-- each entry outside a span is the durable one
+abbrev pub DiffersWithin : Span → List ℕ → List ℕ → Type 0
+DiffersWithin span durable working = (l : ℕ) → IsOutside span l → slice_index working l ≡ slice_index durable l
 
 -- after the entries of these map pages none is in use
 abbrev pub EndsWith : List ℕ → List ℕ → Type 0

@@ -15,6 +15,7 @@ use crate::page_map::PageMap;
 use crate::root_switch::write_next;
 use page_cache::PageCache;
 use page_roots::Root;
+use pages::PAGE_SIZE;
 use sector_device::{Device, DeviceFault, SECTORS_PER_PAGE, write_page};
 
 // Writes all dirty pages. The cache forgets each before it is written, and holds its new bytes from then on.
@@ -50,11 +51,12 @@ pub(crate) fn write_pages<D: Device>(
     Ok(())
 }
 
-// Writes all dirty pages, the reserved map pages of the next root, and then the root. A stop at any moment leaves
-// the array before or after, and after an error the device is recoverable for the old root.
+// Writes all dirty pages, the reserved map pages of the next root, each spelled in scratch, and then the root. A stop at
+// any moment leaves the array before or after, and after an error the device is recoverable for the old root.
 pub(crate) fn write_changes<D: Device>(
     device: &mut D,
     cache: &mut PageCache,
+    scratch: &mut [u8; PAGE_SIZE],
     dirty: &DirtyPages,
     map: &PageMap,
     next: &Root,
@@ -72,5 +74,5 @@ pub(crate) fn write_changes<D: Device>(
     ensures cause { OnErr result (HasFailed (D.state device.old) (D.state device.new)) }
 {
     write_pages(device, cache, dirty)?;
-    write_next(device, cache, map, next)
+    write_next(device, cache, scratch, map, next)
 }

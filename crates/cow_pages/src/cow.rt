@@ -50,7 +50,7 @@ pub struct CowPages<D: Device> {
     pub(crate) map: PageMap,
     dirty: DirtyPages,
     cache: PageCache,
-    // The page that was fetched last, and the page that was read from the device last.
+    // The page that was fetched last, and the page that was read from the device last. A commit spells map pages there.
     place: PageLocation,
     page: [u8; PAGE_SIZE],
     has_failed: bool,
@@ -373,6 +373,7 @@ impl<D: Device> CowPages<D> {
         let written = write_changes(
             &mut self.device,
             &mut self.cache,
+            &mut self.page,
             &self.dirty,
             &self.map,
             &next,

@@ -10,7 +10,7 @@ ghost use Rattle.page_allocator.specs.TakenPages.{IsTaken, AreReached};
 ghost use Rattle.cow_pages.specs.PageMap.{IsIdle, EndsWith};
 ghost use Rattle.cow_pages.specs.Opening.{IsRootFound, IsNamedFor};
 
-use crate::page_map::PageMap;
+use crate::page_map::{PageMap, Span};
 use page_allocator::PageAllocator;
 use page_roots::{
     ENTRIES_PER_MAP_PAGE, MAX_MAP_PAGES, Root, choose, has_magic, is_sound_reach, read_map_page,
@@ -244,6 +244,7 @@ fn arrange(alloc: Global, root: Root, durable: Vec<u32>) -> Result<PageMap, Allo
         durable,
         working,
         changed_parts: [false; MAX_MAP_PAGES],
+        changed: Span::none(),
         unused_from: 0,
         reserved: [0; MAX_MAP_PAGES],
         allocator,

@@ -1,7 +1,7 @@
 //! The maps of the durable and of the working root, and the free pages.
 
 ghost use Rattle.std.specs.Prelude.{Ok, MatchResult, ◌≡◌, ◌≢◌, ◌⊎◌, ◌<◌, ◌≤◌, ◌*◌, ◌+◌, ◌-◌, ◌^◌, ℕ, true, false, OnOk, IsErrOf, IfOk, IfSome, IfNone, OnErr, IsErr, slice_index, slice_set, length};
-ghost use Rattle.cow_pages.specs.PageMap.{IsConsistent, AreChangedParts, EndsWith, IsUsedBelow, IsOwn, IsUsedUp, IsIdle, IsChanged, HasMapPage, IsNeeded, IsNextRoot, AreReplaced, HasNoMapRoom};
+ghost use Rattle.cow_pages.specs.PageMap.{IsConsistent, AreChangedParts, DiffersWithin, EndsWith, IsUsedBelow, IsOwn, IsUsedUp, IsIdle, IsChanged, HasMapPage, IsNeeded, IsNextRoot, AreReplaced, HasNoMapRoom};
 ghost use Rattle.cow_pages.specs.Held.{part_of};
 
 use crate::open::MAX_ENTRIES;
@@ -22,6 +22,38 @@ pub enum CommitFault {
     Device,
 }
 
+// Entries of a map: from one on, those before another.
+#[derive(Clone, Copy, Drop)]
+pub(crate) struct Span {
+    from: u32,
+    to: u32,
+}
+
+impl Span {
+    ghost use Rattle.cow_pages.specs.PageMap.{IsOutside};
+
+    // No entry.
+    pub(crate) fn none() -> Span
+        ensures { (l : ℕ) → IsOutside result l }
+    {
+        Span {
+            from: MAX_ENTRIES as u32,
+            to: 0,
+        }
+    }
+
+    // These entries and one more.
+    fn including(self, entry: u32) -> Span
+        requires { entry < 65536 }
+        ensures { (l : ℕ) → IsOutside result l → IsOutside self l × (l ≢ entry) }
+    {
+        Span {
+            from: self.from.min(entry),
+            to: self.to.max(entry + 1),
+        }
+    }
+}
+
 // The maps between two calls: the durable root with its map, and the map that the next commit makes
 // durable. A page is free where neither needs it.
 #[derive(Drop)]
@@ -32,6 +64,8 @@ pub(crate) struct PageMap {
     pub(crate) working: Vec<u32>,
     // Which map pages' parts of the working map may differ from the durable one.
     pub(crate) changed_parts: [bool; MAX_MAP_PAGES],
+    // Each entry of the working map that differs from the durable one is in this span.
+    pub(crate) changed: Span,
     // Each logical page below it is in use in the working map.
     pub(crate) unused_from: u32,
     // The pages that the working root's new map pages are written to, by their indexes, 0 for none.
@@ -39,6 +73,7 @@ pub(crate) struct PageMap {
     pub(crate) allocator: PageAllocator,
     ghost consistent: { IsConsistent root.pages root.maps durable.items reserved working.items allocator },
     ghost parts: { AreChangedParts durable.items working.items changed_parts },
+    ghost within: { DiffersWithin changed durable.items working.items },
     ghost ended: { EndsWith root.maps durable.items },
     ghost used: { IsUsedBelow working.items unused_from },
 }
@@ -69,6 +104,7 @@ impl PageMap {
         let at = logical as usize;
         self.working[at] = page;
         self.changed_parts[at / ENTRIES_PER_MAP_PAGE] = true;
+        self.changed = self.changed.including(logical);
         Ok(page)
     }
 
@@ -97,6 +133,7 @@ impl PageMap {
         let page = self.working[logical as usize];
         self.working[logical as usize] = 0;
         self.changed_parts[logical as usize / ENTRIES_PER_MAP_PAGE] = true;
+        self.changed = self.changed.including(logical);
         self.unused_from = self.unused_from.min(logical);
         if page != 0 && page != self.durable[logical as usize] {
             self.allocator.give(page);
@@ -133,7 +170,9 @@ impl PageMap {
             return;
         }
         let start = (ENTRIES_PER_MAP_PAGE * index) as u32;
-        for logical in start..start + ENTRIES_PER_MAP_PAGE as u32 {
+        let from = start.max(self.changed.from);
+        let to = (start + ENTRIES_PER_MAP_PAGE as u32).min(self.changed.to);
+        for logical in from..to {
             self.restore_page(logical);
         }
         self.changed_parts[index] = false;
@@ -147,6 +186,7 @@ impl PageMap {
         for index in 0..MAX_MAP_PAGES {
             self.restore_part(index);
         }
+        self.changed = Span::none();
     }
 
     // The first logical page that is not in use.
@@ -190,7 +230,9 @@ impl PageMap {
             return false;
         }
         let start = ENTRIES_PER_MAP_PAGE * index;
-        for entry in start..start + ENTRIES_PER_MAP_PAGE {
+        let from = start.max(self.changed.from as usize);
+        let to = (start + ENTRIES_PER_MAP_PAGE).min(self.changed.to as usize);
+        for entry in from..to {
             if self.working[entry] != self.durable[entry] {
                 return true;
             }

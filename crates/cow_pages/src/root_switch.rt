@@ -13,23 +13,26 @@ ghost use Rattle.cow_pages.specs.Commit.{IsApart, AgreesApart, CanSwitch, Switch
 
 use crate::page_map::PageMap;
 use page_cache::PageCache;
-use page_roots::{ENTRIES_PER_MAP_PAGE, MAX_MAP_PAGES, Root, write_map_page};
+use page_roots::{ENTRIES_PER_MAP_PAGE, MAX_MAP_PAGES, Root, put_map_page};
+use pages::PAGE_SIZE;
 use sector_device::{Device, DeviceFault, SECTORS_PER_PAGE, write_page};
 
-// The bytes of the map page of this index.
-fn map_bytes(entries: &[u32], index: usize) -> [u8; 4096]
+// Spells the map page of this index.
+fn put_map(entries: &[u32], index: usize, bytes: &mut [u8; PAGE_SIZE])
     requires inside { index < 64 }
     requires count { length entries.now ≡ 65536 }
-    ensures { entries_in result ≡ part_of entries.now index }
+    ensures { entries_in bytes.new ≡ part_of entries.now index }
 {
     let start = ENTRIES_PER_MAP_PAGE * index;
-    write_map_page(&entries[start..start + ENTRIES_PER_MAP_PAGE])
+    put_map_page(&entries[start..start + ENTRIES_PER_MAP_PAGE], bytes);
 }
 
-// Writes the parts of the entries to the pages of their indexes, where 0 is none. The cache forgets these pages.
+// Writes the parts of the entries to the pages of their indexes, where 0 is none; each is spelled in scratch. The cache
+// forgets these pages.
 fn write_maps<D: Device>(
     device: &mut D,
     cache: &mut PageCache,
+    scratch: &mut [u8; PAGE_SIZE],
     pages: &[u32; MAX_MAP_PAGES],
     entries: &[u32],
 ) -> Result<(), DeviceFault>
@@ -57,7 +60,8 @@ fn write_maps<D: Device>(
         let page = pages[index];
         if page != 0 {
             cache.forget(page);
-            write_page(device, SECTORS_PER_PAGE * page, &map_bytes(entries, index))?;
+            put_map(entries, index, scratch);
+            write_page(device, SECTORS_PER_PAGE * page, scratch)?;
         }
     }
     Ok(())
@@ -81,11 +85,12 @@ fn switch<D: Device>(device: &mut D, next: &Root) -> Result<(), DeviceFault>
     device.sync()
 }
 
-// Writes the reserved map pages of the next root, and then the root. A stop at any moment leaves the array before or
-// after, and after an error the device is recoverable for the old root.
+// Writes the reserved map pages of the next root, each spelled in scratch, and then the root. A stop at any moment leaves
+// the array before or after, and after an error the device is recoverable for the old root.
 pub(crate) fn write_next<D: Device>(
     device: &mut D,
     cache: &mut PageCache,
+    scratch: &mut [u8; PAGE_SIZE],
     map: &PageMap,
     next: &Root,
 ) -> Result<(), DeviceFault>
@@ -98,6 +103,6 @@ pub(crate) fn write_next<D: Device>(
         → AgreesWith cache.new (D.state device.new).content }
     ensures cause { OnErr result (HasFailed (D.state device.old) (D.state device.new)) }
 {
-    write_maps(device, cache, &map.reserved, &map.working)?;
+    write_maps(device, cache, scratch, &map.reserved, &map.working)?;
     switch(device, next)
 }

@@ -1,6 +1,6 @@
 -- Pages that have slots: what stays so when a page is the most recently used, and when a new one takes a slot.
 use Rattle.std.proofs.Common.{◌≡◌, ◌≢◌, ◌<◌, ◌≤◌, ◌-◌, ℕ, List, [], ◌∷◌, inl, inr, Option, Some, None, IfSome, Result, Ok, Err, OnOk, OnErr, take, set, length, refl, sym, ap, ◌∙◌, subst, arith, get_or, cond}
-use Rattle.std.proofs.lemmas.Bool.{ne_eqb}
+use Rattle.std.proofs.lemmas.Bool.{ne_eqb, cases_eq}
 use Rattle.std.proofs.lemmas.Bool.Decides.{eqb_tells}
 use Rattle.std.proofs.lemmas.List.{take_all, length-take-le, get_or-set_same, get_or-set_other}
 use Rattle.std.specs.Prelude.{nat_eq, option_map, option_and_then, Box}
@@ -167,3 +167,18 @@ put_here entries page slot items kept bytes is inside has = rw is (rw (get_or-se
     by : (it : Option Kept) → IfSome it (λ it. boxed_bytes it ≡ bytes) → IfSome (option_map boxed_bytes it) (λ there. there ≡ bytes)
     by None has = tt
     by (Some it) has = has
+
+-- a slot gets a page of the same bytes
+bytes_stay : (items : List (Option Kept)) (slot : ℕ) (new : Option Kept) → slot < length items → option_map boxed_bytes new ≡ option_map boxed_bytes (get_or items slot None)
+    → (at : ℕ) → option_map boxed_bytes (get_or (set items slot new) at None) ≡ option_map boxed_bytes (get_or items at None)
+bytes_stay items slot new inside same at = elim (cases_eq at slot) [
+  | inl is ↦
+      ap (λ (n : ℕ). option_map boxed_bytes (get_or (set items slot new) n None)) is ∙ ap (option_map boxed_bytes) (get_or-set_same items slot new None inside) ∙ same
+      ∙ ap (λ (n : ℕ). option_map boxed_bytes (get_or items n None)) (sym is)
+  | inr other ↦ ap (option_map boxed_bytes) (get_or-set_other items slot at new None other)
+]
+
+pub held_stays : (items : List (Option Kept)) (slot : ℕ) (new : Option Kept) → slot < length items → option_map boxed_bytes new ≡ option_map boxed_bytes (get_or items slot None)
+    → (found : Option ℕ) → option_and_then (λ (at : ℕ). option_map boxed_bytes (get_or (set items slot new) at None)) found ≡ option_and_then (λ (at : ℕ). option_map boxed_bytes (get_or items at None)) found
+held_stays items slot new inside same None = refl
+held_stays items slot new inside same (Some at) = bytes_stay items slot new inside same at

@@ -1,6 +1,6 @@
 //! A cache of pages.
 
-ghost use Rattle.std.specs.Prelude.{◌<◌, ◌≤◌, ◌≡◌, length, IfSome};
+ghost use Rattle.std.specs.Prelude.{◌<◌, ◌≤◌, ◌≡◌, ◌↔◌, length, IfSome, IsSome, IsTrue, option_map};
 ghost use Rattle.page_cache.specs.Slots.{AreFirst, AreApart, boxed_bytes};
 
 use lru::LruCache;
@@ -72,10 +72,10 @@ impl PageCache {
     {
         let slot = self.slot(page)?;
         self.pages.promote(&page);
-        match self.slots[slot] {
-            Some(_) => Some(slot),
-            None => None,
+        if find_offsets(&mut self.slots[slot]) {
+            return Some(slot);
         }
+        None
     }
 
     /// The page in a slot, with the offsets of its cells. None: there is none in it, or there is no such slot.
@@ -104,7 +104,7 @@ impl PageCache {
             → HoldsNoMore self.old self.new other }
     {
         if let Some(slot) = self.take_slot(page) {
-            self.slots[slot] = boxed_page(self.alloc, bytes);
+            fill(self.alloc, &mut self.slots[slot], bytes);
         }
     }
 
@@ -163,4 +163,27 @@ fn boxed_page(alloc: Global, bytes: &[u8; PAGE_SIZE]) -> Option<Box<IndexedPage>
     ensures { IfSome result (λ page. boxed_bytes page ≡ bytes.now) }
 {
     Box::new(alloc, IndexedPage::new(bytes)).ok()
+}
+
+// Puts the bytes of a page into a slot, into memory that it has or gets. Where memory is refused, nothing is in it.
+fn fill(alloc: Global, slot: &mut Option<Box<IndexedPage>>, bytes: &[u8; PAGE_SIZE])
+    ensures { IfSome slot.new (λ page. boxed_bytes page ≡ bytes.now) }
+{
+    if let Some(page) = slot {
+        page.replace(bytes);
+        return;
+    }
+    *slot = boxed_page(alloc, bytes);
+}
+
+// Finds the offsets of the page in a slot, where none is known. Whether there is a page.
+fn find_offsets(slot: &mut Option<Box<IndexedPage>>) -> bool
+    ensures page { option_map boxed_bytes slot.new ≡ option_map boxed_bytes slot.old }
+    ensures some { IsTrue result ↔ IsSome slot.old }
+{
+    if let Some(page) = slot {
+        page.index();
+        return true;
+    }
+    false
 }

@@ -25,7 +25,8 @@ pub struct PageView<'a> {
     ghost are_offsets: { AreOffsets bytes.now offsets.now },
 }
 
-/// A page and the offsets of its cells. The offsets go as far as its bytes are those of a node whose keys rise.
+/// A page and offsets of its cells: none until they are asked for, and then as far as its bytes are those of a node whose
+/// keys rise.
 #[derive(Drop)]
 pub struct IndexedPage {
     bytes: [u8; PAGE_SIZE],
@@ -60,19 +61,34 @@ impl<'a> PageView<'a> {
 impl IndexedPage {
     ghost use Rattle.page_nodes.specs.Views.{bytes_of, kept_bytes};
 
-    /// The page of these bytes, whatever they are.
+    /// The page of these bytes, whatever they are. No offset is known yet.
     pub fn new(bytes: &[u8; PAGE_SIZE]) -> IndexedPage
         ensures { kept_bytes result ≡ bytes.now }
     {
-        let mut offsets = [0; MAX_OFFSETS];
-        let count = match kind_of(bytes) {
-            Some(kind) => find_offsets(bytes, kind, &mut offsets),
-            None => 0,
-        };
         IndexedPage {
             bytes: *bytes,
-            offsets,
-            count,
+            offsets: [0; MAX_OFFSETS],
+            count: 0,
+        }
+    }
+
+    /// Gives the page these bytes, whatever they are. No offset is known then.
+    pub fn replace(&mut self, bytes: &[u8; PAGE_SIZE])
+        ensures { kept_bytes self.new ≡ bytes.now }
+    {
+        self.count = 0;
+        self.bytes = *bytes;
+    }
+
+    /// Finds the offsets, where none is known.
+    pub fn index(&mut self)
+        ensures { kept_bytes self.new ≡ kept_bytes self.old }
+    {
+        if self.count > 0 {
+            return;
+        }
+        if let Some(kind) = kind_of(&self.bytes) {
+            self.count = find_offsets(&self.bytes, kind, &mut self.offsets);
         }
     }
 

@@ -18,6 +18,15 @@ pub fn read_map_page(bytes: &[u8; PAGE_SIZE], entries: &mut [u32])
     read_numbers(bytes, entries);
 }
 
+/// Writes the map page with these entries, whatever was there before.
+pub fn put_map_page(entries: &[u32], bytes: &mut [u8; PAGE_SIZE])
+    requires { length entries.now ≡ ENTRIES_PER_MAP_PAGE }
+    ensures spelled { bytes.new ≡ map_page_bytes entries.now }
+    ensures read { entries_in bytes.new ≡ entries.now }
+{
+    BigEndian::write_u32_into(entries, bytes);
+}
+
 /// The bytes of the map page with these entries.
 pub fn write_map_page(entries: &[u32]) -> [u8; PAGE_SIZE]
     requires { length entries.now ≡ ENTRIES_PER_MAP_PAGE }
@@ -25,7 +34,7 @@ pub fn write_map_page(entries: &[u32]) -> [u8; PAGE_SIZE]
     ensures read { entries_in result ≡ entries.now }
 {
     let mut bytes = [0; PAGE_SIZE];
-    BigEndian::write_u32_into(entries, &mut bytes);
+    put_map_page(entries, &mut bytes);
     bytes
 }
 

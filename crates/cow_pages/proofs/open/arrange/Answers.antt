@@ -1,4 +1,4 @@
-use Rattle.std.proofs.Common.{◌≡◌, ℕ, false, List, ◌++◌, zero, replicate, sym, ap, subst, ◌∙◌, arith}
+use Rattle.std.proofs.Common.{◌≡◌, ℕ, false, List, ◌++◌, zero, replicate, get_or, sym, ap, subst, ◌∙◌, arith}
 use Rattle.std.proofs.lemmas.List.{length-replicate}
 use Rattle.cow_pages.specs.PageMap.{IsConsistent, AreChangedParts}
 use Rattle.cow_pages.proofs.Consistency.{consistent_first, zero_there}
@@ -16,6 +16,7 @@ invariant_of-result c =
     record {
       consistent = subst (λ (w : List ℕ). IsConsistent root.pages root.maps durable (replicate 64 zero) w marks) (sym value) first;
       parts = subst (λ (w : List ℕ). AreChangedParts durable w (replicate 64 false)) (sym value) (changed_first durable (replicate 64 false) (length-replicate 64 false));
+      within = λ l outside. ap (λ (w : List ℕ). get_or w l 0) value;
       ended = c.requires.ended;
       used = λ l below. absurd (omega (arith, below));
     }

@@ -48,7 +48,7 @@ loop-index-preserved g c =
                 let differs : get_or pages j 0 ≢ get_or pages index 0 = λ same. let is = c.requires.differ j index positive same in omega (arith, is, lt) in
                 ap (λ (b : List ℕ). entries_in b) (bytes_along mid new (get_or pages j 0) (λ k below. steps.alone (so_far.history.faithful first) (8 * get_or pages j 0 + k) (other_page (get_or pages index 0) (get_or pages j 0) k differs below)))
                 ∙ so_far.written first j lt positive)
-                (λ positive. ap (λ (b : List ℕ). entries_in b) (page_is new.content (get_or pages index 0) ∙ w.in_ok-write_page.ensures.page (so_far.history.faithful first)) ∙ w.map_bytes.ensures);
+                (λ positive. ap (λ (b : List ℕ). entries_in b) (page_is new.content (get_or pages index 0) ∙ w.in_ok-write_page.ensures.page (so_far.history.faithful first)) ∙ w.put_map.ensures);
             cached = λ first agrees.
                 let left = w.forget.new.self in
                 written_agrees left mid new (get_or pages index 0) (less_agrees c.loop-index.cache left mid.content (so_far.cached first agrees) w.forget.ensures.others)

@@ -10,6 +10,7 @@ invariant_of-self c =
     record {
       consistent = m.consistent;
       parts = m.parts;
+      within = m.within;
       ended = m.ended;
       used = subst (λ (w : List ℕ). IsUsedBelow w old.unused_from) (sym same) old.used;
     }

@@ -4,7 +4,7 @@ use Rattle.std.proofs.lemmas.List.{get_or_default}
 use Rattle.page_allocator.specs.TakenPages.{TakenPages}
 use Rattle.cow_pages.specs.PageMap.{IsConsistent, IsUsedBelow}
 use Rattle.cow_pages.proofs.Consistency.{in_working_taken, consistent_left, consistent_given}
-use Rattle.cow_pages.proofs.ChangedParts.{changed_more, used_less}
+use Rattle.cow_pages.proofs.ChangedParts.{changed_more, within_more, used_less}
 use Rattle.cow_pages.proofs.page_map.PageMap.release.Goals as goal
 
 pub give-requires-clause-taken : goal.give-requires-clause-taken
@@ -25,6 +25,7 @@ invariant_of-self c =
       consistent = subst (λ (marks : TakenPages). IsConsistent m.root.pages m.root.maps m.durable.items m.reserved (set m.working.items l 0) marks)
           (ap (λ (p : ℕ). set m.allocator p _) (sym page) ∙ sym c.give.ensures) given;
       parts = changed_more m.durable.items m.working.items m.changed_parts m.parts l 0 c.requires.inside;
+      within = within_more m.changed c.including-self.result m.durable.items m.working.items l 0 m.within c.including-self.ensures;
       ended = m.ended;
       used = subst (λ (end : ℕ). IsUsedBelow (set m.working.items l 0) end) (sym c.min-self.ensures) (used_less m.working.items m.unused_from l m.used);
     }
@@ -38,6 +39,7 @@ invariant_of-self-else-page-index c =
     record {
       consistent = consistent_left _ _ _ _ _ m.allocator m.consistent l c.requires.inside (inr (sym page ∙ c.if-page-index.false ∙ durable));
       parts = changed_more m.durable.items m.working.items m.changed_parts m.parts l 0 c.requires.inside;
+      within = within_more m.changed c.including-self.result m.durable.items m.working.items l 0 m.within c.including-self.ensures;
       ended = m.ended;
       used = subst (λ (end : ℕ). IsUsedBelow (set m.working.items l 0) end) (sym c.min-self.ensures) (used_less m.working.items m.unused_from l m.used);
     }
@@ -50,6 +52,7 @@ invariant_of-self-else-page-ne0 c =
     record {
       consistent = consistent_left _ _ _ _ _ m.allocator m.consistent l c.requires.inside (inl (sym page ∙ c.if-page-ne0.false));
       parts = changed_more m.durable.items m.working.items m.changed_parts m.parts l 0 c.requires.inside;
+      within = within_more m.changed c.including-self.result m.durable.items m.working.items l 0 m.within c.including-self.ensures;
       ended = m.ended;
       used = subst (λ (end : ℕ). IsUsedBelow (set m.working.items l 0) end) (sym c.min-self.ensures) (used_less m.working.items m.unused_from l m.used);
     }

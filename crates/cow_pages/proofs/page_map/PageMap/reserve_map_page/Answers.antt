@@ -22,6 +22,7 @@ invariant_of-self-2 c =
       consistent = subst (λ (marks : TakenPages). IsConsistent m.root.pages m.root.maps m.durable.items (set m.reserved c.args.index page) m.working.items marks) (sym c.in_ok-page.ensures.taken)
           (consistent_reserved _ _ _ _ _ m.allocator m.consistent c.args.index c.requires.inside page inside.0 (omega (arith, inside.1, m.consistent.marks_count)) c.in_ok-page.ensures.free c.requires.unreserved);
       parts = m.parts;
+      within = m.within;
       ended = m.ended;
       used = m.used;
     }

@@ -1,4 +1,4 @@
-use Rattle.std.proofs.Common.{arith}
+use Rattle.std.proofs.Common.{sym, arith}
 use Rattle.cow_pages.proofs.Switched.{consistent_switched}
 use Rattle.cow_pages.proofs.ChangedParts.{changed_swapped}
 use Rattle.cow_pages.proofs.page_map.PageMap.swap_roots.Goals as goal
@@ -15,6 +15,11 @@ pub invariant_of-self-clause-parts : goal.invariant_of-self-clause-parts
 invariant_of-self-clause-parts c =
     let m = c.args.self.now in
     rw (c.swap.ensures.x_after, c.swap.ensures.y_after) (changed_swapped m.durable.items m.working.items m.changed_parts m.parts)
+
+pub invariant_of-self-clause-within : goal.invariant_of-self-clause-within
+invariant_of-self-clause-within c =
+    let m = c.args.self.now in
+    rw (c.swap.ensures.x_after, c.swap.ensures.y_after) (λ l outside. sym (m.within l outside))
 
 pub invariant_of-self-clause-ended : goal.invariant_of-self-clause-ended
 invariant_of-self-clause-ended c = rw (c.swap.ensures.x_after) c.requires.next.beyond

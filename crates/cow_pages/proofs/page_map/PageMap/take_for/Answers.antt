@@ -4,7 +4,7 @@ use Rattle.std.proofs.lemmas.Result.{err_from_is_err_and}
 use Rattle.page_allocator.specs.TakenPages.{TakenPages}
 use Rattle.cow_pages.specs.PageMap.{IsConsistent}
 use Rattle.cow_pages.proofs.Consistency.{consistent_taken, taken_own, used_up}
-use Rattle.cow_pages.proofs.ChangedParts.{changed_more, used_more}
+use Rattle.cow_pages.proofs.ChangedParts.{changed_more, within_more, used_more}
 use Rattle.cow_pages.proofs.page_map.PageMap.take_for.Goals as goal
 
 pub returns-in_err-page-clause-outcome : goal.returns-in_err-page-clause-outcome
@@ -22,6 +22,7 @@ invariant_of-self-2 c =
       consistent = subst (λ (marks : TakenPages). IsConsistent m.root.pages m.root.maps m.durable.items m.reserved (set m.working.items c.args.logical page) marks) (sym c.in_ok-page.ensures.taken)
           (consistent_taken _ _ _ _ _ m.allocator m.consistent c.args.logical c.requires.inside page inside.0 (omega (arith, inside.1, m.consistent.marks_count)) c.in_ok-page.ensures.free c.requires.no_own_page);
       parts = changed_more m.durable.items m.working.items m.changed_parts m.parts c.args.logical page c.requires.inside;
+      within = within_more m.changed c.including-self.result m.durable.items m.working.items c.args.logical page m.within c.including-self.ensures;
       ended = m.ended;
       used = used_more m.working.items m.unused_from c.args.logical page m.used (omega (arith, c.requires.inside, m.consistent.working_count)) inside.0;
     }

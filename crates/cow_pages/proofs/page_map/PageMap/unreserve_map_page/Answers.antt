@@ -14,6 +14,7 @@ invariant_of-self c =
     record {
       consistent = subst (λ (marks : TakenPages). IsConsistent m.root.pages m.root.maps m.durable.items (set m.reserved j 0) m.working.items marks) (sym c.give.ensures) given;
       parts = m.parts;
+      within = m.within;
       ended = m.ended;
       used = m.used;
     }
@@ -31,6 +32,7 @@ invariant_of-self-else-page-ne0 c =
     record {
       consistent = consistent_unchanged _ _ _ _ _ m.allocator m.consistent c.args.index c.requires.inside c.if-page-ne0.false;
       parts = m.parts;
+      within = m.within;
       ended = m.ended;
       used = m.used;
     }

@@ -2,7 +2,7 @@ use Rattle.std.proofs.Common.{◌∙◌, ◌<◌, ◌^◌, ◌++◌, [], ℕ, Li
 use Rattle.std.proofs.lemmas.List.{append-nil, get_or_default}
 use Rattle.page_roots.specs.Numbers.{bytes_of_numbers, numbers_in}
 use Rattle.page_roots.proofs.Numbers.{numbers_in-bytes_of_numbers}
-use Rattle.page_roots.proofs.map_page.write_map_page.Goals as goal
+use Rattle.page_roots.proofs.map_page.put_map_page.Goals as goal
 
 pub returns-clause-read : goal.returns-clause-read
 returns-clause-read c =
