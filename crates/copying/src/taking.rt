@@ -8,11 +8,11 @@ ghost use Rattle.copying.specs.Copying.{Fills, HasOutsized};
 use store::{Batch, EntryRef, Fault, MAX_KEY_LENGTH, MAX_VALUE_LENGTH, Map};
 
 // The records of one commit, at most.
-const BATCH_RECORDS: usize = 65_536;
+const BATCH_RECORDS: usize = 1 << 18;
 
-// The bytes of keys and values of one commit: once there are so many, no record is added. So few commits are made, and the
-// records of one take no more memory than a few times the pages that a commit keeps there.
-const BATCH_BYTES: usize = 1 << 22;
+// The bytes of keys and values of one commit: once there are so many, no record is added. Each commit is synced twice, so few
+// are made; and however many records there are, no more memory is taken than for those of one.
+const BATCH_BYTES: usize = 1 << 24;
 
 // Puts a record into a batch. Damaged: it is of no size that a store takes.
 fn put_record(batch: &mut Batch, entry: &EntryRef<'_>) -> Result<(), Fault>
