@@ -34,3 +34,4 @@ mod Edits
 mod LeafChanges
 mod Bounded
 mod Made
+mod LeavesBehind

@@ -13,3 +13,4 @@ pub mod Taking
 pub mod Counts
 pub mod Bounds
 pub mod Changed
+pub mod Appending

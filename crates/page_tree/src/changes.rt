@@ -14,6 +14,7 @@ ghost use Rattle.page_tree.specs.Taking.{TakesAtMost, TakesToChange, TakesToSett
 ghost use Rattle.page_tree.specs.RemovalCalls.{SettlesRoot};
 ghost use Rattle.page_tree.specs.Changed.{MergesChanges, CopiesChanged, ChangesLeaf, ChangesBelow, ChangesFirst, PutsFirst};
 
+use crate::appending::append_leaf;
 use crate::bound::KeyBound;
 use crate::puts::{grow_root, put};
 use crate::removal::{Underflow, clear_root, collapse_root, follow_child, write_cells};
@@ -33,16 +34,16 @@ struct Merged {
 
 /// So many changes are made in the cells of a leaf, which are so many now.
 #[derive(Clone, Copy, Drop)]
-struct InLeaf {
-    made: usize,
-    count: usize,
+pub(crate) struct InLeaf {
+    pub(crate) made: usize,
+    pub(crate) count: usize,
 }
 
 /// So many changes are made in a tree, and what is left of it.
 #[derive(Clone, Copy, Drop)]
 pub(crate) struct Changed {
-    made: usize,
-    left: Underflow,
+    pub(crate) made: usize,
+    pub(crate) left: Underflow,
 }
 
 /// Whether a key comes after another one and before a bound.
@@ -90,7 +91,7 @@ fn merge_changes(
 
 /// Copies to scratch the cells of a leaf with as many changes made as it takes, from the first on. Malformed: these bytes
 /// are no leaf.
-fn copy_changed(
+pub(crate) fn copy_changed(
     bytes: &[u8; PAGE_SIZE],
     changes: &[Change],
     bound: &KeyBound,
@@ -119,7 +120,8 @@ fn copy_changed(
 }
 
 /// Makes changes in the leaf that has been read, as many as it takes, and writes it once. Where no cell is left, nothing is
-/// written. None: no change is made.
+/// written; where the leaf has no room for the first one, which comes after its cells, a new leaf takes as many. None: no change
+/// is made.
 fn change_leaf<P: Pages>(
     pages: &mut P,
     bytes: &[u8; PAGE_SIZE],
@@ -143,7 +145,7 @@ fn change_leaf<P: Pages>(
     let made = leaf.made;
     let count = leaf.count;
     if made == 0 {
-        return Ok(None);
+        return append_leaf(pages, bytes, page, changes, bound, scratch);
     }
     if count == 0 {
         return Ok(Some(Changed {

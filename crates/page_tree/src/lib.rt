@@ -1,6 +1,7 @@
 //! An ordered map of byte strings in an array of pages: a tree from logical page 0.
 #![tactic(auto)]
 
+mod appending;
 mod bound;
 mod changes;
 mod check;

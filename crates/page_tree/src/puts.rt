@@ -107,7 +107,7 @@ pub fn set_separator(separator: &mut Vec<u8>, key: &[u8]) -> Result<(), PageFaul
 
 /// Writes to a new page the node that has the cells after a cut, and sets the separator to the key of the first of them. In
 /// an inner node that cell's child comes before the others.
-fn write_back<P: Pages>(
+pub fn write_back<P: Pages>(
     pages: &mut P,
     bytes: &mut [u8; PAGE_SIZE],
     kind: NodeKind,

@@ -1,11 +1,13 @@
-use Rattle.std.proofs.Common.{refl, take, arith}
+use Rattle.std.proofs.Common.{take, arith, subst}
+use Rattle.std.specs.Prelude.{IsSome}
 use Rattle.page_nodes.specs.declared.cell.NodeKind.TheVariants.{Leaf}
-use Rattle.page_tree.specs.Changed.{edited_in_turn}
+use Rattle.page_tree.specs.Changed.{Change, edited_in_turn}
 use Rattle.page_tree.proofs.Faults.{fails, memory_is}
 use Rattle.page_tree.proofs.RemovalNodes.{copied_slice}
 use Rattle.page_tree.proofs.RemovalSteps.{leaf_emptied, leaf_changed}
 use Rattle.page_tree.proofs.Edits.{in_turn_from, in_turn_under, in_turn_rising, within_lower}
 use Rattle.page_tree.proofs.Taking.{same_taken}
+use Rattle.page_tree.proofs.LeavesBehind.{first_same}
 use Rattle.page_tree.proofs.changes.change_leaf.Goals as goal
 
 pub returns-in_err-leaf-clause-changed : goal.returns-in_err-leaf-clause-changed
@@ -15,7 +17,8 @@ returns-in_err-leaf-clause-changed g c sound used es d low high first rest whole
 pub returns-then-made-eq0-clause-changed : goal.returns-then-made-eq0-clause-changed
 returns-then-made-eq0-clause-changed g c sound used es d low high first rest whole bound under reaches node s =
     let a = c.in_ok-leaf.ensures.copied es high first rest whole bound under node in
-    (record { sound = sound; same = λ l. refl }, a.some c.if-made-eq0.true)
+    let changes = c.args.changes.now in
+    c.append_leaf.ensures.changed (λ one others is. subst (λ (x : Change). IsSome x.1) (first_same changes first one rest others whole is) (a.some c.if-made-eq0.true)) sound used es d low high first rest whole bound under reaches node s
 
 pub returns-then-count-eq0-clause-changed : goal.returns-then-count-eq0-clause-changed
 returns-then-count-eq0-clause-changed g c sound used es d low high first rest whole bound under reaches node s =
@@ -46,7 +49,7 @@ returns-in_err-leaf-clause-takes g c =
     fails c.from_residual.result c.in_err-leaf.field-0.0 _ _ c.from_residual.ensures.1 (λ is. absurd (c.in_err-leaf.ensures.faults is))
 
 pub returns-then-made-eq0-clause-takes : goal.returns-then-made-eq0-clause-takes
-returns-then-made-eq0-clause-takes g c = same_taken g.P.Pages c.args.pages.now
+returns-then-made-eq0-clause-takes g c = c.append_leaf.ensures.takes
 
 pub returns-then-count-eq0-clause-takes : goal.returns-then-count-eq0-clause-takes
 returns-then-count-eq0-clause-takes g c = same_taken g.P.Pages c.args.pages.now
