@@ -10,6 +10,7 @@ import glob
 import json
 import os
 import re
+import resource
 import shutil
 import signal
 import subprocess
@@ -192,6 +193,9 @@ class Program(unittest.TestCase):
             with open(path, 'r+b') as file:
                 change(file)
             self.assertEqual(run('check', path), answer)
+            if answer[0]:       # neither is it described, nor copied
+                self.assertEqual(run('describe', path), answer)
+                self.refuses_copy(answer, path, self.path('new'))
             os.remove(path)
 
         def put(at, byte):
@@ -402,6 +406,20 @@ class Program(unittest.TestCase):
         self.refuses_copy(self.told('WrongSize', self.path('short'), REASONS['WrongSize']), self.path('short'), self.path('other'))
         self.refuses_copy(self.told('Device', self.folder, 'it is a folder'), self.folder, self.path('other'))
         self.assertEqual(run('check', path), (0, 'ok CHECK\n', ''))
+
+    def test_a_copy_that_is_too_large_for_the_system(self):
+        """A new file that the system does not let grow so far is taken away again."""
+        def limit():
+            signal.signal(signal.SIGXFSZ, signal.SIG_IGN)
+            resource.setrlimit(resource.RLIMIT_FSIZE, (100 * 4096, 100 * 4096))
+        path, new = self.make_orders(), self.path('new')
+        before = sorted(os.listdir(self.folder))
+        for pages, told in [(128, self.told('Device', new, 'a call of the system failed')), (100, (0, 'ok COPY\n', ''))]:
+            words = [PROGRAM, 'copy', path, new, '--pages', str(pages)]
+            done = subprocess.run(words, capture_output=True, preexec_fn=limit, check=False)
+            self.assertEqual((done.returncode, done.stdout.decode(), done.stderr.decode()), told)
+            self.assertEqual(sorted(os.listdir(self.folder)), before if done.returncode else sorted([*before, 'new']))
+        self.assertEqual(self.records(new), self.records(path))
 
     def test_a_copy_that_is_not_told(self):
         """The copy was made before standard output was told, and stays."""

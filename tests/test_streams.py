@@ -3,8 +3,8 @@
 
 The system gives an opened file the lowest number that is free. So where a program is started with a standard stream closed, a file
 that it opens may take that stream's number, and what it prints goes into the file. Here each of the three is closed, alone and
-with others, when a database is made, run over, checked and served on a port and on a socket: each time the file is whole after it,
-with the rows that were acknowledged, and the program tells with its status what it could not print. The program is the one in the
+with others, when a database is made, run over, checked, described, copied and served on a port and on a socket: each time the file
+is whole after it, with the rows that were acknowledged, and the program tells with its status what it could not print. The program is the one in the
 environment variable GUARDDB; without it nothing is tried.
 """
 import itertools
@@ -94,15 +94,37 @@ class Streams(unittest.TestCase):
             self.is_whole(path, 'rows 0\n')
         self.for_each(attempt)
 
+    def only_reads(self, path, closed, printed, *words):
+        """A command that prints this, and writes nothing to the database at a path."""
+        with open(path, 'rb') as file:
+            before = file.read()
+        self.assertEqual(run_closed(closed, *words), self.told(closed, printed))
+        with open(path, 'rb') as file:
+            self.assertEqual(file.read(), before)
+
     def test_check(self):
         def attempt(closed, path):
             self.set_up(path)
-            with open(path, 'rb') as file:
-                before = file.read()
-            self.assertEqual(run_closed(closed, 'check', path), self.told(closed, 'ok CHECK\n'))
-            with open(path, 'rb') as file:
-                self.assertEqual(file.read(), before)
+            self.only_reads(path, closed, 'ok CHECK\n', 'check', path)
             self.is_whole(path, 'rows 0\n')
+        self.for_each(attempt)
+
+    def test_describe(self):
+        def attempt(closed, path):
+            self.set_up(path)
+            status, text, messages = run('describe', path)
+            self.assertEqual((status, messages), (0, ''))
+            self.only_reads(path, closed, text, 'describe', path)
+        self.for_each(attempt)
+
+    def test_copy(self):
+        """A copy is made, though that cannot be told."""
+        def attempt(closed, path):
+            self.set_up(path)
+            self.only_reads(path, closed, 'ok COPY\n', 'copy', path, path + '.copy', '--pages', str(PAGES))
+            self.is_whole(path, 'rows 0\n')
+            self.is_whole(path + '.copy', 'rows 0\n')
+            self.assertFalse(os.path.exists(path + '.copy.partial'))
         self.for_each(attempt)
 
     def test_run(self):
