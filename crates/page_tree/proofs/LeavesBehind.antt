@@ -34,6 +34,16 @@ some_passed key (e ∷ es) some = omega arith
 pub comes_last : (key : List ℕ) (es : List Entry) → length (rest_entries key es) ≡ 0 → 0 < length (low_entries key es) → ComesLast key es
 comes_last key es none some = (some_passed key es some, all_passed key es none)
 
+-- and where it comes after them, a search passes all
+pub none_left : (key : List ℕ) (es : List Entry) → AllUnder (Some key) es → length (rest_entries key es) ≡ 0
+none_left key [] under = refl
+none_left key (e ∷ es) under = rw under.0 (none_left key es under.1)
+
+pub all_low : (key : List ℕ) (es : List Entry) → AllUnder (Some key) es → length (low_entries key es) ≡ length es
+all_low key [] under = refl
+all_low key (e ∷ es) under = rw under.0 (let later = all_low key es under.1 in omega (arith, later))
+
+-- the first of some changes is one
 pub first_same : (changes : Changes) (c d : Change) (cs ds : Changes) → changes ≡ c ∷ cs → changes ≡ d ∷ ds → c ≡ d
 first_same changes c d cs ds x y = let is = sym x ∙ y in cc
 

@@ -1,6 +1,6 @@
 //! Changes of the tree: a leaf that is full gets another one behind it.
 
-ghost use Rattle.std.specs.Prelude.{◌≡◌, ◌<◌, ◌≤◌, [], List, IfOk, IfSome, IsTrue, OnOk, length};
+ghost use Rattle.std.specs.Prelude.{◌≡◌, ◌↔◌, ◌<◌, ◌≤◌, [], List, IfOk, IfSome, IsTrue, OnOk, length};
 ghost use Rattle.std.specs.List.{AllByRecursion};
 ghost use Rattle.page_nodes.specs.Map.{Entry};
 ghost use Rattle.page_nodes.specs.Node.{IsNode};
@@ -22,8 +22,8 @@ use store::Change;
 
 /// Whether these bytes are a leaf with cells, after all of which a key comes.
 fn ends_before(bytes: &[u8; PAGE_SIZE], key: &[u8]) -> bool
-    ensures { IsTrue result → (es : List Entry) → IsNode Leaf [] es bytes.now
-        → ComesLast key.now es }
+    ensures { (es : List Entry) → IsNode Leaf [] es bytes.now
+        → (IsTrue result ↔ ComesLast key.now es) }
 {
     let Some(place) = seek(bytes, NodeKind::Leaf, key) else {
         return false;

@@ -30,6 +30,6 @@ returns-clause-changed g c puts sound used es d low high first rest whole bound 
     let h = first_entry new (omega (arith, a.cells.count_is, c.if-count-eq0.false)) in
     let k = in_scratch new h.0 h.1 c.as_slice.result.now c.in_ok-leaf.leaf.count h.2 (copied_slice Leaf new c.copy_changed.new.cells.items c.as_slice.result.now c.in_ok-leaf.leaf.count c.as_slice.ensures.value a.cells) in
     let item = c.index-changes-0 in
-    let last = subst (λ (key : List ℕ). ComesLast key es) (c.key.ensures ∙ ap (λ (x : Change). x.0) (first_is first item.result rest c.args.changes.now 0 whole item.is refl)) (c.if-not-ends_before.ensures refl es node) in
+    let last = subst (λ (key : List ℕ). ComesLast key es) (c.key.ensures ∙ ap (λ (x : Change). x.0) (first_is first item.result rest c.args.changes.now 0 whole item.is refl)) ((c.if-not-ends_before.ensures es node).0 refl) in
     let taken = c.in_ok-second.ensures.taken sound h.0 h.1 k.sizes k.spelled (omega (arith, k.count_is)) in
     (a.within, leaf_appended (g.P.Pages.state c.args.pages.now) (g.P.Pages.state c.write_back.new.pages) d low first.0 high c.args.page c.in_ok-second.second _ es cs h.0 h.1 s last reaches a.within h.2 taken)
