@@ -19,7 +19,8 @@ use Rattle.store.specs.Store.{Contents, IsUnchanged, Commits, stored}
 use Rattle.store.specs.declared.fault.StoreFault.{StoreFault}
 use Rattle.store.specs.declared.fault.StoreFault.TheVariants.{Full, Memory, Device, Number}
 use Rattle.transactions.specs.Views.{applied_all}
-use Rattle.kv_store.specs.Batches.{CommitsBatch, IsTakenBack}
+use Rattle.cow_pages.specs.declared.cow.CowPages.{CowPages}
+use Rattle.kv_store.specs.Batches.{CommitsBatch, IsTakenBack, HadNoRoom}
 use Rattle.kv_store.specs.Contents.{HoldsContents}
 use Rattle.kv_store.specs.ContentLaws.{same_parts}
 use Rattle.kv_store.specs.Numbered.{HasContentsUnder, LeavesBefore, LeavesEither, LeavesNumbered}
@@ -34,6 +35,13 @@ use Rattle.journal_store.specs.StoreLaws.{held, ordered, stored_is, settled}
 use Rattle.journal_store.proofs.Meanings.{checkpoint_leaves}
 use Rattle.journal_store.proofs.Numbers.{under_next}
 use Rattle.journal_store.proofs.Records.{both}
+
+-- a commit to the pages found no room
+pub full_where : {D : Type 0} {g : Ghosts D} (fault : StoreFault) (changes : Changes) (before after : Contents) (old new : CowPages D g) → fault ≡ Full → CommitsBatch changes (Err fault) before after old new → HadNoRoom changes before.records old
+full_where Full changes before after old new is commits = commits.outcome.0
+full_where Memory changes before after old new is commits = absurd cc
+full_where Device changes before after old new is commits = absurd cc
+full_where Number changes before after old new is commits = absurd cc
 
 -- where no more is said of the present than what a stop may leave, time that passes is a run
 passes_leaves : {X : Type 0} (P : X → Type 0) (old new : Timeline X) → IsPresent old → Implies old.left P → Passes P old new → LeavesOnly P old new

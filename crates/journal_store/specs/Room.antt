@@ -1,12 +1,13 @@
 -- Whether the pages have room for what waits, and for a batch behind it.
-use Rattle.std.specs.Prelude.{◌<◌, ◌≤◌, ◌+◌, ◌-◌, ◌*◌, ◌/◌, ◌^◌, ℕ, List, [], ◌∷◌, length}
+use Rattle.std.specs.Prelude.{◌≡◌, ◌<◌, ◌≤◌, ◌+◌, ◌-◌, ◌*◌, ◌/◌, ◌^◌, ℕ, List, [], ◌∷◌, length}
 use Rattle.sector_device.specs.declared.device.Device.{Ghosts}
 use Rattle.cow_pages.specs.Free.{HasFreePages}
-use Rattle.store.specs.Records.{Changes}
-use Rattle.kv_store.specs.Batches.{most_taken}
+use Rattle.store.specs.Records.{Records, Changes, IsOrdered, applied}
+use Rattle.transactions.specs.Views.{applied_all}
+use Rattle.kv_store.specs.Batches.{HadNoRoom, most_taken}
 use Rattle.kv_store.specs.TreeStore.{pages_of}
 use Rattle.journal_store.specs.declared.stores.JournalStore.{JournalStore}
-use Rattle.journal_store.specs.Stores.{device_under}
+use Rattle.journal_store.specs.Stores.{device_under, base_of}
 
 -- how many changes these lists have
 abbrev pub changes_in : List Changes → ℕ
@@ -30,3 +31,9 @@ pub record HasRoomFor {D : Type 0} {g : Ghosts D} (changes : ℕ) (s : JournalSt
   pub free : ℕ
   pub free_is : HasFreePages free (pages_of s.store)
   pub enough : AreEnough ((device_under s).sectors / 8) free changes
+
+-- the pages had no room for these changes: all that waited, and then those of a batch
+pub record HadNoRoomFor {D : Type 0} {g : Ghosts D} (batch : Changes) (s : JournalStore D g) : Type 0 where
+  pub changes : Changes
+  pub all : (es : Records) → IsOrdered es → applied changes es ≡ applied batch (applied_all s.waiting es)
+  pub none : HadNoRoom changes (base_of s).records (pages_of s.store)

@@ -65,17 +65,36 @@ impl<D: Device> JournalStore<D> {
         } = self;
         store.into_device()
     }
+
+    /// Gives back the store of its pages, as it is, whose root says that there is a journal. What waits is in the journal, and
+    /// not in the pages.
+    pub fn into_pages(self) -> TreeStore<D>
+        ensures pages { result ≡ self.store }
+        ensures kind { is_journaled (pages_of result) ≡ true }
+        ensures room { 8 ≤ (device_below (pages_of result)).sectors }
+    {
+        let JournalStore {
+            store,
+            waiting: _,
+            top: _,
+            end: _,
+            alloc: _,
+        } = self;
+        store
+    }
 }
 
 impl<D: JournalDevice> JournalStore<D> {
-    ghost use Rattle.std.specs.Prelude.{false, IfOk, OnOk};
+    ghost use Rattle.std.specs.Prelude.{[], Err, false, IfOk, OnOk};
+    ghost use Rattle.sector_device.specs.Device.{KeepsHistory};
+    ghost use Rattle.kv_store.specs.Batches.{HadNoRoom};
     ghost use Rattle.store.specs.Records.{Records, Changes, IsOrdered, applied};
     ghost use Rattle.transactions.specs.Views.{applied_all};
     ghost use Rattle.store.specs.Contents.{changed_by_batch};
     ghost use Rattle.store.specs.Store.{Commits, stored};
     ghost use Rattle.journal_records.specs.Changes.{Spells};
-    ghost use Rattle.journal_store.specs.Room.{changes_in, HasRoomFor};
-    ghost use Rattle.journal_store.specs.Stores.{journal_state, end_of_records, root_number};
+    ghost use Rattle.journal_store.specs.Room.{changes_in, HasRoomFor, HadNoRoomFor};
+    ghost use Rattle.journal_store.specs.Stores.{journal_state, end_of_records, root_number, base_of, device_under, IsSoundJournal};
 
     /// Commits a batch as the record of the next number, whose parts have these bytes, with one sync. A stop at any moment
     /// leaves the contents before it or those after it, and from `Ok` on those after it alone. It is for a batch for which, and
@@ -130,6 +149,10 @@ impl<D: JournalDevice> JournalStore<D> {
             (journal_state self.old) (journal_state self.new) }
         ensures anew { OnOk result (root_number self.new ≡ root_number self.old + 1) }
         ensures top { self.new.top ≡ self.old.top }
+        ensures cleared { OnOk result (self.new.waiting ≡ []) }
+        ensures history { KeepsHistory (device_under self.old) (device_under self.new) }
+        ensures room { IsSoundJournal self.old → result ≡ Err StoreFault.Full
+            → HadNoRoom joined.now (base_of self.old).records (pages_of self.old.store) }
     {
         let _top = self.top;
         match self.store.checkpoint(joined) {
@@ -144,14 +167,19 @@ impl<D: JournalDevice> JournalStore<D> {
 
     /// Commits all that waits and a batch to the pages, under the next root, behind which the journal has no record. A stop
     /// at any moment leaves the contents before the batch or those after it, and from `Ok` on those after it alone. After a
-    /// fault that is not Device nothing has changed, and what waits waits still. Full: no room is left for all of it at once.
-    /// Number: no number is. Memory: an allocation failed. Device: the device failed.
+    /// fault that is not Device nothing has changed, and what waits waits still. With `Ok` nothing waits. The sectors beside are
+    /// left alone. Full: the pages had no room for all of it at once. Number: no number is left. Memory: an allocation failed.
+    /// Device: the device failed.
     pub fn checkpoint(&mut self, batch: &Batch) -> Result<(), StoreFault>
         requires { (journal_state self.old).has_failed ≡ false }
         ensures commits { Commits result (changed_by_batch batch.now (stored (journal_state self.old)))
             (journal_state self.old) (journal_state self.new) }
         ensures anew { OnOk result (root_number self.new ≡ root_number self.old + 1) }
         ensures top { self.new.top ≡ self.old.top }
+        ensures cleared { OnOk result (self.new.waiting ≡ []) }
+        ensures history { KeepsHistory (device_under self.old) (device_under self.new) }
+        ensures room { IsSoundJournal self.old → result ≡ Err StoreFault.Full
+            → HadNoRoomFor batch.now self.old }
     {
         if self.waiting.is_empty() {
             return self.commit_joined(batch);

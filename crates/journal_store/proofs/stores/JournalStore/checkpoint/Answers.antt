@@ -14,3 +14,13 @@ returns-in_default-clause-commits g c = refused_memory g.met.D.Device.only_now c
 
 pub returns-clause-commits : goal.returns-clause-commits
 returns-clause-commits g c = c.commit_joined-2.ensures.commits c.args.batch.now c.in-Ok.ensures
+
+pub returns-then-is_empty-clause-room : goal.returns-then-is_empty-clause-room
+returns-then-is_empty-clause-room g c sound full = record {
+  changes = c.args.batch.now;
+  all = λ es in_order. ap (λ (ws : List Changes). applied c.args.batch.now (applied_all ws es)) (sym (c.is_empty.ensures.0 c.if-is_empty.true));
+  none = c.commit_joined.ensures.room sound full;
+}
+
+pub returns-clause-room : goal.returns-clause-room
+returns-clause-room g c sound full = record { changes = c.in-Ok.joined; all = c.in-Ok.ensures; none = c.commit_joined-2.ensures.room sound full }

@@ -1,5 +1,8 @@
-use Rattle.std.proofs.Common.{refl, arith}
-use Rattle.journal_store.proofs.Checkpoints.{checkpointed, not_checkpointed}
+use Rattle.std.proofs.Common.{◌≡◌, refl, arith}
+use Rattle.store.specs.declared.fault.StoreFault.TheVariants.{Full}
+use Rattle.journal_store.specs.Stores.{base_of}
+use Rattle.journal_store.specs.StoreLaws.{held}
+use Rattle.journal_store.proofs.Checkpoints.{checkpointed, not_checkpointed, full_where}
 use Rattle.journal_store.proofs.stores.JournalStore.commit_joined.Goals as goal
 
 pub returns-in-Ok-clause-commits : goal.returns-in-Ok-clause-commits
@@ -11,3 +14,9 @@ pub returns-in-Err-clause-commits : goal.returns-in-Err-clause-commits
 returns-in-Err-clause-commits g c batch joins =
     not_checkpointed g.met.D.Device.only_now g.met.D.JournalDevice.all_beside c.args.self.now _ batch c.args.joined.now c.requires joins refl c.checkpoint.ensures.history
     refl refl c.in-Err.fault (omega arith) c.in-Err.ensures.commits (λ contents holds. c.in-Err.ensures.numbered c.requires contents holds) (λ contents holds. c.in-Err.ensures.batch c.requires contents holds)
+
+pub returns-in-Err-clause-room : goal.returns-in-Err-clause-room
+returns-in-Err-clause-room g c sound full =
+    let s = c.args.self.now in
+    let is : c.in-Err.fault ≡ Full = cc in
+    full_where c.in-Err.fault c.args.joined.now (base_of s) _ _ _ is (c.in-Err.ensures.batch c.requires (base_of s) (held s sound c.requires))
