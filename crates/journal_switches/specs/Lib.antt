@@ -1,1 +1,5 @@
 pub mod Beginning
+pub mod Emptying
+pub mod Faults
+pub mod TurningOff
+pub mod TurningOn
