@@ -1,6 +1,6 @@
 -- The journal of a store that was opened with one is turned off: what waits is committed, and then a root that says that there is none.
 use Rattle.std.specs.Prelude.{MatchResult}
-use Rattle.std.proofs.Common.{◌≡◌, ◌<◌, ◌≤◌, ◌⊎◌, ◌+◌, ◌-◌, ◌^◌, ◌/◌, inl, inr, ⊎_elim, ℕ, Bool, true, false, List, [], Option, Some, Result, Ok, Err, refl, sym, ap, subst, ◌∙◌, arith}
+use Rattle.std.proofs.Common.{max, ◌≡◌, ◌<◌, ◌≤◌, ◌⊎◌, ◌+◌, ◌-◌, ◌^◌, ◌/◌, inl, inr, ⊎_elim, ℕ, Bool, true, false, List, [], Option, Some, Result, Ok, Err, refl, sym, ap, subst, ◌∙◌, arith}
 use Rattle.std.proofs.lemmas.Bool.{false≢true}
 use Rattle.storage_sizes.specs.declared.spelling.Spelling.TheVariants.{Second}
 use Rattle.sector_device.specs.Timeline.{LeavesOnly, IsPresent, weakened, joined}
@@ -8,7 +8,8 @@ use Rattle.sector_device.specs.Device.{DeviceState, Image, IsLeft, IsBehindRoots
 use Rattle.sector_device.specs.declared.device.Device.{Ghosts}
 use Rattle.page_roots.specs.Formats.{has_journal}
 use Rattle.page_roots.specs.Root.{RootFields}
-use Rattle.sector_journal.specs.Journals.{HasJournal}
+use Rattle.journal_chain.specs.Chain.{Region}
+use Rattle.sector_journal.specs.Journals.{region_in, HasJournal}
 use Rattle.cow_pages.specs.declared.cow.CowPages.{CowPages}
 use Rattle.cow_pages.specs.Cow.{device_below, root_of}
 use Rattle.store.specs.Contents.{changed_by_batch}
@@ -23,11 +24,11 @@ use Rattle.kv_store.specs.Numbered.{HasContentsUnder, LeavesBefore}
 use Rattle.kv_store.specs.Switching.{LeavesSwitched, IsSwitched, IsNotSwitched, CannotSwitch}
 use Rattle.kv_store.specs.TreeStore.{pages_of}
 use Rattle.journal_store.specs.declared.stores.JournalStore.{JournalStore}
-use Rattle.journal_store.specs.Images.{HasContents}
+use Rattle.journal_store.specs.Images.{HasContents, IsJournaledUnder}
 use Rattle.journal_store.specs.ImageLaws.{has_journaled}
-use Rattle.journal_store.specs.Meaning.{HasJournaledContents, with_batches, journal_start, journal_room}
+use Rattle.journal_store.specs.Meaning.{HasJournaledContents, IsNumberOf, with_batches, journal_start, journal_room}
 use Rattle.journal_store.specs.Room.{HadNoRoomFor}
-use Rattle.journal_store.specs.StoreLaws.{held, ordered, stored_is, image_left}
+use Rattle.journal_store.specs.StoreLaws.{held, ordered, stored_is}
 use Rattle.journal_store.specs.Stores.{device_under, base_of, root_number, held_device, HoldsRecords, IsSoundJournal, journal_state}
 use Rattle.journal_store.proofs.Checkpoints.{journal_leaves}
 use Rattle.journal_store.proofs.Formatted.{failed_later}
@@ -44,7 +45,7 @@ use Rattle.journal_switches.specs.Emptying.{RidsOfOlder}
 use Rattle.journal_switches.specs.Faults.{KeepsContents}
 use Rattle.journal_switches.specs.TurningOff.{HadOne, HadNoRoomForWaiting, HadNoMapRoomThen, IsOff, IsStillOn, CannotTurnOff}
 use Rattle.journal_switches.proofs.Beginning.{has_plain, left_under}
-use Rattle.journal_switches.proofs.Journaled.{sound_then, had_then, has_then}
+use Rattle.journal_switches.proofs.Journaled.{region_same, left_stored, sound_then, had_then, has_then}
 use Rattle.journal_switches.proofs.Kept.{kept, read_leaves, pages_are}
 use Rattle.journal_switches.proofs.Rid.{off_by}
 
@@ -100,10 +101,13 @@ module _ {D : Type 0} {g : Ghosts D} (present : (device : D) → (g.state device
     number = (journal_state s).number;
     had = (had_then content_left d s opened faithful).0;
     keeps = keeps (Err fault) commits;
+    number_now = (journal_state t).number;
     left = λ image left.
-        subst (λ (n : ℕ). HasJournaledContents (n / 8) c image) history_then.sectors
-        (subst (λ (x : Contents). HasJournaledContents ((device_under t).sectors / 8) x image) (same_parts (stored (journal_state t)) c same.spelling same.map)
-        (image_left t (commits.history.sound sound) works_then image left));
+        subst (λ (n : ℕ). IsJournaledUnder n (journal_state t).number c image) (pages_are d (pages_of t.store) history_then.sectors)
+        (subst (λ (x : Contents). IsJournaledUnder (root_of (pages_of t.store)).pages (journal_state t).number x image) (same_parts (stored (journal_state t)) c same.spelling same.map)
+        (left_stored t (commits.history.sound sound) works_then image left).0);
+    not_back = omega (arith, same.number);
+    by_one = omega (arith, same.number);
     cause = cause;
   }
 
@@ -213,13 +217,32 @@ module _ {D : Type 0} {g : Ghosts D} (present : (device : D) → (g.state device
           subst (λ (root : RootFields). HasContentsUnder true root.pages root.number c image) is.root
           (subst (λ (journal : Bool). HasContentsUnder journal (root_of q).pages (root_of q).number c image) (ap (λ (root : RootFields). has_journal root.format) is.root ∙ t.journaled) (left_under c q is.holds image left))
 
+      -- no sector of the journal has changed
+      journal_there : (image : Image) → IsLeft (device_below q) image → region_in journal_start journal_room (device_under t).content ≡ region_in journal_start journal_room image
+      journal_there image left = region_same (device_under t).content image
+          (λ n lt.
+          let s : ℕ = journal_start + n in
+          let behind : IsBehindRoots s = (omega arith, omega (arith, lt)) in
+          let inside : s < (device_below q).sectors = omega (arith, lt, records.holds.inside, after.sectors) in
+          records.holds.fixed n lt (image s) ((after.beside faithful_then).left s (image s) (all_beside (held_device t) s behind) (left s inside)))
+
+      on_left : IsNotSwitched c p q → (image : Image) → IsLeft (device_below q) image → IsJournaledUnder (root_of p).pages (journal_state t).number c image
+      unfolding on_image
+      on_left is image left = record {
+        has = on_image image (under_left is image left) (journals.now image left);
+        number_is = subst (λ (region : Region). IsNumberOf (max (root_number t) t.top) (root_number t) region) (journal_there image left) records.number_is;
+      }
+
       still_on_then : IsNotSwitched c p q → (Cause : Contents → ℕ → Type 0) → Cause c (journal_state s).number → IsStillOn Cause d (device_below q)
       still_on_then is Cause cause = record {
         contents = c;
         number = (journal_state s).number;
         had = (had_then content_left d s opened faithful).0;
         keeps = keeps_then (Ok tt) commits (device_below q) (leaves_before is.leaves);
-        left = λ image left. subst (λ (n : ℕ). HasJournaledContents n c image) (pages_are d p history_then.sectors) (on_image image (under_left is image left) (journals.now image left));
+        number_now = (journal_state t).number;
+        left = λ image left. subst (λ (n : ℕ). IsJournaledUnder n (journal_state t).number c image) (pages_are d p history_then.sectors) (on_left is image left);
+        not_back = (commits.at_once sound works).committed.not_back;
+        by_one = (commits.at_once sound works).committed.by_one;
         cause = cause;
       }
 

@@ -24,15 +24,20 @@ use Rattle.journal_switches.specs.TurningOn.{IsOn}
 use Rattle.journal_switches.proofs.Beginning.{left_under}
 use Rattle.journal_switches.proofs.Kept.{kept, stays, pages_are}
 
--- what a stop leaves of the sectors of a journal that it leaves as it is
-region_left : (root top : ℕ) (es : List Entry) (d : DeviceState) → HoldsJournal journal_start journal_room root top es d → (image : Image) → IsLeft d image → region_in journal_start journal_room d.content ≡ region_in journal_start journal_room image
-region_left root top es d holds image left =
-    let same : (q : ℕ) → region_in journal_start journal_room d.content q ≡ region_in journal_start journal_room image q
+-- images that agree on the sectors of the journal
+pub region_same : (a b : Image) → ((q : ℕ) → q < journal_room → b (journal_start + q) ≡ a (journal_start + q)) → region_in journal_start journal_room a ≡ region_in journal_start journal_room b
+region_same a b agree =
+    let same : (q : ℕ) → region_in journal_start journal_room a q ≡ region_in journal_start journal_room b q
     = λ q. elim (cases_lt q journal_room) [
-      | inr past ↦ outside_is journal_start journal_room d.content q past ∙ sym (outside_is journal_start journal_room image q past)
-      | inl lt ↦ sym (same_sector journal_start journal_room image d.content q lt (holds.fixed q lt (image (journal_start + q)) (left (journal_start + q) (omega (arith, lt, holds.inside)))))
+      | inr past ↦ outside_is journal_start journal_room a q past ∙ sym (outside_is journal_start journal_room b q past)
+      | inl lt ↦ sym (same_sector journal_start journal_room b a q lt (agree q lt))
     ] in
     fun_ext same
+
+-- what a stop leaves of the sectors of a journal that it leaves as it is
+region_left : (root top : ℕ) (es : List Entry) (d : DeviceState) → HoldsJournal journal_start journal_room root top es d → (image : Image) → IsLeft d image → region_in journal_start journal_room d.content ≡ region_in journal_start journal_room image
+region_left root top es d holds image left = region_same d.content image
+    (λ q lt. holds.fixed q lt (image (journal_start + q)) (left (journal_start + q) (omega (arith, lt, holds.inside))))
 
 -- an image of so many pages has the contents of a store, under its number and behind its root
 abbrev pub HasStored : {D : Type 0} {g : Ghosts D} → JournalStore D g → ℕ → Image → Type 0

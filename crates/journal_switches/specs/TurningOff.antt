@@ -13,7 +13,6 @@ use Rattle.kv_store.specs.Batches.{HadNoRoom}
 use Rattle.kv_store.specs.Contents.{HoldsContents}
 use Rattle.kv_store.specs.Numbered.{HasContentsUnder}
 use Rattle.journal_store.specs.Images.{IsJournaledUnder}
-use Rattle.journal_store.specs.Meaning.{HasJournaledContents}
 use Rattle.device_store.specs.Opening.{CannotOpen}
 use Rattle.journal_switches.specs.declared.fault.SwitchFault.{SwitchFault}
 use Rattle.journal_switches.specs.declared.fault.SwitchFault.TheVariants.{Unopened, NotMigrated, Refused}
@@ -38,13 +37,16 @@ pub record IsOff (number : ℕ) (d e : DeviceState) : Type 0 where
   pub left : (image : Image) → IsLeft e image → HasContentsUnder false (d.sectors / 8) number contents image × HasNoJournalRoot image
   pub how : HadNone number contents d e ⊎ HadOne number contents d
 
--- For this cause a stop leaves the contents that the device had, with a journal still.
+-- For this cause a stop leaves the contents that the device had, with a journal still, under the number that they had or the next one.
 pub record IsStillOn (Cause : Contents → ℕ → Type 0) (d e : DeviceState) : Type 0 where
   pub contents : Contents
   pub number : ℕ
   pub had : IsJournaledUnder (d.sectors / 8) number contents d.content
   pub keeps : KeepsContents contents d e
-  pub left : (image : Image) → IsLeft e image → HasJournaledContents (d.sectors / 8) contents image
+  pub number_now : ℕ
+  pub left : (image : Image) → IsLeft e image → IsJournaledUnder (d.sectors / 8) number_now contents image
+  pub not_back : number ≤ number_now
+  pub by_one : number_now ≤ number + 1
   pub cause : Cause contents number
 
 -- the pages of the device had no room for the changes that waited and make these contents of those of the pages
