@@ -339,6 +339,8 @@ impl<D: Device> Device for Counting<D> {
 
     ghost content_left = { λ d s faithful inside. D.content_left d.device s faithful inside };
 
+    ghost beside_behind = { λ d s beside. D.beside_behind d.device s beside };
+
     ghost only_now = { λ d faithful. D.only_now d.device faithful };
 
     fn sectors(&self) -> u32 {
