@@ -3,15 +3,20 @@
 
 tests/second_program.py hands it the lines, and python3 stores.py makes them. It shares nothing with the code: it keeps a dictionary for each tree and each store, and reads nodes and devices as
 docs/formats.md describes them. What it says beside that is what is promised: that a commit of one change writes a leaf, a map
-page and a root, and syncs before the root and after it; that a page which is read or written stays in a cache that has room for
+page and a root, and syncs before the root and after it; that with a journal it is a record, which takes one sync, where that has
+room behind the others, and else all that waits is made in the pages with it; that a page which is read or written stays in a cache that has room for
 it; that a store takes what it has room for; that leaves of keys which rise are nine tenths full. Where a line asks for what
 nothing promises, it ends with an error. The calls are described at the head of src/stores.rt.
 """
+import typing
 import zlib
 
 PAGE, SECTOR = 4096, 512
 ROOM = PAGE - 4  # of the cells of a leaf
 MAGIC = b"GUARDDB1"
+JOURNAL_MAGIC = b"GDBJ"
+JOURNAL_START, PARTS, PART = 2, 6, 488  # the sectors of a journal, and a record's bytes in each
+MOST_CHANGES = 6  # wait in a journal, for which the devices here have room
 COMMIT_WRITES = 17  # of one change in the place of another: two pages of eight sectors, and a root
 KEYS = 1024
 BATCHES = 200
@@ -69,6 +74,17 @@ class Refused(Exception):
 def need(holds, reason="Damaged"):
     if not holds:
         raise Refused(reason)
+
+
+class Held(typing.NamedTuple):
+    """What a store has: a number, records and a format; and of its journal the root that it follows, how many sectors its
+    records take, and their changes."""
+    number: int
+    entries: dict
+    form: int
+    root: int = 0
+    end: int = 0
+    waiting: int = 0
 
 
 class Bytes:
@@ -147,21 +163,79 @@ def root_in(sector, parity):
     return pages, number, maps, form
 
 
+def change_in(reader):
+    """The next change of a record's bytes, or None at their end."""
+    kind = reader.number(1) if reader.at < len(reader.data) else 0
+    if kind == 0:
+        return None
+    need(kind in (1, 2))
+    length = reader.number(2)
+    value_length = reader.number(2) if kind == 1 else None
+    need(value_length is None or value_length <= 1200)
+    key = reader.key(length)
+    return key, None if value_length is None else reader.take(value_length)
+
+
+def batch_in(data):
+    """The changes that a record's bytes spell."""
+    reader, changes = Bytes(data), []
+    while change := change_in(reader):
+        need(not changes or changes[-1][0] < change[0])
+        changes.append(change)
+    reader.end()
+    need(changes and -(-len(record_of(dict(changes))) // PART) * PART == len(data))
+    return dict(changes)
+
+
+class Part:
+    """A part of a record, as a sector has it."""
+
+    def __init__(self, sector):
+        reader = Bytes(sector)
+        need(reader.take(4) == JOURNAL_MAGIC)
+        self.root, self.number, self.index, self.count = (reader.number(size) for size in (8, 8, 2, 2))
+        self.bytes = reader.take(PART)
+        need(self.root >= 1 and self.index < self.count <= PARTS)
+
+    def is_part_of(self, first, index):
+        return (self.root, self.number, self.index, self.count) == (first.root, first.number, index, first.count)
+
+
+def journal_in(sectors, root):
+    """The changes of each record of this root, the greatest number in any sector, and where the records end."""
+    parts = [Part(sector) if any(sector) else None for sector in sectors]
+    need(all(part is None or part.root <= root for part in parts))
+    batches, at, last = [], 0, 0
+    while at < PARTS and parts[at] and parts[at].root == root and parts[at].index == 0 and parts[at].number > last:
+        first, own = parts[at], parts[at:at + parts[at].count]
+        if len(own) < first.count or not all(part and part.is_part_of(first, index) for index, part in enumerate(own)):
+            break
+        batches.append(batch_in(b"".join(part.bytes for part in own)))
+        at, last = at + first.count, first.number
+    need(not any(part and part.root == root and part.index == 0 for part in parts[at + 1:]))
+    return batches, max((part.number for part in parts if part), default=0), at
+
+
 def store_on(image):
-    """The number, the records and the format of the store on a device of these bytes."""
+    """What the store on a device of these bytes has."""
     count = len(image) // PAGE
     need(64 <= count <= 65536, "WrongSize")
-    sectors = [bytes(image[:SECTOR]), bytes(image[SECTOR:2 * SECTOR])]
-    need(any(sector.startswith(MAGIC) for sector in sectors), "NotADatabase")
-    roots = [root_in(sector, parity) for parity, sector in enumerate(sectors)]
+    sectors = [bytes(image[SECTOR * at:SECTOR * (at + 1)]) for at in range(PAGE // SECTOR)]
+    need(any(sector.startswith(MAGIC) for sector in sectors[:2]), "NotADatabase")
+    roots = [root_in(sector, parity) for parity, sector in enumerate(sectors[:2])]
     pages, number, maps, form = max((root for root in roots if root), key=lambda root: root[1])
     need(pages == count, "WrongSize")
     need(all(1 <= page < count for page in maps))
     listed = [entry for page in maps for entry in entries_of_map(image, page)]
     reach = maps + [entry for entry in listed if entry]
     need(len(set(reach)) == len(reach) and all(1 <= page < count for page in reach) and listed[0])
-    need(form != 3)  # with a journal, which these stores do not read
-    return number, entries_in({at: page_of(image, entry) for at, entry in enumerate(listed) if entry}), form
+    entries = entries_in({at: page_of(image, entry) for at, entry in enumerate(listed) if entry})
+    if form != 3:
+        return Held(number, entries, form)
+    batches, top, end = journal_in(sectors[JOURNAL_START:JOURNAL_START + PARTS], number)
+    for batch in batches:
+        entries = changed(entries, batch)
+    return Held(max(number, top), entries, form, number, end, sum(map(len, batches)))
 
 
 def page_of(image, page):
@@ -173,11 +247,30 @@ def entries_of_map(image, page):
     return [reader.number(4) for _ in range(PAGE // 4)]
 
 
-def new_image(pages, key, value):
+def root_of(form, pages, number, map_page):
+    numbers = [(form, 4), (pages, 4), (number, 8), (1, 4), (map_page, 4)]
+    return MAGIC + b"".join(number.to_bytes(size, "big") for number, size in numbers)
+
+
+def part_of(root, number, index, count, data=b""):
+    """The sector of a part of a record."""
+    fields = [(root, 8), (number, 8), (index, 2), (count, 2)]
+    return JOURNAL_MAGIC + b"".join(field.to_bytes(size, "big") for field, size in fields) + data
+
+
+def record_of(changes):
+    """The bytes of a record's changes."""
+    data = b""
+    for key, value in sorted(changes.items()):
+        data += bytes([1 if value is not None else 2]) + len(key).to_bytes(2, "big")
+        data += key if value is None else len(value).to_bytes(2, "big") + key + value
+    return data
+
+
+def new_image(pages, key, value, form):
     """The bytes of a device on which a store was made new, with one record."""
     image = bytearray(pages * PAGE)
-    root = [2, pages]
-    image[SECTOR:SECTOR + 32] = MAGIC + b"".join(number.to_bytes(4, "big") for number in root + [0, 1, 1, 2])
+    image[SECTOR:SECTOR + 32] = root_of(form, pages, 1, 2)
     image[PAGE:2 * PAGE] = leaf_of({key: value})
     image[2 * PAGE + 3] = 1
     return image
@@ -267,9 +360,9 @@ class Tree(Table):
 class Store(Table):
     """A store in memory; or on a device, where there is one."""
 
-    def __init__(self, entries, device=None, number=0, cache=0, form=2):
-        super().__init__(entries)
-        self.device, self.last_number, self.cache, self.form = device, number, cache, form
+    def __init__(self, held, device=None, cache=0):
+        super().__init__(held.entries)
+        self.held, self.device, self.cache = held, device, cache
         self.batch, self.fulls, self.failures, self.sectors_read = {}, 0, 0, 0
 
     def call(self, name, arguments):
@@ -279,10 +372,10 @@ class Store(Table):
         self.batch[key] = value
 
     def commit(self):
-        return self.commit_in(self.form)
+        return self.commit_in(self.held.form)
 
     def migrate(self):
-        return self.commit_in(2)
+        return self.commit_in(max(self.held.form, 2))
 
     def commit_in(self, form):
         """Commits the batch in this format."""
@@ -290,37 +383,40 @@ class Store(Table):
         if self.has_failed:
             return "Device"
         after = changed(self.entries, changes)
-        if self.device is None or not changes and form == self.form:
-            self.entries, self.form = after, form
+        if not changes and form == self.held.form:
             return "ok"
-        if not self.device.has_room(after):
+        if self.device and not self.device.has_room(after):
+            assert form != 3, "nothing promises how often a store with a journal is full"
             self.fulls += 1
             return "Full"
-        return self.commit_to_device(changes, after, form)
+        steps, later = self.steps(changes, after, form)
+        if self.device and not self.device.makes(steps, self.held, later):
+            self.has_failed, self.failures = True, self.failures + 1
+            return "Device"
+        self.held, self.entries = later, after
+        return "ok"
 
-    def commit_to_device(self, changes, after, form):
-        device = self.device
-        passes, has_root = device.commit(changes, self.entries)
-        device.image = None
-        before = self.last_number, self.entries, self.form
-        if after != self.entries or form != self.form:
-            self.last_number, self.entries, self.form = self.last_number + 1, after, form
-        device.last = device.synced = self.last_number, self.entries, self.form
-        if passes:
-            return "ok"
-        device.synced = before
-        if not has_root:
-            device.last = before
-        self.has_failed, self.failures = True, self.failures + 1
-        return "Device"
+    def steps(self, changes, after, form):
+        """How many sectors are written before each sync, none where that is not promised, and what the store has after them."""
+        one = len(changes) == 1 and all(value is not None and len(self.entries.get(key, b"")) == len(value) for key, value in changes.items())
+        pages = [COMMIT_WRITES - 1, 1] if one or not changes or size_of(after) <= ROOM else None
+        if form != 3:
+            is_other = after != self.entries or form != self.held.form
+            return pages, Held(self.held.number + is_other, after, form)
+        parts = -(-len(record_of(changes)) // PART)
+        root, end, waiting = self.held.root, self.held.end + parts, self.held.waiting + len(changes)
+        if end <= PARTS:
+            assert waiting <= MOST_CHANGES, "nothing promises a record"
+            return [parts], Held(self.held.number + 1, after, 3, root, end, waiting)
+        return pages, Held(max(self.held.number, root + 1), after, 3, root + 1)
 
     def spelling(self):
         assert not self.has_failed, "nothing promises the spelling"
-        return {1: "first", 2: "second"}[self.form]
+        return "first" if self.held.form == 1 else "second"
 
     def number(self):
         assert not self.has_failed, "nothing promises the number"
-        return "%d, %d full, %d failed" % (self.last_number, self.fulls, self.failures)
+        return "%d, %d full, %d failed" % (self.held.number, self.fulls, self.failures)
 
     def stop(self, writes):
         self.device.writes_left = int(writes)
@@ -330,30 +426,35 @@ class Store(Table):
 
     def get(self, key):
         # A cache of one page holds the page that was used last alone, here a leaf below the root.
-        if self.device and self.cache < self.device.pages and not self.has_failed:
+        if self.device and self.cache < self.device.pages and not self.has_failed and self.held.form != 3:
             assert self.cache == 1 and size_of(self.entries) > ROOM, "nothing promises what is read"
             self.sectors_read += 2 * 8
         return super().get(key)
 
     def reads(self):
+        assert self.held.form != 3, "nothing promises what is read"
         reads, self.sectors_read = self.sectors_read, 0
         return "%d" % reads
 
 
 class Device:
     """A device: its bytes, where they are known; else what a store finds that is opened on it, by its last contents and by
-    the synced ones: a number, records and a format."""
+    the synced ones."""
 
-    def __init__(self, pages, key="", value=""):
+    def __init__(self, form, pages, key="", value=""):
         self.pages = int(pages)
         self.image = bytearray(self.pages * PAGE)
         if key:
-            self.image = new_image(self.pages, bytes_in(key), bytes_in(value))
+            self.image = new_image(self.pages, bytes_in(key), bytes_in(value), form)
         self.last = self.synced = None
         self.writes_left = self.calls_left = None
 
     def turn(self, sector, at, bits):
         self.image[int(sector) * SECTOR + int(at)] ^= int(bits)
+
+    def sector(self, sector, data):
+        start = int(sector) * SECTOR
+        self.image[start:start + SECTOR] = bytes_in(data).ljust(SECTOR, b"\0")
 
     def restart(self, kind):
         self.last = self.synced = self.last if kind == "last" else self.synced
@@ -366,7 +467,7 @@ class Device:
         return self.last
 
     def pages_in_use(self, kind, low, high):
-        return pages_answered(self.contents()[1], kind, low, high)
+        return pages_answered(self.contents().entries, kind, low, high)
 
     def has_room(self, entries):
         """Whether there is room for these records. It is known of those that take more than there is, and of those that take
@@ -375,27 +476,44 @@ class Device:
         assert size > room or size * 3 <= room, "nothing promises room"
         return size <= room
 
-    def commit(self, changes, entries):
-        """Whether the device lets a commit pass, and whether it writes the root."""
+    def makes(self, steps, before, after):
+        """Whether the device lets a commit pass that writes so many sectors before each sync, and keeps what it has then."""
+        self.image, self.last, self.synced = None, after, after
         if self.writes_left is None and self.calls_left is None:
-            return True, True
-        [*others, (key, value)] = changes.items()
-        if not others and value is not None and len(entries.get(key, b"")) == len(value):
-            return self.commit_one()
-        # The cells that are put are written, a map page and a root; so many writes are not left.
-        puts = {key: value for key, value in changes.items() if value is not None}
-        assert self.calls_left is None and self.writes_left < 8 * -(-size_of(puts) // ROOM) + 8 + 1
-        return False, False
+            return True
+        if steps is None:
+            # The cells that are put are written, a map page and a root; so many writes are not left.
+            puts = {key: value for key, value in after.entries.items() if before.entries.get(key) != value}
+            assert self.calls_left is None and self.writes_left < 8 * -(-size_of(puts) // ROOM) + 8 + 1
+            self.last = self.synced = before
+            return False
+        return self.passes(steps, before, after)
 
-    def commit_one(self):
-        """The same of a commit of one change: 16 writes, a sync, a write and a sync."""
-        if self.writes_left is not None:
-            passes, has_root = self.writes_left > COMMIT_WRITES, self.writes_left >= COMMIT_WRITES
-            self.writes_left = max(self.writes_left - COMMIT_WRITES, 0)
-        else:
-            passes, has_root = self.calls_left >= COMMIT_WRITES + 2, self.calls_left >= COMMIT_WRITES + 1
-            self.calls_left = self.calls_left - COMMIT_WRITES - 2 if passes else None
-        return passes, has_root
+    def passes(self, steps, before, after):
+        """The same where a stop comes, or a call fails."""
+        writes, syncs = self.writes_that_pass(steps)
+        if syncs == len(steps):
+            return True
+        self.last = self.synced = before
+        if syncs == len(steps) - 1 and writes == steps[-1]:
+            self.last = after
+        elif after.form == 3 and len(steps) == 1 and writes > 0:
+            # Of a record that was cut off nothing is left but its number.
+            self.last = before._replace(number=after.number)
+        return False
+
+    def writes_that_pass(self, steps):
+        """How many sectors are written after the last sync that passes, and how many syncs pass."""
+        for syncs, sectors in enumerate(steps):
+            left = self.calls_left if self.writes_left is None else self.writes_left
+            if left < sectors or left == sectors:
+                self.calls_left, self.writes_left = None, None if self.writes_left is None else 0
+                return min(left, sectors), syncs
+            if self.writes_left is None:
+                self.calls_left -= sectors + 1
+            else:
+                self.writes_left -= sectors
+        return 0, len(steps)
 
 
 class Cache:
@@ -457,9 +575,9 @@ def answers(lines):
             yield line
         elif name == "faults":
             yield FAULTS
-        elif name == "device":
-            device = Device(*arguments)
-        elif name in ("turn", "restart"):
+        elif name in ("device", "journaled"):
+            device = Device(3 if name == "journaled" else 2, *arguments)
+        elif name in ("turn", "sector", "restart"):
             getattr(device, name)(*arguments)
         elif name == "pages":
             yield first + " " + device.pages_in_use(*arguments)
@@ -468,7 +586,7 @@ def answers(lines):
         elif name == "tree":
             yield from answers_of(Tree(), words)
         elif name == "memory":
-            yield from answers_of(Store({b"\1" + arguments[0].encode(): b"\3"}), words)
+            yield from answers_of(Store(Held(1, {b"\1" + arguments[0].encode(): b"\3"}, 2)), words)
         elif name == "cache":
             yield from answers_of(Cache(*arguments), words)
         else:
@@ -477,11 +595,11 @@ def answers(lines):
 
 def answers_on(device, first, cache, words):
     try:
-        number, entries, form = device.contents()
+        held = device.contents()
     except Refused as refused:
         yield "%s %s" % (first, refused)
         return
-    yield from answers_of(Store(entries, device, number, cache, form), words)
+    yield from answers_of(Store(held, device, cache), words)
 
 
 def answers_of(subject, words):

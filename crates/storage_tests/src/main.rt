@@ -1,14 +1,15 @@
 //! Tests of the storage: real files and journals (`checks`), altered images of devices (`images`), arrays of pages on devices that
-//! fail and stop (`arrays`), and trees, stores and caches (`stores`).
+//! fail and stop (`arrays`), trees, stores and caches (`stores`), and stores with a journal that stop and fail (`journals`).
 //!
 //! A line `part NAME` of standard input begins one of these parts, whose lines follow; what each of them means is said at the head
-//! of the part. The word `all` on the command line concerns the images. `second_program.py` reads the same lines and writes the
+//! of the part. The word `all` on the command line concerns the images and the journals. `second_program.py` reads the same lines and writes the
 //! same answers.
 #![tactic(auto)]
 
 mod arrays;
 mod checks;
 mod images;
+mod journals;
 mod stores;
 
 use crate::images::AlteredImages;
@@ -23,6 +24,7 @@ enum StoragePart {
     Checks,
     Images,
     Arrays,
+    Journals,
     Stores,
 }
 
@@ -30,15 +32,18 @@ enum StoragePart {
 #[derive(Drop)]
 struct StorageTests {
     part: StoragePart,
+    tries_all: bool,
     images: AlteredImages,
     script: String,
     stores: Stores,
 }
 
 fn main(rt: HostRuntime) -> Result<()> {
+    let tries_all = tries_all(&rt)?;
     let mut tests = StorageTests {
         part: StoragePart::Checks,
-        images: AlteredImages::new(rt.alloc(), tries_all(&rt)?),
+        tries_all,
+        images: AlteredImages::new(rt.alloc(), tries_all),
         script: String::new(rt.alloc()),
         stores: Stores::new(rt.alloc())?,
     };
@@ -77,6 +82,8 @@ impl StorageTests {
             (None, StoragePart::Checks) => checks::check(rt, line, out)?,
             (None, StoragePart::Images) => self.images.follow(line, out)?,
             (None, StoragePart::Arrays) => arrays::follow(rt.alloc(), &mut self.script, line, out)?,
+            (None, StoragePart::Journals) =>
+                journals::follow(rt.alloc(), self.tries_all, line, out)?,
             (None, StoragePart::Stores) => self.stores.follow(line, out)?,
         }
         Ok(())
@@ -89,6 +96,7 @@ impl StorageTests {
             "checks" => StoragePart::Checks,
             "images" => StoragePart::Images,
             "arrays" => StoragePart::Arrays,
+            "journals" => StoragePart::Journals,
             "stores" => StoragePart::Stores,
             _ => bail!("there is no such part"),
         };

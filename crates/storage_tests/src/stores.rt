@@ -10,8 +10,9 @@
 //!   in use, or are leaves.
 //! - `memory:NAME`: the store in memory of a new database, whose administrator has this name.
 //! - `device:PAGES`: a device of zeros, which takes the place of the one before. `device:PAGES:KEY:VALUE`: one with a new
-//!   store of one record.
-//! - `turn:SECTOR:AT:BITS` turns bits of one byte of the device. `restart:last` and `restart:synced` start it again after a
+//!   store of one record, and `journaled:PAGES:KEY:VALUE` one whose store has a journal.
+//! - `turn:SECTOR:AT:BITS` turns bits of one byte of the device, and `sector:SECTOR:BYTES` writes a sector, which is zero behind
+//!   the bytes. `restart:last` and `restart:synced` start it again after a
 //!   stop, with the content of each sector that was written last or that was synced. `pages:all:LOW:HIGH` and
 //!   `pages:leaves:LOW:HIGH` answer as for a tree.
 //! - `open:PAGES`: the store on the device, with a cache of so many pages, or why it is not opened. `stop:WRITES` lets so many
@@ -29,7 +30,7 @@
 //! the lines, keeps a dictionary for each tree and each store, and writes the same answers.
 
 mod caches;
-mod call;
+pub mod call;
 mod callee;
 mod devices;
 mod records;
@@ -90,7 +91,7 @@ fn run(alloc: Global, device: MemDevice, line: &str, out: &mut String) -> Result
     let (word, calls) = line.split_once(' ').unwrap_or((line, ""));
     let first = CallWords::new(alloc, word);
     match first.name {
-        "device" | "turn" | "restart" | "pages" | "open" => {
+        "device" | "journaled" | "turn" | "sector" | "restart" | "pages" | "open" => {
             return run_on_device(device, &first, calls, out);
         }
         "" => {}

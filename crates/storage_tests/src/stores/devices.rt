@@ -6,14 +6,19 @@ use crate::stores::records::Records;
 use crate::stores::trees::answer_pages;
 use anyhow::{Result, bail};
 use cow_pages::CowPages;
-use kv_store::{MAX_CACHE_PAGES, PageStore};
-use sector_device::{Device, MAX_MEMORY_PAGES, MemDevice, SECTOR_SIZE};
+use device_store::DeviceStore;
+use journal_store::JournalStore;
+use kv_store::{FormatFault, MAX_CACHE_PAGES, PageStore};
+use sector_device::{Device, Guarded, MAX_MEMORY_PAGES, MemDevice, SECTOR_SIZE};
 use store::{Batch, Entry, MAX_KEY_LENGTH, MAX_VALUE_LENGTH, Store};
+
+/// A store on a device in memory, with a journal or without.
+type MemoryDeviceStore = DeviceStore<Guarded<MemDevice>>;
 
 /// An open store on a device.
 #[derive(Drop)]
 struct OpenStore {
-    records: Records<PageStore<MemDevice>>,
+    records: Records<MemoryDeviceStore>,
     /// How many sectors had been read when that was asked last.
     reads: u64,
 }
@@ -27,10 +32,11 @@ pub fn run_on_device(
 ) -> Result<MemDevice> {
     let mut device = device;
     match first.name {
-        "device" => return new_device(first),
+        "device" | "journaled" => return new_device(first),
         "open" => return open(device, first, calls, out),
         "pages" => return count_pages(device, first, out),
         "turn" => turn(&mut device, first)?,
+        "sector" => put_sector(&mut device, first)?,
         _ => restart(&mut device, first)?,
     }
     Ok(device)
@@ -42,15 +48,15 @@ fn new_device(call: &CallWords<'_>) -> Result<MemDevice> {
     if pages > MAX_MEMORY_PAGES {
         bail!("no device has so many pages");
     }
-    let mut device = MemDevice::new(call.alloc, pages)?;
-    if !call.second.is_empty() {
-        format(&mut device, call)?;
+    let device = MemDevice::new(call.alloc, pages)?;
+    if call.second.is_empty() {
+        return Ok(device);
     }
-    Ok(device)
+    format(device, call)
 }
 
-/// Makes a new store of one record on a device of 64 pages.
-fn format(device: &mut MemDevice, call: &CallWords<'_>) -> Result<()> {
+/// Makes a new store of one record on a device of 64 pages. Gives the device back.
+fn format(device: MemDevice, call: &CallWords<'_>) -> Result<MemDevice> {
     let (key, value) = (
         bytes_in(call.alloc, call.second)?,
         bytes_in(call.alloc, call.third)?,
@@ -61,10 +67,38 @@ fn format(device: &mut MemDevice, call: &CallWords<'_>) -> Result<()> {
     if device.sectors() != 512 {
         bail!("not 64 pages");
     }
-    match PageStore::format(call.alloc, device, &Entry::from_parts(key, value)) {
-        Ok(()) => Ok(()),
+    let mut device = Guarded::new(device);
+    match make_new(&mut device, call, &Entry::from_parts(key, value)) {
+        Ok(()) => Ok(device.into_device()),
         Err(_) => bail!("not formatted"),
     }
+}
+
+/// Makes a new store of one record, with a journal where the call says so.
+fn make_new(
+    device: &mut Guarded<MemDevice>,
+    call: &CallWords<'_>,
+    first: &Entry,
+) -> Result<(), FormatFault> {
+    if call.name == "journaled" {
+        JournalStore::format(call.alloc, device, first)
+    } else {
+        PageStore::format(call.alloc, device, first)
+    }
+}
+
+/// Writes bytes to a sector of a device, and zeros behind them.
+fn put_sector(device: &mut MemDevice, call: &CallWords<'_>) -> Result<()> {
+    let sector = number_in(call.first);
+    if sector >= device.sectors() {
+        bail!("no sector of the device");
+    }
+    let mut written = bytes_in(call.alloc, call.second)?;
+    written.resize(SECTOR_SIZE, 0)?;
+    let mut bytes = [0; SECTOR_SIZE];
+    bytes.copy_from_slice(written.as_slice());
+    device.write(sector, &bytes)?;
+    Ok(())
 }
 
 /// Turns bits of one byte of a device.
@@ -111,36 +145,36 @@ fn open(
     if cache == 0 || cache > MAX_CACHE_PAGES {
         bail!("no cache has so many pages");
     }
-    match PageStore::open_with(first.alloc, device, cache) {
+    match DeviceStore::open_with(first.alloc, Guarded::new(device), cache) {
         Ok(store) => run_on_store(store, first, calls, out),
         Err((device, fault)) => {
             first.answer_fault(out, fault)?;
-            Ok(device)
+            Ok(device.into_device())
         }
     }
 }
 
 /// Makes calls of a store on a device. Gives the device back.
 fn run_on_store(
-    store: PageStore<MemDevice>,
+    store: MemoryDeviceStore,
     first: &CallWords<'_>,
     calls: &str,
     out: &mut String,
 ) -> Result<MemDevice> {
     let mut open = OpenStore {
-        reads: store.device().reads(),
+        reads: store.device().device().reads(),
         records: Records {
             store,
             batch: Batch::new(first.alloc),
         },
     };
     make_calls(first.alloc, &mut open, calls, out)?;
-    Ok(open.records.store.into_device())
+    Ok(open.records.store.into_device().into_device())
 }
 
 impl Callee for OpenStore {
     fn make(&mut self, call: &CallWords<'_>, out: &mut String) -> Result<()> {
-        let device = self.records.store.device();
+        let device = self.records.store.device().device();
         match call.name {
             "stop" => device.stop_after(u64::from(number_in(call.first))),
             "fail" => device.fail_call(u64::from(number_in(call.first))),

@@ -1,0 +1,207 @@
+#!/usr/bin/env python3
+"""A second program, which answers the lines of the part `journals` as this crate's program is to.
+
+tests/second_program.py hands it the lines, and python3 journals.py makes them. It shares nothing with the code, and keeps of a device
+only how many commits it has, its root's number and where its records end (docs/formats.md). What it says beside that is what is promised:
+that a record writes its parts and syncs; that a commit to the pages writes a leaf, a map page, and, after a sync, the root; that no
+record or commit is lost, and that none is half there. Where a line asks for what nothing promises, it ends with an error. The lines are
+described at the head of src/journals.rt.
+"""
+import typing
+
+PART = 488                  # of a record's bytes in a sector
+FIRST, ROOM = 2, 6          # the sectors of a journal
+LEAF = 4096 - 4             # of the cells of a leaf
+PAGES = [8 * page + sector for page in (1, 2) for sector in range(8)]       # those of a leaf and a map page, or of other pages
+MOST_CHANGES = 12           # wait in a journal behind a tree of one leaf, for which a device of 64 pages has room
+
+
+class Holding(typing.NamedTuple):
+    """What a device has: how many commits, its root's number, how many sectors the records behind it take, and their changes."""
+    made: int = 0
+    root: int = 1
+    end: int = 0
+    waiting: int = 0
+
+
+def length_of(text):
+    """How many bytes a text writes, in parts with pluses between them."""
+    return sum(int(part.split("*")[0]) if "*" in part else len(part) // 2 for part in text.split("+"))
+
+
+class Script:
+    """Of each batch how many changes and parts it has. All records have room in one leaf."""
+
+    def __init__(self, words):
+        self.batches, changes, cells = [], {}, {}
+        for word in words:
+            name, *arguments = word.split(":")
+            if name == "commit":
+                cells |= {key: 4 + length + (value or 0) for key, (length, value) in changes.items()}
+                assert sum(cells.values()) <= LEAF - 9, "nothing promises what a tree of several leaves writes"
+                size = sum(3 + key if value is None else 5 + key + value for key, value in changes.values())
+                self.batches.append((len(changes), -(-size // PART)))
+                changes = {}
+            else:
+                changes[arguments[0]] = length_of(arguments[0]), length_of(arguments[1]) if name == "put" else None
+                assert name in ("put", "remove")
+
+    def steps(self, holding):
+        """The sectors that the next commit writes, those before each sync together, and what the device has after it."""
+        if holding.made >= len(self.batches):
+            return [], holding._replace(made=holding.made + 1)
+        changes, parts = self.batches[holding.made]
+        made, waiting = holding.made + 1, holding.waiting + changes
+        if holding.end + parts <= ROOM:
+            assert waiting <= MOST_CHANGES, "nothing promises a record"
+            first = FIRST + holding.end
+            return [list(range(first, first + parts))], holding._replace(made=made, end=holding.end + parts, waiting=waiting)
+        root = holding.root + 1
+        return [PAGES, [root % 2]], Holding(made, root)
+
+
+CHOICES = [lambda sector: False, lambda sector: True, lambda sector: sector % 2 == 0, lambda sector: sector % 2 == 1]
+
+
+def choices_for(unsynced):
+    """The choices of those sectors that are new after a stop."""
+    return CHOICES + [lambda sector, one=one: sector == one for one in unsynced] if unsynced else CHOICES[:1]
+
+
+def unsynced_after(steps, writes):
+    """The sectors that are not synced where the device stops after so many writes, whether the commit is made whole, and how many
+    syncs there were."""
+    for syncs, sectors in enumerate(steps):
+        if writes <= len(sectors):
+            return sectors[:writes], False, syncs
+        writes -= len(sectors)
+    return [], True, len(steps)
+
+
+def left_after(steps, before, after, unsynced, syncs, is_new):
+    """What the device has after such a stop: what comes last of a commit decides, if all of it is there."""
+    if syncs == len(steps):
+        return after
+    is_last = syncs == len(steps) - 1
+    return after if is_last and len(unsynced) == len(steps[-1]) and all(map(is_new, unsynced)) else before
+
+
+class Stops:
+    def __init__(self, script, lives, every):
+        self.script, self.lives, self.every = script, lives, every
+        self.stops = self.restarts = self.followed = 0
+        self.waiting = []
+
+    def answer(self):
+        for index in range(len(self.script.batches)):
+            self.stop_at(Holding(), 0, index)
+            while self.waiting:
+                self.live(*self.waiting.pop())
+        return f"{self.stops} stops, {self.restarts} restarts, 0 disagreements"
+
+    def stop_at(self, holding, life, index):
+        while holding.made < index:
+            _, holding = self.script.steps(holding)
+        steps, after = self.script.steps(holding)
+        is_whole, writes = False, 0
+        while not is_whole:
+            unsynced, is_whole, syncs = unsynced_after(steps, writes)
+            self.stops, writes = self.stops + 1, writes + 1
+            for is_new in choices_for(unsynced):
+                self.waiting.append((left_after(steps, holding, after, unsynced, syncs, is_new), life + 1))
+
+    def live(self, holding, life):
+        self.restarts += 1
+        if life < self.lives:
+            self.followed += 1
+            if self.followed % self.every == 0:
+                self.stop_at(holding, life, holding.made)
+
+
+def failing(script):
+    """Each call of a commit fails, carried out or not. Then the device is opened as it is, and by each choice."""
+    calls = devices = 0
+    holding = Holding()
+    for _ in script.batches:
+        steps, holding = script.steps(holding)
+        for sectors in steps:
+            for unsynced in range(len(sectors) + 1):        # so many writes, and then a write or the sync
+                calls += 2
+                devices += 2 * (1 + len(choices_for(sectors[:unsynced])))
+    return f"{calls} failing calls, {devices} devices, 0 disagreements"
+
+
+def counted(script):
+    writes = syncs = 0
+    holding = Holding()
+    for _ in script.batches:
+        steps, holding = script.steps(holding)
+        writes, syncs = writes + sum(map(len, steps)), syncs + len(steps)
+    return f"{writes} sectors, {syncs} syncs, 0 disagreements"
+
+
+def answer_to(line, tries_all):
+    first, *words = line.split(" ")
+    name, *numbers = first.split(":")
+    if name == "full":
+        return "full 0 times where the other is not, all that was taken is there: true"
+    if words[0] == "uncounted":
+        assert name in ("stops", "fails", "openings")
+        return "0 disagreements"
+    script = Script(words)
+    if name == "stops":
+        return Stops(script, int(numbers[1]), 1 if tries_all else int(numbers[2])).answer()
+    if name == "again":
+        return f"{len(script.batches)} commits, 1 looks, 0 disagreements"
+    assert name == "counts" or name == "fails" and numbers[0] != "1", "nothing promises what is counted"
+    return counted(script) if name == "counts" else failing(script)
+
+
+def answers(lines, tries_all=False):
+    for line in lines:
+        if line.startswith("#"):
+            yield line
+        elif line:
+            yield f"{line.split(' ')[0]}: {answer_to(line, tries_all)}"
+
+
+# ---- the lines
+
+def puts(sizes):
+    """Commits of a put each, of values of these sizes."""
+    return " ".join(f"put:{0x61 + at:02x}:{size}*{7 + at:02x} commit" for at, size in enumerate(sizes))
+
+
+ROWS = puts([1] * 9)                            # six records, the pages, and two records
+LONG = puts([1, 700, 1, 1200, 1, 600, 1])       # of one part, of two and of three
+MIXED = ("put:61:07 put:62:600*07 commit remove:61 put:63:08 commit put:62:01 remove:63 put:64:09 commit remove:62 remove:64 commit "
+         "put:61:0a commit put:65:900*0b commit put:65:0c commit")
+# A tree of some leaves, of which rows that lie apart are changed.
+FILLED = "rise:0:60:300*07 commit " + " ".join(f"put:{9 * row:08x}:300*{8 + row:02x} commit" for row in range(6))
+SPLIT = "rise:0:24:150*07 commit put:00000003:1000*08 commit remove:00000003 commit rise:24:26:150*08 commit"
+MANY = " ".join(f"put:{row % 7 + 0x61:02x}:{row % 251:02x} commit" for row in range(700))
+
+
+def lines():
+    yield "# What commits of one row write: six records of one sector and one sync, and then the pages with two"
+    yield from [f"counts:256 {ROWS}", f"counts:256 {LONG}", f"counts:1 {MIXED}", f"counts:256 {MANY}"]
+    yield "# Stops, three lives deep, with a cache of all pages and with one of one page"
+    yield from [f"stops:{cache}:3:{every} {script}" for cache, script, every in ((256, ROWS, 13), (1, ROWS, 41), (256, LONG, 17), (1, MIXED, 19))]
+    yield "# The same over trees of several leaves"
+    yield from [f"stops:{cache}:2:{every} uncounted {script}" for cache, script, every in ((256, FILLED, 211), (1, SPLIT, 97))]
+    yield "# Calls that fail"
+    yield from [f"fails:256 {ROWS}", f"fails:256 {LONG}", f"fails:1 uncounted {MIXED}", f"fails:1 uncounted {SPLIT}"]
+    yield from [f"openings:256 uncounted {ROWS}", f"openings:1 uncounted {MIXED}"]
+    yield "# A full device: rows of 200 bytes and of others"
+    yield from ["full:200:200", "full:40:20", "full:40:1200"]
+    yield "# Where memory is refused, commits are made again"
+    yield from [f"again:256 {LONG}", f"again:1 {MIXED}"]
+
+
+def main():
+    for line in lines():
+        print(line)
+
+
+if __name__ == "__main__":
+    main()

@@ -1,0 +1,92 @@
+//! Stops stores with a journal, and makes calls of their devices fail, again and again, and tells how often that was done and how
+//! often something else was found than was to be found.
+//!
+//! A line is a trial by itself; one that begins with `#` is printed as it is. Its first word names the trial, the others make a
+//! script: `put:KEY:VALUE`, `remove:KEY` and `rise:FROM:TO:VALUE` as in the part `stores`, and `commit` behind each batch. In the
+//! life n of a device, from 0 on, all bytes of values are n more. Each store lies on a device of 64 pages, and is made new with
+//! the record of the role root, unless it says otherwise. A trial answers what was counted, or, with the word `uncounted` before
+//! the script, only how often there was a disagreement, of which a line tells each one.
+//!
+//! - `stops:CACHE:LIVES:EVERY`: each commit of the script is stopped after each count of its sector writes. The device starts again
+//!   with the sectors that were written since the last sync all old, all new, those of even or of odd numbers new, and each
+//!   single one new. The next life opens it with a cache of so many pages, and finds the records before the commit or those after
+//!   it, and those after it if it was answered. There the next commit is made, stopped in the same way, up to so many lives deep.
+//!   Of the devices that were started again one in EVERY is followed by stops, all of them with the word `all` on the command
+//!   line. In each the next commit is made whole, too, and found again.
+//! - `fails:CACHE`: each call of the device that a commit makes fails, before it is carried out or after. The commit is answered
+//!   by Device, all that follows too, without a call. The device starts again as above, or is opened as it is, and has the
+//!   records before the commit or those after it.
+//! - `openings:CACHE`: each call of an opening fails, behind each commit. It is answered by Device, and a further one finds the
+//!   records.
+//! - `counts:CACHE`: how many sectors the commits of the script write, and how many syncs they make.
+//! - `full:ROUNDS:SIZE`: rows are put into a store with a journal and into one without, until that is full, and then seven rows
+//!   that lie apart are changed in each of so many rounds, each in a commit. It answers how often the one with a journal is full
+//!   where the other is not.
+//! - `again:CACHE`: the commits of the script. One that is refused memory is made again.
+//!
+//! What is to be found is what a store in memory has after the same commits. The counts stand beside `journals.py`, another program,
+//! which knows of stores what docs/formats.md says of a journal.
+
+mod again;
+mod batches;
+mod choices;
+mod counts;
+mod devices;
+mod failing;
+mod full;
+mod logged;
+mod openings;
+mod stops;
+mod tally;
+mod wanted;
+
+use crate::journals::batches::Script;
+use crate::journals::stops::Stops;
+use crate::journals::tally::Tally;
+use crate::stores::call::{CallWords, number_in};
+use anyhow::{Result, bail};
+use kv_store::MAX_CACHE_PAGES;
+use std::alloc::Global;
+
+/// Makes the trial of a line, and appends what came of it.
+pub fn follow(alloc: Global, tries_all: bool, line: &str, out: &mut String) -> Result<()> {
+    if line.starts_with('#') {
+        writeln!(out, "{line}")?;
+        return Ok(());
+    }
+    let (word, rest) = line.split_once(' ').unwrap_or((line, ""));
+    let first = CallWords::new(alloc, word);
+    match (first.name, rest.strip_prefix("uncounted ")) {
+        ("", _) => Ok(()),
+        ("full", _) => full::fill(&first, out),
+        (_, Some(words)) => {
+            let script = Script::new(alloc, words)?;
+            let tally = tried(&first, tries_all, &script)?;
+            Ok(tally.push_disagreements(&first, out)?)
+        }
+        (_, None) => {
+            let script = Script::new(alloc, rest)?;
+            let tally = tried(&first, tries_all, &script)?;
+            Ok(tally.push(&first, out)?)
+        }
+    }
+}
+
+/// What came of the trial that a word names, with this script.
+fn tried(first: &CallWords<'_>, tries_all: bool, script: &Script) -> Result<Tally> {
+    let cache = number_in(first.first) as usize;
+    if cache == 0 || cache > MAX_CACHE_PAGES {
+        bail!("no cache has so many pages");
+    }
+    match first.name {
+        "stops" => {
+            let every = if tries_all { 1 } else { number_in(first.third) };
+            Stops::new(script, cache, number_in(first.second), every).try_all()
+        }
+        "fails" => failing::fail_commits(script, cache),
+        "openings" => openings::fail_openings(script, cache),
+        "counts" => counts::count(script, cache),
+        "again" => again::commit_again(script, cache),
+        _ => bail!("there is no such trial"),
+    }
+}

@@ -1,0 +1,171 @@
+//! Devices of a trial, what they hold, and the stores on them.
+
+use crate::journals::choices::Choice;
+use crate::journals::logged::{LoggedDevice, SECTORS};
+use anyhow::{Result, bail};
+use device_store::DeviceStore;
+use journal_store::JournalStore;
+use kv_store::PageStore;
+use sector_device::{Device, Guarded, MemDevice, SECTOR_SIZE};
+use std::alloc::{AllocError, Global};
+use store::Entry;
+
+/// How many pages a device has.
+const PAGES: u32 = 64;
+
+/// A device of a trial.
+pub type TrialDevice = Guarded<LoggedDevice<MemDevice>>;
+
+/// A store of a trial.
+pub type TrialStore = DeviceStore<TrialDevice>;
+
+/// A sector that is not zero: its number, its content at the last sync, and its last one.
+#[derive(Clone, Copy)]
+struct HeldSector {
+    number: u32,
+    synced: [u8; SECTOR_SIZE],
+    last: [u8; SECTOR_SIZE],
+}
+
+/// What a device holds.
+pub struct Image {
+    alloc: Global,
+    sectors: Vec<HeldSector>,
+}
+
+// Written and not derived: where a value is dropped this is one call, and not its parts one by one.
+impl Drop for Image {
+    fn drop(self) {
+        let Image {
+            alloc: _,
+            sectors: _,
+        } = self;
+    }
+}
+
+impl Image {
+    /// What a device holds. It is started again for that.
+    pub fn of(alloc: Global, device: TrialDevice) -> Result<Image> {
+        let mut device = device.into_device().into_device();
+        // calls pass again
+        device.stop_after(u64::MAX);
+        let last = contents(alloc, &mut device)?;
+        restart(&mut device, Choice::Old)?;
+        let synced = contents(alloc, &mut device)?;
+        let mut sectors = Vec::new(alloc);
+        for number in 0..SECTORS {
+            let held = HeldSector {
+                number,
+                synced: content_at(&synced, number),
+                last: content_at(&last, number),
+            };
+            if held.synced != [0; SECTOR_SIZE] || held.last != [0; SECTOR_SIZE] {
+                sectors.push(held)?;
+            }
+        }
+        Ok(Image { alloc, sectors })
+    }
+
+    /// What the device holds after a stop.
+    pub fn restarted(&self, choice: Choice) -> Result<Image, AllocError> {
+        let mut sectors = self.sectors.clone()?;
+        for held in sectors.iter_mut() {
+            if choice.is_new(held.number) {
+                held.synced = held.last;
+            } else {
+                held.last = held.synced;
+            }
+        }
+        Ok(Image {
+            alloc: self.alloc,
+            sectors,
+        })
+    }
+
+    /// A device that holds this: what is unsynced is unsynced still.
+    pub fn device(&self) -> Result<TrialDevice> {
+        let mut device = MemDevice::new(self.alloc, PAGES)?;
+        for held in &self.sectors {
+            write(&mut device, held.number, &held.synced)?;
+        }
+        device.sync()?;
+        for held in &self.sectors {
+            write(&mut device, held.number, &held.last)?;
+        }
+        Ok(Guarded::new(LoggedDevice::new(device)))
+    }
+}
+
+/// The content of each sector.
+fn contents(alloc: Global, device: &mut MemDevice) -> Result<Vec<[u8; SECTOR_SIZE]>> {
+    let mut contents = Vec::new(alloc);
+    for sector in 0..device.sectors() {
+        let mut bytes = [0; SECTOR_SIZE];
+        if sector < device.sectors() {
+            device.read(sector, &mut bytes)?;
+        }
+        contents.push(bytes)?;
+    }
+    Ok(contents)
+}
+
+fn content_at(contents: &[[u8; SECTOR_SIZE]], sector: u32) -> [u8; SECTOR_SIZE] {
+    contents
+        .get(sector as usize)
+        .copied()
+        .unwrap_or([0; SECTOR_SIZE])
+}
+
+/// Writes a sector, where the device has it.
+fn write(device: &mut MemDevice, sector: u32, bytes: &[u8; SECTOR_SIZE]) -> Result<()> {
+    if sector >= device.sectors() {
+        bail!("no sector of the device");
+    }
+    device.write(sector, bytes)?;
+    Ok(())
+}
+
+/// Starts a device again after a stop.
+fn restart(device: &mut MemDevice, choice: Choice) -> Result<()> {
+    if device.sectors() != SECTORS {
+        bail!("a device of another size");
+    }
+    let mut new = [false; SECTORS as usize];
+    for sector in 0..SECTORS {
+        new[sector as usize] = choice.is_new(sector);
+    }
+    device.restart(&new);
+    Ok(())
+}
+
+/// A device with a new store, with a journal or without, that has the record of the role root.
+pub fn new_device(alloc: Global, has_journal: bool) -> Result<TrialDevice> {
+    let mut device = Guarded::new(LoggedDevice::new(MemDevice::new(alloc, PAGES)?));
+    if device.sectors() != SECTORS {
+        bail!("a device of another size");
+    }
+    let key = Vec::from_slice(alloc, "\u{1}root".as_bytes())?;
+    let first = Entry::from_parts(key, Vec::from_slice(alloc, &[3])?);
+    let made = if has_journal {
+        JournalStore::format(alloc, &mut device, &first)
+    } else {
+        PageStore::format(alloc, &mut device, &first)
+    };
+    match made {
+        Ok(()) => Ok(device),
+        Err(_) => bail!("not formatted"),
+    }
+}
+
+/// The store on a device.
+pub fn opened(alloc: Global, device: TrialDevice, cache: usize) -> Result<TrialStore> {
+    match DeviceStore::open_with(alloc, device, cache) {
+        Ok(store) => Ok(store),
+        Err((_, fault)) => bail!("not opened: {fault:?}"),
+    }
+}
+
+/// The device in memory below a store.
+pub fn memory_below(store: &TrialStore) -> &MemDevice {
+    &store.device().device().device
+}
