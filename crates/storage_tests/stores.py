@@ -693,6 +693,8 @@ def lines():
     yield from lines_of_memory()
     yield from lines_of_devices()
     yield from lines_of_stops()
+    yield from lines_of_journals()
+    yield from lines_of_images()
     yield from ["", "# A cache of two pages: the one that was used least recently gives up its place"]
     yield "cache:2 put:7:4096*46 put:8:4096*50 get:7 put:9:0102+4094*5a get:8 get:7 get:9"
     yield from ["# A page that is forgotten is held again once it is put"]
@@ -777,6 +779,109 @@ def lines_of_stops():
             later = [put_of(number, 2) for number in range(50, 120)]
             yield from laid_out("open:256", committed + ["commit", "scan"] + later + ["stop:%d" % writes, "commit"])
             yield from ["restart:" + kind, "open:256 scan number"]
+
+
+JOURNALED = "journaled:64:6669727374:76616c7565"  # the same as NEW, with a journal
+AGAIN = "open:256 number scan spelling"
+
+
+def put_each(first, count, size, byte):
+    """Commits of a put each."""
+    return [word for number in range(first, first + count) for word in ["put:%08x:%d*%02x" % (number, size, byte), "commit", "number"]]
+
+
+def lines_of_journals():
+    yield from ["", "# A store with a journal: of commits of one row six are records, and the seventh is made in the pages with them", JOURNALED]
+    yield from laid_out("open:256", ["number"] + put_each(1, 9, 10, 7) + ["scan", "get:00000001", "get:00000009", "spelling"])
+    yield from ["restart:synced", AGAIN, "open:1 scan get:00000009 get:0000000a"]
+    yield from ["# Records of two parts and of three, a removal, and batches that change nothing", JOURNALED]
+    yield from laid_out("open:1", ["put:61:600*07", "commit", "number", "get:61", "put:62:1200*08", "commit", "number", "remove:61", "commit",
+                                   "number", "get:61", "scan", "remove:63", "commit", "number", "commit", "migrate", "number", "put:64:01",
+                                   "migrate", "number", "spelling", "scan"])
+    yield from ["restart:synced", AGAIN, "# A batch that is longer than the journal goes into the pages, with all that waits", JOURNALED]
+    yield from laid_out("open:256", put_each(40, 2, 10, 7) + ["rise:0:20:400*07", "commit", "number", "put:00000003:09", "commit", "number", "scan"])
+    yield from ["restart:synced", AGAIN]
+    yield "# A stop within a record leaves what was there, under its number or the next; behind its last sector it leaves the record too"
+    for size, writes in [(10, 0), (10, 1), (10, 2), (1200, 0), (1200, 1), (1200, 2), (1200, 3), (1200, 4)]:
+        for kind in ["synced", "last"]:
+            yield from [JOURNALED, "open:256 put:61:07 commit put:62:%d*08 stop:%d commit get:61" % (size, writes), "restart:" + kind]
+            yield from laid_out("open:256", ["number", "scan", "put:63:500*09", "commit", "number", "get:62"])
+            yield from ["restart:synced", AGAIN]
+    yield "# A call fails within a record, and within a commit to the pages with two syncs"
+    for calls in [0, 1, 16, 17, 18, 19]:
+        yield JOURNALED
+        first = put_each(1, 6, 10, 7) if calls >= 16 else []
+        yield from laid_out("open:256", first + ["put:00000001:10*08", "fail:%d" % calls, "commit", "commit"])
+        yield from ["restart:last", AGAIN]
+
+
+def sectors_of(parts):
+    """Lines that write these parts, by their sectors from the first of the journal on."""
+    return ["sector:%d:%s" % (JOURNAL_START + at, written(part) if part else "") for at, part in sorted(parts.items())]
+
+
+FIRST_BATCH, LONG_BATCH, LAST_BATCH = {b"k": b"v1", b"z": None}, {b"k": b"l" * 600}, {b"first": None, b"m": b"3"}
+ROOT = 12  # of the images, whose other root sector is that of number 1
+
+
+def records(*numbered):
+    """The parts of records of these numbers, one behind the other."""
+    parts = {}
+    for number, changes in numbered:
+        data = record_of(changes)
+        count = -(-len(data) // PART)
+        for index in range(count):
+            parts[len(parts)] = part_of(ROOT, number, index, count, data[index * PART:(index + 1) * PART])
+    return parts
+
+
+def images():
+    """What stands in the sectors behind the roots, by what it is."""
+    three = records((13, FIRST_BATCH), (14, LONG_BATCH), (15, LAST_BATCH))
+    one, batch = records((13, FIRST_BATCH)), record_of(FIRST_BATCH)
+    yield from [("no record", {}), ("one record", one), ("three records", three)]
+    yield "numbers that are left out", records((13, FIRST_BATCH), (40, LONG_BATCH), (41, LAST_BATCH))
+    yield "six records", records(*((13 + at, {b"k": bytes([at])}) for at in range(PARTS)))
+    yield "a record of six parts", records((13, {b"k%d" % at: b"l" * 1100 for at in range(2)} | {b"l": b"l" * 450}))
+    for at in (1, 2):
+        yield "a record without its part %d" % (at - 1), {**{0: three[0], 1: three[1], 2: three[2]}, at: b""}
+    yield "a record over one that was cut off", records((13, FIRST_BATCH), (15, LAST_BATCH)) | {2: part_of(ROOT, 14, 1, 2, batch)}
+    yield "records of an earlier root", one | {at: part_of(11, 12 + at, 0, 1, batch) for at in (1, 2, 4)}
+    yield "a record of an earlier root alone", {0: part_of(11, 12, 0, 1, batch)}
+    yield "a later record of an earlier root", {0: part_of(11, 20, 0, 1, batch)}
+    yield "a record whose number does not rise", records((14, FIRST_BATCH), (14, LAST_BATCH))
+    yield "a record that is cut off where the journal ends", one | {1: part_of(ROOT, 14, 0, 2, batch)}
+    yield "a record that would need a seventh sector", records(*((13 + at, {b"k": bytes([at])}) for at in range(5))) | {5: part_of(ROOT, 18, 0, 2, batch)}
+    yield "parts of one number, and of two counts", one | {1: part_of(ROOT, 14, 0, 2, batch), 2: part_of(ROOT, 14, 1, 3, batch)}
+    tags = {"root 0": (0, 14, 0, 1), "a later root": (13, 14, 0, 1), "no parts": (ROOT, 14, 0, 0), "more parts than sectors": (ROOT, 14, 0, 7),
+            "an index past its parts": (ROOT, 14, 2, 2), "an index past its parts, of an earlier root": (11, 12, 1, 1)}
+    for what, fields in tags.items():
+        yield "a tag of " + what, one | {1: part_of(*fields, batch)}
+    yield "a record behind a gap", one | {2: part_of(ROOT, 14, 0, 1, batch)}
+    for at in (0, 1, 5):
+        yield "another magic in sector %d" % (JOURNAL_START + at), one | {at: b"F" + part_of(ROOT, 13, 0, 1, batch)[1:]}
+    yield "a sector of zeros with one other byte", one | {5: bytes(SECTOR - 1) + b"\1"}
+    put = record_of({b"k": b"v"})
+    spoiled = {"no kind of change": b"\3" + put[1:], "keys that fall": put + record_of({b"j": b"v"}), "one key twice": put * 2,
+               "an empty key": record_of({b"": b"v"}), "a key too long": record_of({b"k" * 206: b"v"}),
+               "a byte behind its zeros": put.ljust(PART - 1, b"\0") + b"\1", "no change": b"",
+               "a value cut off": b"\1\0\1" + (1100).to_bytes(2, "big") + b"k" + b"v" * 400}
+    for what, data in spoiled.items():
+        yield "a record with " + what, {0: part_of(ROOT, 13, 0, 1, data)}
+    yield "a value too long", {at: part_of(ROOT, 13, at, 3, record_of({b"k": b"v" * 1201})[at * PART:(at + 1) * PART]) for at in range(3)}
+    yield "a part of zeros", {0: part_of(ROOT, 13, 0, 2, put), 1: part_of(ROOT, 13, 1, 2)}
+
+
+def lines_of_images():
+    yield from ["", "# Images of a device whose root has number 12, with these sectors behind the roots"]
+    for what, parts in images():
+        yield from ["# " + what, NEW, "sector:0:" + root_of(3, 64, ROOT, 2).hex(), *sectors_of(parts)]
+        # What is opened takes a further commit.
+        yield from ["open:256 number scan put:6b6b:07 commit number get:6b", "restart:synced", "open:1 number scan"]
+    yield from ["# Under format 2 nobody reads these sectors", NEW, "sector:0:" + root_of(2, 64, ROOT, 2).hex()]
+    yield from [*sectors_of(records((13, FIRST_BATCH))), "open:256 number scan"]
+    yield from ["# The last number", NEW, "sector:0:" + root_of(3, 64, ROOT, 2).hex(), *sectors_of(records((2**64 - 1, FIRST_BATCH)))]
+    yield "open:256 number scan"
 
 
 def main():
