@@ -177,7 +177,7 @@ LONG = puts([1, 700, 1, 1200, 1, 600, 1])       # of one part, of two and of thr
 MIXED = ("put:61:07 put:62:600*07 commit remove:61 put:63:08 commit put:62:01 remove:63 put:64:09 commit remove:62 remove:64 commit "
          "put:61:0a commit put:65:900*0b commit put:65:0c commit")
 # A tree of some leaves, of which rows that lie apart are changed.
-FILLED = "rise:0:24:300*07 commit " + " ".join(f"put:{3 * row:08x}:300*{8 + row:02x} commit" for row in range(7))
+FILLED = "rise:0:14:300*07 commit " + " ".join(f"put:{2 * row:08x}:300*{8 + row:02x} commit" for row in range(7))
 SPLIT = "rise:0:24:150*07 commit put:00000003:1000*08 commit remove:00000003 commit rise:24:26:150*08 commit"
 MANY = " ".join(f"put:{row % 7 + 0x61:02x}:{row % 251:02x} commit" for row in range(700))
 
@@ -185,10 +185,10 @@ MANY = " ".join(f"put:{row % 7 + 0x61:02x}:{row % 251:02x} commit" for row in ra
 def lines():
     yield "# What commits of one row write: six records of one sector and one sync, and then the pages with two"
     yield from [f"counts:256 {ROWS}", f"counts:256 {LONG}", f"counts:1 {MIXED}", f"counts:256 {MANY}"]
-    yield "# Stops, two and three lives deep, with a cache of all pages and with one of one page"
-    yield from [f"stops:256:3:101 {ROWS}", f"stops:1:2:101 {ROWS}", f"stops:256:2:101 {LONG}", f"stops:1:3:101 {MIXED}"]
+    yield "# Stops, up to three lives deep, with a cache of all pages and with one of one page"
+    yield from [f"stops:256:3:211 {ROWS}", f"stops:1:1:1 {ROWS}", f"stops:256:2:211 {LONG}", f"stops:1:3:211 {MIXED}"]
     yield "# The same over trees of several leaves"
-    yield from [f"stops:256:2:401 uncounted {FILLED}", f"stops:1:2:101 uncounted {SPLIT}"]
+    yield from [f"stops:256:1:1 uncounted {FILLED}", f"stops:1:1:1 uncounted {SPLIT}"]
     yield "# Calls that fail"
     yield from [f"fails:256 {ROWS}", f"fails:256 {LONG}", f"fails:1 uncounted {MIXED}", f"fails:1 uncounted {SPLIT}"]
     yield from [f"openings:256 uncounted {ROWS}", f"openings:1 uncounted {MIXED}"]

@@ -82,8 +82,12 @@ impl StorageTests {
             (None, StoragePart::Checks) => checks::check(rt, line, out)?,
             (None, StoragePart::Images) => self.images.follow(line, out)?,
             (None, StoragePart::Arrays) => arrays::follow(rt.alloc(), &mut self.script, line, out)?,
-            (None, StoragePart::Journals) =>
-                journals::follow(rt.alloc(), self.tries_all, line, out)?,
+            (None, StoragePart::Journals) => journals::follow(
+                rt.alloc(),
+                self.tries_all,
+                line,
+                out,
+            )?,
             (None, StoragePart::Stores) => self.stores.follow(line, out)?,
         }
         Ok(())

@@ -9,7 +9,7 @@ use store::{Batch, MemStore, Store, StoreFault};
 
 /// Makes the commits of a script, each again that is refused memory, and sees that nothing has changed by the first.
 pub fn commit_again(script: &Script, cache: usize) -> Result<Tally> {
-    let mut tally = Tally::new(script.alloc, ["commits", "looks"]);
+    let mut tally = Tally::new(script.alloc, "commits", "looks");
     let mut store = opened(script.alloc, new_device(script.alloc, true)?, cache)?;
     let mut memory = new_memory(script.alloc)?;
     for index in 0..script.len() {

@@ -8,7 +8,7 @@ use store::Store;
 
 /// Counts the sectors that the commits of a script write, and the syncs that they make.
 pub fn count(script: &Script, cache: usize) -> Result<Tally> {
-    let mut tally = Tally::new(script.alloc, ["sectors", "syncs"]);
+    let mut tally = Tally::new(script.alloc, "sectors", "syncs");
     let mut store = opened(script.alloc, new_device(script.alloc, true)?, cache)?;
     let (writes, syncs) = written(&store);
     for index in 0..script.len() {
@@ -16,8 +16,8 @@ pub fn count(script: &Script, cache: usize) -> Result<Tally> {
         tally.disagree(answer.is_ok(), "a commit is not made")?;
     }
     let (all_writes, all_syncs) = written(&store);
-    tally.counts[0].0 = all_writes.saturating_sub(writes);
-    tally.counts[1].0 = all_syncs.saturating_sub(syncs);
+    tally.first = all_writes.saturating_sub(writes);
+    tally.second = all_syncs.saturating_sub(syncs);
     Ok(tally)
 }
 

@@ -49,20 +49,20 @@ impl Image {
         let mut device = device.into_device().into_device();
         // calls pass again
         device.stop_after(u64::MAX);
-        let last = contents(alloc, &mut device)?;
-        restart(&mut device, Choice::Old)?;
-        let synced = contents(alloc, &mut device)?;
         let mut sectors = Vec::new(alloc);
         for number in 0..SECTORS {
-            let held = HeldSector {
+            let last = content(&mut device, number)?;
+            sectors.push(HeldSector {
                 number,
-                synced: content_at(&synced, number),
-                last: content_at(&last, number),
-            };
-            if held.synced != [0; SECTOR_SIZE] || held.last != [0; SECTOR_SIZE] {
-                sectors.push(held)?;
-            }
+                synced: last,
+                last,
+            })?;
         }
+        restart(&mut device, Choice::Old)?;
+        for held in sectors.iter_mut() {
+            held.synced = content(&mut device, held.number)?;
+        }
+        sectors.retain(|held| !held.is_zero());
         Ok(Image { alloc, sectors })
     }
 
@@ -96,24 +96,21 @@ impl Image {
     }
 }
 
-/// The content of each sector.
-fn contents(alloc: Global, device: &mut MemDevice) -> Result<Vec<[u8; SECTOR_SIZE]>> {
-    let mut contents = Vec::new(alloc);
-    for sector in 0..device.sectors() {
-        let mut bytes = [0; SECTOR_SIZE];
-        if sector < device.sectors() {
-            device.read(sector, &mut bytes)?;
-        }
-        contents.push(bytes)?;
+impl HeldSector {
+    /// Whether it is zero, after a stop too.
+    fn is_zero(&self) -> bool {
+        self.synced == [0; SECTOR_SIZE] && self.last == [0; SECTOR_SIZE]
     }
-    Ok(contents)
 }
 
-fn content_at(contents: &[[u8; SECTOR_SIZE]], sector: u32) -> [u8; SECTOR_SIZE] {
-    contents
-        .get(sector as usize)
-        .copied()
-        .unwrap_or([0; SECTOR_SIZE])
+/// Reads a sector, where the device has it.
+fn content(device: &mut MemDevice, sector: u32) -> Result<[u8; SECTOR_SIZE]> {
+    let mut bytes = [0; SECTOR_SIZE];
+    if sector >= device.sectors() {
+        bail!("no sector of the device");
+    }
+    device.read(sector, &mut bytes)?;
+    Ok(bytes)
 }
 
 /// Writes a sector, where the device has it.
@@ -136,6 +133,13 @@ fn restart(device: &mut MemDevice, choice: Choice) -> Result<()> {
     }
     device.restart(&new);
     Ok(())
+}
+
+/// A device that is started again after a stop.
+pub fn restarted(device: TrialDevice, choice: Choice) -> Result<TrialDevice> {
+    let mut device = device.into_device().into_device();
+    restart(&mut device, choice)?;
+    Ok(Guarded::new(LoggedDevice::new(device)))
 }
 
 /// A device with a new store, with a journal or without, that has the record of the role root.

@@ -26,7 +26,7 @@ pub fn fail_commits(script: &Script, cache: usize) -> Result<Tally> {
         script,
         cache,
         index: 0,
-        tally: Tally::new(script.alloc, ["failing calls", "devices"]),
+        tally: Tally::new(script.alloc, "failing calls", "devices"),
     };
     for index in 0..script.len() {
         failing.index = index;
@@ -58,8 +58,7 @@ impl<'a> Failing<'a> {
         }
         let answer = store.commit(&self.script.batch(self.index, 0)?);
         if store.failures() == failures {
-            self.tally
-                .disagree(answer.is_ok(), "a commit is not made")?;
+            self.tally.disagree(answer.is_ok(), "a commit is not made")?;
             return Ok(true);
         }
         self.tally.count_first();
@@ -78,8 +77,7 @@ impl<'a> Failing<'a> {
         let mut store = opened(alloc, new_device(alloc, true)?, self.cache)?;
         for index in 0..self.index {
             let answer = store.commit(&self.script.batch(index, 0)?);
-            self.tally
-                .disagree(answer.is_ok(), "a commit is not made")?;
+            self.tally.disagree(answer.is_ok(), "a commit is not made")?;
         }
         Ok(store)
     }
@@ -90,8 +88,7 @@ impl<'a> Failing<'a> {
         let mut entry = Entry::new(self.script.alloc);
         let read = store.get(&[1], &mut entry);
         let committed = store.commit(&self.script.batch(self.index, 1)?);
-        let is_closed =
-            read == Err(StoreFault::Device) && committed == Err(StoreFault::Device);
+        let is_closed = read == Err(StoreFault::Device) && committed == Err(StoreFault::Device);
         self.tally
             .disagree(is_closed, "a call is answered after a failure")?;
         self.tally.disagree(
@@ -116,20 +113,22 @@ impl<'a> Failing<'a> {
     /// Sees that a device has the records before the commit or those after it.
     fn check(&mut self, image: &Image) -> Result<()> {
         self.tally.count_second();
-        let is_found = self.has(image, self.index)? || self.has(image, self.index.saturating_add(1))?;
-        self.tally.disagree(is_found, "other records after a failure")?;
+        let mut store = opened(self.script.alloc, image.device()?, self.cache)?;
+        let is_found = self.has(&mut store, self.index)?
+            || self.has(&mut store, self.index.saturating_add(1))?;
+        self.tally
+            .disagree(is_found, "other records after a failure")?;
         Ok(())
     }
 
-    /// Whether a device has the records after so many commits.
-    fn has(&self, image: &Image, commits: usize) -> Result<bool> {
+    /// Whether a store has the records after so many commits.
+    fn has(&self, store: &mut TrialStore, commits: usize) -> Result<bool> {
         let alloc = self.script.alloc;
         let mut made = Vec::new(alloc);
         for index in 0..commits {
             made.push(Made { index, life: 0 })?;
         }
         let mut wanted = wanted_after(self.script, &made)?;
-        let mut store = opened(alloc, image.device()?, self.cache)?;
-        Ok(same_records(alloc, &mut store, &mut wanted)?)
+        Ok(same_records(alloc, store, &mut wanted)?)
     }
 }

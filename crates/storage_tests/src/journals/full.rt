@@ -89,7 +89,10 @@ pub fn fill(call: &CallWords<'_>, out: &mut String) -> Result<()> {
     }
     let is_same = pair.journaled.is_same(call.alloc)? && pair.plain.is_same(call.alloc)?;
     let (word, alone) = (call.word, pair.alone);
-    writeln!(out, "{word}: full {alone} times where the other is not, all that was taken is there: {is_same}")?;
+    writeln!(
+        out,
+        "{word}: full {alone} times where the other is not, all that was taken is there: {is_same}"
+    )?;
     Ok(())
 }
 

@@ -15,7 +15,7 @@ const MAX_CALLS: u64 = 2_048;
 
 /// Makes each call of an opening fail, behind each commit of a script.
 pub fn fail_openings(script: &Script, cache: usize) -> Result<Tally> {
-    let mut tally = Tally::new(script.alloc, ["failing calls", "openings"]);
+    let mut tally = Tally::new(script.alloc, "failing calls", "openings");
     let mut made = Vec::new(script.alloc);
     for index in 0..script.len().saturating_add(1) {
         let image = image_after(script, cache, &made)?;
@@ -58,7 +58,8 @@ fn fail_opening(
         }
         Err((device, fault)) => {
             tally.count_first();
-            let is_so = fault == OpenFault::Device && device.failures() == failures.saturating_add(1);
+            let is_so = fault == OpenFault::Device
+                && device.failures() == failures.saturating_add(1);
             tally.disagree(is_so, "a failing opening is answered otherwise")?;
             check(script, cache, device, made, tally)?;
             Ok(false)

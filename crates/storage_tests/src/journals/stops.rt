@@ -2,7 +2,7 @@
 
 use crate::journals::batches::Script;
 use crate::journals::choices::{Choice, choices_for};
-use crate::journals::devices::{Image, TrialStore, memory_below, new_device, opened};
+use crate::journals::devices::{Image, TrialStore, memory_below, new_device, opened, restarted};
 use crate::journals::tally::Tally;
 use crate::journals::wanted::{Made, same_records, wanted_after, with};
 use anyhow::Result;
@@ -17,7 +17,7 @@ const MAX_WRITES: u64 = 1_024;
 struct Stopped {
     image: Image,
     before: Vec<Made>,
-    under_way: Option<Made>,
+    under_way: Made,
     is_answered: bool,
     number: u64,
     /// The life that comes now.
@@ -63,7 +63,7 @@ impl<'a> Stops<'a> {
             lives: u8::try_from(lives).unwrap_or(u8::MAX),
             every: u64::from(every.max(1)),
             restarts: 0,
-            tally: Tally::new(alloc, ["stops", "restarts"]),
+            tally: Tally::new(alloc, "stops", "restarts"),
             waiting: Vec::new(alloc),
         }
     }
@@ -145,7 +145,7 @@ impl<'a> Stops<'a> {
             let stopped = Stopped {
                 image: image.restarted(*choice)?,
                 before: before.clone()?,
-                under_way: Some(next),
+                under_way: next,
                 is_answered,
                 number,
                 life: next.life.saturating_add(1),
@@ -162,33 +162,35 @@ impl<'a> Stops<'a> {
     /// Looks at what a device holds that was started again, makes the next commit there, and may stop it.
     fn live(&mut self, stopped: &Stopped) -> Result<()> {
         self.tally.count_second();
-        let Some(found) = self.found(stopped)? else {
+        let mut store = opened(self.alloc, stopped.image.device()?, self.cache)?;
+        let Some(found) = self.found(&mut store, stopped)? else {
             return Ok(());
         };
-        self.make_next(stopped, &found)?;
+        let next = Made {
+            index: found.len(),
+            life: stopped.life,
+        };
+        self.make_next(store, &found, next)?;
         if stopped.life < self.lives {
             self.restarts = self.restarts.wrapping_add(1);
             if self.restarts % self.every == 0 {
-                return self.stop_at(&stopped.image, &found, stopped.life, found.len());
+                return self.stop_at(&stopped.image, &found, stopped.life, next.index);
             }
         }
         Ok(())
     }
 
     /// The commits that a device has which was started again: those before, or these and the one that was under way.
-    fn found(&mut self, stopped: &Stopped) -> Result<Option<Vec<Made>>> {
-        let mut store = opened(self.alloc, stopped.image.device()?, self.cache)?;
+    fn found(&mut self, store: &mut TrialStore, stopped: &Stopped) -> Result<Option<Vec<Made>>> {
         let number = store.number();
-        let told = "a number that is none of the two";
         let is_next = stopped.number <= number && number <= stopped.number.saturating_add(1);
-        self.tally.disagree(is_next, told)?;
-        if let Some(under_way) = stopped.under_way {
-            let after = with(self.alloc, &stopped.before, under_way)?;
-            if self.has(&mut store, &after)? {
-                return Ok(Some(after));
-            }
+        self.tally
+            .disagree(is_next, "a number that is none of the two")?;
+        let after = with(self.alloc, &stopped.before, stopped.under_way)?;
+        if self.has(store, &after)? {
+            return Ok(Some(after));
         }
-        if !stopped.is_answered && self.has(&mut store, &stopped.before)? {
+        if !stopped.is_answered && self.has(store, &stopped.before)? {
             return Ok(Some(stopped.before.clone()?));
         }
         let (before, under_way) = (stopped.before.as_slice(), stopped.under_way);
@@ -203,22 +205,17 @@ impl<'a> Stops<'a> {
         Ok(same_records(self.alloc, store, &mut wanted)?)
     }
 
-    /// Makes the next commit on a device with these ones, and finds it after a stop.
-    fn make_next(&mut self, stopped: &Stopped, before: &[Made]) -> Result<()> {
-        let next = Made {
-            index: before.len(),
-            life: stopped.life,
-        };
-        let mut store = opened(self.alloc, stopped.image.device()?, self.cache)?;
+    /// Makes the next commit in a store with these ones, and finds it after a stop.
+    fn make_next(&mut self, store: TrialStore, before: &[Made], next: Made) -> Result<()> {
+        let mut store = store;
         let answer = store.commit(&self.batch(next)?);
         self.tally
             .disagree(answer.is_ok(), "the next commit is not made")?;
-        let image = Image::of(self.alloc, store.into_device())?;
-        let device = image.restarted(Choice::Old)?.device()?;
-        let after = with(self.alloc, before, next)?;
+        let device = restarted(store.into_device(), Choice::Old)?;
         let mut store = opened(self.alloc, device, self.cache)?;
-        let is_found = self.has(&mut store, &after)?;
-        self.tally.disagree(is_found, "the next commit is not found")?;
+        let is_found = self.has(&mut store, &with(self.alloc, before, next)?)?;
+        self.tally
+            .disagree(is_found, "the next commit is not found")?;
         Ok(())
     }
 }

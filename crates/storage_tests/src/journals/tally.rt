@@ -3,19 +3,25 @@
 use crate::stores::call::CallWords;
 use std::alloc::{AllocError, Global};
 
-/// What was counted in a trial, each number with its words behind it, and a line for each disagreement.
+/// What was counted in a trial: two numbers with what they count, and a line for each disagreement.
 #[derive(Drop)]
 pub struct Tally {
-    pub counts: [(u64, &'static str); 2],
+    pub first: u64,
+    pub second: u64,
+    firsts: &'static str,
+    seconds: &'static str,
     disagreements: u64,
     told: String,
 }
 
 impl Tally {
     /// Nothing was counted.
-    pub fn new(alloc: Global, words: [&'static str; 2]) -> Tally {
+    pub fn new(alloc: Global, firsts: &'static str, seconds: &'static str) -> Tally {
         Tally {
-            counts: [(0, words[0]), (0, words[1])],
+            first: 0,
+            second: 0,
+            firsts,
+            seconds,
             disagreements: 0,
             told: String::new(alloc),
         }
@@ -23,12 +29,12 @@ impl Tally {
 
     /// Counts one more of the first kind.
     pub fn count_first(&mut self) {
-        self.counts[0].0 = self.counts[0].0.saturating_add(1);
+        self.first = self.first.saturating_add(1);
     }
 
     /// Counts one more of the second kind.
     pub fn count_second(&mut self) {
-        self.counts[1].0 = self.counts[1].0.saturating_add(1);
+        self.second = self.second.saturating_add(1);
     }
 
     /// Counts a disagreement and tells of it, unless all is as it should be.
@@ -42,9 +48,8 @@ impl Tally {
 
     /// Appends the counts, and a line for each disagreement.
     pub fn push(&self, call: &CallWords<'_>, out: &mut String) -> Result<(), AllocError> {
-        let word = call.word;
-        let [(first, firsts), (second, seconds)] = self.counts;
-        let disagreements = self.disagreements;
+        let (word, first, firsts) = (call.word, self.first, self.firsts);
+        let (second, seconds, disagreements) = (self.second, self.seconds, self.disagreements);
         writeln!(
             out,
             "{word}: {first} {firsts}, {second} {seconds}, {disagreements} disagreements"
