@@ -1,5 +1,5 @@
 -- A copy of a store and of the device below it, by what a copy of records does.
-use Rattle.std.proofs.Common.{◌≡◌, ◌⊎◌, ◌/◌, ◌^◌, ◌-◌, ℕ, inl, inr, List, Result, Ok, Err, IfErr, refl, sym, ap, subst, ◌∙◌, arith}
+use Rattle.std.proofs.Common.{◌≡◌, ◌⊎◌, ◌/◌, ◌^◌, ◌-◌, ℕ, inl, inr, List, Result, Ok, Err, IfErr, false, refl, sym, ap, subst, ◌∙◌, arith}
 use Rattle.std.proofs.lemmas.Bool.{cases_lt, false≢true}
 use Rattle.storage_sizes.specs.declared.spelling.Spelling.{Spelling}
 use Rattle.storage_sizes.specs.declared.spelling.Spelling.TheVariants.{Second}
@@ -14,11 +14,11 @@ use Rattle.store.specs.declared.fault.StoreFault.TheVariants as commit
 use Rattle.store.proofs.Reading.{cause_later}
 use Rattle.cow_pages.specs.declared.open.OpenFault.{OpenFault}
 use Rattle.cow_pages.specs.declared.open.OpenFault.TheVariants as pages
-use Rattle.kv_store.specs.Contents.{HasContents}
-use Rattle.kv_store.specs.Opening.{IsNamedFor, IsOpened}
-use Rattle.kv_store.specs.declared.page_store.PageStore.{PageStore}
-use Rattle.kv_store.specs.PageStore.{pages_of, store_state}
-use Rattle.cow_pages.specs.Cow.{device_below}
+use Rattle.journal_store.specs.ImageLaws.{has_plain}
+use Rattle.device_store.specs.declared.stores.DeviceStore.{DeviceStore}
+use Rattle.device_store.specs.Images.{HasContents}
+use Rattle.device_store.specs.Opening.{IsNamedFor, IsOpened}
+use Rattle.device_store.specs.Stores.{state_under, store_state}
 use Rattle.sector_device.specs.declared.device.Device.{Ghosts}
 use Rattle.abstract_database.specs.Database.{Database}
 use Rattle.stored_database.specs.Records.{StandsFor}
@@ -117,8 +117,8 @@ told_cause (Err fault) old mid new first same second cause = cause_of_copy fault
 -- ---- a device that is copied
 
 -- a store over it failed since it was opened
-pub failed_from : {D : Type 0} {g : Ghosts D} (d : DeviceState) (s t : PageStore D g) → IsOpened d s → KeepsHistory (store_state s) (store_state t) → d.faithful
-    → HasDeviceCause (store_state s) (store_state t) → HasFailed d (device_below (pages_of t))
+pub failed_from : {D : Type 0} {g : Ghosts D} (d : DeviceState) (s t : DeviceStore D g) → IsOpened d s → KeepsHistory (store_state s) (store_state t) → d.faithful
+    → HasDeviceCause (store_state s) (store_state t) → HasFailed d (state_under t)
 failed_from {D} {g} d s t opened history faithful cause = elim (cause.fault (opened.holds faithful).sound) [
   | inl failed ↦ absurd (false≢true (sym opened.has_not_failed ∙ failed))
   | inr rose ↦ elim rose [
@@ -148,7 +148,7 @@ module _ {E : Type 0} (state : E → DeviceState) (d e : DeviceState) (contents 
   pub copies_database : (result : Result (Unit {0}) DatabaseCopyFault) (old new : E) → CopiesStore contents state result old new → IfErr result (λ fault. HasReadCause fault s t) → CopiesDatabase d e state result old new
   copies_database (Ok x) old new is cause = (
     held (Ok x) old new is,
-    λ faithful image left. record { contents = in_second contents; has = is.2.1 faithful image left; stands = is.1 },
+    λ faithful image left. record { contents = in_second contents; has = has_plain false ((state new).sectors / 8) (in_second contents) image refl (is.2.1 faithful image left); stands = is.1 },
   )
   copies_database (Err Memory) old new is cause = elim is [ inl same ↦ inl same | inr copied ↦ inr (held (Err records.Memory) old new copied) ]
   copies_database (Err (Source source.WrongSize)) old new is cause = absurd is

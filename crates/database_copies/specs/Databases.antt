@@ -9,8 +9,7 @@ use Rattle.store.specs.Store.{Contents, StoreState, HasDeviceCause}
 use Rattle.cow_pages.specs.declared.open.OpenFault.{OpenFault}
 use Rattle.cow_pages.specs.declared.open.OpenFault.TheVariants as pages
 use Rattle.cow_pages.specs.Image.{first_fault, is_size}
-use Rattle.kv_store.specs.Contents.{HasContents}
-use Rattle.kv_store.specs.Opening.{IsNamedFor}
+use Rattle.device_store.specs.Opening.{IsNamedFor}
 use Rattle.abstract_database.specs.Database.{Database}
 use Rattle.stored_database.specs.Spellings.{Stands}
 use Rattle.migration.specs.Migrated.{in_second}

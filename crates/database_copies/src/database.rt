@@ -10,13 +10,14 @@ use crate::fault::DatabaseCopyFault;
 use crate::source::read_source;
 use crate::under::copy_under;
 use device_copies::copied_records_stand;
-use kv_store::PageStore;
+use device_store::DeviceStore;
+use journal_store::JournalDevice;
 use sector_device::Device;
 use std::alloc::Global;
 use store::Store;
 
 /// Copies the database on a device to another device, of 64 to 65,536 whole pages, in the current spelling, and hands
-/// both back. The source may be of either spelling; it is only read, and all its definitions and rows are checked
+/// both back. The source may be of either spelling, with a journal or without; it is only read, and all its definitions and rows are checked
 /// before anything is written. What was on the device of the copy before is lost.
 ///
 /// After `Ok` each image that a stop leaves of the copy has exactly the source's records, and stands for the same
@@ -26,7 +27,7 @@ use store::Store;
 /// `Source`: no database is on the source, or its device failed. `WrongSize`: the device of the copy has another size;
 /// nothing was written. `Full`: no room is left on it; it names how many pages a copy wants at least. `Device`: it failed.
 /// `Memory`: an allocation failed.
-pub fn copy_database<D: Device, E: Device>(
+pub fn copy_database<D: JournalDevice, E: Device>(
     alloc: Global,
     source: D,
     target: E,
@@ -36,7 +37,7 @@ pub fn copy_database<D: Device, E: Device>(
     ensures copies { (D.state source).faithful
         → CopiesDatabase (D.state source) (D.state result.0) E.state result.2 target result.1 }
 {
-    let mut store = match PageStore::open(alloc, source) {
+    let mut store = match DeviceStore::open(alloc, source) {
         Ok(store) => store,
         Err((source, fault)) => {
             let fault = DatabaseCopyFault::from(fault);

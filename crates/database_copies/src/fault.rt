@@ -31,20 +31,20 @@ pub enum SourceFault {
     Device,
 }
 
-impl From<kv_store::OpenFault> for DatabaseCopyFault {
+impl From<device_store::OpenFault> for DatabaseCopyFault {
     ghost use Rattle.database_copies.specs.Databases.{fault_of_pages};
 
     ghost from_gives = { λ fault given. given ≡ fault_of_pages fault };
 
-    fn from(fault: kv_store::OpenFault) -> DatabaseCopyFault {
+    fn from(fault: device_store::OpenFault) -> DatabaseCopyFault {
         match fault {
-            kv_store::OpenFault::WrongSize => DatabaseCopyFault::Source(SourceFault::WrongSize),
-            kv_store::OpenFault::NotADatabase => DatabaseCopyFault::Source(
+            device_store::OpenFault::WrongSize => DatabaseCopyFault::Source(SourceFault::WrongSize),
+            device_store::OpenFault::NotADatabase => DatabaseCopyFault::Source(
                 SourceFault::NotADatabase,
             ),
-            kv_store::OpenFault::Damaged => DatabaseCopyFault::Source(SourceFault::Damaged),
-            kv_store::OpenFault::Device => DatabaseCopyFault::Source(SourceFault::Device),
-            kv_store::OpenFault::Memory => DatabaseCopyFault::Memory,
+            device_store::OpenFault::Damaged => DatabaseCopyFault::Source(SourceFault::Damaged),
+            device_store::OpenFault::Device => DatabaseCopyFault::Source(SourceFault::Device),
+            device_store::OpenFault::Memory => DatabaseCopyFault::Memory,
         }
     }
 }

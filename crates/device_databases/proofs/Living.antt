@@ -6,13 +6,11 @@ use Rattle.sector_device.specs.Timeline.{LeavesOnly, IsPresent, read_by, weakene
 use Rattle.sector_device.specs.Device.{DeviceState, IsLeft, timeline}
 use Rattle.sector_device.specs.declared.device.Device.{Ghosts}
 use Rattle.store.specs.Records.{Records}
-use Rattle.store.specs.Store.{Contents, KeepsHistory}
-use Rattle.cow_pages.specs.Cow.{device_below, root_of, durable_map, durable_array}
-use Rattle.cow_pages.proofs.Meaning.{content_means}
-use Rattle.kv_store.specs.declared.page_store.PageStore.{PageStore}
-use Rattle.kv_store.specs.Contents.{HasContents, IsReadAs, contents_of}
-use Rattle.kv_store.specs.PageStore.{pages_of, store_state}
-use Rattle.kv_store.specs.StoreLaws.{present_now, settled_now}
+use Rattle.store.specs.Store.{KeepsHistory, stored}
+use Rattle.device_store.specs.declared.stores.DeviceStore.{DeviceStore}
+use Rattle.device_store.specs.Reads.{faithful_under, present_on}
+use Rattle.device_store.specs.StoreLaws.{content_has, settled_on}
+use Rattle.device_store.specs.Stores.{device_of, state_under as state_below, store_state}
 use Rattle.abstract_database.specs.Database.{Database}
 use Rattle.abstract_database.specs.Runs.{ReadingRelation, Standing, IsFoundAt, At}
 use Rattle.stored_database.specs.Records.{StandsFor}
@@ -34,7 +32,7 @@ use Rattle.device_databases.specs.Answered.{Answered, IsLived, IsOfEach, IsOfScr
 use Rattle.device_databases.specs.Databases.{HoldsDatabase, LeavesAsBefore, LeavesDatabase, records_on}
 use Rattle.device_databases.specs.Openings.{IsOpenedOn, OpensAs, state_under}
 use Rattle.device_databases.proofs.Answering.{Ran, connections_ran, script_ran}
-use Rattle.device_databases.proofs.Opening.{none_open, pages_are}
+use Rattle.device_databases.proofs.Opening.{none_open}
 
 -- records mean one database
 abbrev pub MeanOne : Type 0
@@ -59,42 +57,29 @@ found_same d e last found db held leaves =
     weakened (λ x. (records_on d).left x ⊎ Means x db) (IsFoundLeft last) (records_on d) (records_on e) (λ x is. ⊎_elim (found x) (λ means. (db, means, held)) is) leaves.during
 
 module _ {D : Type 0} {g : Ghosts D} {X : Type 0} where
-  found_opened : (sp : Spelling) (d : DeviceState) (db : Database) (holds : HoldsDatabase d db) (server : Server (PageStore D g) X) (last : Standing) → LeavesFound last (records_on d) → IsFoundAt last db
+  found_opened : (sp : Spelling) (d : DeviceState) (db : Database) (holds : HoldsDatabase d db) (server : Server (DeviceStore D g) X) (last : Standing) → LeavesFound last (records_on d) → IsFoundAt last db
       → OpensAs sp d holds server → LeavesOnly (IsFoundLeft last) (records_on d) (records_on (state_under server))
   found_opened Second d db holds server last found held only = found_before d (state_under server) last found only.leaves
   found_opened First d db holds server last found held migrated = found_same d (state_under server) last found db held migrated.leaves
 
   -- ---- what is counted
 
-  first_number : (sp : Spelling) (d : DeviceState) (db : Database) (holds : HoldsDatabase d db) (server : Server (PageStore D g) X) → OpensAs sp d holds server
+  first_number : (sp : Spelling) (d : DeviceState) (db : Database) (holds : HoldsDatabase d db) (server : Server (DeviceStore D g) X) → OpensAs sp d holds server
       → IsNumberAfter sp holds.has.number (store_state server.store).number
   first_number Second d db holds server only = only.keeps.number
   first_number First d db holds server migrated = (migrated.not_back, migrated.by_one)
 
-  first_faults : (sp : Spelling) (d : DeviceState) (db : Database) (holds : HoldsDatabase d db) (server : Server (PageStore D g) X) → OpensAs sp d holds server
+  first_faults : (sp : Spelling) (d : DeviceState) (db : Database) (holds : HoldsDatabase d db) (server : Server (DeviceStore D g) X) → OpensAs sp d holds server
       → d.failures ≤ (store_state server.store).faults
   first_faults Second d db holds server only = only.unwritten.history.failures
   first_faults First d db holds server migrated = migrated.failures
 
 -- the number of a store that works is that of what its device holds
-last_number : {D : Type 0} {g : Ghosts D} (s : PageStore D g) (number : ℕ) → (store_state s).sound → (store_state s).has_failed ≡ false
-    → IsLeft (device_below (pages_of s)) (device_below (pages_of s)).content → number ≡ (store_state s).number → IsNumberOf (device_below (pages_of s)) number
+last_number : {D : Type 0} {g : Ghosts D} (s : DeviceStore D g) (number : ℕ) → (store_state s).sound → (store_state s).has_failed ≡ false
+    → IsLeft (state_below s) (state_below s).content → number ≡ (store_state s).number → IsNumberOf (state_below s) number
 last_number s number sound works content same =
-    let d = device_below (pages_of s) in
-    let held = sound.works works in
-    subst (λ (n : ℕ). (contents : Contents) × (has : HasContents n contents d.content) × (number ≡ has.number)) (pages_are (pages_of s)) (
-      contents_of (pages_of s),
-      record {
-        format = (root_of (pages_of s)).format;
-        number = (root_of (pages_of s)).number;
-        array = durable_array (pages_of s);
-        means = content_means d (root_of (pages_of s)) (durable_map (pages_of s)) held.is_open.settled content;
-        kind = s.plain;
-        spelled = refl;
-        represents = held.durable;
-      },
-      same,
-    )
+    let has = content_has s sound works content in
+    (stored (store_state s), has.0, same ∙ sym has.1)
 
 -- ---- a life
 
@@ -107,66 +92,64 @@ module _ {D : Type 0} {g : Ghosts D} (present : (device : D) → (g.state device
   abbrev begin : At
   begin = at_start (store_state opened.server.store) is.database
 
-  counted : (end : Server (PageStore D g) X) (at : At) → (store_state end.store).sound → EndsAt (store_state end.store) at → AreCountedOn was (state_under end) begin at
+  counted : (end : Server (DeviceStore D g) X) (at : At) → (store_state end.store).sound → EndsAt (store_state end.store) at → AreCountedOn was (state_under end) begin at
   counted end at sound ends = record {
     first_number = (is.holds.contents, is.holds.has, first_number is.holds.contents.spelling was is.database is.holds opened.server is.how);
     first_faults = first_faults is.holds.contents.spelling was is.database is.holds opened.server is.how;
-    last_number = λ works. last_number end.store at.counts.number sound (ends.works works) (content_left _ sound.faithful) (ends.counts.number works);
+    last_number = λ works. last_number end.store at.counts.number sound (ends.works works) (content_left (device_of end.store) (faithful_under end.store sound)) (ends.counts.number works);
     last_faults = ends.counts.faults;
   }
 
-  pub lived : (last : Standing) → LeavesFound last (records_on was) → (it : Answered) (end : Server (PageStore D g) X) → (store_state end.store).sound
+  pub lived : (last : Standing) → LeavesFound last (records_on was) → (it : Answered) (end : Server (DeviceStore D g) X) → (store_state end.store).sound
       → Ran Reads store_state opened.server begin it end → IsLived Reads last it was (state_under end)
   lived last found it end sound ran =
       let first = opened.server in
       let held = found_held one was (content_left device faithful) last found is.database is.holds in
       let opening = found_opened is.holds.contents.spelling was is.database is.holds first last found held is.how in
-      let leaves : LeavesOnly (IsFoundLeft last) (records_on was) (store_state first.store).time =
-      subst (λ (n : ℕ). LeavesOnly (IsFoundLeft last) (records_on was) (read_by (IsReadAs n) (timeline (state_under first)))) (sym (pages_are (pages_of first.store))) opening in
-      let now : IsPresent (store_state first.store).time = present_now first.store (present _ is.sound.faithful) in
+      let leaves : LeavesOnly (IsFoundLeft last) (records_on was) (store_state first.store).time = opening in
+      let now : IsPresent (store_state first.store).time = present_on first.store (present (device_of first.store) (faithful_under first.store is.sound)) in
       let life : IsLife Reads last it.events it.answers it.moments (records_on was) (store_state end.store).time = record {
         database = is.database;
         found = held;
         begin = begin;
         over = refl;
         until = until_first (IsFoundLeft last) (records_on was) (store_state first.store).time (store_state end.store).time leaves ran.3 now;
-        begun = λ x stop. leaves_found store_state first begin (λ y works left. settled_now first.store y is.sound works left) is.represents first.stopped refl x
+        begun = λ x stop. leaves_found store_state first begin (λ y works left. settled_on first.store y is.sound works left) is.represents first.stopped refl x
             (now x (ran.3 begin.moment begin.moment x (omega arith) stop));
         end = ran.0;
         ran = ran.2;
         ends = ran.1.moment;
-        leaves = leaves_found store_state end ran.0 (λ y works left. settled_now end.store y sound works left) ran.1 end.stopped refl;
+        leaves = leaves_found store_state end ran.0 (λ y works left. settled_on end.store y sound works left) ran.1 end.stopped refl;
       } in
-      subst (λ (n : ℕ). (life : IsLife Reads last it.events it.answers it.moments (records_on was) (read_by (IsReadAs n) (timeline (state_under end)))) × AreCountedOn was (state_under end) life.begin life.end)
-      (pages_are (pages_of end.store)) (life, counted end ran.0 sound (ends_at store_state end ran.0 ran.1))
+      (life, counted end ran.0 sound (ends_at store_state end ran.0 ran.1))
 
 -- ---- scripts and connections
 
 module _ {D : Type 0} {g : Ghosts D} (present : (device : D) → (g.state device).faithful → IsPresent (timeline (g.state device)))
     (content_left : (device : D) → (g.state device).faithful → IsLeft (g.state device) (g.state device).content) (one : MeanOne)
-    {X K : Type 0} (Reads : ReadingRelation) (k : SinkGhosts K) (server last : Server (PageStore D g) X) where
+    {X K : Type 0} (Reads : ReadingRelation) (k : SinkGhosts K) (server last : Server (DeviceStore D g) X) where
   pub script_life : (lines : List (List ℕ)) (before after : K) (e : ScriptEnd) → KeepsHistory (store_state server.store) (store_state last.store)
       → (run : IsScriptRun Reads store_state k server lines before e last after) → LivesFrom g Reads server (IsOfScript Reads store_state k server last before run) (state_under last)
   script_life lines before after e history run device opened same is faithful standing found =
       let begin = at_start (store_state opened.server.store) is.database in
-      let within = subst (λ (s : Server (PageStore D g) X). StandsWithinLimit store_state s) same (none_open (g.state device) opened is) in
-      let here = subst (λ (s : Server (PageStore D g) X). Represents store_state s begin) same is.represents in
+      let within = subst (λ (s : Server (DeviceStore D g) X). StandsWithinLimit store_state s) same (none_open (g.state device) opened is) in
+      let here = subst (λ (s : Server (DeviceStore D g) X). Represents store_state s begin) same is.represents in
       let ran = script_ran Reads store_state k server last lines before after e begin run within here in (
         ran.0,
         ran.1,
         lived present content_left one Reads device opened is faithful standing found ran.0 last (history.sound within.0)
-            (subst (λ (s : Server (PageStore D g) X). Ran Reads store_state s begin ran.0 last) (sym same) ran.2),
+            (subst (λ (s : Server (DeviceStore D g) X). Ran Reads store_state s begin ran.0 last) (sym same) ran.2),
       )
 
   pub connections_life : (before after : Option Listening) (connections : List (Connection K)) → KeepsHistory (store_state server.store) (store_state last.store)
       → (each : ServesEach Reads store_state k server before connections last after) → LivesFrom g Reads server (IsOfEach Reads store_state k connections server last before after each) (state_under last)
   connections_life before after connections history each device opened same is faithful standing found =
       let begin = at_start (store_state opened.server.store) is.database in
-      let within = subst (λ (s : Server (PageStore D g) X). StandsWithinLimit store_state s) same (none_open (g.state device) opened is) in
-      let here = subst (λ (s : Server (PageStore D g) X). Represents store_state s begin) same is.represents in
+      let within = subst (λ (s : Server (DeviceStore D g) X). StandsWithinLimit store_state s) same (none_open (g.state device) opened is) in
+      let here = subst (λ (s : Server (DeviceStore D g) X). Represents store_state s begin) same is.represents in
       let ran = connections_ran Reads store_state k server last before after connections each begin within.0 (λ works. within) here in (
         ran.0,
         ran.1,
         lived present content_left one Reads device opened is faithful standing found ran.0 last (history.sound within.0)
-            (subst (λ (s : Server (PageStore D g) X). Ran Reads store_state s begin ran.0 last) (sym same) ran.2),
+            (subst (λ (s : Server (DeviceStore D g) X). Ran Reads store_state s begin ran.0 last) (sym same) ran.2),
       )

@@ -1,10 +1,11 @@
 -- A store whose one record is that of an administrator stands for a new database.
-use Rattle.std.proofs.Common.{◌≡◌, ◌/◌, ℕ, true, inl, inr}
+use Rattle.std.proofs.Common.{◌≡◌, ◌/◌, ℕ, true, false, inl, inr}
 use Rattle.sector_device.specs.Timeline.{weakened}
 use Rattle.sector_device.specs.Device.{DeviceState, Image, timeline}
 use Rattle.cow_pages.specs.Image.{is_size}
 use Rattle.storage_sizes.specs.Spellings.{current}
 use Rattle.store.specs.Memory.{admin_record, new_records}
+use Rattle.kv_store.specs.Numbered.{HasContentsUnder}
 use Rattle.kv_store.specs.Formatting.{HasFirst, IsNoneOrFirst, WritesStore, IsMade as IsStoreMade}
 use Rattle.abstract_database.specs.Lists.{TheName}
 use Rattle.abstract_database.specs.Database.{new_database}
@@ -14,7 +15,11 @@ use Rattle.device_databases.specs.Making.{IsNew, IsNoneOrNew, WritesNew, IsMade}
 module _ (admin : TheName) (stands : StandsFor (new_records admin) (new_database admin)) where
   has_new : (sectors : ℕ) (image : Image) → HasFirst (sectors / 8) current (admin_record admin) image → IsNew sectors admin image
   unfolding current
-  has_new sectors image first = (record { contents = record { spelling = current; records = new_records admin }; has = first.0; stands = stands }, first.1)
+  has_new sectors image first =
+      let plain = first.0 in
+      let under : HasContentsUnder false (sectors / 8) plain.number (record { spelling = current; records = new_records admin }) image
+      = record { format = plain.format; array = plain.array; means = plain.means; kind = plain.kind; spelled = plain.spelled; represents = plain.represents } in
+      (record { contents = record { spelling = current; records = new_records admin }; has = record { number = plain.number; is = inl under }; stands = stands }, first.1)
 
   none_or_new : (sectors : ℕ) (image : Image) → IsNoneOrFirst sectors current (admin_record admin) image → IsNoneOrNew sectors admin image
   none_or_new sectors image is = elim is [

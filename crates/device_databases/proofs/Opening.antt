@@ -10,17 +10,16 @@ use Rattle.sector_device.proofs.Runs.{lifted}
 use Rattle.store.specs.Store.{Contents, stored, KeepsHistory, OnlyReads, IsUnchanged, HasDeviceCause}
 use Rattle.cow_pages.specs.declared.open.OpenFault.{OpenFault as PagesFault}
 use Rattle.cow_pages.specs.declared.open.OpenFault.TheVariants as pages
-use Rattle.cow_pages.specs.declared.cow.CowPages.{CowPages}
-use Rattle.cow_pages.specs.Cow.{device_below, root_of}
 use Rattle.cow_pages.specs.Held.{KeepsContent}
-use Rattle.kv_store.specs.declared.page_store.PageStore.{PageStore}
-use Rattle.kv_store.specs.Contents.{IsReadAs}
-use Rattle.kv_store.specs.ContentLaws.{same_parts, same_contents}
-use Rattle.kv_store.specs.Opening.{IsNamedFor, IsOpened as IsStoreOpened, CannotOpen}
-use Rattle.kv_store.specs.PageStore.{pages_of, store_state}
-use Rattle.kv_store.specs.StoreLaws.{settled_now}
-use Rattle.kv_store.specs.Unwritten.{WritesNothing}
-use Rattle.kv_store.proofs.Unwritten.{history_since, content_since}
+use Rattle.device_store.specs.declared.stores.DeviceStore.{DeviceStore}
+use Rattle.kv_store.specs.ContentLaws.{same_parts}
+use Rattle.journal_store.specs.ImageLaws.{one_contents}
+use Rattle.device_store.specs.Images.{IsReadAs}
+use Rattle.device_store.specs.Opening.{IsNamedFor, IsOpened as IsStoreOpened, CannotOpen}
+use Rattle.device_store.specs.Reads.{OnlyLooksInto, faithful_under}
+use Rattle.device_store.specs.StoreLaws.{settled_on}
+use Rattle.device_store.specs.Stores.{state_under, store_state}
+use Rattle.device_store.proofs.Since.{history_since, content_since}
 use Rattle.abstract_database.specs.Database.{Database}
 use Rattle.server.specs.declared.server.Server.{Server}
 use Rattle.server.specs.Standing.{Stands, Means, at_start}
@@ -32,10 +31,6 @@ use Rattle.device_databases.specs.declared.database.Opened.{Opened}
 use Rattle.device_databases.specs.declared.fault.OpenFault.TheVariants.{WrongSize, NotADatabase, Damaged, Device, Memory, Full, Number}
 use Rattle.device_databases.specs.Databases.{records_on, HoldsDatabase, HoldsFirstSpelling, IsUnwritten, LeavesAsBefore, LeavesDatabase}
 use Rattle.device_databases.specs.Openings.{IsMigrated, IsOfMigration, IsOnlyRead, IsOpenedOn, IsRefused, IsTriedOn, IsUntried, OpensAs, StandsIn, fault_of_opening, fault_of_pages, is_first}
-
--- the root names as many pages as the device has
-pub pages_are : {D : Type 0} {g : Ghosts D} (p : CowPages D g) → (root_of p).pages ≡ (device_below p).sectors / 8
-pages_are {D} {g} p = omega (arith, p.sized)
 
 -- a device of which nothing was written leaves records that might have been left before
 read_leaves : (d e : DeviceState) → KeepsContent d e → LeavesOnly (records_on d).left (records_on d) (read_by (IsReadAs (d.sectors / 8)) (timeline e))
@@ -75,46 +70,43 @@ refused_pages d e fault cannot faithful =
 
 -- ---- a store that was opened, and over which a server was opened or was not
 
-module _ {D : Type 0} {g : Ghosts D} (present : (device : D) → (g.state device).faithful → IsPresent (timeline (g.state device))) (d : DeviceState) (s t : PageStore D g) (opened : IsStoreOpened d s) (faithful : d.faithful) where
+module _ {D : Type 0} {g : Ghosts D} (present : (device : D) → (g.state device).faithful → IsPresent (timeline (g.state device))) (d : DeviceState) (s t : DeviceStore D g) (opened : IsStoreOpened d s) (faithful : d.faithful) where
   -- nothing was written: the store was only read
-  untried : WritesNothing (pages_of s) (pages_of t) → IsUntried d (device_below (pages_of t))
+  untried : OnlyLooksInto s t → IsUntried d (state_under t)
   untried nothing =
-      let unwritten : IsUnwritten d (device_below (pages_of t)) = record { history = history_since d s t opened nothing; content = content_since d s t opened nothing present faithful } in
-      (unwritten, leaves_before d (device_below (pages_of t)) unwritten)
+      let unwritten : IsUnwritten d (state_under t) = record { history = history_since d s t opened nothing; content = content_since d s t opened nothing present faithful } in
+      (unwritten, leaves_before d (state_under t) unwritten)
 
   -- what is left of the device is what is left of the store
-  left_of_store : (x : Option Contents) → (records_on (device_below (pages_of t))).left x → (store_state t).time.left x
-  left_of_store x left = (left.0, left.1, subst (λ (n : ℕ). IsReadAs n left.0 x) (sym (pages_are (pages_of t))) left.2)
+  left_of_store : (x : Option Contents) → (records_on (state_under t)).left x → (store_state t).time.left x
+  left_of_store x left = left
 
   leaves_since : (P : Option Contents → Type 0) → LeavesOnly P (store_state s).time (store_state t).time
-      → LeavesOnly P (read_by (IsReadAs (d.sectors / 8)) (timeline (device_below (pages_of s)))) (records_on (device_below (pages_of t)))
-  leaves_since P leaves =
-      let first : (root_of (pages_of s)).pages ≡ d.sectors / 8 = pages_are (pages_of s) ∙ ap (λ (n : ℕ). n / 8) opened.history.sectors in
-      subst (λ (n : ℕ). LeavesOnly P (read_by (IsReadAs n) (timeline (device_below (pages_of s)))) (records_on (device_below (pages_of t)))) first
-      (subst (λ (n : ℕ). LeavesOnly P (store_state s).time (read_by (IsReadAs n) (timeline (device_below (pages_of t))))) (pages_are (pages_of t)) leaves)
+      → LeavesOnly P (read_by (IsReadAs (d.sectors / 8)) (timeline (state_under s))) (records_on (state_under t))
+  leaves_since P leaves = subst (λ (n : ℕ). LeavesOnly P (read_by (IsReadAs (n / 8)) (timeline (state_under s))) (records_on (state_under t))) opened.history.sectors leaves
 
   -- the database stayed
   leaves_database : (db : Database) → LeavesOnly (λ x. Means x db) (store_state s).time (store_state t).time → ((x : Option Contents) → (store_state t).time.left x → Means x db)
-      → LeavesDatabase db d (device_below (pages_of t))
+      → LeavesDatabase db d (state_under t)
   leaves_database db during now =
       let P : Option Contents → Type 0 = λ x. (records_on d).left x ⊎ Means x db in
       let old = records_on d in
-      let mid = read_by (IsReadAs (d.sectors / 8)) (timeline (device_below (pages_of s))) in
-      let new = records_on (device_below (pages_of t)) in
+      let mid = read_by (IsReadAs (d.sectors / 8)) (timeline (state_under s)) in
+      let new = records_on (state_under t) in
       record {
-        during = joined P old mid new (weakened old.left P old mid (λ x left. inl left) (read_leaves d (device_below (pages_of s)) (opened.content faithful)))
+        during = joined P old mid new (weakened old.left P old mid (λ x left. inl left) (read_leaves d (state_under s) (opened.content faithful)))
             (weakened (λ x. Means x db) P mid new (λ x means. inr means) (leaves_since (λ x. Means x db) during));
         now = λ x left. now x (left_of_store x left);
       }
 
-  failures_since : (store_state s).faults ≤ (store_state t).faults → d.failures ≤ (device_below (pages_of t)).failures
+  failures_since : (store_state s).faults ≤ (store_state t).faults → d.failures ≤ (state_under t).failures
   failures_since faults = omega (arith, opened.history.failures, faults)
 
 -- ---- refused for its records
 
-module _ {D : Type 0} {g : Ghosts D} (present : (device : D) → (g.state device).faithful → IsPresent (timeline (g.state device))) (d : DeviceState) (s t : PageStore D g) (opened : IsStoreOpened d s) (faithful : d.faithful)
+module _ {D : Type 0} {g : Ghosts D} (present : (device : D) → (g.state device).faithful → IsPresent (timeline (g.state device))) (d : DeviceState) (s t : DeviceStore D g) (opened : IsStoreOpened d s) (faithful : d.faithful)
     (history : KeepsHistory (store_state s) (store_state t)) where
-  failed_since : HasDeviceCause (store_state s) (store_state t) → HasFailed d (device_below (pages_of t))
+  failed_since : HasDeviceCause (store_state s) (store_state t) → HasFailed d (state_under t)
   failed_since cause = elim (cause.fault (opened.holds faithful).sound) [
     | inl failed ↦ absurd (false≢true (sym opened.has_not_failed ∙ failed))
     | inr rose ↦ elim rose [
@@ -137,7 +129,7 @@ module _ {D : Type 0} {g : Ghosts D} (present : (device : D) → (g.state device
   stands_records opening.Full damaged cause = holds_first cause.0
   stands_records opening.Number damaged cause = (holds_first cause.0, (opened.holds faithful).number_is ∙ cause.1)
 
-  failed_records : (f : OpeningFault) → HasOpeningCause f (store_state s) (store_state t) → fault_of_opening f ≡ Device → HasFailed d (device_below (pages_of t))
+  failed_records : (f : OpeningFault) → HasOpeningCause f (store_state s) (store_state t) → fault_of_opening f ≡ Device → HasFailed d (state_under t)
   failed_records opening.Memory cause is = absurd (let bad : Memory ≡ Device = is in cc)
   failed_records opening.Device cause is = failed_since cause
   failed_records opening.Damaged cause is = absurd (let bad : Damaged ≡ Device = is in cc)
@@ -157,19 +149,19 @@ module _ {D : Type 0} {g : Ghosts D} (present : (device : D) → (g.state device
 
   -- so a stop leaves its contents, which are as they were
   left_unchanged : (f : OpeningFault) → fault_of_opening f ≢ Device → (store_state t).has_failed ≡ failed_after_opening (Err f) (store_state s).has_failed → IsUnchanged (store_state s) (store_state t)
-      → (x : Option Contents) → (records_on (device_below (pages_of t))).left x → x ≡ Some (stored (store_state s))
+      → (x : Option Contents) → (records_on (state_under t)).left x → x ≡ Some (stored (store_state s))
   left_unchanged f other works same x left =
-      settled_now t x (history.sound (opened.holds faithful).sound) (works_after f other works) (left_of_store present d s t opened faithful x left)
+      settled_on t x (history.sound (opened.holds faithful).sound) (works_after f other works) (left_of_store present d s t opened faithful x left)
       ∙ ap (λ (c : Contents). Some c) (same_parts (stored (store_state t)) (stored (store_state s)) same.spelling same.map)
 
   -- a database that the device held is that of the store
   stands_for_store : (db : Database) → HoldsDatabase d db → Stands (stored (store_state s)) db
   stands_for_store db held =
-      subst (λ (c : Contents). Stands c db) (same_contents d.content (d.sectors / 8) (d.sectors / 8) held.contents (stored (store_state s)) held.has (opened.holds faithful).contents) held.stands
+      subst (λ (c : Contents). Stands c db) (one_contents d.content (d.sectors / 8) (d.sectors / 8) held.contents (stored (store_state s)) held.has (opened.holds faithful).contents) held.stands
 
   tried : (f : OpeningFault) → IsOfMigration (fault_of_opening f) → (store_state s).spelling ≡ First → (store_state t).has_failed ≡ failed_after_opening (Err f) (store_state s).has_failed
       → (f ≢ opening.Device → IsUnchanged (store_state s) (store_state t)) → ((db : Database) → Stands (stored (store_state s)) db → KeepsDatabase db (Err f) (store_state s) (store_state t))
-      → IsTriedOn (fault_of_opening f) d (device_below (pages_of t))
+      → IsTriedOn (fault_of_opening f) d (state_under t)
   tried f of_migration first works unchanged same = record {
     holds = holds_first first;
     of_migration = of_migration;
@@ -187,13 +179,13 @@ looked_or_tried First opening.Damaged looked tried = inl (looked tt)
 looked_or_tried First opening.Full looked tried = inr (tried refl tt)
 looked_or_tried First opening.Number looked tried = inr (tried refl tt)
 
-pub refused_records : {D : Type 0} {g : Ghosts D} (present : (device : D) → (g.state device).faithful → IsPresent (timeline (g.state device))) (d : DeviceState) (s t : PageStore D g) (f : OpeningFault) → IsStoreOpened d s → d.faithful
+pub refused_records : {D : Type 0} {g : Ghosts D} (present : (device : D) → (g.state device).faithful → IsPresent (timeline (g.state device))) (d : DeviceState) (s t : DeviceStore D g) (f : OpeningFault) → IsStoreOpened d s → d.faithful
     → KeepsHistory (store_state s) (store_state t) → HasOpeningCause f (store_state s) (store_state t) → ((db : Database) → Stands (stored (store_state s)) db → f ≢ opening.Damaged)
     → (store_state t).has_failed ≡ failed_after_opening (Err f) (store_state s).has_failed → (f ≢ opening.Device → IsUnchanged (store_state s) (store_state t))
-    → (OnlyLooks (store_state s).spelling (Err f) → WritesNothing (pages_of s) (pages_of t)) → ((db : Database) → Stands (stored (store_state s)) db → KeepsDatabase db (Err f) (store_state s) (store_state t))
-    → IsRefused d (fault_of_opening f) (device_below (pages_of t))
+    → (OnlyLooks (store_state s).spelling (Err f) → OnlyLooksInto s t) → ((db : Database) → Stands (stored (store_state s)) db → KeepsDatabase db (Err f) (store_state s) (store_state t))
+    → IsRefused d (fault_of_opening f) (state_under t)
 refused_records {D} {g} present d s t f opened faithful history cause damaged works unchanged nothing same = record {
-  faithful = (history.sound (opened.holds faithful).sound).faithful;
+  faithful = faithful_under t (history.sound (opened.holds faithful).sound);
   stands = stands_records present d s t opened faithful history f damaged cause;
   failed = failed_records present d s t opened faithful history f cause;
   outcome = looked_or_tried (store_state s).spelling f (λ looks. untried present d s t opened faithful (nothing looks))
@@ -202,14 +194,14 @@ refused_records {D} {g} present d s t f opened faithful history cause damaged wo
 
 -- ---- opened
 
-opens_as : {D : Type 0} {g : Ghosts D} {X : Type 0} (sp : Spelling) (d : DeviceState) {db : Database} (holds : HoldsDatabase d db) (server : Server (PageStore D g) X) → (sp ≡ Second → IsOnlyRead d holds server) → (sp ≡ First → IsMigrated d holds server) → OpensAs sp d holds server
+opens_as : {D : Type 0} {g : Ghosts D} {X : Type 0} (sp : Spelling) (d : DeviceState) {db : Database} (holds : HoldsDatabase d db) (server : Server (DeviceStore D g) X) → (sp ≡ Second → IsOnlyRead d holds server) → (sp ≡ First → IsMigrated d holds server) → OpensAs sp d holds server
 opens_as First d holds server second first = first refl
 opens_as Second d holds server second first = second refl
 
-pub opened_on : {D : Type 0} {g : Ghosts D} {X : Type 0} (present : (device : D) → (g.state device).faithful → IsPresent (timeline (g.state device))) (d : DeviceState) (s : PageStore D g) (o : Opened D X g) → IsStoreOpened d s → d.faithful
+pub opened_on : {D : Type 0} {g : Ghosts D} {X : Type 0} (present : (device : D) → (g.state device).faithful → IsPresent (timeline (g.state device))) (d : DeviceState) (s : DeviceStore D g) (o : Opened D X g) → IsStoreOpened d s → d.faithful
     → KeepsHistory (store_state s) (store_state o.server.store) → o.was_migrated ≡ is_first (store_state s).spelling → IsServerOpened store_state (stored (store_state s)) o.server
     → IsNumberAfter (store_state s).spelling (store_state s).number (store_state o.server.store).number
-    → ((store_state s).spelling ≡ Second → OnlyReads (store_state s) (store_state o.server.store) × WritesNothing (pages_of s) (pages_of o.server.store))
+    → ((store_state s).spelling ≡ Second → OnlyReads (store_state s) (store_state o.server.store) × OnlyLooksInto s o.server.store)
     → ((db : Database) → Stands (stored (store_state s)) db → KeepsDatabase db (Ok tt) (store_state s) (store_state o.server.store)) → IsOpenedOn d o
 opened_on {D} {g} {X} present d s o opened faithful history was_migrated is number reads same =
     let t = o.server.store in

@@ -7,7 +7,7 @@ use Rattle.sector_device.specs.declared.device.Device.{Ghosts}
 use Rattle.sql_types.specs.declared.answer.Answer.{Answer}
 use Rattle.sql_types.specs.declared.event.Event.{Event}
 use Rattle.store.specs.Store.{StoreState}
-use Rattle.kv_store.specs.declared.page_store.PageStore.{PageStore}
+use Rattle.device_store.specs.declared.stores.DeviceStore.{DeviceStore}
 use Rattle.abstract_database.specs.Runs.{ReadingRelation, Standing}
 use Rattle.server.specs.declared.server.Server.{Server}
 use Rattle.lives.specs.Lives.{LeavesFound}
@@ -132,7 +132,7 @@ abbrev pub IsLived : ReadingRelation → Standing → Answered → DeviceState �
 IsLived Reads last it old new = IsLifeOn Reads last it.events it.answers it.moments old new
 
 -- On each faithful device over which this server was opened, what was answered is a life, after each that may have left the device so
-abbrev pub LivesFrom : {D : Type 0} (g : Ghosts D) {X : Type 0} → ReadingRelation → Server (PageStore D g) X → (Answered → Type 0) → DeviceState → Type 0
+abbrev pub LivesFrom : {D : Type 0} (g : Ghosts D) {X : Type 0} → ReadingRelation → Server (DeviceStore D g) X → (Answered → Type 0) → DeviceState → Type 0
 LivesFrom {D} g {X} Reads server IsAnswered left = (device : D) (opened : Opened D X g) → opened.server ≡ server → IsOpenedOn (g.state device) opened
     → (g.state device).faithful → (last : Standing) → LeavesFound last (records_on (g.state device))
     → (it : Answered) × IsAnswered it × IsLived Reads last it (g.state device) left

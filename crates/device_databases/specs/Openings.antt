@@ -6,11 +6,10 @@ use Rattle.sector_device.specs.Device.{DeviceState, HasFailed}
 use Rattle.sector_device.specs.declared.device.Device.{Ghosts}
 use Rattle.cow_pages.specs.declared.open.OpenFault.{OpenFault as PagesFault}
 use Rattle.cow_pages.specs.declared.open.OpenFault.TheVariants as pages
-use Rattle.cow_pages.specs.Cow.{device_below, device_of}
 use Rattle.store.specs.Store.{Contents}
-use Rattle.kv_store.specs.declared.page_store.PageStore.{PageStore}
-use Rattle.kv_store.specs.PageStore.{pages_of, store_state}
-use Rattle.kv_store.specs.Opening.{IsNamedFor}
+use Rattle.device_store.specs.declared.stores.DeviceStore.{DeviceStore}
+use Rattle.device_store.specs.Opening.{IsNamedFor}
+use Rattle.device_store.specs.Stores.{device_of, state_under as state_below, store_state}
 use Rattle.abstract_database.specs.Database.{Database}
 use Rattle.server.specs.declared.server.Server.{Server}
 use Rattle.server.specs.Standing.{Represents, at_start}
@@ -22,12 +21,12 @@ use Rattle.device_databases.specs.declared.database.Opened.{Opened}
 use Rattle.device_databases.specs.Databases.{HoldsDatabase, HoldsFirstSpelling, IsUnwritten, KeepsRecords, LeavesAsBefore, LeavesDatabase, MeansNone, records_on}
 
 -- the device below a server
-abbrev pub device_under : {D : Type 0} {g : Ghosts D} {X : Type 0} → Server (PageStore D g) X → D
-device_under server = device_of (pages_of server.store)
+abbrev pub device_under : {D : Type 0} {g : Ghosts D} {X : Type 0} → Server (DeviceStore D g) X → D
+device_under server = device_of server.store
 
 -- its state
-abbrev pub state_under : {D : Type 0} {g : Ghosts D} {X : Type 0} → Server (PageStore D g) X → DeviceState
-state_under server = device_below (pages_of server.store)
+abbrev pub state_under : {D : Type 0} {g : Ghosts D} {X : Type 0} → Server (DeviceStore D g) X → DeviceState
+state_under server = state_below server.store
 
 -- ---- what was opened
 
@@ -38,20 +37,20 @@ is_first Second = false
 
 -- the store has the records of the device under their number, and no sector was written: so a stop leaves records that it might
 -- have left before
-pub record IsOnlyRead {D : Type 0} {g : Ghosts D} {X : Type 0} (d : DeviceState) {db : Database} (holds : HoldsDatabase d db) (server : Server (PageStore D g) X) : Type 0 where
+pub record IsOnlyRead {D : Type 0} {g : Ghosts D} {X : Type 0} (d : DeviceState) {db : Database} (holds : HoldsDatabase d db) (server : Server (DeviceStore D g) X) : Type 0 where
   pub keeps : KeepsRecords holds (store_state server.store)
   pub unwritten : IsUnwritten d (state_under server)
   pub leaves : LeavesAsBefore d (state_under server)
 
 -- the database stayed over the migration of its records, which is one commit; failures of the device stay counted
-pub record IsMigrated {D : Type 0} {g : Ghosts D} {X : Type 0} (d : DeviceState) {db : Database} (holds : HoldsDatabase d db) (server : Server (PageStore D g) X) : Type 0 where
+pub record IsMigrated {D : Type 0} {g : Ghosts D} {X : Type 0} (d : DeviceState) {db : Database} (holds : HoldsDatabase d db) (server : Server (DeviceStore D g) X) : Type 0 where
   pub by_one : (store_state server.store).number ≤ holds.has.number + 1
   pub not_back : holds.has.number ≤ (store_state server.store).number
   pub leaves : LeavesDatabase db d (state_under server)
   pub failures : d.failures ≤ (state_under server).failures
 
 -- records of the second spelling were only read, and those of the first were migrated
-abbrev pub OpensAs : {D : Type 0} {g : Ghosts D} {X : Type 0} → Spelling → (d : DeviceState) {db : Database} → HoldsDatabase d db → Server (PageStore D g) X → Type 0
+abbrev pub OpensAs : {D : Type 0} {g : Ghosts D} {X : Type 0} → Spelling → (d : DeviceState) {db : Database} → HoldsDatabase d db → Server (DeviceStore D g) X → Type 0
 OpensAs Second d holds server = IsOnlyRead d holds server
 OpensAs First d holds server = IsMigrated d holds server
 

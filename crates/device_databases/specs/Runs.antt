@@ -2,8 +2,8 @@
 use Rattle.std.specs.Prelude.{◌≡◌, ◌↔◌, ℕ, List, true, Option}
 use Rattle.sector_device.specs.declared.device.Device.{Ghosts}
 use Rattle.store.specs.Store.{KeepsHistory}
-use Rattle.kv_store.specs.declared.page_store.PageStore.{PageStore}
-use Rattle.kv_store.specs.PageStore.{store_state}
+use Rattle.device_store.specs.declared.stores.DeviceStore.{DeviceStore}
+use Rattle.device_store.specs.Stores.{store_state}
 use Rattle.abstract_database.specs.Runs.{ReadingRelation}
 use Rattle.server.specs.declared.server.Server.{Server}
 use Rattle.script_runs.specs.declared.run.ScriptEnd.{ScriptEnd}
@@ -22,8 +22,8 @@ use Rattle.device_databases.specs.Openings.{device_under}
 
 -- The lines of a script were run from this server on, and its device is left; no session is open, unless the server has stopped. The run
 -- is a life of the database
-pub record RunsScriptFrom {D : Type 0} (g : Ghosts D) {X K : Type 0} (k : SinkGhosts K) (Reads : ReadingRelation) (opened : Server (PageStore D g) X) (script : List ℕ) (before : K) (end : ScriptEnd) (left : D) (after : K) : Type 0 where
-  pub last : Server (PageStore D g) X
+pub record RunsScriptFrom {D : Type 0} (g : Ghosts D) {X K : Type 0} (k : SinkGhosts K) (Reads : ReadingRelation) (opened : Server (DeviceStore D g) X) (script : List ℕ) (before : K) (end : ScriptEnd) (left : D) (after : K) : Type 0 where
+  pub last : Server (DeviceStore D g) X
   pub history : KeepsHistory (store_state opened.store) (store_state last.store)
   pub ran : IsScriptRun Reads store_state k opened (lines_of script) before end last after
   pub closed : StandsWithinLimit store_state opened → LeavesNoSession store_state last
@@ -34,8 +34,8 @@ pub record RunsScriptFrom {D : Type 0} (g : Ghosts D) {X K : Type 0} (k : SinkGh
 
 -- The connections that came to a listener were served from this server on, so many at most, and its device is left; no session is
 -- open, unless the server has stopped. A server that had stopped before serves none. The run is a life of the database
-pub record ServesFrom {D : Type 0} (g : Ghosts D) {X K : Type 0} (k : SinkGhosts K) (Reads : ReadingRelation) (asked : ℕ) (opened : Server (PageStore D g) X) (before : Option Listening) (served : Served) (left : D) (after : Option Listening) : Type 0 where
-  pub last : Server (PageStore D g) X
+pub record ServesFrom {D : Type 0} (g : Ghosts D) {X K : Type 0} (k : SinkGhosts K) (Reads : ReadingRelation) (asked : ℕ) (opened : Server (DeviceStore D g) X) (before : Option Listening) (served : Served) (left : D) (after : Option Listening) : Type 0 where
+  pub last : Server (DeviceStore D g) X
   pub history : KeepsHistory (store_state opened.store) (store_state last.store)
   pub serves : ServesAtMost Reads store_state k asked opened before served last after
   pub ran : StandsWithinLimit store_state opened → HasRun Reads store_state opened last

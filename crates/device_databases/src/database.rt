@@ -1,11 +1,12 @@
 //! Opening a database on a device.
 
-ghost use Rattle.std.specs.Prelude.{◌≡◌, false, IfOk};
-ghost use Rattle.kv_store.specs.PageStore.{store_state};
+ghost use Rattle.std.specs.Prelude.{◌≡◌, ◌≤◌, false, IfOk};
+ghost use Rattle.device_store.specs.Stores.{store_state};
 ghost use Rattle.device_databases.specs.Openings.{OpensOn, is_first};
 
 use crate::fault::OpenFault;
-use kv_store::PageStore;
+use device_store::{DeviceStore, MAX_CACHE_PAGES};
+use journal_store::JournalDevice;
 use opening::open;
 use sector_device::Device;
 use server::decide::Decide;
@@ -17,13 +18,14 @@ use store::{Spelling, Store};
 /// was exactly where the records on the device were of the first spelling.
 #[derive(Drop)]
 pub struct Opened<D: Device, X> {
-    pub server: Server<PageStore<D>, X>,
+    pub server: Server<DeviceStore<D>, X>,
     pub was_migrated: bool,
 }
 
 /// Opens the database that a device holds: a server over it, whose events `decider` decides, with
-/// no session open. Its store has not failed. The device is synced and read; all definitions and all
-/// rows are read and checked. A refusal hands the device back.
+/// no session open, and a cache of so many pages. Its store, with a journal or without, as the root on the device says, has
+/// not failed. The device is synced and read; all definitions and all rows are read and checked. A refusal hands the device
+/// back.
 ///
 /// Where the records are of the second spelling, the store has those of the device under their
 /// number, and nothing is written, whatever is answered: each sector has the content that it had,
@@ -32,20 +34,24 @@ pub struct Opened<D: Device, X> {
 ///
 /// `WrongSize`, `NotADatabase` and `Damaged` name the first fault that stands in the content, in
 /// this order: the size, the magic of the root sectors, the root sectors, the size that the root
-/// names, the map, the tree of records, the database that they stand for; nothing is written then.
+/// names, the map, the tree of records, the journal where there is one, the database that they stand for; nothing is written
+/// then.
 /// `Device`: the device failed. `Memory`: an allocation failed, once the size and the magic were
 /// tested. `Full`: no room is left for the records of the first spelling in the second. `Number`: no
 /// commit number is left for them.
-pub fn open_database<D: Device, X: Decide + Drop>(
+pub fn open_database<D: JournalDevice, X: Decide + Drop>(
     alloc: Global,
     device: D,
     decider: X,
+    cache_pages: usize,
 ) -> Result<Opened<D, X>, (D, OpenFault)>
+    requires some { 1 ≤ cache_pages }
+    requires most { cache_pages ≤ MAX_CACHE_PAGES }
     ensures opens { (D.state device).faithful → OpensOn (D.state device) result }
     ensures works { IfOk result (λ opened.
         (store_state opened.server.store).has_failed ≡ false) }
 {
-    let store = match PageStore::open(alloc, device) {
+    let store = match DeviceStore::open_with(alloc, device, cache_pages) {
         Ok(store) => store,
         Err((device, fault)) => return Err((device, OpenFault::from(fault))),
     };

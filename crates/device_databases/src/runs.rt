@@ -4,7 +4,8 @@ ghost use Rattle.device_databases.specs.Runs.{RunsScriptFrom, ServesFrom};
 
 use connections::listen::Listen;
 use connections::listener::{Served, serve_listener};
-use kv_store::PageStore;
+use device_store::DeviceStore;
+use journal_store::JournalDevice;
 use script_runs::run::{ScriptEnd, run_script};
 use script_runs::text_sink::TakesText;
 use sector_device::Device;
@@ -16,9 +17,9 @@ use stored_database::one_database;
 /// Runs a script over a database that was opened on a device: each answer is told once its event is
 /// carried out, before the next line is read. However the script ends, the sessions that are still open are then closed,
 /// unless the server has stopped, and the device is handed back.
-pub fn run_script_on<D: Device, X: Decide + Drop, K: TakesText>(
+pub fn run_script_on<D: JournalDevice, X: Decide + Drop, K: TakesText>(
     alloc: Global,
-    server: Server<PageStore<D>, X>,
+    server: Server<DeviceStore<D>, X>,
     script: &str,
     sink: &mut K,
 ) -> (D, ScriptEnd)
@@ -36,9 +37,9 @@ pub fn run_script_on<D: Device, X: Decide + Drop, K: TakesText>(
 /// back: each event that is run is one that the bytes of a connection spell, or closes a session
 /// that a connection has left open. Between two connections no session is open. Once the server has
 /// stopped, no further connection is taken, and where it had stopped before, none at all.
-pub fn serve_database<D: Device, X: Decide + Drop, L: Listen>(
+pub fn serve_database<D: JournalDevice, X: Decide + Drop, L: Listen>(
     alloc: Global,
-    server: Server<PageStore<D>, X>,
+    server: Server<DeviceStore<D>, X>,
     listener: &mut L,
     connections: u32,
 ) -> (D, Served)

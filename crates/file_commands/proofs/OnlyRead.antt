@@ -13,12 +13,11 @@ use Rattle.store.specs.Records.{Records, Changes}
 use Rattle.store.specs.Store.{Contents, stored, KeepsHistory, HasDeviceCause}
 use Rattle.cow_pages.specs.declared.open.OpenFault.{OpenFault as PagesFault}
 use Rattle.cow_pages.specs.declared.open.OpenFault.TheVariants as pages
-use Rattle.cow_pages.specs.Cow.{device_below}
-use Rattle.kv_store.specs.declared.page_store.PageStore.{PageStore}
-use Rattle.kv_store.specs.Opening.{IsOpened, CannotOpen}
-use Rattle.kv_store.specs.PageStore.{pages_of, store_state}
-use Rattle.kv_store.specs.Unwritten.{WritesNothing}
-use Rattle.kv_store.proofs.Unwritten.{history_since, content_since}
+use Rattle.device_store.specs.declared.stores.DeviceStore.{DeviceStore}
+use Rattle.device_store.specs.Opening.{IsOpened, CannotOpen}
+use Rattle.device_store.specs.Reads.{OnlyLooksInto}
+use Rattle.device_store.specs.Stores.{state_under, store_state}
+use Rattle.device_store.proofs.Since.{history_since, content_since}
 use Rattle.stored_database.specs.Definitions.{Definitions}
 use Rattle.stored_database.specs.Spellings.{spelled_in_second}
 use Rattle.transactions.specs.Views.{applied_all}
@@ -72,12 +71,12 @@ refused_unread d e fault cannot faithful =
 
 -- ---- a store that was opened and only read
 
-module _ {D : Type 0} {g : Ghosts D} (present : (device : D) → (g.state device).faithful → IsPresent (timeline (g.state device))) (d : DeviceState) (s t : PageStore D g) (opened : IsOpened d s) (faithful : d.faithful)
-    (nothing : WritesNothing (pages_of s) (pages_of t)) where
-  unwritten : IsUnwritten d (device_below (pages_of t))
+module _ {D : Type 0} {g : Ghosts D} (present : (device : D) → (g.state device).faithful → IsPresent (timeline (g.state device))) (d : DeviceState) (s t : DeviceStore D g) (opened : IsOpened d s) (faithful : d.faithful)
+    (nothing : OnlyLooksInto s t) where
+  unwritten : IsUnwritten d (state_under t)
   unwritten = record { history = history_since d s t opened nothing; content = content_since d s t opened nothing present faithful }
 
-  pub read_definitions_on : (definitions : Definitions) → AreDefinitionsOf (stored (store_state s)) (Ok definitions) → ReadsOn d (Ok definitions) (device_below (pages_of t))
+  pub read_definitions_on : (definitions : Definitions) → AreDefinitionsOf (stored (store_state s)) (Ok definitions) → ReadsOn d (Ok definitions) (state_under t)
   read_definitions_on definitions are = record {
     read = record {
       database = are.0;
@@ -87,7 +86,7 @@ module _ {D : Type 0} {g : Ghosts D} (present : (device : D) → (g.state device
     unwritten = unwritten;
   }
 
-  failed_since : KeepsHistory (store_state s) (store_state t) → HasDeviceCause (store_state s) (store_state t) → HasFailed d (device_below (pages_of t))
+  failed_since : KeepsHistory (store_state s) (store_state t) → HasDeviceCause (store_state s) (store_state t) → HasFailed d (state_under t)
   failed_since history cause = elim (cause.fault (opened.holds faithful).sound) [
     | inl failed ↦ absurd (false≢true (sym opened.has_not_failed ∙ failed))
     | inr rose ↦ elim rose [
@@ -100,7 +99,7 @@ module _ {D : Type 0} {g : Ghosts D} (present : (device : D) → (g.state device
   ]
 
   fault_on : (f : Fault) → KeepsHistory (store_state s) (store_state t) → AreDefinitionsOf (stored (store_state s)) (Err f) → HasFaultCause f (store_state s) (store_state t)
-      → HasFault d (fault_of_opening (read_fault f)) (device_below (pages_of t))
+      → HasFault d (fault_of_opening (read_fault f)) (state_under t)
   fault_on Memory history are cause = record { of_reading = tt; stands = inl (opened.holds faithful).no_fault; failed = λ is. absurd (let bad : opening.Memory ≡ opening.Device = is in cc) }
   fault_on Device history are cause = record { of_reading = tt; stands = tt; failed = λ is. failed_since history cause }
   fault_on Damaged history are cause = record {
@@ -110,5 +109,5 @@ module _ {D : Type 0} {g : Ghosts D} (present : (device : D) → (g.state device
   }
 
   pub unread_on : (f : Fault) → KeepsHistory (store_state s) (store_state t) → AreDefinitionsOf (stored (store_state s)) (Err f) → HasFaultCause f (store_state s) (store_state t)
-      → ReadsOn d (Err (fault_of_opening (read_fault f))) (device_below (pages_of t))
+      → ReadsOn d (Err (fault_of_opening (read_fault f))) (state_under t)
   unread_on f history are cause = record { read = fault_on f history are cause; unwritten = unwritten }

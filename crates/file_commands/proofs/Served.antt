@@ -5,7 +5,7 @@ use Rattle.systems.specs.declared.place.ListenPlace.{ListenPlace}
 use Rattle.systems.specs.Places.{the_place}
 use Rattle.systems.specs.Systems.{HasDevice, IsOpen, IsSameBut, SystemState}
 use Rattle.abstract_database.specs.Runs.{ReadingRelation}
-use Rattle.kv_store.specs.declared.page_store.PageStore.{PageStore}
+use Rattle.device_store.specs.declared.stores.DeviceStore.{DeviceStore}
 use Rattle.server.specs.declared.server.Server.{Server}
 use Rattle.script_runs.specs.declared.sink.Sink.{Ghosts as SinkGhosts}
 use Rattle.script_runs.specs.ScriptRun.{Known}
@@ -22,7 +22,7 @@ use Rattle.file_commands.proofs.Changes.{but_then_same, closed_again, rose_betwe
 
 -- ---- at a place that was bound
 
-module _ {D L X C : Type 0} (g : Ghosts D) (c : SinkGhosts C) (Reads : ReadingRelation) (listening : L → Option Listening) (old new : SystemState D L) (place bound : ListenPlace) (asked : ℕ) (server : Server (PageStore D g) X) (before after : Known)
+module _ {D L X C : Type 0} (g : Ghosts D) (c : SinkGhosts C) (Reads : ReadingRelation) (listening : L → Option Listening) (old new : SystemState D L) (place bound : ListenPlace) (asked : ℕ) (server : Server (DeviceStore D g) X) (before after : Known)
     (listener ended : L) (left : D) (between : IsBoundBetween old place bound listener ended new) where
   pub served_at : (result : Result Served CommandFault) → ServesOn g c Reads bound asked server (listening listener) before result left (listening ended) after → ServesAt g c Reads listening old place asked server before result left new after
   served_at (Ok served) it = record { bound = bound; listener = listener; ended = ended; between = between; told = it.0; serves = it.1 }

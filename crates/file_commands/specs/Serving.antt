@@ -7,7 +7,7 @@ use Rattle.systems.specs.declared.place.ListenPlace.TheVariants.{Port, Socket}
 use Rattle.systems.specs.Places.{IsBoundFor, IsOfKind, ThePlace, TheSocket, the_place}
 use Rattle.systems.specs.Systems.{HasDevice, Hears, IsSame, IsSameButAt, Rose, SystemState}
 use Rattle.abstract_database.specs.Runs.{ReadingRelation}
-use Rattle.kv_store.specs.declared.page_store.PageStore.{PageStore}
+use Rattle.device_store.specs.declared.stores.DeviceStore.{DeviceStore}
 use Rattle.server.specs.declared.server.Server.{Server}
 use Rattle.script_runs.specs.declared.sink.Sink.{Ghosts as SinkGhosts}
 use Rattle.script_runs.specs.ScriptRun.{Known}
@@ -30,7 +30,7 @@ listening_text (Socket path) = codes "guarddb: listening on " ++ (path.now ++ co
 
 -- it was told where the server listens, and then the connections that came to the listener were served, so many at most; or that
 -- was not taken, and none was taken then
-module _ {D X K : Type 0} (g : Ghosts D) (k : SinkGhosts K) (Reads : ReadingRelation) (place : ListenPlace) (asked : ℕ) (server : Server (PageStore D g) X) (before : Option Listening) (told_before : Known) where
+module _ {D X K : Type 0} (g : Ghosts D) (k : SinkGhosts K) (Reads : ReadingRelation) (place : ListenPlace) (asked : ℕ) (server : Server (DeviceStore D g) X) (before : Option Listening) (told_before : Known) where
   abbrev pub ServesOn : Result Served CommandFault → D → Option Listening → Known → Type 0
   ServesOn (Ok served) left after told_after = Appends told_before told_after (listening_text place) × ServesFrom g k Reads asked server before served left after
   ServesOn (Err Output) left after told_after = (left ≡ device_under server) × (after ≡ before)
@@ -47,7 +47,7 @@ pub record IsBoundBetween {D L : Type 0} (old : SystemState D L) (place bound : 
   pub others : old.faithful → IsSameButAt (the_place bound) old new
 
 -- `c` is what is said of the sinks of connections, and `listening` of listeners
-module _ {D L X C : Type 0} (g : Ghosts D) (c : SinkGhosts C) (Reads : ReadingRelation) (listening : L → Option Listening) (old : SystemState D L) (place : ListenPlace) (asked : ℕ) (server : Server (PageStore D g) X) (before : Known) where
+module _ {D L X C : Type 0} (g : Ghosts D) (c : SinkGhosts C) (Reads : ReadingRelation) (listening : L → Option Listening) (old : SystemState D L) (place : ListenPlace) (asked : ℕ) (server : Server (DeviceStore D g) X) (before : Known) where
   -- it was bound and told, and the connections that came there were served
   pub record IsServedAt (served : Served) (left : D) (new : SystemState D L) (after : Known) : Type 0 where
     pub bound : ListenPlace

@@ -7,7 +7,7 @@ ghost use Rattle.file_commands.specs.Migrations.{TellsMigration, migration_text}
 
 use crate::fault::CommandFault;
 use device_databases::{Opened, open_database};
-use kv_store::PageStore;
+use device_store::{DeviceStore, MAX_CACHE_PAGES};
 use sector_device::Device;
 use server::decide::Decide;
 use server::server::Server;
@@ -37,8 +37,8 @@ impl<T> CommandEnd<T> {
     }
 }
 
-/// Opens the database in the file at `path`, whose events `decider` decides. Where it is refused the
-/// file is closed again.
+/// Opens the database in the file at `path`, whose events `decider` decides, with the largest cache.
+/// Where it is refused the file is closed again.
 ///
 /// The faults are those of `System::open`, and then those of `open_database`.
 pub(crate) fn open_database_in<Y: System, X: Decide + Drop>(
@@ -53,7 +53,7 @@ pub(crate) fn open_database_in<Y: System, X: Decide + Drop>(
         Ok(device) => device,
         Err(fault) => return Err(CommandFault::from(fault)),
     };
-    match open_database(alloc, device, decider) {
+    match open_database(alloc, device, decider, MAX_CACHE_PAGES) {
         Ok(opened) => Ok(opened),
         Err((left, fault)) => {
             system.close(path, left);

@@ -7,7 +7,8 @@ ghost use Rattle.file_commands.specs.Reading.{AreDefinitionsOf, ReadsFile, Reads
 use crate::fault::CommandFault;
 use catalogue::definitions::Catalogue;
 use device_databases::OpenFault;
-use kv_store::PageStore;
+use device_store::DeviceStore;
+use journal_store::JournalDevice;
 use migration::respelled_lists;
 use opening::{OpeningFault, read_under};
 use sector_device::Device;
@@ -42,10 +43,10 @@ pub fn read_file<Y: System>(
 }
 
 // The definitions of the database that a device holds, which is handed back.
-fn read_definitions<D: Device>(alloc: Global, device: D) -> (D, Result<Catalogue, OpenFault>)
+fn read_definitions<D: JournalDevice>(alloc: Global, device: D) -> (D, Result<Catalogue, OpenFault>)
     ensures { (D.state device).faithful → ReadsOn (D.state device) result.1 (D.state result.0) }
 {
-    let mut store = match PageStore::open(alloc, device) {
+    let mut store = match DeviceStore::open(alloc, device) {
         Ok(store) => store,
         Err((device, fault)) => return (device, Err(OpenFault::from(fault))),
     };

@@ -9,7 +9,8 @@ use crate::opened::{CommandEnd, open_database_in, tell_migration};
 use connections::listen::Listen;
 use connections::listener::Served;
 use device_databases::serve_database;
-use kv_store::PageStore;
+use device_store::DeviceStore;
+use journal_store::JournalDevice;
 use script_runs::sink::Sink;
 use sector_device::Device;
 use server::decide::Decide;
@@ -66,7 +67,7 @@ pub fn serve_file<Y: System, X: Decide + Drop, E: Write>(
 fn serve_at<Y: System, X: Decide + Drop, E: Write>(
     system: &mut Y,
     alloc: Global,
-    server: Server<PageStore<Y::Device>, X>,
+    server: Server<DeviceStore<Y::Device>, X>,
     place: ListenPlace<'_>,
     limits: Limits,
     err: &mut E,
@@ -92,9 +93,9 @@ fn serve_at<Y: System, X: Decide + Drop, E: Write>(
 /// server listens.
 ///
 /// The fault is `Output`, where `err` fails; no connection was taken then.
-pub fn serve_on<D: Device + Drop, X: Decide + Drop, L: Listen, E: Write>(
+pub fn serve_on<D: JournalDevice + Drop, X: Decide + Drop, L: Listen, E: Write>(
     alloc: Global,
-    server: Server<PageStore<D>, X>,
+    server: Server<DeviceStore<D>, X>,
     listener: &mut L,
     place: ListenPlace<'_>,
     connections: u32,

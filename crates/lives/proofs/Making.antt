@@ -6,8 +6,8 @@ use Rattle.cow_pages.specs.declared.open.OpenFault.{OpenFault}
 use Rattle.cow_pages.specs.declared.open.OpenFault.TheVariants.{WrongSize, NotADatabase, Damaged, Device, Memory}
 use Rattle.cow_pages.specs.Image.{first_fault}
 use Rattle.cow_pages.specs.Held.{KeepsContent}
-use Rattle.kv_store.specs.Contents.{IsReadAs, HasContents}
-use Rattle.kv_store.specs.Opening.{IsNamedFor}
+use Rattle.device_store.specs.Images.{IsReadAs, HasContents}
+use Rattle.device_store.specs.Opening.{IsNamedFor}
 use Rattle.abstract_database.specs.Database.{Database}
 use Rattle.server.specs.Standing.{Stands}
 use Rattle.lives.specs.Lives.{IsFoundLeft, standing_over, LeavesFound}

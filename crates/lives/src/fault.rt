@@ -2,7 +2,7 @@
 
 ghost use Rattle.std.specs.Prelude.{◌≡◌};
 
-use kv_store::OpenFault;
+use device_store::OpenFault;
 use opening::OpeningFault;
 
 /// Why no life began on a device.

@@ -6,7 +6,7 @@ use crate::new_files::{is_there, make_file, rename_new};
 use crate::socket::{FileId, file_at, remove_made};
 use crate::streams::StandardStreams;
 use connections::system_listener::SystemListener;
-use sector_device::{FileDevice, FileFault, SystemCause, SystemFile};
+use sector_device::{FileDevice, FileFault, Guarded, SystemCause, SystemFile};
 use std::alloc::Global;
 use std::fs::{self, File};
 use std::io;
@@ -55,7 +55,7 @@ impl<
 > System for RealSystem<'r, R> {
     ghost use Rattle.real_system.specs.Unsaid.{unsaid};
 
-    type Device = FileDevice<SystemFile>;
+    type Device = Guarded<FileDevice<SystemFile>>;
 
     type Listener = SystemListener<'r, R, PlaceListener>;
 
@@ -93,30 +93,40 @@ impl<
         &mut self,
         path: &str,
         access: Access,
-    ) -> Result<FileDevice<SystemFile>, OpenPathFault> {
+    ) -> Result<Guarded<FileDevice<SystemFile>>, OpenPathFault> {
         match open_file(self.rt, path, access) {
+            Ok(device) => Ok(Guarded::new(device)),
             Err(OpenPathFault::Device(cause)) => {
                 self.failures = self.failures.saturating_add(1);
                 Err(OpenPathFault::Device(cause))
             }
-            opened => opened,
+            Err(fault) => Err(fault),
         }
     }
 
     // With its file the device gives up the lock.
-    fn close(&mut self, _path: &str, _device: FileDevice<SystemFile>) {}
+    fn close(&mut self, _path: &str, _device: Guarded<FileDevice<SystemFile>>) {}
 
-    fn make(&mut self, path: &str, pages: u32) -> Result<FileDevice<SystemFile>, FileFault> {
+    fn make(
+        &mut self,
+        path: &str,
+        pages: u32,
+    ) -> Result<Guarded<FileDevice<SystemFile>>, FileFault> {
         match make_file(self.rt, path, pages) {
+            Ok(device) => Ok(Guarded::new(device)),
             Err(FileFault::Device(cause)) => {
                 self.failures = self.failures.saturating_add(1);
                 Err(FileFault::Device(cause))
             }
-            made => made,
+            Err(fault) => Err(fault),
         }
     }
 
-    fn remove(&mut self, path: &str, _device: FileDevice<SystemFile>) -> Result<(), SystemCause> {
+    fn remove(
+        &mut self,
+        path: &str,
+        _device: Guarded<FileDevice<SystemFile>>,
+    ) -> Result<(), SystemCause> {
         match fs::remove_file(self.rt, path) {
             Ok(()) => Ok(()),
             Err(error) => {
@@ -130,8 +140,8 @@ impl<
         &mut self,
         from: &str,
         to: &str,
-        device: FileDevice<SystemFile>,
-    ) -> Result<(), (FileDevice<SystemFile>, FileFault)> {
+        device: Guarded<FileDevice<SystemFile>>,
+    ) -> Result<(), (Guarded<FileDevice<SystemFile>>, FileFault)> {
         match rename_new(self.rt, from, to) {
             Ok(()) => Ok(()),
             Err(fault) => {

@@ -1,6 +1,5 @@
 -- A system in memory, as its callers see it.
 use Rattle.std.specs.Prelude.{◌==◌, if◌then◌else◌, ℕ, List, Option, Some, None}
-use Rattle.sector_device.specs.declared.history.HistoryDevice.{HistoryDevice}
 use Rattle.systems.specs.declared.entries.NamedContent.{NamedContent}
 use Rattle.systems.specs.declared.listener.MemListener.{MemListener}
 use Rattle.systems.specs.Places.{ThePlace, ThePort, TheSocket}
@@ -18,7 +17,7 @@ listener_at port listener (ThePort asked) = if asked == port then listener_in li
 listener_at port listener (TheSocket path) = Taken
 
 -- what its entries name, with a listener at a port
-abbrev pub memory_state : List NamedContent → ℕ → Option MemListener → ℕ → SystemState HistoryDevice MemListener
+abbrev pub memory_state : {D : Type 0} → List (NamedContent D) → ℕ → Option MemListener → ℕ → SystemState D MemListener
 memory_state entries port listener failures = record {
   faithful = Unit {0};
   devices = λ path. device_in (content_of entries path);

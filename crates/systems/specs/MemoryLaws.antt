@@ -7,7 +7,7 @@ use Rattle.systems.specs.declared.entries.Content.TheVariants as content
 use Rattle.systems.specs.Systems.{Absent}
 use Rattle.systems.specs.Entries.{device_in, text_in, is_something}
 
-pub no_device_in : (c : Option Content) → is_something c ≡ false → device_in c ≡ Absent
+pub no_device_in : {D : Type 0} (c : Option (Content D)) → is_something c ≡ false → device_in c ≡ Absent
 no_device_in None unnamed = refl
 no_device_in (Some (content.Device device)) unnamed = absurd (false≢true (sym unnamed))
 no_device_in (Some (content.Shared device)) unnamed = absurd (false≢true (sym unnamed))
@@ -17,7 +17,7 @@ no_device_in (Some content.Taken) unnamed = absurd (false≢true (sym unnamed))
 no_device_in (Some (content.Text text)) unnamed = refl
 no_device_in (Some content.Removed) unnamed = refl
 
-pub no_text_in : (c : Option Content) → is_something c ≡ false → text_in c ≡ None
+pub no_text_in : {D : Type 0} (c : Option (Content D)) → is_something c ≡ false → text_in c ≡ None
 no_text_in None unnamed = refl
 no_text_in (Some (content.Device device)) unnamed = refl
 no_text_in (Some (content.Shared device)) unnamed = refl

@@ -3,17 +3,16 @@
 ghost use Rattle.std.specs.Prelude.{◌≡◌, ◌≢◌, ◌<◌, true, false, ℕ, List, Some, None, IfSome, IfNone, OnOk, OnErr, option_copied, position, bytes_eq, string_bytes};
 ghost use Rattle.systems.specs.Entries.{content_of, is_something};
 
-use sector_device::HistoryDevice;
 use std::alloc::{AllocError, Global};
 use std::mem;
 
 /// What a name names.
 #[derive(Drop)]
-pub enum Content {
+pub enum Content<D> {
     /// A device, which nobody has open.
-    Device(HistoryDevice),
+    Device(D),
     /// A device that others have open to read it.
-    Shared(HistoryDevice),
+    Shared(D),
     /// A device that this program has open.
     Open,
     /// A device that this program has open to read it.
@@ -28,13 +27,13 @@ pub enum Content {
 
 /// A name, and what it names. Of two entries of one name only the first counts.
 #[derive(Drop)]
-pub struct NamedContent {
+pub struct NamedContent<D> {
     pub path: String,
-    pub content: Content,
+    pub content: Content<D>,
 }
 
 // Where the first entry of this name stands. `None`: there is none.
-fn find(entries: &[NamedContent], path: &str) -> Option<usize>
+fn find<D: Drop>(entries: &[NamedContent<D>], path: &str) -> Option<usize>
     ensures { result ≡ position (λ entry. bytes_eq (string_bytes entry.path) path.now) entries.now }
 {
     entries.iter().position(|entry| entry.path.as_str() == path)
@@ -42,11 +41,11 @@ fn find(entries: &[NamedContent], path: &str) -> Option<usize>
 
 /// Gives the first entry of this name another content, and answers the one that it had. `None`:
 /// there is no entry of this name, and nothing is changed.
-pub(crate) fn exchange(
-    entries: &mut Vec<NamedContent>,
+pub(crate) fn exchange<D: Drop>(
+    entries: &mut Vec<NamedContent<D>>,
     path: &str,
-    content: Content,
-) -> Option<Content>
+    content: Content<D>,
+) -> Option<Content<D>>
     ensures old { result ≡ content_of entries.old.items path.now }
     ensures new { IfSome result (λ old. content_of entries.new.items path.now ≡ Some content) }
     ensures others { (p : List ℕ) → p ≢ path.now
@@ -60,7 +59,10 @@ pub(crate) fn exchange(
 }
 
 /// What the first entry of this name has. `None`: there is no entry of this name.
-pub(crate) fn find_content<'a>(entries: &'a [NamedContent], path: &str) -> Option<&'a Content>
+pub(crate) fn find_content<'a, D: Drop>(
+    entries: &'a [NamedContent<D>],
+    path: &str,
+) -> Option<&'a Content<D>>
     ensures { option_copied result ≡ content_of entries.now path.now }
 {
     match find(entries, path) {
@@ -70,7 +72,7 @@ pub(crate) fn find_content<'a>(entries: &'a [NamedContent], path: &str) -> Optio
 }
 
 /// Whether there is something of this name.
-pub(crate) fn is_named(entries: &[NamedContent], path: &str) -> bool
+pub(crate) fn is_named<D: Drop>(entries: &[NamedContent<D>], path: &str) -> bool
     ensures { result ≡ is_something (content_of entries.now path.now) }
 {
     match find_content(entries, path) {
@@ -80,7 +82,7 @@ pub(crate) fn is_named(entries: &[NamedContent], path: &str) -> bool
 }
 
 /// Whether this program has the device of this name open, to read and to write it.
-pub(crate) fn is_open(entries: &[NamedContent], path: &str) -> bool
+pub(crate) fn is_open<D: Drop>(entries: &[NamedContent<D>], path: &str) -> bool
     ensures { result ≡ true → content_of entries.now path.now ≡ Some Content.Open }
 {
     match find_content(entries, path) {
@@ -90,7 +92,12 @@ pub(crate) fn is_open(entries: &[NamedContent], path: &str) -> bool
 }
 
 /// Gives a content the name `to`, of which there is nothing, in place of the open device `from`.
-pub(crate) fn rename_open(entries: &mut Vec<NamedContent>, from: &str, to: &str, content: Content)
+pub(crate) fn rename_open<D: Drop>(
+    entries: &mut Vec<NamedContent<D>>,
+    from: &str,
+    to: &str,
+    content: Content<D>,
+)
     requires open { content_of entries.old.items from.now ≡ Some Content.Open }
     requires free { content_of entries.old.items to.now ≡ Some Content.Removed }
     ensures to { content_of entries.new.items to.now ≡ Some content }
@@ -103,11 +110,11 @@ pub(crate) fn rename_open(entries: &mut Vec<NamedContent>, from: &str, to: &str,
 }
 
 /// Adds an entry of a name of which there is none. An error: an allocation failed.
-pub(crate) fn add(
+pub(crate) fn add<D: Drop>(
     alloc: Global,
-    entries: &mut Vec<NamedContent>,
+    entries: &mut Vec<NamedContent<D>>,
     path: &str,
-    content: Content,
+    content: Content<D>,
 ) -> Result<(), AllocError>
     requires { content_of entries.old.items path.now ≡ None }
     ensures new { OnOk result (content_of entries.new.items path.now ≡ Some content) }
@@ -125,9 +132,9 @@ pub(crate) fn add(
 
 /// Adds an entry of a name of which there is nothing, where it has none. An error: an allocation
 /// failed.
-pub(crate) fn add_removed(
+pub(crate) fn add_removed<D: Drop>(
     alloc: Global,
-    entries: &mut Vec<NamedContent>,
+    entries: &mut Vec<NamedContent<D>>,
     path: &str,
 ) -> Result<(), AllocError>
     requires { is_something (content_of entries.old.items path.now) ≡ false }

@@ -11,33 +11,35 @@ use crate::fault::{OpenPathFault, TextFault};
 use crate::listener::MemListener;
 use crate::place::ListenPlace;
 use crate::system::System;
-use sector_device::{FileFault, HistoryDevice, SystemCause};
+use sector_device::{FileFault, Guarded, HistoryDevice, SystemCause};
 use std::alloc::Global;
 use std::time::Duration;
 
 /// What its entries name, the first of each name, and a listener at a port. Somebody else listens at
 /// every other place. Its calls fail where a text is asked for that is a device, and where a place is
 /// asked for that is not free; these failures are counted.
+///
+/// It is a `System` of devices that keep their history and have room for a journal.
 #[derive(Drop)]
-pub struct MemSystem {
+pub struct MemSystem<D> {
     alloc: Global,
-    entries: Vec<NamedContent>,
+    entries: Vec<NamedContent<D>>,
     port: u16,
     listener: Option<MemListener>,
     failures: u64,
 }
 
-impl MemSystem {
+impl<D: Drop> MemSystem<D> {
     ghost use Rattle.std.specs.Prelude.{◌≡◌, Some};
     ghost use Rattle.systems.specs.MemSystem.{entries_of, port_of, listener_of, system_state};
 
     /// A system of these entries, with this listener at this port. None of its calls has failed.
     pub fn new(
         alloc: Global,
-        entries: Vec<NamedContent>,
+        entries: Vec<NamedContent<D>>,
         port: u16,
         listener: MemListener,
-    ) -> MemSystem
+    ) -> MemSystem<D>
         ensures entries { entries_of result ≡ entries.items }
         ensures port { port_of result ≡ port }
         ensures listener { listener_of result ≡ Some listener }
@@ -53,12 +55,12 @@ impl MemSystem {
     }
 }
 
-impl System for MemSystem {
+impl System for MemSystem<Guarded<HistoryDevice>> {
     ghost use Rattle.std.specs.Prelude.{◌≡◌, ◌≢◌, ◌≤◌, ◌⊎◌, ◌*◌, List, IfOk, IfErr, OnOk, OnErr};
     ghost use Rattle.systems.specs.Entries.{content_of};
     ghost use Rattle.systems.specs.MemoryLaws.{no_device_in, no_text_in};
 
-    type Device = HistoryDevice;
+    type Device = Guarded<HistoryDevice>;
 
     type Listener = MemListener;
 
@@ -92,7 +94,11 @@ impl System for MemSystem {
         Ok(is_named(self.entries.as_slice(), path))
     }
 
-    fn open(&mut self, path: &str, access: Access) -> Result<HistoryDevice, OpenPathFault> {
+    fn open(
+        &mut self,
+        path: &str,
+        access: Access,
+    ) -> Result<Guarded<HistoryDevice>, OpenPathFault> {
         match find_content(self.entries.as_slice(), path) {
             None | Some(Content::Removed) => Err(OpenPathFault::Missing),
             Some(Content::Open | Content::Reading | Content::Taken) => Err(OpenPathFault::InUse),
@@ -121,7 +127,7 @@ impl System for MemSystem {
     }
 
     // Who else has read the device meanwhile has ended.
-    fn close(&mut self, path: &str, device: HistoryDevice) {
+    fn close(&mut self, path: &str, device: Guarded<HistoryDevice>) {
         match exchange(&mut self.entries, path, Content::Device(device)) {
             None | Some(Content::Open | Content::Reading) => {}
             Some(other) => {
@@ -130,10 +136,11 @@ impl System for MemSystem {
         }
     }
 
-    fn make(&mut self, path: &str, pages: u32) -> Result<HistoryDevice, FileFault> {
+    fn make(&mut self, path: &str, pages: u32) -> Result<Guarded<HistoryDevice>, FileFault> {
         let Ok(device) = HistoryDevice::new(self.alloc, pages) else {
             return Err(FileFault::Memory);
         };
+        let device = Guarded::new(device);
         match find_content(self.entries.as_slice(), path) {
             None => match add(self.alloc, &mut self.entries, path, Content::Open) {
                 Ok(()) => Ok(device),
@@ -147,7 +154,7 @@ impl System for MemSystem {
         }
     }
 
-    fn remove(&mut self, path: &str, device: HistoryDevice) -> Result<(), SystemCause> {
+    fn remove(&mut self, path: &str, device: Guarded<HistoryDevice>) -> Result<(), SystemCause> {
         match exchange(&mut self.entries, path, Content::Removed) {
             Some(Content::Open) => Ok(()),
             None => {
@@ -166,8 +173,8 @@ impl System for MemSystem {
         &mut self,
         from: &str,
         to: &str,
-        device: HistoryDevice,
-    ) -> Result<(), (HistoryDevice, FileFault)> {
+        device: Guarded<HistoryDevice>,
+    ) -> Result<(), (Guarded<HistoryDevice>, FileFault)> {
         if is_named(self.entries.as_slice(), to) {
             return Err((device, FileFault::Exists));
         }
@@ -220,6 +227,6 @@ impl System for MemSystem {
 
 /// A system in memory does what `System` says, always: so what is promised of a faithful system is
 /// promised of something.
-pub fn memory_is_faithful(system: &MemSystem)
-    ensures { (⟦<MemSystem as System>⟧.state system.now).faithful }
+pub fn memory_is_faithful(system: &MemSystem<Guarded<HistoryDevice>>)
+    ensures { (⟦<MemSystem<Guarded<HistoryDevice>> as System>⟧.state system.now).faithful }
 {}

@@ -8,6 +8,7 @@ use crate::access::Access;
 use crate::fault::{OpenPathFault, TextFault};
 use crate::place::ListenPlace;
 use connections::listen::Listen;
+use journal_store::JournalDevice;
 use sector_device::{Device, FileFault, SystemCause};
 use std::alloc::Global;
 use std::time::Duration;
@@ -18,8 +19,8 @@ use storage_sizes::{MAX_PAGES, SECTORS_PER_PAGE};
 /// All of it is promised of a faithful system, and no call makes a system unfaithful. What a call
 /// that fails counts is promised of any system.
 pub trait System {
-    /// What the path of a database names.
-    type Device: Device + Drop;
+    /// What the path of a database names. It has room for a journal.
+    type Device: JournalDevice + Drop;
 
     /// What the place of a server names.
     type Listener: Listen + Drop;

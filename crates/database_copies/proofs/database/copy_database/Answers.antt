@@ -1,10 +1,9 @@
 use Rattle.std.proofs.Common.{Err, refl, sym, subst}
-use Rattle.sector_device.specs.Device.{KeepsHistory as DeviceHistory, history_joined}
+use Rattle.sector_device.specs.Device.{KeepsHistory as DeviceHistory}
 use Rattle.cow_pages.specs.Held.{KeepsContent}
 use Rattle.store.specs.Store.{stored}
-use Rattle.kv_store.proofs.Unwritten.{content_since}
-use Rattle.cow_pages.specs.Cow.{device_below}
-use Rattle.kv_store.specs.PageStore.{pages_of, store_state}
+use Rattle.device_store.specs.Stores.{state_under, store_state}
+use Rattle.device_store.proofs.Since.{history_since, content_since}
 use Rattle.database_copies.specs.declared.fault.DatabaseCopyFault.{DatabaseCopyFault}
 use Rattle.database_copies.specs.Databases.{CopiesDatabase}
 use Rattle.database_copies.proofs.Copying.{copies_database, failed_from, refused_pages}
@@ -22,7 +21,7 @@ returns-clause-history g c =
     let s = c.in-Ok.store in
     let t = c.copy_store-target.new.store in
     subst (λ x. DeviceHistory (g.D.Device.state c.args.source) (g.D.Device.state x)) (sym c.into_device.ensures)
-    (history_joined (g.D.Device.state c.args.source) (device_below (pages_of s)) (device_below (pages_of t)) c.in-Ok.ensures.history c.copy_store-target.ensures.preserved.preserved.preserved.history)
+    (history_since (g.D.Device.state c.args.source) s t c.in-Ok.ensures c.copy_store-target.ensures.preserved)
 
 pub returns-clause-unwritten : goal.returns-clause-unwritten
 returns-clause-unwritten g c = λ faithful.
@@ -36,5 +35,5 @@ returns-clause-copies g c = λ faithful.
     let t = c.copy_store-target.new.store in
     let holds = c.in-Ok.ensures.holds faithful in
     subst (λ x. CopiesDatabase d (g.D.Device.state x) g.E.Device.state c.copy_store-target.result.1 c.args.target c.copy_store-target.result.0) (sym c.into_device.ensures)
-    (copies_database g.E.Device.state d (device_below (pages_of t)) (stored (store_state s)) holds.contents (store_state s) (store_state t) (failed_from d s t c.in-Ok.ensures c.copy_store-target.ensures.history faithful)
+    (copies_database g.E.Device.state d (state_under t) (stored (store_state s)) holds.contents (store_state s) (store_state t) (failed_from d s t c.in-Ok.ensures c.copy_store-target.ensures.history faithful)
     c.copy_store-target.result.1 c.args.target c.copy_store-target.result.0 (c.copy_store-target.ensures.copies holds.sound) c.copy_store-target.ensures.cause)

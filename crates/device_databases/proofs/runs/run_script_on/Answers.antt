@@ -1,6 +1,5 @@
 use Rattle.std.proofs.Common.{◌∙◌, ap, sym, subst}
-use Rattle.cow_pages.specs.Cow.{device_of}
-use Rattle.kv_store.specs.PageStore.{pages_of, store_state}
+use Rattle.device_store.specs.Stores.{device_of, store_state}
 use Rattle.script_runs.specs.ScriptRun.{lines_of}
 use Rattle.device_databases.specs.Answered.{IsOfScript, LivesFrom}
 use Rattle.device_databases.proofs.Living.{script_life}
@@ -10,7 +9,7 @@ pub returns : goal.returns
 returns g c =
     let last = c.run_script-end.new.server in
     let ran = c.run_script-end.ensures.runs in
-    let left_is = c.into_device.ensures ∙ ap (λ s. device_of (pages_of s)) c.into_store.ensures in
+    let left_is = c.into_device.ensures ∙ ap (λ s. device_of s) c.into_store.ensures in
     record {
       last = last;
       history = c.run_script-end.ensures.history;

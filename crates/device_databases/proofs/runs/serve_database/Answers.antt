@@ -1,6 +1,5 @@
 use Rattle.std.proofs.Common.{◌∙◌, ap, sym, subst}
-use Rattle.cow_pages.specs.Cow.{device_of}
-use Rattle.kv_store.specs.PageStore.{pages_of, store_state}
+use Rattle.device_store.specs.Stores.{device_of, store_state}
 use Rattle.device_databases.specs.Answered.{IsOfListener, LivesFrom}
 use Rattle.device_databases.proofs.Living.{connections_life}
 use Rattle.device_databases.proofs.runs.serve_database.Goals as goal
@@ -9,7 +8,7 @@ pub returns : goal.returns
 returns g c =
     let last = c.serve_listener-served.new.server in
     let serves = c.serve_listener-served.ensures.serves in
-    let left_is = c.into_device.ensures ∙ ap (λ s. device_of (pages_of s)) c.into_store.ensures in
+    let left_is = c.into_device.ensures ∙ ap (λ s. device_of s) c.into_store.ensures in
     record {
       last = last;
       history = c.serve_listener-served.ensures.history;

@@ -1,6 +1,5 @@
 use Rattle.std.proofs.Common.{◌≡◌, ◌∙◌, ap, subst}
-use Rattle.cow_pages.specs.Cow.{device_of}
-use Rattle.kv_store.specs.PageStore.{pages_of}
+use Rattle.device_store.specs.Stores.{device_of}
 use Rattle.device_databases.specs.Openings.{device_under}
 use Rattle.file_commands.specs.Files.{ChangesDevice}
 use Rattle.file_commands.proofs.Changes.{closed_again}
@@ -11,7 +10,7 @@ returns g c =
     let old = g.Y.System.state c.args.system.now in
     let new = g.Y.System.state c.close.new.self in
     let at = c.in-Ok.ensures in
-    let under : c.into_device.result ≡ device_under c.in-Ok.opened.server = c.into_device.ensures ∙ ap (λ s. device_of (pages_of s)) c.into_store.ensures in
+    let under : c.into_device.result ≡ device_under c.in-Ok.opened.server = c.into_device.ensures ∙ ap (λ s. device_of s) c.into_store.ensures in
     record {
       file = record { device = at.device; opened = c.in-Ok.opened; is_opened = at.is_opened; tells = c.tell_migration-told.ensures };
       changes = λ is. subst (λ left. ChangesDevice g.Y.Device.Device old c.args.path.now at.device left new) under
