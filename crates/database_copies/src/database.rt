@@ -17,8 +17,8 @@ use std::alloc::Global;
 use store::Store;
 
 /// Copies the database on a device to another device, of 64 to 65,536 whole pages, in the current spelling, and hands
-/// both back. The source may be of either spelling, with a journal or without; it is only read, and all its definitions and rows are checked
-/// before anything is written. What was on the device of the copy before is lost.
+/// both back. The source may be of either spelling, with a journal or without; it is only read, and all its definitions
+/// and rows are checked before anything is written. What was on the device of the copy before is lost.
 ///
 /// After `Ok` each image that a stop leaves of the copy has exactly the source's records, and stands for the same
 /// database. On a device that was blank, as a new one of zeros is, a stop at any moment leaves no contents, or records that

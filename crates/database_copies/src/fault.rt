@@ -2,6 +2,8 @@
 
 ghost use Rattle.std.specs.Prelude.{◌≡◌};
 
+use device_store::OpenFault;
+
 /// Why a database was not copied.
 #[derive(Clone, Copy, Debug, Drop, PartialEq, Eq)]
 pub enum DatabaseCopyFault {
@@ -31,20 +33,18 @@ pub enum SourceFault {
     Device,
 }
 
-impl From<device_store::OpenFault> for DatabaseCopyFault {
+impl From<OpenFault> for DatabaseCopyFault {
     ghost use Rattle.database_copies.specs.Databases.{fault_of_pages};
 
     ghost from_gives = { λ fault given. given ≡ fault_of_pages fault };
 
-    fn from(fault: device_store::OpenFault) -> DatabaseCopyFault {
+    fn from(fault: OpenFault) -> DatabaseCopyFault {
         match fault {
-            device_store::OpenFault::WrongSize => DatabaseCopyFault::Source(SourceFault::WrongSize),
-            device_store::OpenFault::NotADatabase => DatabaseCopyFault::Source(
-                SourceFault::NotADatabase,
-            ),
-            device_store::OpenFault::Damaged => DatabaseCopyFault::Source(SourceFault::Damaged),
-            device_store::OpenFault::Device => DatabaseCopyFault::Source(SourceFault::Device),
-            device_store::OpenFault::Memory => DatabaseCopyFault::Memory,
+            OpenFault::WrongSize => DatabaseCopyFault::Source(SourceFault::WrongSize),
+            OpenFault::NotADatabase => DatabaseCopyFault::Source(SourceFault::NotADatabase),
+            OpenFault::Damaged => DatabaseCopyFault::Source(SourceFault::Damaged),
+            OpenFault::Device => DatabaseCopyFault::Source(SourceFault::Device),
+            OpenFault::Memory => DatabaseCopyFault::Memory,
         }
     }
 }

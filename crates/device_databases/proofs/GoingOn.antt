@@ -9,14 +9,14 @@ use Rattle.lives.specs.Lives.{IsFoundLeft, LeavesFound, IsNoLife}
 use Rattle.lives.specs.Stopping.{is_left_by, IsWithin}
 use Rattle.lives.proofs.GoingOn.{none_at, stopped_at}
 use Rattle.lives.proofs.Living.{means_is}
-use Rattle.device_databases.specs.declared.fault.OpenFault.{OpenFault}
+use Rattle.device_databases.specs.declared.fault.DatabaseFault.{DatabaseFault}
 use Rattle.device_databases.specs.Databases.{records_on}
 use Rattle.device_databases.specs.Openings.{IsRefused}
 use Rattle.device_databases.specs.Following.{Did, ran_script, served_connections, opened_none, Run, AreStopped, LeadsOn, GoOn}
 use Rattle.device_databases.proofs.Living.{found_before, found_same}
 
 -- a device on which none was opened leaves what it may have been left with
-refused_leaves : (d e : DeviceState) (fault : OpenFault) (last : Standing) → IsLeft d d.content → LeavesFound last (records_on d) → IsRefused d fault e → IsNoLife last (records_on d) (records_on e)
+refused_leaves : (d e : DeviceState) (fault : DatabaseFault) (last : Standing) → IsLeft d d.content → LeavesFound last (records_on d) → IsRefused d fault e → IsNoLife last (records_on d) (records_on e)
 refused_leaves d e fault last content found refused =
     ⊎_elim
     (λ untried. found_before d e last found untried.1)

@@ -28,7 +28,7 @@ use Rattle.opening.specs.declared.fault.OpeningFault.TheVariants as opening
 use Rattle.opening.specs.Openings.{IsOpened as IsServerOpened, IsNumberAfter, HasOpeningCause, KeepsDatabase, OnlyLooks, failed_after_opening}
 use Rattle.script_runs.specs.Closing.{StandsWithinLimit}
 use Rattle.device_databases.specs.declared.database.Opened.{Opened}
-use Rattle.device_databases.specs.declared.fault.OpenFault.TheVariants.{WrongSize, NotADatabase, Damaged, Device, Memory, Full, Number}
+use Rattle.device_databases.specs.declared.fault.DatabaseFault.TheVariants.{WrongSize, NotADatabase, Damaged, Device, Memory, Full, Number}
 use Rattle.device_databases.specs.Databases.{records_on, HoldsDatabase, HoldsFirstSpelling, IsUnwritten, LeavesAsBefore, LeavesDatabase}
 use Rattle.device_databases.specs.Openings.{IsMigrated, IsOfMigration, IsOnlyRead, IsOpenedOn, IsRefused, IsTriedOn, IsUntried, OpensAs, StandsIn, fault_of_opening, fault_of_pages, is_first}
 

@@ -12,7 +12,7 @@ use Rattle.script_runs.specs.declared.sink.Sink.{Ghosts as SinkGhosts}
 use Rattle.connections.specs.declared.listener.Served.{Served}
 use Rattle.connections.specs.Listening.{Listening}
 use Rattle.device_databases.specs.declared.database.Opened.{Opened}
-use Rattle.device_databases.specs.declared.fault.OpenFault.{OpenFault}
+use Rattle.device_databases.specs.declared.fault.DatabaseFault.{DatabaseFault}
 use Rattle.device_databases.specs.Openings.{IsOpenedOn, IsRefused}
 use Rattle.device_databases.specs.Answered.{Answered, IsLived, IsOfListener, IsOfScript}
 use Rattle.device_databases.specs.Runs.{RunsScriptFrom, ServesFrom}
@@ -23,7 +23,7 @@ pub data Did {D : Type 0} (g : Ghosts D) (X : Type 0) {K M : Type 0} (k : SinkGh
       → RunsScriptFrom g k Reads opened.server script before ending end after → Did g X k m Reads begin end
   served_connections : (opened : Opened D X g) → IsOpenedOn (g.state begin) opened → (asked : ℕ) (before : Option Listening) (ending : Served) (after : Option Listening)
       → ServesFrom g m Reads asked opened.server before ending end after → Did g X k m Reads begin end
-  opened_none : (fault : OpenFault) → IsRefused (g.state begin) fault (g.state end) → Did g X k m Reads begin end
+  opened_none : (fault : DatabaseFault) → IsRefused (g.state begin) fault (g.state end) → Did g X k m Reads begin end
 
 -- A run: the device when it began and when it ended, what was done, and what stopped it: a stop at this moment, or one after all that
 -- was done.

@@ -15,8 +15,8 @@ use Rattle.server.specs.declared.server.Server.{Server}
 use Rattle.server.specs.Standing.{Represents, at_start}
 use Rattle.opening.specs.declared.fault.OpeningFault.{OpeningFault}
 use Rattle.opening.specs.declared.fault.OpeningFault.TheVariants as opening
-use Rattle.device_databases.specs.declared.fault.OpenFault.{OpenFault}
-use Rattle.device_databases.specs.declared.fault.OpenFault.TheVariants.{WrongSize, NotADatabase, Damaged, Device, Memory, Full, Number}
+use Rattle.device_databases.specs.declared.fault.DatabaseFault.{DatabaseFault}
+use Rattle.device_databases.specs.declared.fault.DatabaseFault.TheVariants.{WrongSize, NotADatabase, Damaged, Device, Memory, Full, Number}
 use Rattle.device_databases.specs.declared.database.Opened.{Opened}
 use Rattle.device_databases.specs.Databases.{HoldsDatabase, HoldsFirstSpelling, IsUnwritten, KeepsRecords, LeavesAsBefore, LeavesDatabase, MeansNone, records_on}
 
@@ -70,7 +70,7 @@ pub record IsOpenedOn {D : Type 0} {g : Ghosts D} {X : Type 0} (d : DeviceState)
 -- is asked for after the size and the magic are tested. That a call of the device failed says nothing of what it holds. A
 -- migration is refused for room or for a number where the records are of the first spelling, and for a number where theirs is the
 -- last.
-abbrev pub StandsIn : OpenFault → DeviceState → Type 0
+abbrev pub StandsIn : DatabaseFault → DeviceState → Type 0
 StandsIn WrongSize d = IsNamedFor pages.WrongSize d
 StandsIn NotADatabase d = IsNamedFor pages.NotADatabase d
 StandsIn Damaged d = IsNamedFor pages.Damaged d ⊎ MeansNone (d.sectors / 8) d.content
@@ -80,7 +80,7 @@ StandsIn Full d = HoldsFirstSpelling d
 StandsIn Number d = (holds : HoldsFirstSpelling d) × (holds.has.number ≡ 2 ^ 64 - 1)
 
 -- a fault that a migration may have
-abbrev pub IsOfMigration : OpenFault → Type 0
+abbrev pub IsOfMigration : DatabaseFault → Type 0
 IsOfMigration WrongSize = ⊥
 IsOfMigration NotADatabase = ⊥
 IsOfMigration Damaged = ⊥
@@ -91,7 +91,7 @@ IsOfMigration Number = Unit {0}
 
 -- The migration of records of the first spelling was tried: the database that the device held stayed, at every moment; and unless
 -- the device failed, a stop now leaves the contents that it held, and nothing else
-pub record IsTriedOn (fault : OpenFault) (d e : DeviceState) : Type 0 where
+pub record IsTriedOn (fault : DatabaseFault) (d e : DeviceState) : Type 0 where
   pub holds : HoldsFirstSpelling d
   pub of_migration : IsOfMigration fault
   pub leaves : (db : Database) → HoldsDatabase d db → LeavesDatabase db d e
@@ -103,7 +103,7 @@ abbrev pub IsUntried : DeviceState → DeviceState → Type 0
 IsUntried d e = IsUnwritten d e × LeavesAsBefore d e
 
 -- no server was opened, and no sector was written, unless a migration was tried
-pub record IsRefused (d : DeviceState) (fault : OpenFault) (e : DeviceState) : Type 0 where
+pub record IsRefused (d : DeviceState) (fault : DatabaseFault) (e : DeviceState) : Type 0 where
   pub faithful : e.faithful
   pub stands : StandsIn fault d
   pub failed : fault ≡ Device → HasFailed d e
@@ -112,11 +112,11 @@ pub record IsRefused (d : DeviceState) (fault : OpenFault) (e : DeviceState) : T
 -- ---- answers
 
 -- a server was opened, or the device is handed back
-abbrev pub OpensOn : {D : Type 0} {g : Ghosts D} {X : Type 0} → DeviceState → Result (Opened D X g) (D × OpenFault) → Type 0
+abbrev pub OpensOn : {D : Type 0} {g : Ghosts D} {X : Type 0} → DeviceState → Result (Opened D X g) (D × DatabaseFault) → Type 0
 OpensOn {g = g} d result = MatchResult result (λ opened. IsOpenedOn d opened) (λ e. IsRefused d e.1 (g.state e.0))
 
 -- the fault of the opening of pages
-abbrev pub fault_of_pages : PagesFault → OpenFault
+abbrev pub fault_of_pages : PagesFault → DatabaseFault
 fault_of_pages pages.WrongSize = WrongSize
 fault_of_pages pages.NotADatabase = NotADatabase
 fault_of_pages pages.Damaged = Damaged
@@ -124,7 +124,7 @@ fault_of_pages pages.Device = Device
 fault_of_pages pages.Memory = Memory
 
 -- the fault of a server's opening
-abbrev pub fault_of_opening : OpeningFault → OpenFault
+abbrev pub fault_of_opening : OpeningFault → DatabaseFault
 fault_of_opening opening.Memory = Memory
 fault_of_opening opening.Device = Device
 fault_of_opening opening.Damaged = Damaged

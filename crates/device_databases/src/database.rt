@@ -4,7 +4,7 @@ ghost use Rattle.std.specs.Prelude.{◌≡◌, ◌≤◌, false, IfOk};
 ghost use Rattle.device_store.specs.Stores.{store_state};
 ghost use Rattle.device_databases.specs.Openings.{OpensOn, is_first};
 
-use crate::fault::OpenFault;
+use crate::fault::DatabaseFault;
 use device_store::{DeviceStore, MAX_CACHE_PAGES};
 use journal_store::JournalDevice;
 use opening::open;
@@ -23,9 +23,9 @@ pub struct Opened<D: Device, X> {
 }
 
 /// Opens the database that a device holds: a server over it, whose events `decider` decides, with
-/// no session open, and a cache of so many pages. Its store, with a journal or without, as the root on the device says, has
-/// not failed. The device is synced and read; all definitions and all rows are read and checked. A refusal hands the device
-/// back.
+/// no session open, and a cache of so many pages. Its store, with a journal or without, as the root
+/// on the device says, has not failed. The device is synced and read; all definitions and all rows
+/// are read and checked. A refusal hands the device back.
 ///
 /// Where the records are of the second spelling, the store has those of the device under their
 /// number, and nothing is written, whatever is answered: each sector has the content that it had,
@@ -34,8 +34,8 @@ pub struct Opened<D: Device, X> {
 ///
 /// `WrongSize`, `NotADatabase` and `Damaged` name the first fault that stands in the content, in
 /// this order: the size, the magic of the root sectors, the root sectors, the size that the root
-/// names, the map, the tree of records, the journal where there is one, the database that they stand for; nothing is written
-/// then.
+/// names, the map, the tree of records, the journal where there is one, the database that they stand
+/// for; nothing is written then.
 /// `Device`: the device failed. `Memory`: an allocation failed, once the size and the magic were
 /// tested. `Full`: no room is left for the records of the first spelling in the second. `Number`: no
 /// commit number is left for them.
@@ -44,7 +44,7 @@ pub fn open_database<D: JournalDevice, X: Decide + Drop>(
     device: D,
     decider: X,
     cache_pages: usize,
-) -> Result<Opened<D, X>, (D, OpenFault)>
+) -> Result<Opened<D, X>, (D, DatabaseFault)>
     requires some { 1 ≤ cache_pages }
     requires most { cache_pages ≤ MAX_CACHE_PAGES }
     ensures opens { (D.state device).faithful → OpensOn (D.state device) result }
@@ -53,7 +53,7 @@ pub fn open_database<D: JournalDevice, X: Decide + Drop>(
 {
     let store = match DeviceStore::open_with(alloc, device, cache_pages) {
         Ok(store) => store,
-        Err((device, fault)) => return Err((device, OpenFault::from(fault))),
+        Err((device, fault)) => return Err((device, DatabaseFault::from(fault))),
     };
     let was_migrated = is_first_spelling(store.spelling());
     match open(alloc, store, decider) {
@@ -62,7 +62,7 @@ pub fn open_database<D: JournalDevice, X: Decide + Drop>(
             was_migrated,
         }),
         Err(refused) => {
-            let fault = OpenFault::from(refused.fault);
+            let fault = DatabaseFault::from(refused.fault);
             Err((refused.store.into_device(), fault))
         }
     }

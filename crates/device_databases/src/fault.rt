@@ -2,11 +2,12 @@
 
 ghost use Rattle.std.specs.Prelude.{◌≡◌};
 
+use device_store::OpenFault;
 use opening::OpeningFault;
 
 /// Why no database was opened on a device.
 #[derive(Clone, Copy, Debug, Drop, PartialEq, Eq)]
-pub enum OpenFault {
+pub enum DatabaseFault {
     /// The device has no whole number of pages from 64 to 65,536, or another number than its root
     /// says.
     WrongSize,
@@ -24,34 +25,34 @@ pub enum OpenFault {
     Number,
 }
 
-impl From<kv_store::OpenFault> for OpenFault {
+impl From<OpenFault> for DatabaseFault {
     ghost use Rattle.device_databases.specs.Openings.{fault_of_pages};
 
     ghost from_gives = { λ fault given. given ≡ fault_of_pages fault };
 
-    fn from(fault: kv_store::OpenFault) -> OpenFault {
+    fn from(fault: OpenFault) -> DatabaseFault {
         match fault {
-            kv_store::OpenFault::WrongSize => OpenFault::WrongSize,
-            kv_store::OpenFault::NotADatabase => OpenFault::NotADatabase,
-            kv_store::OpenFault::Damaged => OpenFault::Damaged,
-            kv_store::OpenFault::Device => OpenFault::Device,
-            kv_store::OpenFault::Memory => OpenFault::Memory,
+            OpenFault::WrongSize => DatabaseFault::WrongSize,
+            OpenFault::NotADatabase => DatabaseFault::NotADatabase,
+            OpenFault::Damaged => DatabaseFault::Damaged,
+            OpenFault::Device => DatabaseFault::Device,
+            OpenFault::Memory => DatabaseFault::Memory,
         }
     }
 }
 
-impl From<OpeningFault> for OpenFault {
+impl From<OpeningFault> for DatabaseFault {
     ghost use Rattle.device_databases.specs.Openings.{fault_of_opening};
 
     ghost from_gives = { λ fault given. given ≡ fault_of_opening fault };
 
-    fn from(fault: OpeningFault) -> OpenFault {
+    fn from(fault: OpeningFault) -> DatabaseFault {
         match fault {
-            OpeningFault::Memory => OpenFault::Memory,
-            OpeningFault::Device => OpenFault::Device,
-            OpeningFault::Damaged => OpenFault::Damaged,
-            OpeningFault::Full => OpenFault::Full,
-            OpeningFault::Number => OpenFault::Number,
+            OpeningFault::Memory => DatabaseFault::Memory,
+            OpeningFault::Device => DatabaseFault::Device,
+            OpeningFault::Damaged => DatabaseFault::Damaged,
+            OpeningFault::Full => DatabaseFault::Full,
+            OpeningFault::Number => DatabaseFault::Number,
         }
     }
 }

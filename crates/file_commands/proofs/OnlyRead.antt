@@ -24,7 +24,7 @@ use Rattle.transactions.specs.Views.{applied_all}
 use Rattle.catalogue_loading.specs.Found.{Finds}
 use Rattle.migration.specs.Respelled.{AreRespelling, RespellsFrom}
 use Rattle.opening.specs.Openings.{AreOfDatabase, read_fault}
-use Rattle.device_databases.specs.declared.fault.OpenFault.TheVariants as opening
+use Rattle.device_databases.specs.declared.fault.DatabaseFault.TheVariants as opening
 use Rattle.device_databases.specs.Databases.{IsUnwritten}
 use Rattle.device_databases.specs.Openings.{fault_of_opening, fault_of_pages}
 use Rattle.device_databases.proofs.Opening.{refused_pages}

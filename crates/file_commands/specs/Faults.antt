@@ -4,8 +4,8 @@ use Rattle.sector_device.specs.declared.open_file.FileFault.TheVariants as file
 use Rattle.sector_device.specs.declared.system_cause.SystemCause.TheVariants.{NotFound, Other}
 use Rattle.systems.specs.declared.fault.OpenPathFault.{OpenPathFault}
 use Rattle.systems.specs.declared.fault.OpenPathFault.TheVariants as path
-use Rattle.device_databases.specs.declared.fault.OpenFault.{OpenFault}
-use Rattle.device_databases.specs.declared.fault.OpenFault.TheVariants as opening
+use Rattle.device_databases.specs.declared.fault.DatabaseFault.{DatabaseFault}
+use Rattle.device_databases.specs.declared.fault.DatabaseFault.TheVariants as opening
 use Rattle.device_databases.specs.declared.making.MakeFault.{MakeFault}
 use Rattle.device_databases.specs.declared.making.MakeFault.TheVariants as made
 use Rattle.file_commands.specs.declared.fault.CommandFault.{CommandFault}
@@ -31,7 +31,7 @@ of_making made.Device = Device Other
 of_making made.WrongSize = WrongSize
 
 -- of opening the database that a device holds
-abbrev pub of_opening : OpenFault → CommandFault
+abbrev pub of_opening : DatabaseFault → CommandFault
 of_opening opening.WrongSize = WrongSize
 of_opening opening.NotADatabase = NotADatabase
 of_opening opening.Damaged = Damaged

@@ -7,7 +7,7 @@ use Rattle.systems.specs.declared.access.Access.{Access}
 use Rattle.systems.specs.declared.access.Access.TheVariants.{Write}
 use Rattle.systems.specs.Systems.{SystemState, HasDevice, IsHeldFrom, IsOpen, IsReadable, IsSame, IsSameBut, IsUnnamed, Rose}
 use Rattle.device_databases.specs.declared.database.Opened.{Opened}
-use Rattle.device_databases.specs.declared.fault.OpenFault.{OpenFault}
+use Rattle.device_databases.specs.declared.fault.DatabaseFault.{DatabaseFault}
 use Rattle.device_databases.specs.Openings.{IsOpenedOn, IsRefused}
 use Rattle.file_commands.specs.declared.fault.CommandFault.{CommandFault}
 use Rattle.file_commands.specs.Faults.{of_opening, of_path}
@@ -54,7 +54,7 @@ module _ {D L : Type 0} (g : Ghosts D) (old : SystemState D L) (path : List ℕ)
   pub record IsRefusedAt (fault : CommandFault) (new : SystemState D L) : Type 0 where
     pub device : D
     pub left : D
-    pub why : OpenFault
+    pub why : DatabaseFault
     pub is : fault ≡ of_opening why
     pub changes : old.faithful → ChangesDevice device left new
     pub refused : old.faithful → IsRefused (g.state device) why (g.state left)

@@ -11,8 +11,8 @@ use Rattle.abstract_database.specs.Database.{Database}
 use Rattle.stored_database.specs.Definitions.{Definitions}
 use Rattle.stored_database.specs.Records.{Shows}
 use Rattle.stored_database.specs.Spellings.{spelled_in_second, Stands}
-use Rattle.device_databases.specs.declared.fault.OpenFault.{OpenFault}
-use Rattle.device_databases.specs.declared.fault.OpenFault.TheVariants as opening
+use Rattle.device_databases.specs.declared.fault.DatabaseFault.{DatabaseFault}
+use Rattle.device_databases.specs.declared.fault.DatabaseFault.TheVariants as opening
 use Rattle.device_databases.specs.Databases.{HoldsDatabase, IsUnwritten}
 use Rattle.device_databases.specs.Openings.{StandsIn}
 use Rattle.file_commands.specs.declared.fault.CommandFault.{CommandFault}
@@ -41,7 +41,7 @@ pub record HasDefinitions (d : DeviceState) (definitions : Definitions) : Type 0
   pub shows : ShowsAs holds.contents definitions database
 
 -- a fault that a reading may have: none of a migration
-abbrev pub IsOfReading : OpenFault → Type 0
+abbrev pub IsOfReading : DatabaseFault → Type 0
 IsOfReading opening.WrongSize = Unit {0}
 IsOfReading opening.NotADatabase = Unit {0}
 IsOfReading opening.Damaged = Unit {0}
@@ -51,18 +51,18 @@ IsOfReading opening.Full = ⊥
 IsOfReading opening.Number = ⊥
 
 -- the fault stands in what the device holds, or a call of it failed
-pub record HasFault (d : DeviceState) (fault : OpenFault) (e : DeviceState) : Type 0 where
+pub record HasFault (d : DeviceState) (fault : DatabaseFault) (e : DeviceState) : Type 0 where
   pub of_reading : IsOfReading fault
   pub stands : StandsIn fault d
   pub failed : fault ≡ opening.Device → HasFailed d e
 
 -- the definitions of the database that the device holds, or why they were not read
-abbrev pub AreReadOn : DeviceState → Result Definitions OpenFault → DeviceState → Type 0
+abbrev pub AreReadOn : DeviceState → Result Definitions DatabaseFault → DeviceState → Type 0
 AreReadOn d (Ok definitions) e = HasDefinitions d definitions
 AreReadOn d (Err fault) e = HasFault d fault e
 
 -- and not one sector was written
-pub record ReadsOn (d : DeviceState) (result : Result Definitions OpenFault) (e : DeviceState) : Type 0 where
+pub record ReadsOn (d : DeviceState) (result : Result Definitions DatabaseFault) (e : DeviceState) : Type 0 where
   pub read : AreReadOn d result e
   pub unwritten : IsUnwritten d e
 
@@ -71,7 +71,7 @@ pub record ReadsOn (d : DeviceState) (result : Result Definitions OpenFault) (e 
 -- `g` is what is said of devices, `old` the system before, and `path` that of the file
 module _ {D L : Type 0} (g : Ghosts D) (old : SystemState D L) (path : List ℕ) where
   -- the device that the path named was read, and the path names it as it was left: not one sector of it was written
-  pub record IsReadAt (result : Result Definitions OpenFault) (new : SystemState D L) : Type 0 where
+  pub record IsReadAt (result : Result Definitions DatabaseFault) (new : SystemState D L) : Type 0 where
     pub device : D
     pub left : D
     pub changes : old.faithful → ReadsDevice g old path device left new
@@ -79,7 +79,7 @@ module _ {D L : Type 0} (g : Ghosts D) (old : SystemState D L) (path : List ℕ)
 
   -- what it holds was refused
   pub record IsUnreadAt (fault : CommandFault) (new : SystemState D L) : Type 0 where
-    pub why : OpenFault
+    pub why : DatabaseFault
     pub is : fault ≡ of_opening why
     pub read : IsReadAt (Err why) new
 

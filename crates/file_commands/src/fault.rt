@@ -3,7 +3,7 @@
 ghost use Rattle.std.specs.Prelude.{◌≡◌};
 ghost use Rattle.file_commands.specs.Faults.{of_file, of_making, of_opening, of_path};
 
-use device_databases::{MakeFault, OpenFault};
+use device_databases::{DatabaseFault, MakeFault};
 use sector_device::{FileFault, SystemCause};
 use systems::OpenPathFault;
 use thiserror::Error;
@@ -84,18 +84,18 @@ impl From<MakeFault> for CommandFault {
     }
 }
 
-impl From<OpenFault> for CommandFault {
+impl From<DatabaseFault> for CommandFault {
     ghost from_gives = { λ fault given. given ≡ of_opening fault };
 
-    fn from(fault: OpenFault) -> CommandFault {
+    fn from(fault: DatabaseFault) -> CommandFault {
         match fault {
-            OpenFault::WrongSize => CommandFault::WrongSize,
-            OpenFault::NotADatabase => CommandFault::NotADatabase,
-            OpenFault::Damaged => CommandFault::Damaged,
-            OpenFault::Device => CommandFault::Device(SystemCause::Other),
-            OpenFault::Memory => CommandFault::Memory,
-            OpenFault::Full => CommandFault::Full,
-            OpenFault::Number => CommandFault::Number,
+            DatabaseFault::WrongSize => CommandFault::WrongSize,
+            DatabaseFault::NotADatabase => CommandFault::NotADatabase,
+            DatabaseFault::Damaged => CommandFault::Damaged,
+            DatabaseFault::Device => CommandFault::Device(SystemCause::Other),
+            DatabaseFault::Memory => CommandFault::Memory,
+            DatabaseFault::Full => CommandFault::Full,
+            DatabaseFault::Number => CommandFault::Number,
         }
     }
 }

@@ -6,7 +6,7 @@ ghost use Rattle.file_commands.specs.Reading.{AreDefinitionsOf, ReadsFile, Reads
 
 use crate::fault::CommandFault;
 use catalogue::definitions::Catalogue;
-use device_databases::OpenFault;
+use device_databases::DatabaseFault;
 use device_store::DeviceStore;
 use journal_store::JournalDevice;
 use migration::respelled_lists;
@@ -43,18 +43,21 @@ pub fn read_file<Y: System>(
 }
 
 // The definitions of the database that a device holds, which is handed back.
-fn read_definitions<D: JournalDevice>(alloc: Global, device: D) -> (D, Result<Catalogue, OpenFault>)
+fn read_definitions<D: JournalDevice>(
+    alloc: Global,
+    device: D,
+) -> (D, Result<Catalogue, DatabaseFault>)
     ensures { (D.state device).faithful → ReadsOn (D.state device) result.1 (D.state result.0) }
 {
     let mut store = match DeviceStore::open(alloc, device) {
         Ok(store) => store,
-        Err((device, fault)) => return (device, Err(OpenFault::from(fault))),
+        Err((device, fault)) => return (device, Err(DatabaseFault::from(fault))),
     };
     let read = read_store(alloc, &mut store);
     let left = store.into_device();
     match read {
         Ok(catalogue) => (left, Ok(catalogue)),
-        Err(fault) => (left, Err(OpenFault::from(OpeningFault::from(fault)))),
+        Err(fault) => (left, Err(DatabaseFault::from(OpeningFault::from(fault)))),
     }
 }
 

@@ -1,6 +1,6 @@
 use Rattle.std.proofs.Common.{◌≡◌, ◌∙◌, ap, sym, subst, Ok, Err}
 use Rattle.opening.specs.Openings.{read_fault}
-use Rattle.device_databases.specs.declared.fault.OpenFault.{OpenFault}
+use Rattle.device_databases.specs.declared.fault.DatabaseFault.{DatabaseFault}
 use Rattle.device_databases.specs.Openings.{fault_of_opening}
 use Rattle.file_commands.specs.Reading.{ReadsOn}
 use Rattle.file_commands.proofs.OnlyRead.{read_definitions_on, unread_on}
@@ -21,6 +21,6 @@ returns-in-Err-read g c = λ faithful.
     let read = c.in-Err-read.ensures in
     let fault = c.in-Err-read.fault in
     let is : c.from-in-Err-read-2.result ≡ fault_of_opening (read_fault fault) = c.from-in-Err-read-2.ensures ∙ ap fault_of_opening c.from-in-Err-read.ensures in
-    subst (λ (f : OpenFault). ReadsOn d (Err f) (g.D.Device.state c.into_device-left.result)) (sym is)
+    subst (λ (f : DatabaseFault). ReadsOn d (Err f) (g.D.Device.state c.into_device-left.result)) (sym is)
     (subst (λ (e : g.row.D.Denot). ReadsOn d (Err (fault_of_opening (read_fault fault))) (g.D.Device.state e)) (sym c.into_device-left.ensures)
     (unread_on g.met.D.Device.only_now d c.in-Ok.store c.read_store-read.new.store opened faithful read.preserved fault read.read.only_reads.history (read.found (opened.holds faithful).sound) read.read.cause))

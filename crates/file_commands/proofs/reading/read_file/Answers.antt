@@ -1,6 +1,6 @@
 use Rattle.std.proofs.Common.{Result, inr, subst}
 use Rattle.stored_database.specs.Definitions.{Definitions}
-use Rattle.device_databases.specs.declared.fault.OpenFault.{OpenFault}
+use Rattle.device_databases.specs.declared.fault.DatabaseFault.{DatabaseFault}
 use Rattle.file_commands.specs.Reading.{ReadsOn}
 use Rattle.file_commands.proofs.Changes.{released_again}
 use Rattle.file_commands.proofs.reading.read_file.Goals as goal
@@ -14,7 +14,7 @@ returns-in-Ok-read g c =
       left = left;
       changes = λ is. released_again g.Y.Device.Device c.args.path.now c.in-Ok.device left (g.Y.System.state c.args.system.now) (g.Y.System.state c.open.new.self) (g.Y.System.state c.close.new.self)
           (c.in-Ok.ensures.opened is) (c.in-Ok.ensures.open is) (c.in-Ok.ensures.others is) c.close.ensures.released c.close.ensures.others is;
-      reads = λ is. subst (λ (r : Result Definitions OpenFault). ReadsOn (state c.in-Ok.device) r (state left)) c.in-Ok-read.is
+      reads = λ is. subst (λ (r : Result Definitions DatabaseFault). ReadsOn (state c.in-Ok.device) r (state left)) c.in-Ok-read.is
           (c.read_definitions-left.ensures (g.met.Y.System.faithful_devices c.args.system.now c.args.path.now c.in-Ok.device is (c.in-Ok.ensures.opened is)));
     }
 
@@ -30,7 +30,7 @@ returns-in-Err-read g c =
         left = left;
         changes = λ is. released_again g.Y.Device.Device c.args.path.now c.in-Ok.device left (g.Y.System.state c.args.system.now) (g.Y.System.state c.open.new.self) (g.Y.System.state c.close.new.self)
             (c.in-Ok.ensures.opened is) (c.in-Ok.ensures.open is) (c.in-Ok.ensures.others is) c.close.ensures.released c.close.ensures.others is;
-        reads = λ is. subst (λ (r : Result Definitions OpenFault). ReadsOn (state c.in-Ok.device) r (state left)) c.in-Err-read.is
+        reads = λ is. subst (λ (r : Result Definitions DatabaseFault). ReadsOn (state c.in-Ok.device) r (state left)) c.in-Err-read.is
             (c.read_definitions-left.ensures (g.met.Y.System.faithful_devices c.args.system.now c.args.path.now c.in-Ok.device is (c.in-Ok.ensures.opened is)));
       };
     })
