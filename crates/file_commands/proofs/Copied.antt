@@ -9,7 +9,7 @@ use Rattle.sector_device.specs.declared.open_file.FileFault.TheVariants as file
 use Rattle.sector_device.specs.declared.system_cause.SystemCause.{SystemCause}
 use Rattle.systems.specs.Systems.{Absent, Free, Shared, Reading, At, HasDevice, IsNamed, IsOpen, IsReadable, IsReading, IsSame, IsSameBut, IsSameButBoth, IsUnnamed, Rose, SystemState}
 use Rattle.cow_pages.proofs.Reading.{reads_none}
-use Rattle.database_copies.specs.declared.fault.DatabaseCopyFault.{DatabaseCopyFault as DatabaseFault}
+use Rattle.database_copies.specs.declared.fault.DatabaseCopyFault.{DatabaseCopyFault}
 use Rattle.device_databases.specs.Databases.{IsUnwritten}
 use Rattle.file_commands.specs.declared.copy_fault.FileCopyFault.{FileCopyFault}
 use Rattle.file_commands.specs.declared.copy_fault.FileCopyFault.TheVariants.{New}
@@ -108,7 +108,7 @@ module _ {D L : Type 0} (g : Ghosts D) (old mid new : SystemState D L) (partial 
 -- ---- the same, seen from a little before
 
 module _ {D L : Type 0} (g : Ghosts D) (old mid new : SystemState D L) (partial target : List ℕ) (pages : ℕ) (device left : D) (same : old.faithful → IsSame old mid) (counts : old.failures ≤ mid.failures) where
-  tried_since : (result : Result (Unit {0}) DatabaseFault) → (blank copy : D) → IsTried g mid partial target pages device result left blank copy → IsTried g old partial target pages device result left blank copy
+  tried_since : (result : Result (Unit {0}) DatabaseCopyFault) → (blank copy : D) → IsTried g mid partial target pages device result left blank copy → IsTried g old partial target pages device result left blank copy
   tried_since result blank copy tried = record {
     is_blank = λ is. let made = tried.is_blank ((same is).faithful is) in record { new = sym ((same is).names partial) ∙ made.new; zeros = made.zeros; blank = made.blank };
     copies = tried.copies;
@@ -191,7 +191,7 @@ module _ {D L S : Type 0} (g : Ghosts D) (state : S → SystemState D L) (old ne
   kept : old.faithful → (state last).faithful → IsReading (state last) path → IsUnwritten (g.state device) (g.state left) → KeepsFile g old path target pages device left new
   kept is still reading unwritten = record { opened = named is; closed = closed still reading; unwritten = unwritten }
 
-  unwritten_by : (result : Result (Unit {0}) DatabaseFault) → (blank copy : D) → IsTried g (state first) partial target pages device result left blank copy → old.faithful → IsUnwritten (g.state device) (g.state left)
+  unwritten_by : (result : Result (Unit {0}) DatabaseCopyFault) → (blank copy : D) → IsTried g (state first) partial target pages device result left blank copy → old.faithful → IsUnwritten (g.state device) (g.state left)
   unwritten_by result blank copy tried is = record { history = tried.history; content = tried.content (of_device is) }
 
   pub copied_file : IsCopied g (state first) partial target pages device left (state last) → IsFileCopied g old path target pages new

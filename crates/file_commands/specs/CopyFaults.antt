@@ -2,7 +2,7 @@
 use Rattle.sector_device.specs.declared.open_file.FileFault.{FileFault}
 use Rattle.sector_device.specs.declared.open_file.FileFault.TheVariants as file
 use Rattle.sector_device.specs.declared.system_cause.SystemCause.TheVariants.{Other}
-use Rattle.database_copies.specs.declared.fault.DatabaseCopyFault.{DatabaseCopyFault as DatabaseFault}
+use Rattle.database_copies.specs.declared.fault.DatabaseCopyFault.{DatabaseCopyFault}
 use Rattle.database_copies.specs.declared.fault.DatabaseCopyFault.TheVariants as copy
 use Rattle.database_copies.specs.declared.fault.SourceFault.TheVariants as source
 use Rattle.file_commands.specs.declared.copy_fault.FileCopyFault.{FileCopyFault}
@@ -10,7 +10,7 @@ use Rattle.file_commands.specs.declared.copy_fault.FileCopyFault.TheVariants.{Fi
 use Rattle.file_commands.specs.declared.fault.CommandFault.TheVariants as command
 
 -- of a copy from one device to another
-abbrev pub of_copy : DatabaseFault → FileCopyFault
+abbrev pub of_copy : DatabaseCopyFault → FileCopyFault
 of_copy copy.Memory = New command.Memory
 of_copy (copy.Source source.WrongSize) = File command.WrongSize
 of_copy (copy.Source source.NotADatabase) = File command.NotADatabase

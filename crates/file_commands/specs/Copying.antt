@@ -7,7 +7,7 @@ use Rattle.systems.specs.declared.access.Access.TheVariants.{Read}
 use Rattle.systems.specs.Places.{ThePlace}
 use Rattle.systems.specs.Systems.{HasDevice, IsNamed, IsOpen, IsReadable, IsSame, IsSameBut, IsSameButBoth, IsUnnamed, Rose, SystemState}
 use Rattle.cow_pages.specs.Held.{KeepsContent}
-use Rattle.database_copies.specs.declared.fault.DatabaseCopyFault.{DatabaseCopyFault as DatabaseFault}
+use Rattle.database_copies.specs.declared.fault.DatabaseCopyFault.{DatabaseCopyFault}
 use Rattle.database_copies.specs.Databases.{CopiesDatabase}
 use Rattle.device_databases.specs.Databases.{IsUnwritten}
 use Rattle.file_commands.specs.declared.fault.CommandFault.{CommandFault}
@@ -64,7 +64,7 @@ module _ {D L : Type 0} (g : Ghosts D) (old : SystemState D L) (partial target :
     pub counts : old.failures ≤ new.failures
 
   -- a copy was tried on this device, which was blank; not one sector of the file was written
-  pub record IsTried (result : Result (Unit {0}) DatabaseFault) (left blank copy : D) : Type 0 where
+  pub record IsTried (result : Result (Unit {0}) DatabaseCopyFault) (left blank copy : D) : Type 0 where
     pub is_blank : old.faithful → IsMadeBlank g old partial pages blank
     pub copies : (g.state device).faithful → CopiesDatabase (g.state device) (g.state left) g.state result blank copy
     pub history : KeepsHistory (g.state device) (g.state left)
@@ -78,7 +78,7 @@ module _ {D L : Type 0} (g : Ghosts D) (old : SystemState D L) (partial target :
 
   -- it stopped
   pub record IsStopped (fault : FileCopyFault) (left : D) (new : SystemState D L) : Type 0 where
-    pub why : DatabaseFault
+    pub why : DatabaseCopyFault
     pub is : fault ≡ of_copy why
     pub blank : D
     pub copy : D

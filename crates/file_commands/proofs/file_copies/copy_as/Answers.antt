@@ -1,6 +1,6 @@
 use Rattle.std.proofs.Common.{Result, Err, Ok, arith, inl, inr, refl, subst, sym}
 use Rattle.systems.specs.Systems.{IsUnnamed, Rose}
-use Rattle.database_copies.specs.declared.fault.DatabaseCopyFault.{DatabaseCopyFault as DatabaseFault}
+use Rattle.database_copies.specs.declared.fault.DatabaseCopyFault.{DatabaseCopyFault}
 use Rattle.database_copies.specs.Databases.{CopiesDatabase}
 use Rattle.file_commands.specs.declared.copy_fault.FileCopyFault.{FileCopyFault}
 use Rattle.file_commands.specs.Copying.{IsTried, StandsAgainstCopy}
@@ -35,7 +35,7 @@ returns-in-Ok-copied g c =
     let copy = copying.result.1 in
     let tried : IsTried device old c.args.partial.now c.args.target.now c.args.pages c.args.device (Ok tt) left blank copy = record {
       is_blank = λ is. record { new = made.new is; zeros = made.made is; blank = blank_of_zeros c.args.pages (device.state blank) (made.made is) };
-      copies = λ is. subst (λ (r : Result (Unit {0}) DatabaseFault). CopiesDatabase (device.state c.args.device) (device.state left) device.state r blank copy) c.in-Ok-copied.is (copying.ensures.copies is);
+      copies = λ is. subst (λ (r : Result (Unit {0}) DatabaseCopyFault). CopiesDatabase (device.state c.args.device) (device.state left) device.state r blank copy) c.in-Ok-copied.is (copying.ensures.copies is);
       history = copying.ensures.history;
       content = copying.ensures.unwritten;
     } in
@@ -60,7 +60,7 @@ returns-in-Err-copied g c =
       copy = copy;
       tried = record {
         is_blank = λ is. record { new = made.new is; zeros = made.made is; blank = blank_of_zeros c.args.pages (device.state blank) (made.made is) };
-        copies = λ is. subst (λ (r : Result (Unit {0}) DatabaseFault). CopiesDatabase (device.state c.args.device) (device.state left) device.state r blank copy) c.in-Err-copied.is (copying.ensures.copies is);
+        copies = λ is. subst (λ (r : Result (Unit {0}) DatabaseCopyFault). CopiesDatabase (device.state c.args.device) (device.state left) device.state r blank copy) c.in-Err-copied.is (copying.ensures.copies is);
         history = copying.ensures.history;
         content = copying.ensures.unwritten;
       };
