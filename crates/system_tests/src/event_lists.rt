@@ -7,7 +7,7 @@ use crate::reports::{count_expected, report_count};
 use crate::servers::open_server;
 use crate::stores::{PAGES, new_device, new_in_memory};
 use lives::live;
-use sector_device::MemDevice;
+use sector_device::{Guarded, MemDevice};
 use sessions::Decider;
 use sql_types::answer::Answer;
 use sql_types::event::Event;
@@ -53,7 +53,8 @@ impl Taker {
                 Ok(server.run(events, answers)?)
             }
             Taker::Life => {
-                let device = lived(alloc, new_device(alloc, PAGES)?, events, answers)?;
+                let device = Guarded::new(new_device(alloc, PAGES)?);
+                let device = lived(alloc, device, events, answers)?;
                 let _left = lived(alloc, device, &[], answers)?;
                 Ok(())
             }
@@ -64,10 +65,10 @@ impl Taker {
 /// What a life on a device leaves, which adds its answers to events.
 fn lived(
     alloc: Global,
-    device: MemDevice,
+    device: Guarded<MemDevice>,
     events: &[Event],
     answers: &mut Vec<Answer>,
-) -> io::Result<MemDevice> {
+) -> io::Result<Guarded<MemDevice>> {
     match live(alloc, device, Decider::new(Statements), events, answers) {
         (device, Ok(())) => Ok(device),
         (_, Err(_)) => Err(io::Error::from(io::ErrorKind::Other)),

@@ -79,8 +79,7 @@ const HINDRANCES: &[(&str, &str, Hindrance, &str)] = &[
         "altered",
         "format_3",
         Hindrance::AlteredFile(FileChange::Byte(523, 0x03)),
-        "status 1\nguarddb: Damaged\n\
-         guarddb: hindered.db: the database is damaged; restore it from a copy\n",
+        "ok CHECK\nstatus 0\n",
     ),
     (
         "altered",
