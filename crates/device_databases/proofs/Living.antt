@@ -1,5 +1,5 @@
 -- A run over a database that was opened on a device is a life of it.
-use Rattle.std.proofs.Common.{◌≡◌, ◌⊎◌, ◌≤◌, ℕ, ⊎_elim, false, List, Option, Some, refl, sym, subst, arith}
+use Rattle.std.proofs.Common.{◌∙◌, ◌≡◌, ◌⊎◌, ◌≤◌, ℕ, ⊎_elim, false, List, Option, Some, refl, sym, subst, arith}
 use Rattle.storage_sizes.specs.declared.spelling.Spelling.{Spelling}
 use Rattle.storage_sizes.specs.declared.spelling.Spelling.TheVariants.{First, Second}
 use Rattle.sector_device.specs.Timeline.{LeavesOnly, IsPresent, read_by, weakened}
