@@ -1,12 +1,14 @@
 #!/usr/bin/env bash
-# What a store in pages costs, beside sqlite3 (Python's module, synchronous=FULL) on a file of the same disk. 100,000 rows
+# What a store in pages costs, without a journal and with one, beside sqlite3 (Python's module, synchronous=FULL) on a file of the same disk. 100,000 rows
 # have random keys of 16 bytes and values of 64. Timed are 2,000 commits, each of one changed row, in each journal mode of
 # sqlite3; 100,000 gets by key and a scan of all rows, both from a cache that has every page; and 100,000 puts into a new
 # file, 1,000 a commit. sqlite3 gets by one statement for all keys, and by one for each; its table is WITHOUT ROWID. Each
 # run of commits writes other bytes than the run before, since sqlite3 writes nothing where a row gets the bytes that it
-# has, and checks that all were made. Prints a line for each timed run of ROUNDS rounds (9 where it is not given), and
+# has, and checks that all were made. What the last commits of the store with a journal have changed waits there while it is
+# read. Prints a line for each timed run of ROUNDS rounds (9 where it is not given), and
 # then the medians with their ratios: below 1 Guarddb is faster. Before them it prints what is counted on a device in
-# memory: the pages and the single sectors that a commit of one changed row writes, its syncs, how full the leaves are
+# memory: the pages and the single sectors that a commit of one changed row writes, its syncs, the same of 2,100 commits of a
+# store with a journal, how full the leaves are
 # after 100,000 puts in random order, in rising order after all other keys, and in rising order before one other key, and
 # after 9 of 10 of the rows of the first two are removed: of rows in random order those with mixed keys, and of rows in
 # rising order the first ones.
@@ -20,12 +22,12 @@ work="$(readlink -f "$work")"
 cd "$work"
 [ -d .git ] || git init -q .
 python3 - "$top" <<'PROGRAM'
-# The crates below kv_store, with what was built of them.
+# The crates below the stores, with what was built of them.
 import os, shutil, sys
 top = sys.argv[1]
 lines = [line.strip() for line in open(f"{top}/crates.txt") if ":" in line and not line.startswith("#")]
 below = {line.split(":")[0]: line.split(":")[1].split() for line in lines}
-wanted, left = set(), ["kv_store"]
+wanted, left = set(), ["device_store"]
 while left:
     name = left.pop()
     if name in below and name not in wanted:
@@ -40,7 +42,7 @@ with open("crates.txt", "w") as out:
     out.write(f"store_bench: {names} anyhow\n")
 PROGRAM
 cat > crates/store_bench/src/main.rt <<'PROGRAM'
-//! Counts and times a store: `store_bench counts`, `store_bench make PATH`, `store_bench commits PATH RUN`,
+//! Counts and times a store: `store_bench counts`, `store_bench make PATH`, `store_bench journal PATH`, `store_bench commits PATH RUN`,
 //! `store_bench reads PATH`, or `store_bench puts PATH`.
 #![tactic(auto)]
 
@@ -61,7 +63,9 @@ fn main(rt: HostRuntime) -> Result<()> {
     if words.len() == 2 && words[1].as_str() == "counts" {
         print_counts(&rt)
     } else if words.len() == 3 && words[1].as_str() == "make" {
-        make(&rt, words[2].as_str())
+        make(&rt, words[2].as_str(), false)
+    } else if words.len() == 3 && words[1].as_str() == "journal" {
+        make(&rt, words[2].as_str(), true)
     } else if words.len() == 4 && words[1].as_str() == "commits" {
         time_commits(&rt, words[2].as_str(), words[3].as_str().parse()?)
     } else if words.len() == 3 && words[1].as_str() == "reads" {
@@ -69,7 +73,7 @@ fn main(rt: HostRuntime) -> Result<()> {
     } else if words.len() == 3 && words[1].as_str() == "puts" {
         time_puts(&rt, words[2].as_str())
     } else {
-        bail!("usage: store_bench counts|make PATH|commits PATH RUN|reads PATH|puts PATH");
+        bail!("usage: store_bench counts|make PATH|journal PATH|commits PATH RUN|reads PATH|puts PATH");
     }
 }
 PROGRAM
@@ -77,8 +81,10 @@ cat > crates/store_bench/src/rows.rt <<'PROGRAM'
 //! Rows, and stores of them.
 use anyhow::{Result, bail};
 use cow_pages::page_count;
+use device_store::DeviceStore;
+use journal_store::JournalStore;
 use kv_store::{Batch, Entry, MAX_CACHE_PAGES, Map, PageStore, Store};
-use sector_device::Device;
+use sector_device::{Device, Guarded};
 use std::alloc::Global;
 use store::Cursor;
 
@@ -125,24 +131,45 @@ fn key_of(number: u32, order: Order) -> [u8; 16] {
     key
 }
 
-/// A new store of one row on a device whose content is lost.
-pub fn new_store<D: Device + Drop>(alloc: Global, mut device: D) -> Result<PageStore<D>> {
+/// A store on a device, with a journal or without.
+pub type BenchStore<D> = DeviceStore<Guarded<D>>;
+
+/// A new store of one row on a device whose content is lost, with a journal or without.
+pub fn new_store<D: Device + Drop>(
+    alloc: Global,
+    mut device: Guarded<D>,
+    has_journal: bool,
+) -> Result<BenchStore<D>> {
     if page_count(device.sectors()).is_none() {
         bail!("the device has no size of a store");
     }
     let key = Vec::from_slice(alloc, b"first")?;
     let value = Vec::from_slice(alloc, b"value")?;
-    if PageStore::format(alloc, &mut device, &Entry::from_parts(key, value)).is_err() {
+    let first = Entry::from_parts(key, value);
+    let made = if has_journal {
+        JournalStore::format(alloc, &mut device, &first)
+    } else {
+        PageStore::format(alloc, &mut device, &first)
+    };
+    if made.is_err() {
         bail!("the store was not made");
     }
     opened(alloc, device)
 }
 
 /// The store on a device.
-pub fn opened<D: Device + Drop>(alloc: Global, device: D) -> Result<PageStore<D>> {
-    match PageStore::open_with(alloc, device, MAX_CACHE_PAGES) {
+pub fn opened<D: Device + Drop>(alloc: Global, device: Guarded<D>) -> Result<BenchStore<D>> {
+    match DeviceStore::open_with(alloc, device, MAX_CACHE_PAGES) {
         Ok(store) => Ok(store),
         Err(_) => bail!("the store was not opened"),
+    }
+}
+
+/// The name of a kind of store.
+pub fn kind_of<D: Device>(store: &BenchStore<D>) -> &'static str {
+    match store {
+        DeviceStore::Pages(_) => "guarddb",
+        DeviceStore::Journaled(_) => "journal",
     }
 }
 
@@ -242,38 +269,43 @@ pub fn scan_rows<M: Map>(alloc: Global, map: &mut M) -> Result<u64> {
 PROGRAM
 cat > crates/store_bench/src/timed.rt <<'PROGRAM'
 //! What is timed, on a file.
-use crate::rows::{COMMITS, Order, change_rows, get_rows, new_store, opened, put_rows, scan_rows};
+use crate::rows::{
+    COMMITS, Order, change_rows, get_rows, kind_of, new_store, opened, put_rows, scan_rows,
+};
 use anyhow::{Result, bail};
 use kv_store::Store;
-use sector_device::FileDevice;
+use sector_device::{FileDevice, Guarded};
 use std::time::Instant;
 
 const FILE_PAGES: u32 = 16_384;
 
-/// Makes a file with all rows.
-pub fn make(rt: &HostRuntime, path: &str) -> Result<()> {
-    let mut store = new_store(rt.alloc(), FileDevice::make(rt, path, FILE_PAGES)?)?;
+/// Makes a file with all rows, with a journal or without.
+pub fn make(rt: &HostRuntime, path: &str, has_journal: bool) -> Result<()> {
+    let device = Guarded::new(FileDevice::make(rt, path, FILE_PAGES)?);
+    let mut store = new_store(rt.alloc(), device, has_journal)?;
     put_rows(rt.alloc(), &mut store, Order::Random)
 }
 
 /// Times commits of one changed row each.
 pub fn time_commits(rt: &HostRuntime, path: &str, run: u32) -> Result<()> {
-    let mut store = opened(rt.alloc(), FileDevice::open(rt, path)?)?;
+    let mut store = opened(rt.alloc(), Guarded::new(FileDevice::open(rt, path)?))?;
     scan_rows(rt.alloc(), &mut store)?;
     let number = store.number();
     let start = Instant::now(rt)?;
     change_rows(rt.alloc(), &mut store, run)?;
     let micros = start.elapsed(rt)?.as_micros();
-    if store.number().wrapping_sub(number) != u64::from(COMMITS) {
+    let (kind, risen) = (kind_of(&store), store.number().wrapping_sub(number));
+    // With a journal the number stays where what waits goes into the pages.
+    if risen > u64::from(COMMITS) || risen < u64::from(COMMITS) && kind == "guarddb" {
         bail!("a commit was not made");
     }
-    println!(rt; "commits guarddb {micros}")?;
+    println!(rt; "commits {kind} {micros}")?;
     Ok(())
 }
 
 /// Times gets and a scan, after a scan.
 pub fn time_reads(rt: &HostRuntime, path: &str) -> Result<()> {
-    let mut store = opened(rt.alloc(), FileDevice::open(rt, path)?)?;
+    let mut store = opened(rt.alloc(), Guarded::new(FileDevice::open(rt, path)?))?;
     let all = scan_rows(rt.alloc(), &mut store)?;
     let start = Instant::now(rt)?;
     let values = get_rows(rt.alloc(), &mut store)?;
@@ -284,14 +316,16 @@ pub fn time_reads(rt: &HostRuntime, path: &str) -> Result<()> {
     if bytes != all || values == 0 {
         bail!("a row was read otherwise");
     }
-    println!(rt; "gets guarddb {gets}")?;
-    println!(rt; "scan guarddb {scan}")?;
+    let kind = kind_of(&store);
+    println!(rt; "gets {kind} {gets}")?;
+    println!(rt; "scan {kind} {scan}")?;
     Ok(())
 }
 
 /// Times puts into a new file.
 pub fn time_puts(rt: &HostRuntime, path: &str) -> Result<()> {
-    let mut store = new_store(rt.alloc(), FileDevice::make(rt, path, FILE_PAGES)?)?;
+    let device = Guarded::new(FileDevice::make(rt, path, FILE_PAGES)?);
+    let mut store = new_store(rt.alloc(), device, false)?;
     let start = Instant::now(rt)?;
     put_rows(rt.alloc(), &mut store, Order::Random)?;
     let micros = start.elapsed(rt)?.as_micros();
@@ -301,12 +335,11 @@ pub fn time_puts(rt: &HostRuntime, path: &str) -> Result<()> {
 PROGRAM
 cat > crates/store_bench/src/counted.rt <<'PROGRAM'
 //! What is counted, on a device in memory.
-use crate::rows::{Order, change_row, new_store, put_rows, remove_rows};
+use crate::rows::{BenchStore, Order, ROWS, change_row, new_store, put_rows, remove_rows};
 use anyhow::{Result, bail};
 use cow_pages::{CowPages, PAGE_SIZE};
-use kv_store::PageStore;
 use page_nodes::{NodeKind, kind_of};
-use sector_device::{Device, DeviceFault, MemDevice, SECTOR_SIZE};
+use sector_device::{Device, DeviceFault, Guarded, MemDevice, SECTOR_SIZE};
 
 const MEMORY_PAGES: u32 = 16_384;
 
@@ -339,7 +372,7 @@ impl<D: Device> Device for Counting<D> {
 
     ghost content_left = { λ d s faithful inside. D.content_left d.device s faithful inside };
 
-    ghost beside_behind = { λ d s beside. D.beside_behind d.device s beside };
+    ghost beside_behind = { λ d s behind. D.beside_behind d.device s behind };
 
     ghost only_now = { λ d faithful. D.only_now d.device faithful };
 
@@ -376,7 +409,7 @@ impl<D: Device> Device for Counting<D> {
 }
 
 /// The leaves of the tree in a store.
-fn leaves_of<D: Device + Drop>(rt: &HostRuntime, store: PageStore<D>) -> Result<u32> {
+fn leaves_of<D: Device + Drop>(rt: &HostRuntime, store: BenchStore<D>) -> Result<u32> {
     let Ok(mut pages) = CowPages::open(rt.alloc(), store.into_device()) else {
         bail!("the pages were not opened");
     };
@@ -395,31 +428,35 @@ fn leaves_of<D: Device + Drop>(rt: &HostRuntime, store: PageStore<D>) -> Result<
     Ok(leaves)
 }
 
-/// Prints the counts of a commit of one changed row.
-fn print_commit(rt: &HostRuntime) -> Result<()> {
-    let device = Counting::new(MemDevice::new(rt.alloc(), MEMORY_PAGES)?);
-    let mut store = new_store(rt.alloc(), device)?;
+/// Prints the counts of so many commits of one changed row each.
+fn print_commits(rt: &HostRuntime, has_journal: bool, commits: u32) -> Result<()> {
+    let device = Guarded::new(Counting::new(MemDevice::new(rt.alloc(), MEMORY_PAGES)?));
+    let mut store = new_store(rt.alloc(), device, has_journal)?;
     put_rows(rt.alloc(), &mut store, Order::Random)?;
-    let (pages, sectors, syncs) = store.device().counts();
-    change_row(rt.alloc(), &mut store, 7919, 255)?;
-    let (all_pages, all_sectors, all_syncs) = store.device().counts();
+    let (pages, sectors, syncs) = store.device().device().counts();
+    for i in 1..=commits {
+        change_row(rt.alloc(), &mut store, i.wrapping_mul(7919) % ROWS, 255)?;
+    }
+    let (all_pages, all_sectors, all_syncs) = store.device().device().counts();
     let pages = all_pages.wrapping_sub(pages);
     let sectors = all_sectors.wrapping_sub(sectors);
     let syncs = all_syncs.wrapping_sub(syncs);
-    println!(rt; "commit {pages} {sectors} {syncs}")?;
+    println!(rt; "commits {commits} {pages} {sectors} {syncs}")?;
     Ok(())
 }
 
 /// The leaves of rows that were put in this order.
 fn leaves_after(rt: &HostRuntime, order: Order) -> Result<u32> {
-    let mut store = new_store(rt.alloc(), MemDevice::new(rt.alloc(), MEMORY_PAGES)?)?;
+    let device = Guarded::new(MemDevice::new(rt.alloc(), MEMORY_PAGES)?);
+    let mut store = new_store(rt.alloc(), device, false)?;
     put_rows(rt.alloc(), &mut store, order)?;
     leaves_of(rt, store)
 }
 
 /// The leaves of the rows that are left where nine of ten were removed.
 fn leaves_after_removals(rt: &HostRuntime, order: Order) -> Result<u32> {
-    let mut store = new_store(rt.alloc(), MemDevice::new(rt.alloc(), MEMORY_PAGES)?)?;
+    let device = Guarded::new(MemDevice::new(rt.alloc(), MEMORY_PAGES)?);
+    let mut store = new_store(rt.alloc(), device, false)?;
     put_rows(rt.alloc(), &mut store, order)?;
     remove_rows(rt.alloc(), &mut store, order)?;
     leaves_of(rt, store)
@@ -428,7 +465,8 @@ fn leaves_after_removals(rt: &HostRuntime, order: Order) -> Result<u32> {
 /// Prints the counts of a commit of one changed row, the leaves of rows that were put in each order, and those that are left after
 /// removals.
 pub fn print_counts(rt: &HostRuntime) -> Result<()> {
-    print_commit(rt)?;
+    print_commits(rt, false, 1)?;
+    print_commits(rt, true, 2_100)?;
     let leaves = leaves_after(rt, Order::Random)?;
     println!(rt; "random {leaves}")?;
     let leaves = leaves_after(rt, Order::Rising)?;
@@ -508,16 +546,18 @@ else:
         sys.exit("a row was read otherwise")
     print("scan all", took)
 PROGRAM
-rm -f s.db ./*.lite*
+rm -f s.db j.db ./*.lite*
 (cd crates/store_bench && rt run -- make "$work/s.db" > build.log 2>&1) || { cat crates/store_bench/build.log; exit 1; }
 bench=crates/store_bench/out/store_bench
+$bench journal j.db
 $bench counts | python3 -c '
 import sys
 for line in sys.stdin:
     name, *numbers = line.split()
-    if name == "commit":
-        pages, sectors, syncs = map(int, numbers)
-        print(f"a commit of one changed row: {pages} pages, {sectors} single sectors, {syncs} syncs")
+    if name == "commits":
+        commits, pages, sectors, syncs = map(int, numbers)
+        which = "a commit" if commits == 1 else f"{commits:,} commits with a journal, each"
+        print(f"{which} of one changed row: {pages / commits:.2f} pages, {sectors / commits:.2f} single sectors, {syncs / commits:.2f} syncs")
     else:
         leaves = int(numbers[0])
         order = name.replace("_", " ")
@@ -529,10 +569,12 @@ for mode in delete truncate persist wal; do
 done
 for run in $(seq "$rounds"); do
   $bench commits s.db "$run"
+  $bench commits j.db "$run"
   for mode in delete truncate persist wal; do
     python3 sqlite.py commits "$mode.lite" "$mode" "$run"
   done
   $bench reads s.db
+  $bench reads j.db
   python3 sqlite.py reads delete.lite
   rm -f new.db new.lite*
   $bench puts new.db
@@ -550,6 +592,9 @@ COUNTS = {"commits": 2_000, "gets": 100_000, "scan": 100_000, "puts": 100_000}
 for work, all_ in times.items():
     ours = statistics.median(all_.pop("guarddb"))
     print(f"{work}: Guarddb {ours:.4f} s, {COUNTS[work] / ours:.0f} a second")
+    if "journal" in all_:
+        other = statistics.median(all_.pop("journal"))
+        print(f"{work}: with a journal {other:.4f} s, {COUNTS[work] / other:.0f} a second, ratio of the times {other / ours:.2f}")
     for who, others in all_.items():
         other = statistics.median(others)
         print(f"{work}: beside sqlite3, {who}: {other:.4f} s, {COUNTS[work] / other:.0f} a second, ratio of the times {ours / other:.2f}")
