@@ -19,7 +19,7 @@
 //! - `openings:CACHE`: each call of an opening fails, behind each commit. It is answered by Device, and a further one finds the
 //!   records.
 //! - `counts:CACHE`: how many sectors the commits of the script write, and how many syncs they make.
-//! - `full:ROUNDS:SIZE`: rows are put into a store with a journal and into one without, until that is full, and then seven rows
+//! - `full:ROUNDS:SIZE`: rows are put into a store with a journal and into one without, until one is full, and then seven rows
 //!   that lie apart are changed in each of so many rounds, each in a commit. It answers how often the one with a journal is full
 //!   where the other is not.
 //! - `again:CACHE`: the commits of the script. One that is refused memory is made again.

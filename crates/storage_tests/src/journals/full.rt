@@ -62,8 +62,6 @@ struct Pair {
     size: usize,
     /// How often the one with a journal was full where the other was not.
     alone: u32,
-    /// How often the other one was full.
-    fulls: u32,
 }
 
 // Written and not derived: where a value is dropped this is one call, and not its parts one by one.
@@ -75,7 +73,6 @@ impl Drop for Pair {
             plain: _,
             size: _,
             alone: _,
-            fulls: _,
         } = self;
     }
 }
@@ -108,14 +105,14 @@ impl Pair {
             plain: Filled::new(alloc, false)?,
             size,
             alone: 0,
-            fulls: 0,
         })
     }
 
-    /// Puts rows until the store without a journal is full. How many there are.
+    /// Puts rows until one of the stores is full. How many both have.
     fn fill(&mut self) -> Result<u32> {
         for row in 0..u32::MAX {
-            if !self.put(row, 7)? {
+            let (is_taken, is_journaled) = self.put(row, 7)?;
+            if !is_taken || !is_journaled {
                 return Ok(row);
             }
         }
@@ -127,27 +124,23 @@ impl Pair {
         for part in 0..CHANGED {
             let apart = (rows / CHANGED).wrapping_mul(part);
             let row = apart.wrapping_add(round.wrapping_mul(13)) % rows.max(1);
-            self.put(row, (round % 251) as u8)?;
+            let (is_taken, is_journaled) = self.put(row, (round % 251) as u8)?;
+            if is_taken && !is_journaled {
+                self.alone = self.alone.saturating_add(1);
+            }
         }
         Ok(())
     }
 
-    /// Puts a row in both stores. Whether the one without a journal takes it.
-    fn put(&mut self, row: u32, byte: u8) -> Result<bool> {
+    /// Puts a row in both stores. Whether the one without a journal takes it, and whether the other does.
+    fn put(&mut self, row: u32, byte: u8) -> Result<(bool, bool)> {
         let mut batch = Batch::new(self.alloc);
         if self.size > MAX_VALUE_LENGTH {
             bail!("no value of a store");
         }
         let value = vec![in self.alloc; byte; self.size]?;
         batch.put(&key_of(row), value.as_slice())?;
-        let is_taken = self.plain.commit(&batch)?;
-        if !is_taken {
-            self.fulls = self.fulls.saturating_add(1);
-        }
-        if !self.journaled.commit(&batch)? && is_taken {
-            self.alone = self.alone.saturating_add(1);
-        }
-        Ok(is_taken)
+        Ok((self.plain.commit(&batch)?, self.journaled.commit(&batch)?))
     }
 }
 
