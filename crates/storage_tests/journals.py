@@ -186,7 +186,7 @@ def lines():
     yield "# What commits of one row write: six records of one sector and one sync, and then the pages with two"
     yield from [f"counts:256 {ROWS}", f"counts:256 {LONG}", f"counts:1 {MIXED}", f"counts:256 {MANY}"]
     yield "# Stops, up to three lives deep, with a cache of all pages and with one of one page"
-    yield from [f"stops:256:3:211 {ROWS}", f"stops:1:1:1 {ROWS}", f"stops:256:2:211 {LONG}", f"stops:1:3:211 {MIXED}"]
+    yield from [f"stops:256:3:151 {ROWS}", f"stops:1:1:1 {ROWS}", f"stops:256:2:211 {LONG}", f"stops:1:3:173 {MIXED}"]
     yield "# The same over trees of several leaves"
     yield from [f"stops:256:1:1 uncounted {FILLED}", f"stops:1:1:1 uncounted {SPLIT}"]
     yield "# Calls that fail"
