@@ -17,6 +17,16 @@ use Rattle.device_store.proofs.Reading.{goes_in_pages}
 use Rattle.device_store.proofs.Walking.{goes_as}
 use Rattle.device_store.proofs.reads.DeviceStoreMap.seek.Goals as goal
 
+pub returns-in-Ok-clause-goes : goal.returns-in-Ok-clause-goes
+returns-in-Ok-clause-goes g c =
+    let s = c.in-Pages.store in
+    let t = c.seek.new.self in
+    let from = is_from c.args.key.now in
+    goes_in_pages g.met.D.Device.only_now s t c.in-Ok.ensures.preserved c.args.self.now c.in-Pages.is
+    (λ (y : DeviceStore g.row.D.Denot g.D.Device) (place : StorePlace). AreAhead (Pages t) place (entries_where from (store_state y).map)) (Ok (InPages c.in-Ok.walk))
+    (goes_as (λ (walk : TreeWalk). InPages walk) (λ walk. AreAheadInPages t.tree walk (entries_where from (pages_state s).map)) (λ place. AreAhead (Pages t) place (entries_where from (pages_state s).map))
+    (λ walk ahead. ahead) (pages_state s) (pages_state t) (Ok c.in-Ok.walk) c.in-Ok.ensures.goes)
+
 pub returns-in-Err-clause-goes : goal.returns-in-Err-clause-goes
 returns-in-Err-clause-goes g c =
     let s = c.in-Pages.store in
