@@ -5,7 +5,7 @@ use crate::journals::logged::{LoggedDevice, SECTORS};
 use anyhow::{Result, bail};
 use device_store::DeviceStore;
 use journal_store::JournalStore;
-use kv_store::PageStore;
+use kv_store::{MAX_CACHE_PAGES, PageStore};
 use sector_device::{Device, Guarded, MemDevice, SECTOR_SIZE};
 use std::alloc::{AllocError, Global};
 use store::Entry;
@@ -163,6 +163,9 @@ pub fn new_device(alloc: Global, has_journal: bool) -> Result<TrialDevice> {
 
 /// The store on a device.
 pub fn opened(alloc: Global, device: TrialDevice, cache: usize) -> Result<TrialStore> {
+    if cache == 0 || cache > MAX_CACHE_PAGES {
+        bail!("no size of a cache");
+    }
     match DeviceStore::open_with(alloc, device, cache) {
         Ok(store) => Ok(store),
         Err((_, fault)) => bail!("not opened: {fault:?}"),

@@ -8,7 +8,7 @@ use anyhow::{Result, bail};
 use cow_pages::CowPages;
 use device_store::DeviceStore;
 use journal_store::JournalStore;
-use kv_store::{FormatFault, MAX_CACHE_PAGES, PageStore};
+use kv_store::{MAX_CACHE_PAGES, PageStore};
 use sector_device::{Device, Guarded, MAX_MEMORY_PAGES, MemDevice, SECTOR_SIZE};
 use store::{Batch, Entry, MAX_KEY_LENGTH, MAX_VALUE_LENGTH, Store};
 
@@ -64,26 +64,19 @@ fn format(device: MemDevice, call: &CallWords<'_>) -> Result<MemDevice> {
     if key.is_empty() || key.len() > MAX_KEY_LENGTH || value.len() > MAX_VALUE_LENGTH {
         bail!("no size of a record");
     }
+    let mut device = Guarded::new(device);
     if device.sectors() != 512 {
         bail!("not 64 pages");
     }
-    let mut device = Guarded::new(device);
-    match make_new(&mut device, call, &Entry::from_parts(key, value)) {
+    let first = Entry::from_parts(key, value);
+    let made = if call.name == "journaled" {
+        JournalStore::format(call.alloc, &mut device, &first)
+    } else {
+        PageStore::format(call.alloc, &mut device, &first)
+    };
+    match made {
         Ok(()) => Ok(device.into_device()),
         Err(_) => bail!("not formatted"),
-    }
-}
-
-/// Makes a new store of one record, with a journal where the call says so.
-fn make_new(
-    device: &mut Guarded<MemDevice>,
-    call: &CallWords<'_>,
-    first: &Entry,
-) -> Result<(), FormatFault> {
-    if call.name == "journaled" {
-        JournalStore::format(call.alloc, device, first)
-    } else {
-        PageStore::format(call.alloc, device, first)
     }
 }
 
