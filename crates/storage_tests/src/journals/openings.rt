@@ -4,9 +4,9 @@ use crate::journals::batches::Script;
 use crate::journals::devices::{Image, TrialDevice, new_device, opened};
 use crate::journals::tally::Tally;
 use crate::journals::wanted::{Made, same_records, wanted_after};
-use anyhow::Result;
+use anyhow::{Result, bail};
 use device_store::DeviceStore;
-use kv_store::OpenFault;
+use kv_store::{MAX_CACHE_PAGES, OpenFault};
 use sector_device::Device;
 use store::Store;
 
@@ -47,6 +47,9 @@ fn fail_opening(
     calls: u64,
     tally: &mut Tally,
 ) -> Result<bool> {
+    if cache == 0 || cache > MAX_CACHE_PAGES {
+        bail!("no size of a cache");
+    }
     let device = image.device()?;
     device.device().device.fail_call(calls);
     let failures = device.failures();

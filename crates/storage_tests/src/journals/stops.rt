@@ -173,7 +173,7 @@ impl<'a> Stops<'a> {
         self.make_next(store, &found, next)?;
         if stopped.life < self.lives {
             self.restarts = self.restarts.wrapping_add(1);
-            if self.restarts % self.every == 0 {
+            if self.restarts % self.every.max(1) == 0 {
                 return self.stop_at(&stopped.image, &found, stopped.life, next.index);
             }
         }
