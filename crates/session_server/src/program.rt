@@ -67,9 +67,12 @@ pub fn perform<Y: System, X: Decide + Drop, K: TakesText, E: Write>(
         (E.contents err.old) (E.contents err.new) }
 {
     match order {
-        Order::Format { file, pages, admin } => {
-            format_for(system, alloc, *file, *pages, *admin, out, err)
-        }
+        Order::Format {
+            file,
+            pages,
+            admin,
+            journal,
+        } => format_for(system, alloc, *file, *pages, *admin, *journal, out, err),
         Order::Copy { file, new, pages } => copy(system, alloc, *file, *new, *pages, out, err),
         Order::Run { file, script } => {
             run_over_file(system, alloc, decider, *file, *script, out, err)
@@ -114,20 +117,21 @@ pub fn perform<Y: System, X: Decide + Drop, K: TakesText, E: Write>(
     }
 }
 
-// Makes a database in a new file, whose one role is the superuser `admin`. A name that no role can
-// have is a fault of usage, and no file is made.
+// Makes a database in a new file, whose one role is the superuser `admin`, with a journal or without. A
+// name that no role can have is a fault of usage, and no file is made.
 fn format_for<Y: System, K: TakesText, E: Write>(
     system: &mut Y,
     alloc: Global,
     file: &str,
     pages: u32,
     admin: &str,
+    journal: bool,
     out: &mut K,
     err: &mut E,
 ) -> Exit
     ensures { DoesFormat Y.Device.Device K.Sink (Y.state system.old) (Subject.Named file.entry)
-        file.now pages admin.now result (Y.state system.new) out.old out.new (E.contents err.old)
-        (E.contents err.new) }
+        file.now pages admin.now journal result (Y.state system.new) out.old out.new
+        (E.contents err.old) (E.contents err.new) }
 {
     if !is_name(admin) {
         return report_usage(UsageFault::Name(admin), err);
@@ -136,7 +140,7 @@ fn format_for<Y: System, K: TakesText, E: Write>(
     let Ok(Some(admin)) = Name::from_str(alloc, admin) else {
         return exit_with(Ending::Fault(ProgramFault::Memory), about, err);
     };
-    exit_with(format(system, alloc, file, pages, &admin, out), about, err)
+    exit_with(format(system, alloc, file, pages, &admin, journal, out), about, err)
 }
 
 // Makes a database in a new file, and says so.
@@ -146,12 +150,13 @@ fn format<Y: System, K: TakesText>(
     file: &str,
     pages: u32,
     admin: &Name,
+    journal: bool,
     out: &mut K,
 ) -> Ending
-    ensures { Formats Y.Device.Device (Y.state system.old) file.now pages admin.now
+    ensures { Formats Y.Device.Device (Y.state system.old) file.now pages admin.now journal
         (K.held out.old) result (Y.state system.new) (K.held out.new) }
 {
-    let formatted = format_file(system, alloc, file, pages, admin);
+    let formatted = format_file(system, alloc, file, pages, admin, journal);
     answer(formatted, FORMATTED, out)
 }
 
