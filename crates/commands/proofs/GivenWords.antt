@@ -76,8 +76,8 @@ other_name a b same differ = differ (ap (λ (t : TheWord). slice_index t 0) same
 other_second : (a b : TheWord) → a ≡ b → (slice_index a 1 ≡ slice_index b 1 → ⊥) → ⊥
 other_second a b same differ = differ (ap (λ (t : TheWord). slice_index t 1) same)
 
-pub no_format : (rows : List Row) → ((file pages admin : TheWord) → HasWords rows (Format file pages admin) → ⊥) → (given : Given) → GivesAs (codes "format") rows given → ⊥
-no_format rows lacks (Format file pages admin) gives = lacks file pages admin gives.words
+pub no_format : (rows : List Row) → ((file pages admin : TheWord) (journal : Bool) → HasWords rows (Format file pages admin journal) → ⊥) → (given : Given) → GivesAs (codes "format") rows given → ⊥
+no_format rows lacks (Format file pages admin journal) gives = lacks file pages admin journal gives.words
 no_format rows lacks (Copy file new pages) gives = other_name _ _ gives.named (λ e. omega (arith, e))
 no_format rows lacks (Run file script) gives = other_name _ _ gives.named (λ e. omega (arith, e))
 no_format rows lacks (RunMemory admin script) gives = other_name _ _ gives.named (λ e. omega (arith, e))
@@ -87,7 +87,7 @@ no_format rows lacks (Check file) gives = other_name _ _ gives.named (λ e. omeg
 no_format rows lacks (Describe file role json) gives = other_name _ _ gives.named (λ e. omega (arith, e))
 
 pub no_run : (rows : List Row) → ((file script : TheWord) → HasWords rows (Run file script) → ⊥) → ((admin script : TheWord) → HasWords rows (RunMemory admin script) → ⊥) → (given : Given) → GivesAs (codes "run") rows given → ⊥
-no_run rows fewer lacks (Format file pages admin) gives = other_name _ _ gives.named (λ e. omega (arith, e))
+no_run rows fewer lacks (Format file pages admin journal) gives = other_name _ _ gives.named (λ e. omega (arith, e))
 no_run rows fewer lacks (Copy file new pages) gives = other_name _ _ gives.named (λ e. omega (arith, e))
 no_run rows fewer lacks (Run file script) gives = fewer file script gives.words
 no_run rows fewer lacks (RunMemory admin script) gives = lacks admin script gives.words
@@ -97,7 +97,7 @@ no_run rows fewer lacks (Check file) gives = other_name _ _ gives.named (λ e. o
 no_run rows fewer lacks (Describe file role json) gives = other_name _ _ gives.named (λ e. omega (arith, e))
 
 pub no_serve : (rows : List Row) → ((file port connections : TheWord) (idle : Option TheWord) → HasWords rows (Serve file port connections idle) → ⊥) → ((file socket connections : TheWord) (idle : Option TheWord) → HasWords rows (ServeSocket file socket connections idle) → ⊥) → (given : Given) → GivesAs (codes "serve") rows given → ⊥
-no_serve rows port socket (Format file pages admin) gives = other_name _ _ gives.named (λ e. omega (arith, e))
+no_serve rows port socket (Format file pages admin journal) gives = other_name _ _ gives.named (λ e. omega (arith, e))
 no_serve rows port socket (Copy file new pages) gives = other_name _ _ gives.named (λ e. omega (arith, e))
 no_serve rows port socket (Run file script) gives = other_name _ _ gives.named (λ e. omega (arith, e))
 no_serve rows port socket (RunMemory admin script) gives = other_name _ _ gives.named (λ e. omega (arith, e))
@@ -107,7 +107,7 @@ no_serve rows port socket (Check file) gives = other_name _ _ gives.named (λ e.
 no_serve rows port socket (Describe file role json) gives = other_name _ _ gives.named (λ e. omega (arith, e))
 
 pub no_check : (rows : List Row) → ((file : TheWord) → HasWords rows (Check file) → ⊥) → (given : Given) → GivesAs (codes "check") rows given → ⊥
-no_check rows lacks (Format file pages admin) gives = other_name _ _ gives.named (λ e. omega (arith, e))
+no_check rows lacks (Format file pages admin journal) gives = other_name _ _ gives.named (λ e. omega (arith, e))
 no_check rows lacks (Copy file new pages) gives = other_second _ _ gives.named (λ e. omega (arith, e))
 no_check rows lacks (Run file script) gives = other_name _ _ gives.named (λ e. omega (arith, e))
 no_check rows lacks (RunMemory admin script) gives = other_name _ _ gives.named (λ e. omega (arith, e))
@@ -117,7 +117,7 @@ no_check rows lacks (Check file) gives = lacks file gives.words
 no_check rows lacks (Describe file role json) gives = other_name _ _ gives.named (λ e. omega (arith, e))
 
 pub no_describe : (rows : List Row) → ((file : TheWord) (role : Option TheWord) (json : Bool) → HasWords rows (Describe file role json) → ⊥) → (given : Given) → GivesAs (codes "describe") rows given → ⊥
-no_describe rows lacks (Format file pages admin) gives = other_name _ _ gives.named (λ e. omega (arith, e))
+no_describe rows lacks (Format file pages admin journal) gives = other_name _ _ gives.named (λ e. omega (arith, e))
 no_describe rows lacks (Copy file new pages) gives = other_name _ _ gives.named (λ e. omega (arith, e))
 no_describe rows lacks (Run file script) gives = other_name _ _ gives.named (λ e. omega (arith, e))
 no_describe rows lacks (RunMemory admin script) gives = other_name _ _ gives.named (λ e. omega (arith, e))
@@ -127,7 +127,7 @@ no_describe rows lacks (Check file) gives = other_name _ _ gives.named (λ e. om
 no_describe rows lacks (Describe file role json) gives = lacks file role json gives.words
 
 pub no_copy : (rows : List Row) → ((file new pages : TheWord) → HasWords rows (Copy file new pages) → ⊥) → (given : Given) → GivesAs (codes "copy") rows given → ⊥
-no_copy rows lacks (Format file pages admin) gives = other_name _ _ gives.named (λ e. omega (arith, e))
+no_copy rows lacks (Format file pages admin journal) gives = other_name _ _ gives.named (λ e. omega (arith, e))
 no_copy rows lacks (Copy file new pages) gives = lacks file new pages gives.words
 no_copy rows lacks (Run file script) gives = other_name _ _ gives.named (λ e. omega (arith, e))
 no_copy rows lacks (RunMemory admin script) gives = other_name _ _ gives.named (λ e. omega (arith, e))

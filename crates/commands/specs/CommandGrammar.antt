@@ -18,9 +18,9 @@ option_rule id required = record (word_rule id required) { long = Some id }
 abbrev pub flag_rule : List ℕ → Rule
 flag_rule id = record (new_rule id) { long = Some id; action = Some SetTrue }
 
--- `format FILE --pages N --admin NAME`
+-- `format FILE --pages N --admin NAME`, with `--journal` or without
 abbrev pub format_app : App
-format_app = with_rule (with_rule (with_rule (new_app (codes "format")) (word_rule (codes "file") true)) (option_rule (codes "pages") true)) (option_rule (codes "admin") true)
+format_app = with_rule (with_rule (with_rule (with_rule (new_app (codes "format")) (word_rule (codes "file") true)) (option_rule (codes "pages") true)) (option_rule (codes "admin") true)) (flag_rule (codes "journal"))
 
 -- `run`, with `--memory NAME` or without, and up to two words
 abbrev pub run_app : App

@@ -34,7 +34,7 @@ lent_word word = option_map (λ w. w.now) word
 
 -- the words that a command is given
 pub data Given : Type 0 where
-  Format : (file pages admin : TheWord) → Given
+  Format : (file pages admin : TheWord) (journal : Bool) → Given
   Copy : (file new pages : TheWord) → Given
   Run : (file script : TheWord) → Given
   RunMemory : (admin script : TheWord) → Given
@@ -44,7 +44,7 @@ pub data Given : Type 0 where
   Describe : (file : TheWord) (role : Option TheWord) (json : Bool) → Given
 
 abbrev pub command_of : Given → TheWord
-command_of (Format file pages admin) = codes "format"
+command_of (Format file pages admin journal) = codes "format"
 command_of (Copy file new pages) = codes "copy"
 command_of (Run file script) = codes "run"
 command_of (RunMemory admin script) = codes "run"
@@ -59,10 +59,10 @@ pub record IsFlag (value : Option TheWord) (given : Bool) : Type 0 where
   pub unset : value ≡ Some (codes "false") → given ≡ false
   pub absent : value ≡ None → given ≡ false
 
--- the words stand where the command takes them: `run` has two words without `--memory`, and one with it; `serve` has a port or a socket, and `--idle` or not;
--- `describe` has a role or none, and `--json` or not
+-- the words stand where the command takes them: `format` has `--journal` or not; `run` has two words without `--memory`, and one with it; `serve` has a port or
+-- a socket, and `--idle` or not; `describe` has a role or none, and `--json` or not
 abbrev pub HasWords : List Row → Given → Type 0
-HasWords rows (Format file pages admin) = (first_of (codes "file") rows ≡ Some file) × (first_of (codes "pages") rows ≡ Some pages) × (first_of (codes "admin") rows ≡ Some admin)
+HasWords rows (Format file pages admin journal) = (first_of (codes "file") rows ≡ Some file) × (first_of (codes "pages") rows ≡ Some pages) × (first_of (codes "admin") rows ≡ Some admin) × IsFlag (one_of (codes "journal") rows) journal
 HasWords rows (Copy file new pages) = (first_of (codes "file") rows ≡ Some file) × (first_of (codes "new") rows ≡ Some new) × (first_of (codes "pages") rows ≡ Some pages)
 HasWords rows (Run file script) = (first_of (codes "memory") rows ≡ None) × (first_of (codes "first") rows ≡ Some file) × (first_of (codes "second") rows ≡ Some script)
 HasWords rows (RunMemory admin script) = (first_of (codes "memory") rows ≡ Some admin) × (first_of (codes "first") rows ≡ Some script) × (first_of (codes "second") rows ≡ None)
@@ -109,7 +109,7 @@ IsRoleName (Some name) = IsName name
 -- of what is given the order says the words as they stand, but the numbers as such; names are those that a role can have, and paths of sockets
 -- those that the system takes
 abbrev pub IsOrdered : (Given → Type 0) → Order → Type 0
-IsOrdered G (order.Format file pages admin) = (number : TheWord) × G (Format file.now number admin.now) × IsNumberFor Pages number pages × IsName admin.now
+IsOrdered G (order.Format file pages admin journal) = (number : TheWord) × G (Format file.now number admin.now journal) × IsNumberFor Pages number pages × IsName admin.now
 IsOrdered G (order.Copy file new pages) = (number : TheWord) × G (Copy file.now new.now number) × IsNumberFor Pages number pages
 IsOrdered G (order.Run file script) = G (Run file.now script.now)
 IsOrdered G (order.RunMemory admin script) = G (RunMemory admin.now script.now) × IsName admin.now
@@ -130,7 +130,7 @@ Asks words o = IsOrdered (Gives words) o
 
 -- the word for the name of a role, for the path of a socket, and for a number
 abbrev pub name_in : Given → Option TheWord
-name_in (Format file pages admin) = Some admin
+name_in (Format file pages admin journal) = Some admin
 name_in (RunMemory admin script) = Some admin
 name_in (Describe file role json) = role
 name_in _ = None
@@ -140,7 +140,7 @@ path_in (ServeSocket file socket connections idle) = Some socket
 path_in _ = None
 
 abbrev pub number_in : NumberOption → Given → Option TheWord
-number_in Pages (Format file pages admin) = Some pages
+number_in Pages (Format file pages admin journal) = Some pages
 number_in Pages (Copy file new pages) = Some pages
 number_in Port (Serve file port connections idle) = Some port
 number_in Connections (Serve file port connections idle) = Some connections

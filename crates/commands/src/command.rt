@@ -22,11 +22,12 @@ use std::fmt;
 #[derive(Clone, Copy, Debug)]
 pub enum Order<'a> {
     /// `format FILE --pages N --admin NAME`: makes FILE, a database of N pages whose one role is the
-    /// superuser NAME.
+    /// superuser NAME. With `--journal` it has a journal.
     Format {
         file: &'a str,
         pages: u32,
         admin: &'a str,
+        journal: bool,
     },
     /// `copy FILE NEW --pages N`: copies the database in FILE to NEW, a new file of N pages.
     Copy {
@@ -194,6 +195,7 @@ fn read_format<'a>(given: &ArgMatches<'a>) -> Result<Order<'a>, UsageFault<'a>>
     let Some(admin) = given.get_str("admin") else {
         return Err(UsageFault::Form);
     };
+    let journal = given.get_flag("journal");
     let option = NumberOption::Pages;
     let Some(pages) = option.read(word) else {
         return Err(UsageFault::Number { option, word });
@@ -201,7 +203,12 @@ fn read_format<'a>(given: &ArgMatches<'a>) -> Result<Order<'a>, UsageFault<'a>>
     if !is_name(admin) {
         return Err(UsageFault::Name(admin));
     }
-    Ok(Order::Format { file, pages, admin })
+    Ok(Order::Format {
+        file,
+        pages,
+        admin,
+        journal,
+    })
 }
 
 /// The order that the words after `copy` give.

@@ -41,14 +41,15 @@ fn bare_command<'a>(alloc: Global) -> Command<'a>
         .subcommand_required(true)
 }
 
-/// `format FILE --pages N --admin NAME`.
+/// `format FILE --pages N --admin NAME [--journal]`.
 fn format_command<'a>(alloc: Global) -> Result<Command<'a>, AllocError>
     ensures { IfOk result (IsCommand format_app) }
 {
     command(alloc, "format")
         .arg(word(alloc, "file", "FILE", true))?
         .arg(option(alloc, "pages", "N", true))?
-        .arg(option(alloc, "admin", "NAME", true))
+        .arg(option(alloc, "admin", "NAME", true))?
+        .arg(flag(alloc, "journal"))
 }
 
 /// `run FILE SCRIPT` and `run --memory NAME SCRIPT`: the words are counted after they were read.

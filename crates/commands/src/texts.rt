@@ -1,7 +1,7 @@
 //! The texts that say how the program is called.
 
 /// How the program is called.
-pub const USAGE: &str = "guarddb format FILE --pages N --admin NAME
+pub const USAGE: &str = "guarddb format FILE --pages N --admin NAME [--journal]
        guarddb run FILE SCRIPT
        guarddb run --memory NAME SCRIPT
        guarddb serve FILE --port P --connections K [--idle SECONDS]
@@ -14,7 +14,7 @@ pub const USAGE: &str = "guarddb format FILE --pages N --admin NAME
 /// What `--help` prints.
 pub const HELP: &str = "Guarddb: a SQL server for several sessions over one database
 
-Usage: guarddb format FILE --pages N --admin NAME
+Usage: guarddb format FILE --pages N --admin NAME [--journal]
        guarddb run FILE SCRIPT
        guarddb run --memory NAME SCRIPT
        guarddb serve FILE --port P --connections K [--idle SECONDS]
@@ -25,9 +25,10 @@ Usage: guarddb format FILE --pages N --admin NAME
        guarddb < SCRIPT
 
 Commands:
-  format FILE --pages N --admin NAME
+  format FILE --pages N --admin NAME [--journal]
           Makes FILE, an empty database of N pages of 4,096 bytes each, N from 64 to 65536,
-          whose one role is the superuser NAME. A FILE that is there already is left as it is
+          whose one role is the superuser NAME. A FILE that is there already is left as it is.
+          With --journal small commits are quicker, and no older guarddb opens FILE
           Example: guarddb format shop.db --pages 256 --admin ann
   run FILE SCRIPT
           Runs the file SCRIPT over the database in FILE, which keeps what it commits
