@@ -71,22 +71,24 @@ class Program(unittest.TestCase):
         return self.path(name)
 
     def compares(self, script, expected, pages=256):
-        """Over memory, a file and connections the answers are those expected, and a second process finds what the first left."""
-        files = [self.path(name) for name in ('run', 'port', 'socket')]
+        """Over memory, files and connections the answers are those expected, and a second process finds what the first left."""
+        files = [self.path(name) for name in ('run', 'port', 'socket', 'journal')]
         for path in files:
-            make_database(path, pages)
+            make_database(path, pages, journal=path == self.path('journal'))
         self.assertEqual(run('run', '--memory', 'root', script), (0, expected, ''))
-        self.assertEqual(run('run', files[0], script), (0, expected, ''))
+        for path in (files[0], files[3]):
+            self.assertEqual(run('run', path, script), (0, expected, ''))
         self.assertEqual(over_a_connection(files[1], read(script)), expected)
         self.assertEqual(over_a_connection(files[2], read(script), self.path('at')), expected)
         for path in files:
             self.assertEqual(run('check', path), (0, 'ok CHECK\n', ''))
-        copy = self.path('copy')
-        self.assertEqual(run('copy', files[0], copy, '--pages', str(pages)), (0, 'ok COPY\n', ''))
-        self.assertEqual(self.records(copy), self.records(files[0]))
-        files.append(copy)
+        copies = [self.path(name) for name in ('copy', 'copy_of_journal')]
+        for path, copy in zip((files[0], files[3]), copies):
+            self.assertEqual(run('copy', path, copy, '--pages', str(pages)), (0, 'ok COPY\n', ''))
+            self.assertEqual(self.records(copy), self.records(files[0]))
+        files += copies
         first, *others = (run('run', path, self.write('again', self.reads(read(script)))) for path in files)
-        self.assertEqual(others, [first, first, first])
+        self.assertEqual(others, [first] * len(others))
         for path in files:
             os.remove(path)
 
