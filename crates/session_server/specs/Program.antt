@@ -38,6 +38,7 @@ use Rattle.session_server.specs.Describing.{Describes}
 use Rattle.session_server.specs.Printing.{EndsBy, IsPrinted, Prints}
 use Rattle.session_server.specs.Running.{IsNotRun, RunsOverNew}
 use Rattle.session_server.specs.Script.{IsReadAt, Source, ill_encoded}
+use Rattle.session_server.specs.Switching.{Switches}
 
 -- ---- faults of usage
 
@@ -194,13 +195,15 @@ pub record Serves (X : Type 0) {D L C : Type 0} (g : Ghosts D) (c : SinkGhosts C
 
 -- `X` decides events, `g` is what is said of the devices of files, `k` of the sink that takes answers, `c` of the sinks of connections,
 -- `listening` of listeners and `state` of systems. The script that was named was run over the database that was named, or why not was told; a
--- database in a file was made, copied, checked, described or served; or a text was printed
+-- database in a file was made, copied, checked, described or served, or its journal was turned on or off; or a text was printed
 module _ (X : Type 0) {D L K C S : Type 0} (g : Ghosts D) (k : SinkGhosts K) (c : SinkGhosts C) (Reads : ReadingRelation) (listening : L → Option Listening) (state : S → SystemState D L) (old : SystemState D L) where
   abbrev pub IsPerformed : Order → Exit → SystemState D L → K → K → Known → Known → Type 0
   IsPerformed (order.Format file pages admin journal) exit new out_before out_after err_before err_after =
       DoesFormat g k old (subject.Named file) file.now pages admin.now journal exit new out_before out_after err_before err_after
   IsPerformed (order.Copy file target pages) exit new out_before out_after err_before err_after =
       Copies g state old file target pages exit new (k.held out_before) (k.held out_after) err_before err_after
+  IsPerformed (order.Journal file on) exit new out_before out_after err_before err_after =
+      Switches g old file on exit new (k.held out_before) (k.held out_after) err_before err_after
   IsPerformed (order.Run file script) exit new out_before out_after err_before err_after =
       RunsOver X g k Reads old (subject.Named file) file.now (subject.Named script) script.now exit new out_before out_after err_before err_after
   IsPerformed (order.RunMemory admin script) exit new out_before out_after err_before err_after =

@@ -8,6 +8,7 @@ use crate::ending::{Ending, Exit, ProgramFault, Subject, exit_after, exit_with};
 use crate::file_copies::copy;
 use crate::printing::{print_for, print_text};
 use crate::runs::{run_over_file, run_read_in_memory};
+use crate::switching::switch;
 use crate::usage::report_usage;
 use commands::command::{Order, UsageFault, is_name};
 use commands::texts::{HELP, VERSION};
@@ -47,6 +48,9 @@ const CHECKED: &str = "ok CHECK\n";
 /// `copy` writes nothing to the file either, and a copy is there only once it is whole. A copy that was
 /// made stays where `out` fails.
 ///
+/// `journal` gives a database a journal or takes it away, and the database stays the same at every
+/// moment. A file of format 1 cannot have one: the fault is `FirstFormat`.
+///
 /// `describe` writes nothing to the file. Where the database has no role of the name that is asked
 /// for, the fault is `NoRole`.
 ///
@@ -74,6 +78,7 @@ pub fn perform<Y: System, X: Decide + Drop, K: TakesText, E: Write>(
             journal,
         } => format_for(system, alloc, *file, *pages, *admin, *journal, out, err),
         Order::Copy { file, new, pages } => copy(system, alloc, *file, *new, *pages, out, err),
+        Order::Journal { file, on } => switch(system, alloc, *file, *on, out, err),
         Order::Run { file, script } => {
             run_over_file(system, alloc, decider, *file, *script, out, err)
         }
