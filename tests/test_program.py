@@ -328,6 +328,40 @@ class Program(unittest.TestCase):
         migrated = f'guarddb: {path} was of format 1 and is of format 2 now\n'
         self.assertEqual(run('check', path), (0, 'ok CHECK\n', migrated))
 
+    def root_formats(self, path):
+        """The formats of the root sectors that are not empty, that of the greatest number last."""
+        data = self.bytes_of(path)
+        roots = sorted((data[at:at + 512] for at in (0, 512)), key=lambda root: root[16:24])
+        return [root[11] for root in roots if any(root)]
+
+    def test_a_journal_is_turned_on_and_off(self):
+        """The database stays, and goes on as one whose file has never had a journal."""
+        path, plain = self.path('db'), self.path('plain')
+        for name in (path, plain):
+            make_database(name)
+        for number, (word, form) in enumerate([('on', 3), ('on', 3), ('off', 2), ('off', 2), ('on', 3), ('off', 2)]):
+            table = 'r: CREATE TABLE t (k BIGINT PRIMARY KEY, x TEXT)\n' * (number == 0)
+            rows = ''.join(f"r: INSERT INTO t VALUES ({100 * number + k}, '{'x' * k}')\n" for k in range(50))
+            script = self.write('script', f'open r root\n{table}{rows}r: DELETE FROM t WHERE k > {100 * number + 40}\nr: SELECT * FROM t\n')
+            self.assertEqual(run('run', path, script), run('run', plain, script))
+            self.assertEqual(run('journal', path, word), (0, 'ok JOURNAL\n', ''))
+            self.assertEqual(self.root_formats(path)[-1], form)
+            self.assertEqual(run('check', path), (0, 'ok CHECK\n', ''))
+        self.assertNotIn(3, self.root_formats(path))
+        self.assertEqual(self.records(path), self.records(plain))
+
+    def test_journals_that_are_refused(self):
+        path, none = self.path('db'), self.path('none')
+        self.write_image(path, 'grants_of_format_1.image')
+        before = self.bytes_of(path)
+        first = "of format 1; 'guarddb check' brings it to format 2, which can have a journal"
+        self.assertEqual(run('journal', path, 'on'), self.told('Format', path, first))
+        self.assertEqual(run('journal', path, 'off'), (0, 'ok JOURNAL\n', ''))
+        self.assertEqual(self.bytes_of(path), before)
+        self.assertEqual(run('journal', none, 'on'), self.told('Device', none, 'no such file or folder'))
+        self.write('text', 'x' * 64 * 4096)
+        self.assertEqual(run('journal', self.path('text'), 'off'), self.told('NotADatabase', self.path('text'), REASONS['NotADatabase']))
+
     def copied(self, path, new, pages=64):
         """Copies a database, which stays as it was; nothing else is left beside the copy."""
         before = self.bytes_of(path)
