@@ -42,6 +42,10 @@ describe_app = with_rule (with_rule (with_rule (new_app (codes "describe")) (wor
 abbrev pub copy_app : App
 copy_app = with_rule (with_rule (with_rule (new_app (codes "copy")) (word_rule (codes "file") true)) (word_rule (codes "new") true)) (option_rule (codes "pages") true)
 
+-- `journal`, with two words
+abbrev pub journal_app : App
+journal_app = with_rule (with_rule (new_app (codes "journal")) (word_rule (codes "file") true)) (word_rule (codes "state") true)
+
 -- the flags for help and the version, and the need for a command
 abbrev pub bare_app : App
 bare_app =
@@ -56,7 +60,7 @@ bare_app =
     }
 
 abbrev pub program_app : App
-program_app = with_subcommand (with_subcommand (with_subcommand (with_subcommand (with_subcommand (with_subcommand bare_app format_app.top) run_app.top) serve_app.top) check_app.top) describe_app.top) copy_app.top
+program_app = with_subcommand (with_subcommand (with_subcommand (with_subcommand (with_subcommand (with_subcommand (with_subcommand bare_app format_app.top) run_app.top) serve_app.top) check_app.top) describe_app.top) copy_app.top) journal_app.top
 
 -- ---- a value of `clap` is such a part of it
 

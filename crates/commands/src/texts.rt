@@ -9,6 +9,7 @@ pub const USAGE: &str = "guarddb format FILE --pages N --admin NAME [--journal]
        guarddb check FILE
        guarddb describe FILE [ROLE] [--json]
        guarddb copy FILE NEW --pages N
+       guarddb journal FILE on|off
        guarddb < SCRIPT";
 
 /// What `--help` prints.
@@ -22,6 +23,7 @@ Usage: guarddb format FILE --pages N --admin NAME [--journal]
        guarddb check FILE
        guarddb describe FILE [ROLE] [--json]
        guarddb copy FILE NEW --pages N
+       guarddb journal FILE on|off
        guarddb < SCRIPT
 
 Commands:
@@ -61,6 +63,10 @@ Commands:
           backup, a larger file or a smaller one. FILE is not written, of format 1 neither, and
           others may read it meanwhile. A NEW that is there already is left as it is
           Example: guarddb copy shop.db backup.db --pages 256
+  journal FILE on|off
+          Gives the database in FILE a journal, or takes its journal away: the database stays
+          the same. With a journal small commits are quicker, and no older guarddb opens FILE
+          Example: guarddb journal shop.db on
   (none)  Runs the script on standard input over an empty database in memory, whose one
           role is the superuser root
           Example: printf 'open s root\\ns: SELECT 1 + 2\\n' | guarddb
