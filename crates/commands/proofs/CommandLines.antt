@@ -72,7 +72,7 @@ module _ (words : TheWords) (name : TheWord) (rows : List Row) (fits : fault_of 
   -- words that give an order ask for it
   pub order_asks : (o : Order) → IsOrdered (GivesAs name rows) o → Asks words o
   order_asks (order.Format file pages admin journal) has = (has.0, gives_of _ has.1, has.2, has.3)
-  order_asks (order.Copy file new pages) has = (has.0, gives_of _ has.1, has.2)
+  order_asks (order.Copy file new pages journal) has = (has.0, gives_of _ has.1, has.2)
   order_asks (order.Journal file on) has = gives_of _ has
   order_asks (order.Run file script) has = gives_of _ has
   order_asks (order.RunMemory admin script) has = (gives_of _ has.0, has.1)
@@ -104,7 +104,7 @@ asks_by : (words : TheWords) (e : Error) (r : Result Order UsageFault) → HasKi
 asks_by words e (Ok order.Help) kinds read = subst (λ k. EndsReading k words) read (among words e kinds (λ m. let bad : kind.OutOfMemory ≡ kind.DisplayHelp = sym m ∙ read in cc))
 asks_by words e (Ok order.Version) kinds read = subst (λ k. EndsReading k words) read (among words e kinds (λ m. let bad : kind.OutOfMemory ≡ kind.DisplayVersion = sym m ∙ read in cc))
 asks_by words e (Ok (order.Format file pages admin journal)) kinds read = absurd read
-asks_by words e (Ok (order.Copy file new pages)) kinds read = absurd read
+asks_by words e (Ok (order.Copy file new pages journal)) kinds read = absurd read
 asks_by words e (Ok (order.Journal file on)) kinds read = absurd read
 asks_by words e (Ok (order.Run file script)) kinds read = absurd read
 asks_by words e (Ok (order.RunMemory admin script)) kinds read = absurd read

@@ -15,7 +15,7 @@ module _ (G : Given → Type 0) (words : Given) (gives : G words) where
 
   pub ordered_so : (o : Order) → IsOrdered (λ given. given ≡ words) o → IsOrdered G o
   ordered_so (order.Format file pages admin journal) has = (has.0, so _ has.1, has.2, has.3)
-  ordered_so (order.Copy file new pages) has = (has.0, so _ has.1, has.2)
+  ordered_so (order.Copy file new pages journal) has = (has.0, so _ has.1, has.2)
   ordered_so (order.Journal file on) has = so _ has
   ordered_so (order.Run file script) has = so _ has
   ordered_so (order.RunMemory admin script) has = (so _ has.0, has.1)

@@ -78,7 +78,7 @@ other_second a b same differ = differ (ap (λ (t : TheWord). slice_index t 1) sa
 
 pub no_format : (rows : List Row) → ((file pages admin : TheWord) (journal : Bool) → HasWords rows (Format file pages admin journal) → ⊥) → (given : Given) → GivesAs (codes "format") rows given → ⊥
 no_format rows lacks (Format file pages admin journal) gives = lacks file pages admin journal gives.words
-no_format rows lacks (Copy file new pages) gives = other_name _ _ gives.named (λ e. omega (arith, e))
+no_format rows lacks (Copy file new pages journal) gives = other_name _ _ gives.named (λ e. omega (arith, e))
 no_format rows lacks (Journal file state) gives = other_name _ _ gives.named (λ e. omega (arith, e))
 no_format rows lacks (Run file script) gives = other_name _ _ gives.named (λ e. omega (arith, e))
 no_format rows lacks (RunMemory admin script) gives = other_name _ _ gives.named (λ e. omega (arith, e))
@@ -89,7 +89,7 @@ no_format rows lacks (Describe file role json) gives = other_name _ _ gives.name
 
 pub no_run : (rows : List Row) → ((file script : TheWord) → HasWords rows (Run file script) → ⊥) → ((admin script : TheWord) → HasWords rows (RunMemory admin script) → ⊥) → (given : Given) → GivesAs (codes "run") rows given → ⊥
 no_run rows fewer lacks (Format file pages admin journal) gives = other_name _ _ gives.named (λ e. omega (arith, e))
-no_run rows fewer lacks (Copy file new pages) gives = other_name _ _ gives.named (λ e. omega (arith, e))
+no_run rows fewer lacks (Copy file new pages journal) gives = other_name _ _ gives.named (λ e. omega (arith, e))
 no_run rows fewer lacks (Journal file state) gives = other_name _ _ gives.named (λ e. omega (arith, e))
 no_run rows fewer lacks (Run file script) gives = fewer file script gives.words
 no_run rows fewer lacks (RunMemory admin script) gives = lacks admin script gives.words
@@ -100,7 +100,7 @@ no_run rows fewer lacks (Describe file role json) gives = other_name _ _ gives.n
 
 pub no_serve : (rows : List Row) → ((file port connections : TheWord) (idle : Option TheWord) → HasWords rows (Serve file port connections idle) → ⊥) → ((file socket connections : TheWord) (idle : Option TheWord) → HasWords rows (ServeSocket file socket connections idle) → ⊥) → (given : Given) → GivesAs (codes "serve") rows given → ⊥
 no_serve rows port socket (Format file pages admin journal) gives = other_name _ _ gives.named (λ e. omega (arith, e))
-no_serve rows port socket (Copy file new pages) gives = other_name _ _ gives.named (λ e. omega (arith, e))
+no_serve rows port socket (Copy file new pages journal) gives = other_name _ _ gives.named (λ e. omega (arith, e))
 no_serve rows port socket (Journal file state) gives = other_name _ _ gives.named (λ e. omega (arith, e))
 no_serve rows port socket (Run file script) gives = other_name _ _ gives.named (λ e. omega (arith, e))
 no_serve rows port socket (RunMemory admin script) gives = other_name _ _ gives.named (λ e. omega (arith, e))
@@ -111,7 +111,7 @@ no_serve rows port socket (Describe file role json) gives = other_name _ _ gives
 
 pub no_check : (rows : List Row) → ((file : TheWord) → HasWords rows (Check file) → ⊥) → (given : Given) → GivesAs (codes "check") rows given → ⊥
 no_check rows lacks (Format file pages admin journal) gives = other_name _ _ gives.named (λ e. omega (arith, e))
-no_check rows lacks (Copy file new pages) gives = other_second _ _ gives.named (λ e. omega (arith, e))
+no_check rows lacks (Copy file new pages journal) gives = other_second _ _ gives.named (λ e. omega (arith, e))
 no_check rows lacks (Journal file state) gives = other_name _ _ gives.named (λ e. omega (arith, e))
 no_check rows lacks (Run file script) gives = other_name _ _ gives.named (λ e. omega (arith, e))
 no_check rows lacks (RunMemory admin script) gives = other_name _ _ gives.named (λ e. omega (arith, e))
@@ -122,7 +122,7 @@ no_check rows lacks (Describe file role json) gives = other_name _ _ gives.named
 
 pub no_describe : (rows : List Row) → ((file : TheWord) (role : Option TheWord) (json : Bool) → HasWords rows (Describe file role json) → ⊥) → (given : Given) → GivesAs (codes "describe") rows given → ⊥
 no_describe rows lacks (Format file pages admin journal) gives = other_name _ _ gives.named (λ e. omega (arith, e))
-no_describe rows lacks (Copy file new pages) gives = other_name _ _ gives.named (λ e. omega (arith, e))
+no_describe rows lacks (Copy file new pages journal) gives = other_name _ _ gives.named (λ e. omega (arith, e))
 no_describe rows lacks (Journal file state) gives = other_name _ _ gives.named (λ e. omega (arith, e))
 no_describe rows lacks (Run file script) gives = other_name _ _ gives.named (λ e. omega (arith, e))
 no_describe rows lacks (RunMemory admin script) gives = other_name _ _ gives.named (λ e. omega (arith, e))
@@ -131,9 +131,9 @@ no_describe rows lacks (ServeSocket file socket connections idle) gives = other_
 no_describe rows lacks (Check file) gives = other_name _ _ gives.named (λ e. omega (arith, e))
 no_describe rows lacks (Describe file role json) gives = lacks file role json gives.words
 
-pub no_copy : (rows : List Row) → ((file new pages : TheWord) → HasWords rows (Copy file new pages) → ⊥) → (given : Given) → GivesAs (codes "copy") rows given → ⊥
+pub no_copy : (rows : List Row) → ((file new pages : TheWord) (journal : Bool) → HasWords rows (Copy file new pages journal) → ⊥) → (given : Given) → GivesAs (codes "copy") rows given → ⊥
 no_copy rows lacks (Format file pages admin journal) gives = other_name _ _ gives.named (λ e. omega (arith, e))
-no_copy rows lacks (Copy file new pages) gives = lacks file new pages gives.words
+no_copy rows lacks (Copy file new pages journal) gives = lacks file new pages journal gives.words
 no_copy rows lacks (Journal file state) gives = other_name _ _ gives.named (λ e. omega (arith, e))
 no_copy rows lacks (Run file script) gives = other_name _ _ gives.named (λ e. omega (arith, e))
 no_copy rows lacks (RunMemory admin script) gives = other_name _ _ gives.named (λ e. omega (arith, e))
@@ -144,7 +144,7 @@ no_copy rows lacks (Describe file role json) gives = other_name _ _ gives.named 
 
 pub no_journal : (rows : List Row) → ((file state : TheWord) → HasWords rows (Journal file state) → ⊥) → (given : Given) → GivesAs (codes "journal") rows given → ⊥
 no_journal rows lacks (Format file pages admin journal) gives = other_name _ _ gives.named (λ e. omega (arith, e))
-no_journal rows lacks (Copy file new pages) gives = other_name _ _ gives.named (λ e. omega (arith, e))
+no_journal rows lacks (Copy file new pages journal) gives = other_name _ _ gives.named (λ e. omega (arith, e))
 no_journal rows lacks (Journal file state) gives = lacks file state gives.words
 no_journal rows lacks (Run file script) gives = other_name _ _ gives.named (λ e. omega (arith, e))
 no_journal rows lacks (RunMemory admin script) gives = other_name _ _ gives.named (λ e. omega (arith, e))

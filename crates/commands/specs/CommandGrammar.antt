@@ -38,9 +38,9 @@ check_app = with_rule (new_app (codes "check")) (word_rule (codes "file") true)
 abbrev pub describe_app : App
 describe_app = with_rule (with_rule (with_rule (new_app (codes "describe")) (word_rule (codes "file") true)) (word_rule (codes "role") false)) (flag_rule (codes "json"))
 
--- `copy FILE NEW --pages N`
+-- `copy FILE NEW --pages N`, with `--journal` or without
 abbrev pub copy_app : App
-copy_app = with_rule (with_rule (with_rule (new_app (codes "copy")) (word_rule (codes "file") true)) (word_rule (codes "new") true)) (option_rule (codes "pages") true)
+copy_app = with_rule (with_rule (with_rule (with_rule (new_app (codes "copy")) (word_rule (codes "file") true)) (word_rule (codes "new") true)) (option_rule (codes "pages") true)) (flag_rule (codes "journal"))
 
 -- `journal`, with two words
 abbrev pub journal_app : App

@@ -35,7 +35,7 @@ lent_word word = option_map (λ w. w.now) word
 -- the words that a command is given
 pub data Given : Type 0 where
   Format : (file pages admin : TheWord) (journal : Bool) → Given
-  Copy : (file new pages : TheWord) → Given
+  Copy : (file new pages : TheWord) (journal : Bool) → Given
   Journal : (file state : TheWord) → Given
   Run : (file script : TheWord) → Given
   RunMemory : (admin script : TheWord) → Given
@@ -46,7 +46,7 @@ pub data Given : Type 0 where
 
 abbrev pub command_of : Given → TheWord
 command_of (Format file pages admin journal) = codes "format"
-command_of (Copy file new pages) = codes "copy"
+command_of (Copy file new pages journal) = codes "copy"
 command_of (Journal file state) = codes "journal"
 command_of (Run file script) = codes "run"
 command_of (RunMemory admin script) = codes "run"
@@ -61,11 +61,11 @@ pub record IsFlag (value : Option TheWord) (given : Bool) : Type 0 where
   pub unset : value ≡ Some (codes "false") → given ≡ false
   pub absent : value ≡ None → given ≡ false
 
--- the words stand where the command takes them: `format` has `--journal` or not; `run` has two words without `--memory`, and one with it;
+-- the words stand where the command takes them: `format` and `copy` have `--journal` or not; `run` has two words without `--memory`, and one with it;
 -- `serve` has a port or a socket, and `--idle` or not; `describe` has a role or none, and `--json` or not
 abbrev pub HasWords : List Row → Given → Type 0
 HasWords rows (Format file pages admin journal) = (first_of (codes "file") rows ≡ Some file) × (first_of (codes "pages") rows ≡ Some pages) × (first_of (codes "admin") rows ≡ Some admin) × IsFlag (one_of (codes "journal") rows) journal
-HasWords rows (Copy file new pages) = (first_of (codes "file") rows ≡ Some file) × (first_of (codes "new") rows ≡ Some new) × (first_of (codes "pages") rows ≡ Some pages)
+HasWords rows (Copy file new pages journal) = (first_of (codes "file") rows ≡ Some file) × (first_of (codes "new") rows ≡ Some new) × (first_of (codes "pages") rows ≡ Some pages) × IsFlag (one_of (codes "journal") rows) journal
 HasWords rows (Journal file state) = (first_of (codes "file") rows ≡ Some file) × (first_of (codes "state") rows ≡ Some state)
 HasWords rows (Run file script) = (first_of (codes "memory") rows ≡ None) × (first_of (codes "first") rows ≡ Some file) × (first_of (codes "second") rows ≡ Some script)
 HasWords rows (RunMemory admin script) = (first_of (codes "memory") rows ≡ Some admin) × (first_of (codes "first") rows ≡ Some script) × (first_of (codes "second") rows ≡ None)
@@ -118,7 +118,7 @@ IsRoleName (Some name) = IsName name
 -- those that the system takes
 abbrev pub IsOrdered : (Given → Type 0) → Order → Type 0
 IsOrdered G (order.Format file pages admin journal) = (number : TheWord) × G (Format file.now number admin.now journal) × IsNumberFor Pages number pages × IsName admin.now
-IsOrdered G (order.Copy file new pages) = (number : TheWord) × G (Copy file.now new.now number) × IsNumberFor Pages number pages
+IsOrdered G (order.Copy file new pages journal) = (number : TheWord) × G (Copy file.now new.now number journal) × IsNumberFor Pages number pages
 IsOrdered G (order.Journal file on) = G (Journal file.now (switch_word on))
 IsOrdered G (order.Run file script) = G (Run file.now script.now)
 IsOrdered G (order.RunMemory admin script) = G (RunMemory admin.now script.now) × IsName admin.now
@@ -154,7 +154,7 @@ switch_in _ = None
 
 abbrev pub number_in : NumberOption → Given → Option TheWord
 number_in Pages (Format file pages admin journal) = Some pages
-number_in Pages (Copy file new pages) = Some pages
+number_in Pages (Copy file new pages journal) = Some pages
 number_in Port (Serve file port connections idle) = Some port
 number_in Connections (Serve file port connections idle) = Some connections
 number_in Connections (ServeSocket file socket connections idle) = Some connections

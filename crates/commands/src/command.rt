@@ -29,11 +29,13 @@ pub enum Order<'a> {
         admin: &'a str,
         journal: bool,
     },
-    /// `copy FILE NEW --pages N`: copies the database in FILE to NEW, a new file of N pages.
+    /// `copy FILE NEW --pages N`: copies the database in FILE to NEW, a new file of N pages. With
+    /// `--journal` NEW has a journal.
     Copy {
         file: &'a str,
         new: &'a str,
         pages: u32,
+        journal: bool,
     },
     /// `journal FILE on` and `journal FILE off`: gives the database in FILE a journal, or takes its
     /// journal away.
@@ -237,11 +239,14 @@ fn read_copy<'a>(given: &ArgMatches<'a>) -> Result<Order<'a>, UsageFault<'a>>
     let Some(word) = given.get_str("pages") else {
         return Err(UsageFault::Form);
     };
-    let option = NumberOption::Pages;
-    let Some(pages) = option.read(word) else {
-        return Err(UsageFault::Number { option, word });
-    };
-    Ok(Order::Copy { file, new, pages })
+    let journal = given.get_flag("journal");
+    let pages = read_number(NumberOption::Pages, word)?;
+    Ok(Order::Copy {
+        file,
+        new,
+        pages,
+        journal,
+    })
 }
 
 /// The order that the words after `journal` give.

@@ -94,14 +94,15 @@ fn describe_command<'a>(alloc: Global) -> Result<Command<'a>, AllocError>
         .arg(flag(alloc, "json"))
 }
 
-/// `copy FILE NEW --pages N`.
+/// `copy FILE NEW --pages N [--journal]`.
 fn copy_command<'a>(alloc: Global) -> Result<Command<'a>, AllocError>
     ensures { IfOk result (IsCommand copy_app) }
 {
     command(alloc, "copy")
         .arg(word(alloc, "file", "FILE", true))?
         .arg(word(alloc, "new", "NEW", true))?
-        .arg(option(alloc, "pages", "N", true))
+        .arg(option(alloc, "pages", "N", true))?
+        .arg(flag(alloc, "journal"))
 }
 
 /// `journal FILE on` and `journal FILE off`: which of the two it is, is decided once the words are

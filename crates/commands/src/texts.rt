@@ -8,7 +8,7 @@ pub const USAGE: &str = "guarddb format FILE --pages N --admin NAME [--journal]
        guarddb serve FILE --socket PATH --connections K [--idle SECONDS]
        guarddb check FILE
        guarddb describe FILE [ROLE] [--json]
-       guarddb copy FILE NEW --pages N
+       guarddb copy FILE NEW --pages N [--journal]
        guarddb journal FILE on|off
        guarddb < SCRIPT";
 
@@ -22,7 +22,7 @@ Usage: guarddb format FILE --pages N --admin NAME [--journal]
        guarddb serve FILE --socket PATH --connections K [--idle SECONDS]
        guarddb check FILE
        guarddb describe FILE [ROLE] [--json]
-       guarddb copy FILE NEW --pages N
+       guarddb copy FILE NEW --pages N [--journal]
        guarddb journal FILE on|off
        guarddb < SCRIPT
 
@@ -58,10 +58,11 @@ Commands:
           ROLE what that role may do to each table and column, and which policies apply to it.
           With --json it prints JSON. FILE is not written, of format 1 neither
           Example: guarddb describe shop.db bob
-  copy FILE NEW --pages N
+  copy FILE NEW --pages N [--journal]
           Copies the database in FILE to NEW, a new file of N pages, N from 64 to 65536: a
           backup, a larger file or a smaller one. FILE is not written, of format 1 neither, and
-          others may read it meanwhile. A NEW that is there already is left as it is
+          others may read it meanwhile. A NEW that is there already is left as it is. With
+          --journal NEW has a journal, whether FILE has one or not
           Example: guarddb copy shop.db backup.db --pages 256
   journal FILE on|off
           Gives the database in FILE a journal, or takes its journal away: the database stays

@@ -200,8 +200,8 @@ module _ (X : Type 0) {D L K C S : Type 0} (g : Ghosts D) (k : SinkGhosts K) (c 
   abbrev pub IsPerformed : Order → Exit → SystemState D L → K → K → Known → Known → Type 0
   IsPerformed (order.Format file pages admin journal) exit new out_before out_after err_before err_after =
       DoesFormat g k old (subject.Named file) file.now pages admin.now journal exit new out_before out_after err_before err_after
-  IsPerformed (order.Copy file target pages) exit new out_before out_after err_before err_after =
-      Copies g state old file target pages exit new (k.held out_before) (k.held out_after) err_before err_after
+  IsPerformed (order.Copy file target pages journal) exit new out_before out_after err_before err_after =
+      Copies g state old file target pages journal exit new (k.held out_before) (k.held out_after) err_before err_after
   IsPerformed (order.Journal file on) exit new out_before out_after err_before err_after =
       Switches g old file on exit new (k.held out_before) (k.held out_after) err_before err_after
   IsPerformed (order.Run file script) exit new out_before out_after err_before err_after =

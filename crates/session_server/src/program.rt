@@ -46,7 +46,7 @@ const CHECKED: &str = "ok CHECK\n";
 /// no fault. `serve` also tells on `err` where it listens, and how it ended.
 ///
 /// `copy` writes nothing to the file either, and a copy is there only once it is whole. A copy that was
-/// made stays where `out` fails.
+/// made stays where `out` fails, and where it is not given the journal that was asked for.
 ///
 /// `journal` gives a database a journal or takes it away, and the database stays the same at every
 /// moment. A file of format 1 cannot have one: the fault is `FirstFormat`.
@@ -77,7 +77,12 @@ pub fn perform<Y: System, X: Decide + Drop, K: TakesText, E: Write>(
             admin,
             journal,
         } => format_for(system, alloc, *file, *pages, *admin, *journal, out, err),
-        Order::Copy { file, new, pages } => copy(system, alloc, *file, *new, *pages, out, err),
+        Order::Copy {
+            file,
+            new,
+            pages,
+            journal,
+        } => copy(system, alloc, *file, *new, *pages, *journal, out, err),
         Order::Journal { file, on } => switch(system, alloc, *file, *on, out, err),
         Order::Run { file, script } => {
             run_over_file(system, alloc, decider, *file, *script, out, err)

@@ -40,12 +40,12 @@ fn end_of_switch<K: TakesText>(switched: Result<(), FileSwitchFault>, out: &mut 
 {
     match switched {
         Ok(()) => print_text(SWITCHED, out),
-        Err(fault) => Ending::Fault(program_fault(fault)),
+        Err(fault) => Ending::Fault(switch_fault(fault)),
     }
 }
 
-// The fault of it.
-fn program_fault(fault: FileSwitchFault) -> ProgramFault
+/// Why a journal was not turned on or off.
+pub(crate) fn switch_fault(fault: FileSwitchFault) -> ProgramFault
     ensures { result ≡ fault_of_switch fault }
 {
     match fault {
