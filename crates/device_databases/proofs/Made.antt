@@ -3,7 +3,6 @@ use Rattle.std.proofs.Common.{◌≡◌, ◌⊎◌, ◌/◌, ℕ, Bool, true, fa
 use Rattle.sector_device.specs.Timeline.{weakened}
 use Rattle.sector_device.specs.Device.{DeviceState, Image, IsLeft, timeline}
 use Rattle.sector_device.specs.declared.device.Device.{Ghosts}
-use Rattle.sector_journal.specs.Journals.{region_in}
 use Rattle.cow_pages.specs.Image.{first_fault, is_size}
 use Rattle.cow_pages.specs.declared.open.OpenFault.TheVariants.{NotADatabase}
 use Rattle.storage_sizes.specs.Spellings.{current}
@@ -13,7 +12,6 @@ use Rattle.kv_store.specs.Formatting.{HasFirst, WritesStore, IsMade as IsStoreMa
 use Rattle.kv_store.specs.declared.formatting.FormatFault.TheVariants as format
 use Rattle.journal_store.specs.Formatting.{first_contents, HasFirst as HasFirstJournaled, HasNoParts, WritesStore as WritesJournaled, IsMade as IsJournaledMade}
 use Rattle.journal_store.specs.Images.{IsJournaledUnder}
-use Rattle.journal_store.specs.Meaning.{journal_start, journal_room}
 use Rattle.journal_store.proofs.Clearing.{no_numbers, no_parts_blank}
 use Rattle.abstract_database.specs.Lists.{TheName}
 use Rattle.abstract_database.specs.Database.{new_database}
@@ -61,7 +59,7 @@ module _ (admin : TheName) (stands : StandsFor (new_records admin) (new_database
         has = first.0;
         number_is = record {
           not_below = omega (arith, first.1);
-          up_to = λ q part held. omega (arith, no_numbers (region_in journal_start journal_room image) (no_parts_blank image is.1) q part held);
+          up_to = λ q part held. omega (arith, no_numbers _ (no_parts_blank image is.1) q part held);
           reached = inl (sym first.1);
         };
       } in
