@@ -20,7 +20,10 @@ module _ (one : HasOneContents) where
   database_stays d e contents keeps db holds =
       let same : holds.contents ≡ contents = one d.content (d.sectors / 8) (d.sectors / 8) holds.contents contents holds.has keeps.had in
       let stands : Stands contents db = subst (λ (c : Contents). Stands c db) same holds.stands in
-      weakened (MayLeave d contents) (λ x. (records_on d).left x ⊎ Means x db) (records_on d) (records_on e) (λ x may. ⊎_elim (λ left. inl left) (λ is. inr (contents, is, stands)) may) keeps.any_moment
+      record {
+        during = weakened (MayLeave d contents) (λ x. (records_on d).left x ⊎ Means x db) (records_on d) (records_on e) (λ x may. ⊎_elim (λ left. inl left) (λ is. inr (contents, is, stands)) may) keeps.any_moment;
+        now = λ x left. (contents, keeps.now x left, stands);
+      }
 
   pub stays_switched : {D : Type 0} (g : Ghosts D) (on : Bool) (d e : DeviceState) (number : ℕ) → d.faithful → Switches g on d (Ok number) e → KeepsDatabase d e
   stays_switched g true d e number faithful turns = let is = turns.outcome faithful in database_stays d e is.contents is.keeps

@@ -12,7 +12,8 @@ use std::alloc::Global;
 use systems::{Access, System};
 
 /// Gives the database in the file at `path` a journal, or takes its journal away, and closes the file.
-/// Where it is so already, nothing is written. The database stays the same at every moment.
+/// Where it is so already, nothing is written, but that `off` empties an older root that says that there
+/// is a journal. The database stays the same at every moment.
 ///
 /// `File`: what `read_file` refuses of the file before its records are read; a call of its device
 /// failed; or an allocation did. `FirstFormat`: a journal is asked for, and the file is of format 1.

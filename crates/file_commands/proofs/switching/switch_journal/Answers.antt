@@ -12,7 +12,7 @@ returns-in-Ok-switched g c =
     let left = c.switch_on_device-left.result.0 in
     let switches = subst (λ (r : Result ℕ SwitchFault). Switches g.Y.Device.Device c.args.on (state device) r (state left)) c.in-Ok-switched.is c.switch_on_device-left.ensures in
     record {
-      number = c.in-Ok-switched.number;
+      number = c.in-Ok-switched._number;
       switched = record {
         device = device;
         left = left;
@@ -20,7 +20,7 @@ returns-in-Ok-switched g c =
         changes = λ is. closed_again g.Y.Device.Device c.args.path.now device left (g.Y.System.state c.args.system.now) (g.Y.System.state c.open.new.self) (g.Y.System.state c.close.new.self)
             (c.in-Ok.ensures.opened is) (c.in-Ok.ensures.open is) (c.in-Ok.ensures.others is) c.close.ensures.closed c.close.ensures.others is;
       };
-      stays = λ is. stays_switched c.one_contents.ensures g.Y.Device.Device c.args.on (state device) (state left) c.in-Ok-switched.number
+      stays = λ is. stays_switched c.one_contents.ensures g.Y.Device.Device c.args.on (state device) (state left) c.in-Ok-switched._number
           (g.met.Y.System.faithful_devices c.args.system.now c.args.path.now device is (inl (c.in-Ok.ensures.opened is))) switches;
     }
 
