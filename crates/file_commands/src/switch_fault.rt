@@ -35,7 +35,9 @@ impl From<SwitchFault> for FileSwitchFault {
             SwitchFault::Unopened(OpenFault::NotADatabase) => {
                 FileSwitchFault::File(CommandFault::NotADatabase)
             }
-            SwitchFault::Unopened(OpenFault::Damaged) => FileSwitchFault::File(CommandFault::Damaged),
+            SwitchFault::Unopened(OpenFault::Damaged) => FileSwitchFault::File(
+                CommandFault::Damaged,
+            ),
             SwitchFault::Unopened(OpenFault::Memory) | SwitchFault::Refused(StoreFault::Memory) => {
                 FileSwitchFault::File(CommandFault::Memory)
             }

@@ -140,7 +140,10 @@ impl fmt::Display for Reason {
             }
             ProgramFault::NoRole => write!(f, "no role of the database has this name"),
             ProgramFault::FirstFormat => {
-                write!(f, "of format 1; 'guarddb check' brings it to format 2, which can have a journal")
+                write!(
+                    f,
+                    "of format 1; 'guarddb check' brings it to format 2, which can have a journal"
+                )
             }
             ProgramFault::NoSwitchRoom => {
                 write!(f, "no room is left for this; copy it to a larger file")

@@ -150,7 +150,11 @@ fn format_for<Y: System, K: TakesText, E: Write>(
     let Ok(Some(admin)) = Name::from_str(alloc, admin) else {
         return exit_with(Ending::Fault(ProgramFault::Memory), about, err);
     };
-    exit_with(format(system, alloc, file, pages, &admin, journal, out), about, err)
+    exit_with(
+        format(system, alloc, file, pages, &admin, journal, out),
+        about,
+        err,
+    )
 }
 
 // Makes a database in a new file, and says so.

@@ -27,9 +27,11 @@ returns-in-Err-Memory g c =
     let old = c.args.device.now in
     let size = subst (λ (n : ℕ). is_size n ≡ true) c.sectors.ensures c.in-Some.ensures.some.0 in
     let new = c.format_store.new.device in
-    let is = subst (λ (f : FormatFault). FormatsOfKind g.D.Device c.args.journal c.in-Ok.first (Err f) old new) c.in-Err-Memory.field-0-is c.in-Err-Memory.ensures in
-    (size, unwritten admin stands g.D.Device old new size c.args.journal
-    (subst (λ (e : Record). FormatsOfKind g.D.Device c.args.journal e (Err format.Memory) old new) c.in-Ok.ensures.record is))
+    let is = subst (λ (f : FormatFault). FormatsOfKind g.D.Device c.args.journal c.in-Ok.first (Err f) old new) c.in-Err-Memory.field-0-is c.in-Err-Memory.ensures in (
+      size,
+      unwritten admin stands g.D.Device old new size c.args.journal
+          (subst (λ (e : Record). FormatsOfKind g.D.Device c.args.journal e (Err format.Memory) old new) c.in-Ok.ensures.record is),
+    )
 
 pub returns : goal.returns
 returns g c =
