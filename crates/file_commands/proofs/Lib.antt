@@ -3,5 +3,4 @@ pub mod Changes
 mod Copied
 mod Served
 mod OnlyRead
-mod Switched
 mod Taken

@@ -7,5 +7,3 @@ pub mod Formatting
 pub mod Migrations
 pub mod Reading
 pub mod Serving
-pub mod SwitchFaults
-pub mod Switching

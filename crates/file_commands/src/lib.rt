@@ -1,5 +1,4 @@
-//! Commands over a database that a path of a system names: it is made, copied, checked, read, run over and served, and its journal
-//! is turned on and off.
+//! Commands over a database that a path of a system names: it is made, copied, checked, read, run over and served.
 #![tactic(auto)]
 
 mod copy_fault;
@@ -10,8 +9,6 @@ mod opened;
 mod reading;
 mod run;
 mod serve;
-mod switch_fault;
-mod switching;
 
 pub use copy_fault::FileCopyFault;
 pub use fault::CommandFault;
@@ -21,5 +18,3 @@ pub use opened::CommandEnd;
 pub use reading::read_file;
 pub use run::{check_file, run_file};
 pub use serve::{Limits, serve_file, serve_on};
-pub use switch_fault::FileSwitchFault;
-pub use switching::switch_journal;

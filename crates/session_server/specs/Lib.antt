@@ -5,4 +5,3 @@ pub mod Printing
 pub mod Program
 pub mod Running
 pub mod Script
-pub mod Switching

@@ -10,5 +10,4 @@ pub mod program;
 pub mod running;
 pub mod runs;
 mod script;
-mod switching;
 pub mod usage;

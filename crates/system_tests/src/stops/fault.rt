@@ -54,8 +54,6 @@ pub enum TrialFault {
     AnotherContent,
     /// What an opening found is lost by a stop.
     Lost,
-    /// A copy is refused for another fault than that its device stopped.
-    CopyRefused,
 }
 
 impl From<AllocError> for TrialFault {
