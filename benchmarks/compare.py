@@ -27,6 +27,7 @@ class Fill:
     statements: list
     role: str = 'root'
     condition: str = ''         # what sqlite3 has to be asked in place of a policy
+    journal: bool = False       # whether Guarddb's file has one
 
 
 @dataclasses.dataclass
@@ -58,6 +59,7 @@ def fills():
     made['empty'] = Fill(['CREATE TABLE t (k BIGINT PRIMARY KEY, x BIGINT, o TEXT)'])
     made['policy'] = Fill([*guarded, 'CREATE POLICY p ON t USING (x >= 0)'], 'bob', ' AND x >= 0')
     made['owner'] = Fill([*guarded, 'CREATE POLICY p ON t USING (o = current_user)'], 'bob', " AND o = 'bob'")
+    made['journaled'] = Fill(table('t', 10_000), journal=True)
     made['memberships'] = Fill([*table('t', ROWS), 'CREATE ROLE bob LOGIN', *chain, 'GRANT SELECT ON t TO g3'], 'bob')
     return made
 
@@ -138,9 +140,11 @@ def writes():
     yield Work('delete of all', 'memory', full, ['DELETE FROM t'])
     yield Work('delete of all, where', 'memory', full, ['DELETE FROM t WHERE x > -1'])
     yield Work('insert, a commit each', 'file', 't10000', inserts(mixed(range(10_000, 12_000))))
+    yield Work('insert, a commit each, journal', 'file', 'journaled', inserts(mixed(range(10_000, 12_000))))
     yield Work('insert in a block', 'file', 't10000', block(inserts(mixed(range(10_000, 40_000)))))
     yield Work('update of all', 'file', full, ['UPDATE t SET x = x + 1'] * 3)
     yield Work('insert, a commit each', 'socket', 't10000', [])
+    yield Work('insert, a commit each, journal', 'socket', 'journaled', [])
 
 
 def growth(filled):
@@ -216,7 +220,8 @@ class Bench:
     def guarddb_database(self, work):
         if work.fill not in self.files:
             path = f'{work.fill}.guarddb'
-            run([self.program, 'format', path, '--pages', FILE_PAGES, '--admin', 'root'])
+            journal = ['--journal'] * self.fills[work.fill].journal
+            run([self.program, 'format', path, '--pages', FILE_PAGES, '--admin', 'root', *journal])
             run([self.program, 'run', path, self.script('fill.script', work, [], True)])
             self.files[work.fill] = path
         return self.files[work.fill]

@@ -2,8 +2,8 @@
 # One client in one connection: point SELECTs, and INSERTs of one row with a commit each, over 'guarddb serve' beside PostgreSQL
 # 15. Both have a table of 10,000 rows in a file system of the folder WORK (a new one in /var/tmp where it is not given), and
 # both put each commit on the disk before they answer. A client in C sends the same texts to both, each once the answer to the
-# one before is there: to Guarddb over a Unix socket and, to another database, over TCP, and to PostgreSQL over its Unix socket, by
-# simple queries.
+# one before is there: to Guarddb over a Unix socket and, to other databases, over TCP and over a Unix socket to a file with a journal,
+# and to PostgreSQL over its Unix socket, by simple queries.
 # Prints a line for each of ROUNDS rounds (7 where it is not given), which alternate, and then the medians, in statements a
 # second, with their ratios. The client counts the rows that come; where the two servers differ in them, it says so.
 #   benchmarks/serve.sh [WORK [ROUNDS]]
@@ -49,9 +49,11 @@ trap stop EXIT
 
 . "$top/benchmarks/postgres.sh"
 
-# A server over a new database, at a place that its further words name.
+# A server over a new database, at a place that its further words name. One whose name begins so has a journal.
 start_guarddb() {
-  "$program" format "$1" --pages 16384 --admin root
+  local journal=()
+  [[ $1 != journal* ]] || journal=(--journal)
+  "$program" format "$1" --pages 16384 --admin root "${journal[@]}"
   "$program" serve "$1" "$2" "$3" --connections 65535 >>"$work/log" 2>&1 &
   servers+=("$!")
   ./client guarddb "$3" setup
@@ -61,7 +63,8 @@ port=$((20000 + RANDOM % 10000))
 socket="$work/at"
 start_guarddb over_socket --socket "$socket"
 start_guarddb over_port --port "$port"
-measured=(socket port)
+start_guarddb journaled --socket "$work/journal_at"
+measured=(socket journal port)
 if start_postgres; then
   measured+=(postgres)
   "$bin/postgres" --version
@@ -72,6 +75,7 @@ cd "$work"
 place() {
   case $1 in
     socket) echo "guarddb $socket" ;;
+    journal) echo "guarddb $work/journal_at" ;;
     port) echo "guarddb $port" ;;
     postgres) echo "postgres $work/postgres" ;;
   esac
@@ -93,10 +97,10 @@ for line in open(sys.argv[1]):
     rows.setdefault(name, []).append(int(found))
 for kind in ("selects", "inserts"):
     other = rates.get("postgres_" + kind)
-    for place in ("socket", "port"):
+    for place in ("socket", "journal", "port"):
         ours = statistics.median(rates[f"{place}_{kind}"])
         said = f", PostgreSQL {statistics.median(other):.0f}, ratio {ours / statistics.median(other):.2f}" if other else ""
-        print(f"{kind} over a {place}: Guarddb {ours:.0f} a second{said}")
+        print(f"{kind}, {place}: Guarddb {ours:.0f} a second{said}")
         if other and rows[f"{place}_{kind}"] != rows["postgres_" + kind]:
             print(f"{kind}: the two servers gave different numbers of rows")
 PROGRAM

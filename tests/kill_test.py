@@ -8,8 +8,8 @@ are the same then, but for how fast the machine is.
 
 The files are in a new folder below TMPDIR: a folder in memory, such as /dev/shm, is as good, since a kill takes no sector back.
 
-Before each round the file is a new one, or the one that the round before has left, by turns. Each round has a script of its
-own: INSERTs, UPDATEs and DELETEs, each a commit, and blocks of several of them, whose COMMIT is one. SIGKILL comes when a
+Before each round the file is a new one, or the one that the round before has left, by turns. Each second new one has a journal.
+Each round has a script of its own: INSERTs, UPDATEs and DELETEs, each a commit, and blocks of several of them, whose COMMIT is one. SIGKILL comes when a
 random number of answers is there, and a random while later, or in the opening. Then `guarddb check FILE` must print `ok CHECK`,
 and a second run of the program must find the rows of the commits that were acknowledged on standard output, or of these and the
 one that was under way. The program is the one in the environment variable GUARDDB, or else fake_guarddb.py, whose faults, which
@@ -163,17 +163,18 @@ def main(seed, rounds):
     folder = tempfile.mkdtemp(prefix='guarddb-kill-')
     print(f'seed {seed}, {rounds} rounds, files in {folder}', flush=True)
     random_numbers = random.Random(seed)
-    files = {name: os.path.join(folder, name) for name in ('empty', 'db', 'script', 'reads')}
-    make_database(files['empty'], pages=96)
+    files = {name: os.path.join(folder, name) for name in ('empty', 'journaled', 'db', 'script', 'reads')}
     with open(files['reads'], 'w') as reads:
         reads.write(f'open r root\nr: {TABLE}\n')
-    assert run('run', files['empty'], files['reads']) == (0, 'ok OPEN\nok CREATE TABLE\n', '')
+    for name in ('empty', 'journaled'):
+        make_database(files[name], pages=96, journal=name == 'journaled')
+        assert run('run', files[name], files['reads']) == (0, 'ok OPEN\nok CREATE TABLE\n', '')
     with open(files['reads'], 'w') as reads:
         reads.write('open r root\nr: SELECT k, x, o FROM t\n')
     counts, failed, rows = {False: 0, True: 0, None: 0}, 0, {}
     for number in range(rounds):
         if number % 2 == 0:
-            shutil.copyfile(files['empty'], files['db'])
+            shutil.copyfile(files['journaled' if number % 4 else 'empty'], files['db'])
             rows = {}
         lines, states = make_script(rows, random_numbers)
         if number == 0:

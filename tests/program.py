@@ -21,8 +21,8 @@ def run(*words, given=''):
     return done.returncode, done.stdout.decode(), done.stderr.decode()
 
 
-def make_database(path, pages=256, admin='root'):
-    done = run('format', path, '--pages', str(pages), '--admin', admin)
+def make_database(path, pages=256, admin='root', journal=False):
+    done = run('format', path, '--pages', str(pages), '--admin', admin, *['--journal'] * journal)
     assert done == (0, 'ok FORMAT\n', ''), done
 
 

@@ -71,22 +71,24 @@ class Program(unittest.TestCase):
         return self.path(name)
 
     def compares(self, script, expected, pages=256):
-        """Over memory, a file and connections the answers are those expected, and a second process finds what the first left."""
-        files = [self.path(name) for name in ('run', 'port', 'socket')]
+        """Over memory, files and connections the answers are those expected, and a second process finds what the first left."""
+        files = [self.path(name) for name in ('run', 'port', 'socket', 'journal')]
         for path in files:
-            make_database(path, pages)
+            make_database(path, pages, journal=path == self.path('journal'))
         self.assertEqual(run('run', '--memory', 'root', script), (0, expected, ''))
-        self.assertEqual(run('run', files[0], script), (0, expected, ''))
+        for path in (files[0], files[3]):
+            self.assertEqual(run('run', path, script), (0, expected, ''))
         self.assertEqual(over_a_connection(files[1], read(script)), expected)
         self.assertEqual(over_a_connection(files[2], read(script), self.path('at')), expected)
         for path in files:
             self.assertEqual(run('check', path), (0, 'ok CHECK\n', ''))
-        copy = self.path('copy')
-        self.assertEqual(run('copy', files[0], copy, '--pages', str(pages)), (0, 'ok COPY\n', ''))
-        self.assertEqual(self.records(copy), self.records(files[0]))
-        files.append(copy)
+        copies = [self.path(name) for name in ('copy', 'copy_of_journal')]
+        for path, copy in zip((files[0], files[3]), copies):
+            self.assertEqual(run('copy', path, copy, '--pages', str(pages)), (0, 'ok COPY\n', ''))
+            self.assertEqual(self.records(copy), self.records(files[0]))
+        files += copies
         first, *others = (run('run', path, self.write('again', self.reads(read(script)))) for path in files)
-        self.assertEqual(others, [first, first, first])
+        self.assertEqual(others, [first] * len(others))
         for path in files:
             os.remove(path)
 
@@ -325,6 +327,40 @@ class Program(unittest.TestCase):
         self.assertEqual([row['column'] for row in self.described(path)['privileges'] if row['column']], [])
         migrated = f'guarddb: {path} was of format 1 and is of format 2 now\n'
         self.assertEqual(run('check', path), (0, 'ok CHECK\n', migrated))
+
+    def root_formats(self, path):
+        """The formats of the root sectors that are not empty, that of the greatest number last."""
+        data = self.bytes_of(path)
+        roots = sorted((data[at:at + 512] for at in (0, 512)), key=lambda root: root[16:24])
+        return [root[11] for root in roots if any(root)]
+
+    def test_a_journal_is_turned_on_and_off(self):
+        """The database stays, and goes on as one whose file has never had a journal."""
+        path, plain = self.path('db'), self.path('plain')
+        for name in (path, plain):
+            make_database(name)
+        for number, (word, form) in enumerate([('on', 3), ('on', 3), ('off', 2), ('off', 2), ('on', 3), ('off', 2)]):
+            table = 'r: CREATE TABLE t (k BIGINT PRIMARY KEY, x TEXT)\n' * (number == 0)
+            rows = ''.join(f"r: INSERT INTO t VALUES ({100 * number + k}, '{'x' * k}')\n" for k in range(50))
+            script = self.write('script', f'open r root\n{table}{rows}r: DELETE FROM t WHERE k > {100 * number + 40}\nr: SELECT * FROM t\n')
+            self.assertEqual(run('run', path, script), run('run', plain, script))
+            self.assertEqual(run('journal', path, word), (0, 'ok JOURNAL\n', ''))
+            self.assertEqual(self.root_formats(path)[-1], form)
+            self.assertEqual(run('check', path), (0, 'ok CHECK\n', ''))
+        self.assertNotIn(3, self.root_formats(path))
+        self.assertEqual(self.records(path), self.records(plain))
+
+    def test_journals_that_are_refused(self):
+        path, none = self.path('db'), self.path('none')
+        self.write_image(path, 'grants_of_format_1.image')
+        before = self.bytes_of(path)
+        first = "of format 1; 'guarddb check' brings it to format 2, which can have a journal"
+        self.assertEqual(run('journal', path, 'on'), self.told('Format', path, first))
+        self.assertEqual(run('journal', path, 'off'), (0, 'ok JOURNAL\n', ''))
+        self.assertEqual(self.bytes_of(path), before)
+        self.assertEqual(run('journal', none, 'on'), self.told('Device', none, 'no such file or folder'))
+        self.write('text', 'x' * 64 * 4096)
+        self.assertEqual(run('journal', self.path('text'), 'off'), self.told('NotADatabase', self.path('text'), REASONS['NotADatabase']))
 
     def copied(self, path, new, pages=64):
         """Copies a database, which stays as it was; nothing else is left beside the copy."""

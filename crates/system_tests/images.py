@@ -23,6 +23,9 @@ import model
 PAGE, SECTOR, PAGES = 4096, 512, 64
 ROOM = PAGE - 4         # of the cells of a node
 MAGIC = b'GUARDDB1'
+JOURNAL_START, JOURNAL_ROOM = 2, 6      # sectors
+JOURNAL_MAGIC = b'GDBJ'
+PART = SECTOR - 24      # of a record's bytes behind a tag
 LAST_NUMBER = 2**64 - 1
 ATTRIBUTES = ['SUPERUSER', 'LOGIN', 'BYPASSRLS']
 
@@ -176,6 +179,50 @@ class Device:
         return 1 + len(pages)
 
 
+def tag(root, count, index, parts):
+    return JOURNAL_MAGIC + number(root, 8) + number(count, 8) + number(index, 2) + number(parts, 2)
+
+
+def batch_of(old, new):
+    """The bytes of the changes that lead from records to others, in the order of their keys."""
+    before, after = dict(old), dict(new)
+    return b''.join(change_of(key, after.get(key)) for key in sorted(before.keys() | after.keys()) if before.get(key) != after.get(key))
+
+
+def change_of(key, value):
+    if value is None:
+        return b'\2' + number(len(key), 2) + key
+    return b'\1' + number(len(key), 2) + number(len(value), 2) + key + value
+
+
+def parts_of(batch):
+    """The bytes of a batch in parts, the last of which has zeros to its end."""
+    return [batch[at:at + PART].ljust(PART, b'\0') for at in range(0, len(batch), PART)]
+
+
+class Journal:
+    """The sectors of a journal, by their places from 0 on, behind a root of this number."""
+
+    def __init__(self, root):
+        self.root, self.end, self.sectors = root, 0, {}
+
+    def put(self, at, root, count, index, parts, part=bytes(PART)):
+        self.sectors[at] = tag(root, count, index, parts) + part
+
+    def append(self, count, batch):
+        """A record of this number. How many parts it has."""
+        parts = parts_of(batch)
+        for index, part in enumerate(parts):
+            self.put(self.end + index, self.root, count, index, len(parts), part)
+        self.end += len(parts)
+        assert self.end <= JOURNAL_ROOM
+        return len(parts)
+
+    def lines(self):
+        """The lines that put its sectors in the place of those that a device has."""
+        return [f'at {SECTOR * (JOURNAL_START + at)} {sector.hex(" ")}' for at, sector in sorted(self.sectors.items())]
+
+
 def lines_of(image):
     """The lines that put the bytes of a device: runs of a byte, and the bytes between them."""
     data = bytes(image).rstrip(b'\0')
@@ -265,13 +312,14 @@ class Images:
         with open(os.path.join(self.folder, name + ending), 'w', encoding='utf-8', newline='') as file:
             file.write(''.join(line + '\n' for line in lines))
 
-    def opens(self, name, lines, db, form, count, asked=()):
-        """An image that is opened, and of format 2 then, of the next number where it was of format 1."""
+    def opens(self, name, lines, db, form, count, asked=(), refused=()):
+        """An image that is opened, and of format 2 then, of the next number, where it was of format 1. Of what is asked after the
+        rest each line has the code that refuses it."""
         records, is_first = records_of(db, 2), form == 1
-        self.write(name, '.image', [*lines, *(f'ask {line}' for line in asked)])
+        self.write(name, '.image', [*lines, *(f'ask {line}' for line in [*asked, *(line for line, _ in refused)])])
         openings = ['opened, other bytes' if is_first else 'opened, the same bytes', 'opened, the same bytes']
-        told = f'number {count + is_first}, format 2, {told_of(records)}'
-        self.write(name, '.opened', [*openings, told, *answers_over(db, asked)])
+        told = f'number {count + is_first}, format {max(form, 2)}, {told_of(records)}'
+        self.write(name, '.opened', [*openings, told, *answers_over(db, asked), *(f'refused {code}' for _, code in refused)])
 
     def is_refused(self, name, lines, why):
         """An image that is refused for this reason each time, and not written."""
@@ -288,7 +336,7 @@ def device_of_grants(db, form):
     device = Device()
     device.put_root(form, 11, 40)
     device.put(PAGE * 40, number(41, 4))
-    device.put_store(form, 12, records_of(db, form), 20)
+    device.put_store(form, 12, records_of(db, min(form, 2)), 20)
     return device
 
 
@@ -317,7 +365,11 @@ def write_formats(images):
     for form in (1, 2):
         grants = f'from grants_of_format_{form}'
         for byte in {0, 1, 2, 3, 9} - {form}:
-            images.is_refused(f'format_{byte}_over_format_{form}', [grants, byte_line(newer, byte)], 'Damaged')
+            lines = [grants, byte_line(newer, byte)]
+            if (form, byte) == (2, 3):
+                images.opens('format_3_over_format_2', lines, database(GRANTS), 3, 12, ASKED)
+            else:
+                images.is_refused(f'format_{byte}_over_format_{form}', lines, 'Damaged')
         images.is_refused(f'older_root_of_format_9_beside_format_{form}', [grants, byte_line(older, 9)], 'Damaged')
     empty = database(NO_TABLE)
     images.opens('format_1_over_roles', ['from roles_of_format_2', byte_line(SECTOR + 11, 1)], empty, 1, 1)
@@ -350,6 +402,96 @@ def write_numbers(images):
     device = Device()
     device.put_store(1, LAST_NUMBER - 1, records_of(db, 1), 9)
     images.opens('last_number_but_one', lines_of(device.image), db, 1, LAST_NUMBER - 1)
+
+
+# What three commits do to the database of GRANTS: a row is another's, a privilege is taken, and a long text comes.
+COMMITS = [["a: UPDATE t SET x = 21, o = 'dan' WHERE k = 2", 'a: DELETE FROM t WHERE k = 3'], ['a: REVOKE SELECT ON t FROM bob CASCADE'],
+           [f"a: INSERT INTO t VALUES (9, 90, '{'m' * 700}')"]]
+
+
+def write_journals(images):
+    """Devices of format 3, whose root has number 12: what stands behind it counts where it is whole, and is without fault."""
+    steps = [database(GRANTS + sum(COMMITS[:done], [])) for done in range(len(COMMITS) + 1)]
+    records = [records_of(db, 2) for db in steps]
+    batches = [batch_of(old, new) for old, new in zip(records, records[1:])]
+    images.write('device_of_format_3', '.image', lines_of(device_of_grants(steps[0], 3).image))
+    images.write('device_of_format_3', '.opened', ['opened, the same bytes'] * 2 + [f'number 12, format 3, {told_of(records[0])}'])
+    write_good_journals(images, steps, batches)
+    write_bad_journals(images, batches)
+
+
+def journal_with(*records):
+    """A journal behind the root of number 12, with records of these numbers."""
+    journal = Journal(12)
+    for count, batch in records:
+        journal.append(count, batch)
+    return journal
+
+
+def write_good_journals(images, steps, batches):
+    """Journals that are whole, or end where a stop has cut a record off, or hold what an earlier root had."""
+    def opens(name, journal, done, count, asked=(), refused=()):
+        images.opens(name, ['from device_of_format_3', *journal.lines()], steps[done], 3, count, asked, refused)
+
+    opens('journal_of_one_record', journal_with((13, batches[0])), 1, 13, ASKED)
+    opens('journal_of_three_records', journal_with(*zip((13, 14, 15), batches)), 3, 15, ASKED)
+    opens('journal_with_numbers_left_out', journal_with(*zip((13, 40, 41), batches)), 3, 41)
+    opens('journal_to_the_last_number', journal_with((13, batches[0]), (LAST_NUMBER, batches[1])), 2, LAST_NUMBER,
+          ['open a ann', 'a: SELECT * FROM t'], [("a: INSERT INTO t VALUES (7, 7, 'bob')", '54000')])
+    # A stop in the second of two parts, in the first of them, and before both.
+    journal = journal_with(*zip((13, 14, 15), batches))
+    assert journal.end == 4
+    for left_out, top in ((3, 15), (2, 15)):
+        cut = journal_with(*zip((13, 14, 15), batches))
+        del cut.sectors[left_out]
+        opens(f'record_without_its_part_{left_out - 2}', cut, 2, top, ASKED)
+    # The record that was cut off has the place of another one, of a greater number, which is whole.
+    journal = journal_with((13, batches[0]), (15, batches[1]))
+    journal.put(2, 12, 14, 1, 2)
+    opens('record_over_one_that_was_cut_off', journal, 2, 15)
+    # Records of the root before: whole ones, and one behind the end.
+    journal = journal_with((13, batches[0]))
+    for at in range(1, 5):
+        journal.put(at, 11, 12 + at, 0, 1, parts_of(batches[1])[0])
+    opens('records_of_the_root_before', journal, 1, 16)
+    journal = Journal(12)
+    journal.put(0, 11, 12, 0, 1, parts_of(batches[1])[0])
+    opens('record_of_the_root_before_alone', journal, 0, 12)
+    # A record whose number does not rise is none.
+    opens('record_of_an_older_number', journal_with((14, batches[0]), (14, batches[1])), 1, 14)
+    # Under format 2 nobody reads these sectors.
+    images.opens('journal_under_format_2', ['from grants_of_format_2', *journal_with((13, batches[0])).lines()], steps[0], 2, 12)
+
+
+def write_bad_journals(images, batches):
+    """Journals with a sector that none has, and records that spell no batch or no database."""
+    def is_damaged(name, journal, *more):
+        images.is_refused(name, ['from device_of_format_3', *journal.lines(), *more], 'Damaged')
+
+    first = parts_of(batches[0])[0]
+    good = journal_with((13, batches[0])).lines()
+    tags = {'no_root': (0, 14, 0, 1), 'a_later_root': (13, 14, 0, 1), 'no_parts': (12, 14, 0, 0), 'more_parts_than_sectors': (12, 14, 0, 7),
+            'an_index_past_its_parts': (12, 14, 2, 2), 'an_index_past_its_parts_of_the_root_before': (11, 12, 1, 1)}
+    for name, fields in tags.items():
+        journal = Journal(12)
+        journal.put(1, *fields, first)
+        images.is_refused(f'tag_of_{name}', ['from device_of_format_3', *good, *journal.lines()], 'Damaged')
+    journal = journal_with((13, batches[0]))
+    journal.put(2, 12, 14, 0, 1, first)
+    is_damaged('record_behind_a_gap', journal)
+    for at in (0, 1, 5):
+        is_damaged(f'sector_{at}_of_no_tag', journal_with((13, batches[0])), byte_line(SECTOR * (JOURNAL_START + at), 0x47 if at else 0x46))
+    is_damaged('blank_sector_with_one_byte', journal_with((13, batches[0])), byte_line(SECTOR * (JOURNAL_START + 6) - 1, 1))
+    role = change_of(b'\1ann', b'\2')
+    spoiled = {'no_kind_of_change': b'\3' + role[1:], 'keys_that_fall': role + change_of(b'\1aaa', b'\2'), 'one_key_twice': role * 2,
+               'an_empty_key': change_of(b'', b'\2'), 'a_key_too_long': change_of(b'\1' + b'n' * 205, b'\2'),
+               'a_value_too_long': change_of(b'\1ann', b'n' * 1201), 'a_byte_behind_its_zeros': role.ljust(PART - 1, b'\0') + b'\1',
+               'a_part_of_zeros': role.ljust(PART + 1, b'\0'),
+               'a_value_cut_off': (b'\1' + number(4, 2) + number(1100, 2) + b'\1ann').ljust(PART, b'n')}
+    for name, batch in spoiled.items():
+        is_damaged(f'record_with_{name}', journal_with((13, batch)))
+    is_damaged('record_that_removes_an_owner', journal_with((13, change_of(b'\1ann', None))))
+    is_damaged('record_of_no_kind', journal_with((13, change_of(b'\7', b'\0'))))
 
 
 def write_rooms(images):
@@ -403,7 +545,7 @@ def write_odd_keys(images):
 
 def write_all(folder):
     images = Images(folder)
-    for write in (write_databases, write_formats, write_roots, write_numbers, write_rooms, write_odd_keys):
+    for write in (write_databases, write_formats, write_roots, write_numbers, write_journals, write_rooms, write_odd_keys):
         write(images)
 
 

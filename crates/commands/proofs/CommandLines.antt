@@ -71,8 +71,9 @@ module _ (words : TheWords) (name : TheWord) (rows : List Row) (fits : fault_of 
 
   -- words that give an order ask for it
   pub order_asks : (o : Order) → IsOrdered (GivesAs name rows) o → Asks words o
-  order_asks (order.Format file pages admin) has = (has.0, gives_of _ has.1, has.2, has.3)
-  order_asks (order.Copy file new pages) has = (has.0, gives_of _ has.1, has.2)
+  order_asks (order.Format file pages admin journal) has = (has.0, gives_of _ has.1, has.2, has.3)
+  order_asks (order.Copy file new pages journal) has = (has.0, gives_of _ has.1, has.2)
+  order_asks (order.Journal file on) has = gives_of _ has
   order_asks (order.Run file script) has = gives_of _ has
   order_asks (order.RunMemory admin script) has = (gives_of _ has.0, has.1)
   order_asks (order.Serve file port connections idle) has = (has.0, has.1, has.2, gives_of _ has.3, has.4, has.5, has.6)
@@ -89,6 +90,7 @@ module _ (words : TheWords) (name : TheWord) (rows : List Row) (fits : fault_of 
   order_refuses (usage.Number option word) unfit = (unfit.0, gives_of _ unfit.1, unfit.2, unfit.3)
   order_refuses (usage.Path path) unfit = (unfit.0, gives_of _ unfit.1, unfit.2, unfit.3)
   order_refuses (usage.Name named) unfit = (unfit.0, gives_of _ unfit.1, unfit.2, unfit.3)
+  order_refuses (usage.Switch word) unfit = (unfit.0, gives_of _ unfit.1, unfit.2, unfit.3)
   order_refuses (usage.Grammar e) unfit = absurd unfit
   order_refuses usage.Encoding unfit = absurd unfit
   order_refuses usage.Memory unfit = absurd unfit
@@ -101,8 +103,9 @@ among words e kinds other = elim kinds [ inl memory ↦ absurd (other memory) | 
 asks_by : (words : TheWords) (e : Error) (r : Result Order UsageFault) → HasKind (fault_of program_app words) e → IsReadFrom e r → IfOk r (Asks words)
 asks_by words e (Ok order.Help) kinds read = subst (λ k. EndsReading k words) read (among words e kinds (λ m. let bad : kind.OutOfMemory ≡ kind.DisplayHelp = sym m ∙ read in cc))
 asks_by words e (Ok order.Version) kinds read = subst (λ k. EndsReading k words) read (among words e kinds (λ m. let bad : kind.OutOfMemory ≡ kind.DisplayVersion = sym m ∙ read in cc))
-asks_by words e (Ok (order.Format file pages admin)) kinds read = absurd read
-asks_by words e (Ok (order.Copy file new pages)) kinds read = absurd read
+asks_by words e (Ok (order.Format file pages admin journal)) kinds read = absurd read
+asks_by words e (Ok (order.Copy file new pages journal)) kinds read = absurd read
+asks_by words e (Ok (order.Journal file on)) kinds read = absurd read
 asks_by words e (Ok (order.Run file script)) kinds read = absurd read
 asks_by words e (Ok (order.RunMemory admin script)) kinds read = absurd read
 asks_by words e (Ok (order.Serve file port connections idle)) kinds read = absurd read
@@ -120,6 +123,7 @@ refuses_by words e (Err usage.Serving) kinds read = absurd read
 refuses_by words e (Err (usage.Number option word)) kinds read = absurd read
 refuses_by words e (Err (usage.Path path)) kinds read = absurd read
 refuses_by words e (Err (usage.Name name)) kinds read = absurd read
+refuses_by words e (Err (usage.Switch word)) kinds read = absurd read
 refuses_by words e (Err usage.Encoding) kinds read = absurd read
 refuses_by words e (Err usage.Memory) kinds read = tt
 

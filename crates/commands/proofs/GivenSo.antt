@@ -14,8 +14,9 @@ module _ (G : Given → Type 0) (words : Given) (gives : G words) where
   so given is = subst G (sym is) gives
 
   pub ordered_so : (o : Order) → IsOrdered (λ given. given ≡ words) o → IsOrdered G o
-  ordered_so (order.Format file pages admin) has = (has.0, so _ has.1, has.2, has.3)
-  ordered_so (order.Copy file new pages) has = (has.0, so _ has.1, has.2)
+  ordered_so (order.Format file pages admin journal) has = (has.0, so _ has.1, has.2, has.3)
+  ordered_so (order.Copy file new pages journal) has = (has.0, so _ has.1, has.2)
+  ordered_so (order.Journal file on) has = so _ has
   ordered_so (order.Run file script) has = so _ has
   ordered_so (order.RunMemory admin script) has = (so _ has.0, has.1)
   ordered_so (order.Serve file port connections idle) has = (has.0, has.1, has.2, so _ has.3, has.4, has.5, has.6)
@@ -31,6 +32,7 @@ module _ (G : Given → Type 0) (words : Given) (gives : G words) where
   unfit_so (usage.Number option word) unfit = (unfit.0, so _ unfit.1, unfit.2, unfit.3)
   unfit_so (usage.Path path) unfit = (unfit.0, so _ unfit.1, unfit.2, unfit.3)
   unfit_so (usage.Name named) unfit = (unfit.0, so _ unfit.1, unfit.2, unfit.3)
+  unfit_so (usage.Switch word) unfit = (unfit.0, so _ unfit.1, unfit.2, unfit.3)
   unfit_so (usage.Grammar e) unfit = absurd unfit
   unfit_so usage.Encoding unfit = absurd unfit
   unfit_so usage.Memory unfit = absurd unfit
@@ -48,6 +50,7 @@ no_number_so option given word is usage.Form none = absurd none
 no_number_so option given word is usage.Serving none = absurd none
 no_number_so option given word is (usage.Path path) none = absurd none
 no_number_so option given word is (usage.Name name) none = absurd none
+no_number_so option given word is (usage.Switch named) none = absurd none
 no_number_so option given word is (usage.Grammar e) none = absurd none
 no_number_so option given word is usage.Encoding none = absurd none
 no_number_so option given word is usage.Memory none = absurd none

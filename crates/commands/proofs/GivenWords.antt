@@ -6,7 +6,7 @@ use Rattle.clap.specs.Words.{Row, first_of, first_value, one_of, one_text, rows_
 use Rattle.clap.proofs.WalkLemmas.{first_value-rows, one_text-rows}
 use Rattle.clap.specs.declared.parser.matches.Found.{Found}
 use Rattle.sql_types.specs.Name.{IsName}
-use Rattle.commands.specs.CommandLine.{TheWord, Given, Format, Copy, Run, RunMemory, Serve, ServeSocket, Check, Describe, HasWords, GivesAs, IsFlag, IsRoleName, lent_word}
+use Rattle.commands.specs.CommandLine.{TheWord, Given, Format, Copy, Journal, Run, RunMemory, Serve, ServeSocket, Check, Describe, HasWords, GivesAs, IsFlag, IsRoleName, lent_word}
 
 module _ (f : Found) (id : List ℕ) (r : Option (Bor (List ℕ))) (got : option_map (λ s. s.now) r ≡ first_value f id) where
   -- what a getter gives is the word that the rows have
@@ -76,9 +76,10 @@ other_name a b same differ = differ (ap (λ (t : TheWord). slice_index t 0) same
 other_second : (a b : TheWord) → a ≡ b → (slice_index a 1 ≡ slice_index b 1 → ⊥) → ⊥
 other_second a b same differ = differ (ap (λ (t : TheWord). slice_index t 1) same)
 
-pub no_format : (rows : List Row) → ((file pages admin : TheWord) → HasWords rows (Format file pages admin) → ⊥) → (given : Given) → GivesAs (codes "format") rows given → ⊥
-no_format rows lacks (Format file pages admin) gives = lacks file pages admin gives.words
-no_format rows lacks (Copy file new pages) gives = other_name _ _ gives.named (λ e. omega (arith, e))
+pub no_format : (rows : List Row) → ((file pages admin : TheWord) (journal : Bool) → HasWords rows (Format file pages admin journal) → ⊥) → (given : Given) → GivesAs (codes "format") rows given → ⊥
+no_format rows lacks (Format file pages admin journal) gives = lacks file pages admin journal gives.words
+no_format rows lacks (Copy file new pages journal) gives = other_name _ _ gives.named (λ e. omega (arith, e))
+no_format rows lacks (Journal file state) gives = other_name _ _ gives.named (λ e. omega (arith, e))
 no_format rows lacks (Run file script) gives = other_name _ _ gives.named (λ e. omega (arith, e))
 no_format rows lacks (RunMemory admin script) gives = other_name _ _ gives.named (λ e. omega (arith, e))
 no_format rows lacks (Serve file port connections idle) gives = other_name _ _ gives.named (λ e. omega (arith, e))
@@ -87,8 +88,9 @@ no_format rows lacks (Check file) gives = other_name _ _ gives.named (λ e. omeg
 no_format rows lacks (Describe file role json) gives = other_name _ _ gives.named (λ e. omega (arith, e))
 
 pub no_run : (rows : List Row) → ((file script : TheWord) → HasWords rows (Run file script) → ⊥) → ((admin script : TheWord) → HasWords rows (RunMemory admin script) → ⊥) → (given : Given) → GivesAs (codes "run") rows given → ⊥
-no_run rows fewer lacks (Format file pages admin) gives = other_name _ _ gives.named (λ e. omega (arith, e))
-no_run rows fewer lacks (Copy file new pages) gives = other_name _ _ gives.named (λ e. omega (arith, e))
+no_run rows fewer lacks (Format file pages admin journal) gives = other_name _ _ gives.named (λ e. omega (arith, e))
+no_run rows fewer lacks (Copy file new pages journal) gives = other_name _ _ gives.named (λ e. omega (arith, e))
+no_run rows fewer lacks (Journal file state) gives = other_name _ _ gives.named (λ e. omega (arith, e))
 no_run rows fewer lacks (Run file script) gives = fewer file script gives.words
 no_run rows fewer lacks (RunMemory admin script) gives = lacks admin script gives.words
 no_run rows fewer lacks (Serve file port connections idle) gives = other_name _ _ gives.named (λ e. omega (arith, e))
@@ -97,8 +99,9 @@ no_run rows fewer lacks (Check file) gives = other_name _ _ gives.named (λ e. o
 no_run rows fewer lacks (Describe file role json) gives = other_name _ _ gives.named (λ e. omega (arith, e))
 
 pub no_serve : (rows : List Row) → ((file port connections : TheWord) (idle : Option TheWord) → HasWords rows (Serve file port connections idle) → ⊥) → ((file socket connections : TheWord) (idle : Option TheWord) → HasWords rows (ServeSocket file socket connections idle) → ⊥) → (given : Given) → GivesAs (codes "serve") rows given → ⊥
-no_serve rows port socket (Format file pages admin) gives = other_name _ _ gives.named (λ e. omega (arith, e))
-no_serve rows port socket (Copy file new pages) gives = other_name _ _ gives.named (λ e. omega (arith, e))
+no_serve rows port socket (Format file pages admin journal) gives = other_name _ _ gives.named (λ e. omega (arith, e))
+no_serve rows port socket (Copy file new pages journal) gives = other_name _ _ gives.named (λ e. omega (arith, e))
+no_serve rows port socket (Journal file state) gives = other_name _ _ gives.named (λ e. omega (arith, e))
 no_serve rows port socket (Run file script) gives = other_name _ _ gives.named (λ e. omega (arith, e))
 no_serve rows port socket (RunMemory admin script) gives = other_name _ _ gives.named (λ e. omega (arith, e))
 no_serve rows port socket (Serve file number connections idle) gives = port file number connections idle gives.words
@@ -107,8 +110,9 @@ no_serve rows port socket (Check file) gives = other_name _ _ gives.named (λ e.
 no_serve rows port socket (Describe file role json) gives = other_name _ _ gives.named (λ e. omega (arith, e))
 
 pub no_check : (rows : List Row) → ((file : TheWord) → HasWords rows (Check file) → ⊥) → (given : Given) → GivesAs (codes "check") rows given → ⊥
-no_check rows lacks (Format file pages admin) gives = other_name _ _ gives.named (λ e. omega (arith, e))
-no_check rows lacks (Copy file new pages) gives = other_second _ _ gives.named (λ e. omega (arith, e))
+no_check rows lacks (Format file pages admin journal) gives = other_name _ _ gives.named (λ e. omega (arith, e))
+no_check rows lacks (Copy file new pages journal) gives = other_second _ _ gives.named (λ e. omega (arith, e))
+no_check rows lacks (Journal file state) gives = other_name _ _ gives.named (λ e. omega (arith, e))
 no_check rows lacks (Run file script) gives = other_name _ _ gives.named (λ e. omega (arith, e))
 no_check rows lacks (RunMemory admin script) gives = other_name _ _ gives.named (λ e. omega (arith, e))
 no_check rows lacks (Serve file port connections idle) gives = other_name _ _ gives.named (λ e. omega (arith, e))
@@ -117,8 +121,9 @@ no_check rows lacks (Check file) gives = lacks file gives.words
 no_check rows lacks (Describe file role json) gives = other_name _ _ gives.named (λ e. omega (arith, e))
 
 pub no_describe : (rows : List Row) → ((file : TheWord) (role : Option TheWord) (json : Bool) → HasWords rows (Describe file role json) → ⊥) → (given : Given) → GivesAs (codes "describe") rows given → ⊥
-no_describe rows lacks (Format file pages admin) gives = other_name _ _ gives.named (λ e. omega (arith, e))
-no_describe rows lacks (Copy file new pages) gives = other_name _ _ gives.named (λ e. omega (arith, e))
+no_describe rows lacks (Format file pages admin journal) gives = other_name _ _ gives.named (λ e. omega (arith, e))
+no_describe rows lacks (Copy file new pages journal) gives = other_name _ _ gives.named (λ e. omega (arith, e))
+no_describe rows lacks (Journal file state) gives = other_name _ _ gives.named (λ e. omega (arith, e))
 no_describe rows lacks (Run file script) gives = other_name _ _ gives.named (λ e. omega (arith, e))
 no_describe rows lacks (RunMemory admin script) gives = other_name _ _ gives.named (λ e. omega (arith, e))
 no_describe rows lacks (Serve file port connections idle) gives = other_name _ _ gives.named (λ e. omega (arith, e))
@@ -126,12 +131,24 @@ no_describe rows lacks (ServeSocket file socket connections idle) gives = other_
 no_describe rows lacks (Check file) gives = other_name _ _ gives.named (λ e. omega (arith, e))
 no_describe rows lacks (Describe file role json) gives = lacks file role json gives.words
 
-pub no_copy : (rows : List Row) → ((file new pages : TheWord) → HasWords rows (Copy file new pages) → ⊥) → (given : Given) → GivesAs (codes "copy") rows given → ⊥
-no_copy rows lacks (Format file pages admin) gives = other_name _ _ gives.named (λ e. omega (arith, e))
-no_copy rows lacks (Copy file new pages) gives = lacks file new pages gives.words
+pub no_copy : (rows : List Row) → ((file new pages : TheWord) (journal : Bool) → HasWords rows (Copy file new pages journal) → ⊥) → (given : Given) → GivesAs (codes "copy") rows given → ⊥
+no_copy rows lacks (Format file pages admin journal) gives = other_name _ _ gives.named (λ e. omega (arith, e))
+no_copy rows lacks (Copy file new pages journal) gives = lacks file new pages journal gives.words
+no_copy rows lacks (Journal file state) gives = other_name _ _ gives.named (λ e. omega (arith, e))
 no_copy rows lacks (Run file script) gives = other_name _ _ gives.named (λ e. omega (arith, e))
 no_copy rows lacks (RunMemory admin script) gives = other_name _ _ gives.named (λ e. omega (arith, e))
 no_copy rows lacks (Serve file port connections idle) gives = other_name _ _ gives.named (λ e. omega (arith, e))
 no_copy rows lacks (ServeSocket file socket connections idle) gives = other_name _ _ gives.named (λ e. omega (arith, e))
 no_copy rows lacks (Check file) gives = other_second _ _ gives.named (λ e. omega (arith, e))
 no_copy rows lacks (Describe file role json) gives = other_name _ _ gives.named (λ e. omega (arith, e))
+
+pub no_journal : (rows : List Row) → ((file state : TheWord) → HasWords rows (Journal file state) → ⊥) → (given : Given) → GivesAs (codes "journal") rows given → ⊥
+no_journal rows lacks (Format file pages admin journal) gives = other_name _ _ gives.named (λ e. omega (arith, e))
+no_journal rows lacks (Copy file new pages journal) gives = other_name _ _ gives.named (λ e. omega (arith, e))
+no_journal rows lacks (Journal file state) gives = lacks file state gives.words
+no_journal rows lacks (Run file script) gives = other_name _ _ gives.named (λ e. omega (arith, e))
+no_journal rows lacks (RunMemory admin script) gives = other_name _ _ gives.named (λ e. omega (arith, e))
+no_journal rows lacks (Serve file port connections idle) gives = other_name _ _ gives.named (λ e. omega (arith, e))
+no_journal rows lacks (ServeSocket file socket connections idle) gives = other_name _ _ gives.named (λ e. omega (arith, e))
+no_journal rows lacks (Check file) gives = other_name _ _ gives.named (λ e. omega (arith, e))
+no_journal rows lacks (Describe file role json) gives = other_name _ _ gives.named (λ e. omega (arith, e))

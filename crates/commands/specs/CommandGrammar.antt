@@ -18,9 +18,9 @@ option_rule id required = record (word_rule id required) { long = Some id }
 abbrev pub flag_rule : List ℕ → Rule
 flag_rule id = record (new_rule id) { long = Some id; action = Some SetTrue }
 
--- `format FILE --pages N --admin NAME`
+-- `format FILE --pages N --admin NAME`, with `--journal` or without
 abbrev pub format_app : App
-format_app = with_rule (with_rule (with_rule (new_app (codes "format")) (word_rule (codes "file") true)) (option_rule (codes "pages") true)) (option_rule (codes "admin") true)
+format_app = with_rule (with_rule (with_rule (with_rule (new_app (codes "format")) (word_rule (codes "file") true)) (option_rule (codes "pages") true)) (option_rule (codes "admin") true)) (flag_rule (codes "journal"))
 
 -- `run`, with `--memory NAME` or without, and up to two words
 abbrev pub run_app : App
@@ -38,9 +38,13 @@ check_app = with_rule (new_app (codes "check")) (word_rule (codes "file") true)
 abbrev pub describe_app : App
 describe_app = with_rule (with_rule (with_rule (new_app (codes "describe")) (word_rule (codes "file") true)) (word_rule (codes "role") false)) (flag_rule (codes "json"))
 
--- `copy FILE NEW --pages N`
+-- `copy FILE NEW --pages N`, with `--journal` or without
 abbrev pub copy_app : App
-copy_app = with_rule (with_rule (with_rule (new_app (codes "copy")) (word_rule (codes "file") true)) (word_rule (codes "new") true)) (option_rule (codes "pages") true)
+copy_app = with_rule (with_rule (with_rule (with_rule (new_app (codes "copy")) (word_rule (codes "file") true)) (word_rule (codes "new") true)) (option_rule (codes "pages") true)) (flag_rule (codes "journal"))
+
+-- `journal`, with two words
+abbrev pub journal_app : App
+journal_app = with_rule (with_rule (new_app (codes "journal")) (word_rule (codes "file") true)) (word_rule (codes "state") true)
 
 -- the flags for help and the version, and the need for a command
 abbrev pub bare_app : App
@@ -56,7 +60,7 @@ bare_app =
     }
 
 abbrev pub program_app : App
-program_app = with_subcommand (with_subcommand (with_subcommand (with_subcommand (with_subcommand (with_subcommand bare_app format_app.top) run_app.top) serve_app.top) check_app.top) describe_app.top) copy_app.top
+program_app = with_subcommand (with_subcommand (with_subcommand (with_subcommand (with_subcommand (with_subcommand (with_subcommand bare_app format_app.top) run_app.top) serve_app.top) check_app.top) describe_app.top) copy_app.top) journal_app.top
 
 -- ---- a value of `clap` is such a part of it
 

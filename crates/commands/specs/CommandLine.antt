@@ -34,8 +34,9 @@ lent_word word = option_map (λ w. w.now) word
 
 -- the words that a command is given
 pub data Given : Type 0 where
-  Format : (file pages admin : TheWord) → Given
-  Copy : (file new pages : TheWord) → Given
+  Format : (file pages admin : TheWord) (journal : Bool) → Given
+  Copy : (file new pages : TheWord) (journal : Bool) → Given
+  Journal : (file state : TheWord) → Given
   Run : (file script : TheWord) → Given
   RunMemory : (admin script : TheWord) → Given
   Serve : (file port connections : TheWord) (idle : Option TheWord) → Given
@@ -44,8 +45,9 @@ pub data Given : Type 0 where
   Describe : (file : TheWord) (role : Option TheWord) (json : Bool) → Given
 
 abbrev pub command_of : Given → TheWord
-command_of (Format file pages admin) = codes "format"
-command_of (Copy file new pages) = codes "copy"
+command_of (Format file pages admin journal) = codes "format"
+command_of (Copy file new pages journal) = codes "copy"
+command_of (Journal file state) = codes "journal"
 command_of (Run file script) = codes "run"
 command_of (RunMemory admin script) = codes "run"
 command_of (Serve file port connections idle) = codes "serve"
@@ -59,11 +61,12 @@ pub record IsFlag (value : Option TheWord) (given : Bool) : Type 0 where
   pub unset : value ≡ Some (codes "false") → given ≡ false
   pub absent : value ≡ None → given ≡ false
 
--- the words stand where the command takes them: `run` has two words without `--memory`, and one with it; `serve` has a port or a socket, and `--idle` or not;
--- `describe` has a role or none, and `--json` or not
+-- the words stand where the command takes them: `format` and `copy` have `--journal` or not; `run` has two words without `--memory`, and one with it;
+-- `serve` has a port or a socket, and `--idle` or not; `describe` has a role or none, and `--json` or not
 abbrev pub HasWords : List Row → Given → Type 0
-HasWords rows (Format file pages admin) = (first_of (codes "file") rows ≡ Some file) × (first_of (codes "pages") rows ≡ Some pages) × (first_of (codes "admin") rows ≡ Some admin)
-HasWords rows (Copy file new pages) = (first_of (codes "file") rows ≡ Some file) × (first_of (codes "new") rows ≡ Some new) × (first_of (codes "pages") rows ≡ Some pages)
+HasWords rows (Format file pages admin journal) = (first_of (codes "file") rows ≡ Some file) × (first_of (codes "pages") rows ≡ Some pages) × (first_of (codes "admin") rows ≡ Some admin) × IsFlag (one_of (codes "journal") rows) journal
+HasWords rows (Copy file new pages journal) = (first_of (codes "file") rows ≡ Some file) × (first_of (codes "new") rows ≡ Some new) × (first_of (codes "pages") rows ≡ Some pages) × IsFlag (one_of (codes "journal") rows) journal
+HasWords rows (Journal file state) = (first_of (codes "file") rows ≡ Some file) × (first_of (codes "state") rows ≡ Some state)
 HasWords rows (Run file script) = (first_of (codes "memory") rows ≡ None) × (first_of (codes "first") rows ≡ Some file) × (first_of (codes "second") rows ≡ Some script)
 HasWords rows (RunMemory admin script) = (first_of (codes "memory") rows ≡ Some admin) × (first_of (codes "first") rows ≡ Some script) × (first_of (codes "second") rows ≡ None)
 HasWords rows (Serve file port connections idle) = (first_of (codes "file") rows ≡ Some file) × (first_of (codes "port") rows ≡ Some port) × (first_of (codes "socket") rows ≡ None) × (first_of (codes "connections") rows ≡ Some connections) × (first_of (codes "idle") rows ≡ idle)
@@ -94,6 +97,11 @@ pub record IsSocketPath (path : TheWord) : Type 0 where
   pub filled : 1 ≤ length path
   pub short : length path ≤ 107
 
+-- the word that switches a journal on or off
+abbrev pub switch_word : Bool → TheWord
+switch_word true = codes "on"
+switch_word false = codes "off"
+
 -- the limit, where one is given
 abbrev pub IsIdleFor : Option TheWord → Option ℕ → Type 0
 IsIdleFor None None = Unit {0}
@@ -109,8 +117,9 @@ IsRoleName (Some name) = IsName name
 -- of what is given the order says the words as they stand, but the numbers as such; names are those that a role can have, and paths of sockets
 -- those that the system takes
 abbrev pub IsOrdered : (Given → Type 0) → Order → Type 0
-IsOrdered G (order.Format file pages admin) = (number : TheWord) × G (Format file.now number admin.now) × IsNumberFor Pages number pages × IsName admin.now
-IsOrdered G (order.Copy file new pages) = (number : TheWord) × G (Copy file.now new.now number) × IsNumberFor Pages number pages
+IsOrdered G (order.Format file pages admin journal) = (number : TheWord) × G (Format file.now number admin.now journal) × IsNumberFor Pages number pages × IsName admin.now
+IsOrdered G (order.Copy file new pages journal) = (number : TheWord) × G (Copy file.now new.now number journal) × IsNumberFor Pages number pages
+IsOrdered G (order.Journal file on) = G (Journal file.now (switch_word on))
 IsOrdered G (order.Run file script) = G (Run file.now script.now)
 IsOrdered G (order.RunMemory admin script) = G (RunMemory admin.now script.now) × IsName admin.now
 IsOrdered G (order.Serve file port connections idle) = (number count : TheWord) × (limit : Option TheWord) × G (Serve file.now number count limit) × IsNumberFor Port number port × IsNumberFor Connections count connections × IsIdleFor limit idle
@@ -128,9 +137,9 @@ Asks words o = IsOrdered (Gives words) o
 
 -- ---- refusals
 
--- the word for the name of a role, for the path of a socket, and for a number
+-- the word for the name of a role, for the path of a socket, for on or off, and for a number
 abbrev pub name_in : Given → Option TheWord
-name_in (Format file pages admin) = Some admin
+name_in (Format file pages admin journal) = Some admin
 name_in (RunMemory admin script) = Some admin
 name_in (Describe file role json) = role
 name_in _ = None
@@ -139,9 +148,13 @@ abbrev pub path_in : Given → Option TheWord
 path_in (ServeSocket file socket connections idle) = Some socket
 path_in _ = None
 
+abbrev pub switch_in : Given → Option TheWord
+switch_in (Journal file state) = Some state
+switch_in _ = None
+
 abbrev pub number_in : NumberOption → Given → Option TheWord
-number_in Pages (Format file pages admin) = Some pages
-number_in Pages (Copy file new pages) = Some pages
+number_in Pages (Format file pages admin journal) = Some pages
+number_in Pages (Copy file new pages journal) = Some pages
 number_in Port (Serve file port connections idle) = Some port
 number_in Connections (Serve file port connections idle) = Some connections
 number_in Connections (ServeSocket file socket connections idle) = Some connections
@@ -149,13 +162,19 @@ number_in Idle (Serve file port connections idle) = idle
 number_in Idle (ServeSocket file socket connections idle) = idle
 number_in _ _ = None
 
--- nothing is given that a command takes, or its name, its path or one of its numbers is none
+-- a word that switches nothing on or off
+pub record IsNoSwitch (word : TheWord) : Type 0 where
+  pub not_on : word ≢ codes "on"
+  pub not_off : word ≢ codes "off"
+
+-- nothing is given that a command takes, or its name, its path, its word for on or off or one of its numbers is none
 abbrev pub IsUnfit : (Given → Type 0) → UsageFault → Type 0
 IsUnfit G usage.Form = (given : Given) → G given → ⊥
 IsUnfit G usage.Serving = (given : Given) → G given → ⊥
 IsUnfit G (usage.Number option word) = (given : Given) × G given × (number_in option given ≡ Some word.now) × NoNumberFor option word.now
 IsUnfit G (usage.Path path) = (given : Given) × G given × (path_in given ≡ Some path.now) × (IsSocketPath path.now → ⊥)
 IsUnfit G (usage.Name name) = (given : Given) × G given × (name_in given ≡ Some name.now) × (IsName name.now → ⊥)
+IsUnfit G (usage.Switch word) = (given : Given) × G given × (switch_in given ≡ Some word.now) × IsNoSwitch word.now
 IsUnfit G _ = ⊥
 
 -- a word was given to an option, and gives it no number

@@ -17,6 +17,10 @@ path_reason path = codes "'" ++ (path ++ codes "' cannot name a socket: PATH has
 abbrev pub number_reason : NumberOption → List ℕ → List ℕ
 number_reason option word = number_rule option ++ (codes ", not '" ++ (word ++ codes "'"))
 
+-- why a word for on or off is refused
+abbrev pub switch_reason : List ℕ → List ℕ
+switch_reason word = codes "journal takes FILE on, or FILE off, not '" ++ (word ++ codes "'")
+
 -- why words are refused; where `clap` found a mistake the text is its own
 abbrev pub usage_reason : UsageFault → Option (List ℕ)
 usage_reason (usage.Grammar e) = None
@@ -25,5 +29,6 @@ usage_reason usage.Serving = Some (codes "serve takes FILE, either --port P or -
 usage_reason (usage.Number option word) = Some (number_reason option word.now)
 usage_reason (usage.Path path) = Some (path_reason path.now)
 usage_reason (usage.Name name) = Some (name_reason name.now)
+usage_reason (usage.Switch word) = Some (switch_reason word.now)
 usage_reason usage.Encoding = Some (codes "a word is not UTF-8")
 usage_reason usage.Memory = Some (codes "memory was refused")

@@ -3,7 +3,7 @@
 ghost use Rattle.std.specs.Prelude.{◌≡◌, ◌↔◌, IsTrue, IfOk, IfErr, Some, codes};
 ghost use Rattle.clap.specs.Words.{found_of, rows_of};
 ghost use Rattle.sql_types.specs.Name.{IsName};
-ghost use Rattle.commands.specs.CommandLine.{Asks, Refuses, Serve, ServeSocket, GivesAs, IsOrdered, IsUnfit, IsIdleFor, IsNoNumber, IsReadFrom, IsRoleName, IsSocketPath, lent_word, lent_words};
+ghost use Rattle.commands.specs.CommandLine.{Asks, Refuses, Journal, Serve, ServeSocket, GivesAs, IsOrdered, IsUnfit, IsIdleFor, IsNoNumber, IsReadFrom, IsRoleName, IsSocketPath, lent_word, lent_words};
 ghost use Rattle.commands.specs.Numbers.{IsNumberFor};
 ghost use Rattle.commands.specs.declared.number.NumberOption.TheVariants.{Idle};
 ghost use Rattle.commands.specs.Usage.{usage_reason};
@@ -22,17 +22,26 @@ use std::fmt;
 #[derive(Clone, Copy, Debug)]
 pub enum Order<'a> {
     /// `format FILE --pages N --admin NAME`: makes FILE, a database of N pages whose one role is the
-    /// superuser NAME.
+    /// superuser NAME. With `--journal` it has a journal.
     Format {
         file: &'a str,
         pages: u32,
         admin: &'a str,
+        journal: bool,
     },
-    /// `copy FILE NEW --pages N`: copies the database in FILE to NEW, a new file of N pages.
+    /// `copy FILE NEW --pages N`: copies the database in FILE to NEW, a new file of N pages. With
+    /// `--journal` NEW has a journal.
     Copy {
         file: &'a str,
         new: &'a str,
         pages: u32,
+        journal: bool,
+    },
+    /// `journal FILE on` and `journal FILE off`: gives the database in FILE a journal, or takes its
+    /// journal away.
+    Journal {
+        file: &'a str,
+        on: bool,
     },
     /// `run FILE SCRIPT`: runs the file SCRIPT over the database in FILE.
     Run {
@@ -95,6 +104,8 @@ pub enum UsageFault<'a> {
     Path(&'a str),
     /// NAME is empty, has over 63 bytes or a zero byte.
     Name(&'a str),
+    /// The word after FILE of `journal` is neither `on` nor `off`.
+    Switch(&'a str),
     /// A word is not UTF-8.
     Encoding,
     /// Memory was refused.
@@ -124,6 +135,9 @@ impl fmt::Display for UsageFault<'_> {
                     "'{name}' is no name: NAME has 1 to 63 bytes and no zero byte"
                 )
             }
+            UsageFault::Switch(word) => {
+                write!(f, "journal takes FILE on, or FILE off, not '{word}'")
+            }
             UsageFault::Encoding => write!(f, "a word is not UTF-8"),
             UsageFault::Memory => write!(f, "memory was refused"),
         }
@@ -131,9 +145,9 @@ impl fmt::Display for UsageFault<'_> {
 }
 
 /// The order that the words after the program's name give, as `clap` reads them: one of the commands
-/// `format`, `copy`, `run`, `serve`, `check` and `describe` with its words and options, each given once; or a
-/// flag for help or the version. Words that give none are refused: by `Grammar`, `Form`, `Serving`, `Number`,
-/// `Path` or `Name`.
+/// `format`, `copy`, `journal`, `run`, `serve`, `check` and `describe` with its words and options, each given
+/// once; or a flag for help or the version. Words that give none are refused: by `Grammar`, `Form`, `Serving`,
+/// `Number`, `Path`, `Name` or `Switch`.
 /// `Memory` may come of any words.
 pub fn read_command<'a>(alloc: Global, words: &'a [&'a str]) -> Result<Order<'a>, UsageFault<'a>>
     ensures asked { IfOk result (Asks (lent_words words.entry.now)) }
@@ -172,6 +186,7 @@ fn read_given<'a>(name: &str, given: &ArgMatches<'a>) -> Result<Order<'a>, Usage
     match name {
         "format" => read_format(given),
         "copy" => read_copy(given),
+        "journal" => read_journal(given),
         "run" => read_run(given),
         "serve" => read_serve(given),
         "check" => read_check(given),
@@ -194,6 +209,7 @@ fn read_format<'a>(given: &ArgMatches<'a>) -> Result<Order<'a>, UsageFault<'a>>
     let Some(admin) = given.get_str("admin") else {
         return Err(UsageFault::Form);
     };
+    let journal = given.get_flag("journal");
     let option = NumberOption::Pages;
     let Some(pages) = option.read(word) else {
         return Err(UsageFault::Number { option, word });
@@ -201,7 +217,12 @@ fn read_format<'a>(given: &ArgMatches<'a>) -> Result<Order<'a>, UsageFault<'a>>
     if !is_name(admin) {
         return Err(UsageFault::Name(admin));
     }
-    Ok(Order::Format { file, pages, admin })
+    Ok(Order::Format {
+        file,
+        pages,
+        admin,
+        journal,
+    })
 }
 
 /// The order that the words after `copy` give.
@@ -218,11 +239,40 @@ fn read_copy<'a>(given: &ArgMatches<'a>) -> Result<Order<'a>, UsageFault<'a>>
     let Some(word) = given.get_str("pages") else {
         return Err(UsageFault::Form);
     };
-    let option = NumberOption::Pages;
-    let Some(pages) = option.read(word) else {
-        return Err(UsageFault::Number { option, word });
+    let journal = given.get_flag("journal");
+    let pages = read_number(NumberOption::Pages, word)?;
+    Ok(Order::Copy {
+        file,
+        new,
+        pages,
+        journal,
+    })
+}
+
+/// The order that the words after `journal` give.
+fn read_journal<'a>(given: &ArgMatches<'a>) -> Result<Order<'a>, UsageFault<'a>>
+    ensures asked { IfOk result (IsOrdered (GivesAs (codes "journal") (rows_of (found_of given.now)))) }
+    ensures refused { IfErr result (IsUnfit (GivesAs (codes "journal") (rows_of (found_of given.now)))) }
+{
+    let Some(file) = given.get_str("file") else {
+        return Err(UsageFault::Form);
     };
-    Ok(Order::Copy { file, new, pages })
+    let Some(word) = given.get_str("state") else {
+        return Err(UsageFault::Form);
+    };
+    switch_journal(file, word)
+}
+
+/// The order to give a file a journal, or to take its journal away.
+fn switch_journal<'a>(file: &'a str, word: &'a str) -> Result<Order<'a>, UsageFault<'a>>
+    ensures asked { IfOk result (IsOrdered (λ given. given ≡ Journal file.now word.now)) }
+    ensures refused { IfErr result (IsUnfit (λ given. given ≡ Journal file.now word.now)) }
+{
+    match word {
+        "on" => Ok(Order::Journal { file, on: true }),
+        "off" => Ok(Order::Journal { file, on: false }),
+        _ => Err(UsageFault::Switch(word)),
+    }
 }
 
 /// The order that the words after `run` give.

@@ -2,7 +2,7 @@
 
 ghost use Rattle.std.specs.Prelude.{IfOk};
 ghost use Rattle.clap.specs.Words.{new_app};
-ghost use Rattle.commands.specs.CommandGrammar.{HasBelow, IsArg, IsCommand, word_rule, option_rule, format_app, copy_app, run_app, serve_app, check_app, describe_app, flag_rule, bare_app, program_app};
+ghost use Rattle.commands.specs.CommandGrammar.{HasBelow, IsArg, IsCommand, word_rule, option_rule, format_app, copy_app, journal_app, run_app, serve_app, check_app, describe_app, flag_rule, bare_app, program_app};
 
 use crate::texts::{USAGE, VERSION_NUMBER};
 use clap::{Arg, ArgAction, Command};
@@ -17,7 +17,8 @@ pub(crate) fn program_command<'a>(alloc: Global) -> Result<Command<'a>, AllocErr
     let command = with_below(command, serve_command(alloc))?;
     let command = with_below(command, check_command(alloc))?;
     let command = with_below(command, describe_command(alloc))?;
-    with_below(command, copy_command(alloc))
+    let command = with_below(command, copy_command(alloc))?;
+    with_below(command, journal_command(alloc))
 }
 
 /// The command with this one below it, where that was made.
@@ -41,14 +42,15 @@ fn bare_command<'a>(alloc: Global) -> Command<'a>
         .subcommand_required(true)
 }
 
-/// `format FILE --pages N --admin NAME`.
+/// `format FILE --pages N --admin NAME [--journal]`.
 fn format_command<'a>(alloc: Global) -> Result<Command<'a>, AllocError>
     ensures { IfOk result (IsCommand format_app) }
 {
     command(alloc, "format")
         .arg(word(alloc, "file", "FILE", true))?
         .arg(option(alloc, "pages", "N", true))?
-        .arg(option(alloc, "admin", "NAME", true))
+        .arg(option(alloc, "admin", "NAME", true))?
+        .arg(flag(alloc, "journal"))
 }
 
 /// `run FILE SCRIPT` and `run --memory NAME SCRIPT`: the words are counted after they were read.
@@ -92,14 +94,25 @@ fn describe_command<'a>(alloc: Global) -> Result<Command<'a>, AllocError>
         .arg(flag(alloc, "json"))
 }
 
-/// `copy FILE NEW --pages N`.
+/// `copy FILE NEW --pages N [--journal]`.
 fn copy_command<'a>(alloc: Global) -> Result<Command<'a>, AllocError>
     ensures { IfOk result (IsCommand copy_app) }
 {
     command(alloc, "copy")
         .arg(word(alloc, "file", "FILE", true))?
         .arg(word(alloc, "new", "NEW", true))?
-        .arg(option(alloc, "pages", "N", true))
+        .arg(option(alloc, "pages", "N", true))?
+        .arg(flag(alloc, "journal"))
+}
+
+/// `journal FILE on` and `journal FILE off`: which of the two it is, is decided once the words are
+/// read.
+fn journal_command<'a>(alloc: Global) -> Result<Command<'a>, AllocError>
+    ensures { IfOk result (IsCommand journal_app) }
+{
+    command(alloc, "journal")
+        .arg(word(alloc, "file", "FILE", true))?
+        .arg(word(alloc, "state", "on|off", true))
 }
 
 /// A command of this name, without words.

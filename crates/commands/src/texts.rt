@@ -1,33 +1,36 @@
 //! The texts that say how the program is called.
 
 /// How the program is called.
-pub const USAGE: &str = "guarddb format FILE --pages N --admin NAME
+pub const USAGE: &str = "guarddb format FILE --pages N --admin NAME [--journal]
        guarddb run FILE SCRIPT
        guarddb run --memory NAME SCRIPT
        guarddb serve FILE --port P --connections K [--idle SECONDS]
        guarddb serve FILE --socket PATH --connections K [--idle SECONDS]
        guarddb check FILE
        guarddb describe FILE [ROLE] [--json]
-       guarddb copy FILE NEW --pages N
+       guarddb copy FILE NEW --pages N [--journal]
+       guarddb journal FILE on|off
        guarddb < SCRIPT";
 
 /// What `--help` prints.
 pub const HELP: &str = "Guarddb: a SQL server for several sessions over one database
 
-Usage: guarddb format FILE --pages N --admin NAME
+Usage: guarddb format FILE --pages N --admin NAME [--journal]
        guarddb run FILE SCRIPT
        guarddb run --memory NAME SCRIPT
        guarddb serve FILE --port P --connections K [--idle SECONDS]
        guarddb serve FILE --socket PATH --connections K [--idle SECONDS]
        guarddb check FILE
        guarddb describe FILE [ROLE] [--json]
-       guarddb copy FILE NEW --pages N
+       guarddb copy FILE NEW --pages N [--journal]
+       guarddb journal FILE on|off
        guarddb < SCRIPT
 
 Commands:
-  format FILE --pages N --admin NAME
+  format FILE --pages N --admin NAME [--journal]
           Makes FILE, an empty database of N pages of 4,096 bytes each, N from 64 to 65536,
-          whose one role is the superuser NAME. A FILE that is there already is left as it is
+          whose one role is the superuser NAME. A FILE that is there already is left as it is.
+          With --journal small commits are quicker, and no older guarddb opens FILE
           Example: guarddb format shop.db --pages 256 --admin ann
   run FILE SCRIPT
           Runs the file SCRIPT over the database in FILE, which keeps what it commits
@@ -55,11 +58,16 @@ Commands:
           ROLE what that role may do to each table and column, and which policies apply to it.
           With --json it prints JSON. FILE is not written, of format 1 neither
           Example: guarddb describe shop.db bob
-  copy FILE NEW --pages N
+  copy FILE NEW --pages N [--journal]
           Copies the database in FILE to NEW, a new file of N pages, N from 64 to 65536: a
           backup, a larger file or a smaller one. FILE is not written, of format 1 neither, and
-          others may read it meanwhile. A NEW that is there already is left as it is
+          others may read it meanwhile. A NEW that is there already is left as it is. With
+          --journal NEW has a journal, whether FILE has one or not
           Example: guarddb copy shop.db backup.db --pages 256
+  journal FILE on|off
+          Gives the database in FILE a journal, or takes its journal away: the database stays
+          the same. With a journal small commits are quicker, and no older guarddb opens FILE
+          Example: guarddb journal shop.db on
   (none)  Runs the script on standard input over an empty database in memory, whose one
           role is the superuser root
           Example: printf 'open s root\\ns: SELECT 1 + 2\\n' | guarddb

@@ -3,4 +3,5 @@ pub mod Changes
 mod Copied
 mod Served
 mod OnlyRead
+mod Switched
 mod Taken

@@ -1,5 +1,5 @@
 -- A new file on which no database was made is taken away again.
-use Rattle.std.proofs.Common.{◌≡◌, ◌∙◌, ◌⊎◌, ◌*◌, ℕ, true, false, List, Result, Ok, Err, OnOk, inl, inr, ap, sym}
+use Rattle.std.proofs.Common.{◌≡◌, ◌∙◌, ◌⊎◌, ◌*◌, ℕ, Bool, true, false, List, Result, Ok, Err, OnOk, inl, inr, ap, sym}
 use Rattle.std.specs.Prelude.{OnErr}
 use Rattle.sector_device.specs.declared.device.Device.{Ghosts}
 use Rattle.sector_device.specs.declared.system_cause.SystemCause.{SystemCause}
@@ -19,9 +19,9 @@ done_or_failed A B (Err cause) done failed = inr failed
 no_size : (sectors other : ℕ) → sectors ≡ other → is_size other ≡ true → is_size sectors ≡ false → ⊥
 no_size sectors other are is none = let both : true ≡ false = sym is ∙ ap is_size (sym are) ∙ none in cc
 
-module _ {D L : Type 0} (g : Ghosts D) (old new : SystemState D L) (path : List ℕ) (pages : ℕ) (admin : TheName) (blank left : D) where
-  pub unformatted : (why : MakeFault) → is_size (8 * pages) ≡ true → (g.state blank).sectors ≡ 8 * pages → Makes g.state admin (Err why) blank left → IsTakenAway g old path pages admin (of_making why) new
-      → IsUnformatted g old path pages admin (of_making why) new
+module _ {D L : Type 0} (g : Ghosts D) (old new : SystemState D L) (path : List ℕ) (pages : ℕ) (admin : TheName) (journal : Bool) (blank left : D) where
+  pub unformatted : (why : MakeFault) → is_size (8 * pages) ≡ true → (g.state blank).sectors ≡ 8 * pages → Makes g.state journal admin (Err why) blank left → IsTakenAway g old path pages admin journal (of_making why) new
+      → IsUnformatted g old path pages admin journal (of_making why) new
   unformatted Memory size sectors makes taken = (size, inr taken)
   unformatted Device size sectors makes taken = (size, inr taken)
   unformatted WrongSize size sectors makes taken = absurd (no_size (g.state blank).sectors (8 * pages) sectors size makes.0)

@@ -1,5 +1,5 @@
 -- What making a database in a new file does.
-use Rattle.std.specs.Prelude.{◌≡◌, ◌⊎◌, ◌*◌, ◌<◌, ℕ, true, false, List, Result, Ok, Err}
+use Rattle.std.specs.Prelude.{◌≡◌, ◌⊎◌, ◌*◌, ◌<◌, ℕ, Bool, true, false, List, Result, Ok, Err}
 use Rattle.sector_device.specs.declared.device.Device.{Ghosts}
 use Rattle.sector_device.specs.declared.open_file.FileFault.{FileFault}
 use Rattle.sector_device.specs.declared.open_file.FileFault.TheVariants as file
@@ -31,13 +31,13 @@ module _ {D L : Type 0} (g : Ghosts D) (old : SystemState D L) (path : List ℕ)
     pub zeros : HoldsZeros pages (g.state device)
     pub blank : IsBlank (g.state device)
 
-  -- a new database was made on it, and the path names it as it was left
-  pub record IsFormatted (pages : ℕ) (admin : TheName) (new : SystemState D L) : Type 0 where
+  -- a new database was made on it, with a journal or without, and the path names it as it was left
+  pub record IsFormatted (pages : ℕ) (admin : TheName) (journal : Bool) (new : SystemState D L) : Type 0 where
     pub blank : D
     pub left : D
-    pub makes : Makes g.state admin (Ok tt) blank left
+    pub makes : Makes g.state journal admin (Ok tt) blank left
     pub is_blank : old.faithful → IsMadeBlank pages blank
-    pub is_made : old.faithful → IsMade admin (g.state blank) (g.state left)
+    pub is_made : old.faithful → IsMade journal admin (g.state blank) (g.state left)
     pub closed : old.faithful → HasDevice new path left
     pub others : old.faithful → IsSameBut path old new
 
@@ -49,21 +49,21 @@ module _ {D L : Type 0} (g : Ghosts D) (old : SystemState D L) (path : List ℕ)
     pub same : old.faithful → IsSame old new
 
   -- a file was made, but no database on it: it was taken away again, unless the system failed
-  pub record IsTakenAway (pages : ℕ) (admin : TheName) (fault : CommandFault) (new : SystemState D L) : Type 0 where
+  pub record IsTakenAway (pages : ℕ) (admin : TheName) (journal : Bool) (fault : CommandFault) (new : SystemState D L) : Type 0 where
     pub blank : D
     pub left : D
     pub why : MakeFault
     pub is : fault ≡ of_making why
-    pub makes : Makes g.state admin (Err why) blank left
+    pub makes : Makes g.state journal admin (Err why) blank left
     pub is_blank : old.faithful → IsMadeBlank pages blank
     pub removed : old.faithful → IsUnnamed new path ⊎ Rose old.failures new.failures
     pub others : old.faithful → IsSameBut path old new
 
   -- no database is of so many pages, and nothing was done; or one is, and no file was made or none is left
-  abbrev pub IsUnformatted : ℕ → TheName → CommandFault → SystemState D L → Type 0
-  IsUnformatted pages admin WrongSize new = IsNoSize pages × IsSame old new
-  IsUnformatted pages admin fault new = (is_size (8 * pages) ≡ true) × (IsNotMade fault new ⊎ IsTakenAway pages admin fault new)
+  abbrev pub IsUnformatted : ℕ → TheName → Bool → CommandFault → SystemState D L → Type 0
+  IsUnformatted pages admin journal WrongSize new = IsNoSize pages × IsSame old new
+  IsUnformatted pages admin journal fault new = (is_size (8 * pages) ≡ true) × (IsNotMade fault new ⊎ IsTakenAway pages admin journal fault new)
 
-  abbrev pub FormatsFile : ℕ → TheName → Result (Unit {0}) CommandFault → SystemState D L → Type 0
-  FormatsFile pages admin (Ok x) new = IsFormatted pages admin new
-  FormatsFile pages admin (Err fault) new = IsUnformatted pages admin fault new
+  abbrev pub FormatsFile : ℕ → TheName → Bool → Result (Unit {0}) CommandFault → SystemState D L → Type 0
+  FormatsFile pages admin journal (Ok x) new = IsFormatted pages admin journal new
+  FormatsFile pages admin journal (Err fault) new = IsUnformatted pages admin journal fault new

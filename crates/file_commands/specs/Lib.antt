@@ -7,3 +7,5 @@ pub mod Formatting
 pub mod Migrations
 pub mod Reading
 pub mod Serving
+pub mod SwitchFaults
+pub mod Switching

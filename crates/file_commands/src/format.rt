@@ -12,7 +12,7 @@ use storage_sizes::{MAX_PAGES, SECTORS_PER_PAGE};
 use systems::System;
 
 /// Makes a file at `path` of so many pages of 4,096 bytes, with a new database whose one role is
-/// the superuser `admin`, and closes it. Until the new database is whole, the file opens as none.
+/// the superuser `admin`, with a journal or without, and closes it. Until the new database is whole, the file opens as none.
 /// After any error but `Exists` no file is left, as far as the system removes it.
 ///
 /// `WrongSize`: the number of pages is not from 64 to 65,536; no file is made, and neither `Exists`
@@ -24,9 +24,10 @@ pub fn format_file<Y: System>(
     path: &str,
     pages: u32,
     admin: &Name,
+    journal: bool,
 ) -> Result<(), CommandFault>
-    ensures { FormatsFile Y.Device.Device (Y.state system.old) path.now pages admin.now result
-        (Y.state system.new) }
+    ensures { FormatsFile Y.Device.Device (Y.state system.old) path.now pages admin.now journal
+        result (Y.state system.new) }
 {
     if pages > MAX_PAGES {
         return Err(CommandFault::WrongSize);
@@ -38,7 +39,7 @@ pub fn format_file<Y: System>(
         Ok(device) => device,
         Err(fault) => return Err(CommandFault::from(fault)),
     };
-    match make_database(alloc, &mut device, admin) {
+    match make_database(alloc, &mut device, admin, journal) {
         Ok(()) => {
             system.close(path, device);
             Ok(())

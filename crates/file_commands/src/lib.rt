@@ -1,4 +1,5 @@
-//! Commands over a database that a path of a system names: it is made, copied, checked, read, run over and served.
+//! Commands over a database that a path of a system names: it is made, copied, checked, read, run over and served, and its journal
+//! is turned on and off.
 #![tactic(auto)]
 
 mod copy_fault;
@@ -9,6 +10,8 @@ mod opened;
 mod reading;
 mod run;
 mod serve;
+mod switch_fault;
+mod switching;
 
 pub use copy_fault::FileCopyFault;
 pub use fault::CommandFault;
@@ -18,3 +21,5 @@ pub use opened::CommandEnd;
 pub use reading::read_file;
 pub use run::{check_file, run_file};
 pub use serve::{Limits, serve_file, serve_on};
+pub use switch_fault::FileSwitchFault;
+pub use switching::switch_journal;

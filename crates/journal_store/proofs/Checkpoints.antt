@@ -44,7 +44,7 @@ full_where Device changes before after old new is commits = absurd cc
 full_where Number changes before after old new is commits = absurd cc
 
 -- where no more is said of the present than what a stop may leave, time that passes is a run
-passes_leaves : {X : Type 0} (P : X → Type 0) (old new : Timeline X) → IsPresent old → Implies old.left P → Passes P old new → LeavesOnly P old new
+pub passes_leaves : {X : Type 0} (P : X → Type 0) (old new : Timeline X) → IsPresent old → Implies old.left P → Passes P old new → LeavesOnly P old new
 passes_leaves P old new present here passes = record {
   later = passes.later;
   past = passes.past;

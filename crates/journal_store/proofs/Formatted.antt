@@ -2,13 +2,13 @@
 use Rattle.std.proofs.Common.{◌≡◌, ◌<◌, ◌≤◌, ◌/◌, inl, inr, ⊎_elim, ℕ, true, List, [], ◌∷◌, Some, refl, subst, ◌∙◌, arith}
 use Rattle.std.proofs.lemmas.Bool.{cases_lt}
 use Rattle.sector_device.specs.Timeline.{LeavesOnly, IsPresent, weakened, joined, passes_joined}
-use Rattle.sector_device.specs.Device.{DeviceState, Image, HasFailed, IsLeft, IsSynced, IsBehindRoots, KeepsHistory, KeepsSize, timeline}
+use Rattle.sector_device.specs.Device.{DeviceState, Image, AgreesBeside, HasFailed, IsLeft, IsSynced, IsBehindRoots, KeepsHistory, KeepsSize, timeline}
 use Rattle.sector_device.specs.Page.{IsAlone, IsOutside}
 use Rattle.page_roots.specs.declared.format.Format.TheVariants.{Three}
 use Rattle.page_nodes.specs.declared.cell.NodeKind.TheVariants.{Leaf}
 use Rattle.page_nodes.specs.Node.{IsNode}
 use Rattle.page_tree.proofs.Represented.{leaf_is_tree}
-use Rattle.sector_journal.specs.Journals.{HasJournal}
+use Rattle.sector_journal.specs.Journals.{HasJournal, region_in}
 use Rattle.cow_pages.specs.declared.open.OpenFault.TheVariants.{NotADatabase}
 use Rattle.cow_pages.specs.Image.{Means, one_page, is_size, first_fault}
 use Rattle.cow_pages.specs.Formatting.{IsUnmarked, IsBlank, IsNoneOrFirst as IsNoneOrFirstPage}
@@ -17,8 +17,8 @@ use Rattle.store.specs.Records.{Record}
 use Rattle.journal_store.specs.Clearing.{MayBeCleared, ClearsSome, IsCleared}
 use Rattle.journal_store.specs.Formatting.{first_contents, HasFirst, IsNoneOrFirst, HasNoParts, GoesOn, WritesStore, IsMade}
 use Rattle.journal_store.specs.Meaning.{journal_start, journal_room}
-use Rattle.journal_store.proofs.Checkpoints.{journal_leaves}
-use Rattle.journal_store.proofs.Clearing.{cleared_holds}
+use Rattle.journal_store.proofs.Checkpoints.{passes_leaves}
+use Rattle.journal_store.proofs.Clearing.{blank_journal, no_parts_blank}
 use Rattle.journal_store.proofs.Records.{both}
 
 -- no root sector has the magic of a root
@@ -82,25 +82,36 @@ has_first pages entry page node image means journal = (
   refl,
 )
 
-none_or_first : (sectors : ℕ) (entry : Record) (page : List ℕ) → IsNode Leaf [] (entry ∷ []) page → (image : Image) → IsNoneOrFirstPage sectors Three page image × HasJournal journal_start journal_room 1 [] image → IsNoneOrFirst sectors entry image
+-- sectors without a part of a record are a journal without records
+journal_of : (image : Image) → HasNoParts image → HasJournal journal_start journal_room 1 [] image
+journal_of image none = blank_journal (region_in journal_start journal_room image) (no_parts_blank image none) 1
+
+none_or_first : (sectors : ℕ) (entry : Record) (page : List ℕ) → IsNode Leaf [] (entry ∷ []) page → (image : Image) → IsNoneOrFirstPage sectors Three page image × HasNoParts image → IsNoneOrFirst sectors entry image
 none_or_first sectors entry page node image is = elim is.0 [
   | inl none ↦ inl none
-  | inr means ↦ inr (has_first (sectors / 8) entry page node image means is.1)
+  | inr means ↦ inr (has_first (sectors / 8) entry page node image means (journal_of image is.1), is.1)
 ]
 
 -- the pages are written behind sectors that are cleared
 module _ (entry : Record) (page : List ℕ) (node : IsNode Leaf [] (entry ∷ []) page) (d e f : DeviceState) (size : KeepsSize d e) (clears : d.faithful → ClearsSome d e) (room : 8 ≤ d.sectors) (is_sized : is_size d.sectors ≡ true)
     (cleared : d.faithful → IsCleared e) (beside : (s : ℕ) → IsBehindRoots s → e.beside s) (present : e.faithful → IsPresent (timeline e)) (history : KeepsHistory e f)
     (moments : e.faithful → IsBlank e → LeavesOnly (IsNoneOrFirstPage e.sectors Three page) (timeline e) (timeline f)) (others : e.faithful → (s : ℕ) → 2 ≤ s → IsOutside 8 16 s → IsAlone e f s) where
-  journals : d.faithful → LeavesOnly (HasJournal journal_start journal_room 1 []) (timeline e) (timeline f)
-  journals faithful = journal_leaves 1 0 [] e f (cleared_holds 1 e (omega (arith, room, size.sectors)) (cleared faithful)) history (size.faithful faithful) beside (present (size.faithful faithful))
+  agrees_none : d.faithful → (image : Image) → AgreesBeside e image → HasNoParts image
+  agrees_none faithful image agrees s behind =
+      let within : s < e.sectors = omega (arith, behind.1, room, size.sectors) in
+      (cleared faithful).synced s within (image s) (agrees s within (beside s behind)) ∙ (cleared faithful).cleared s behind
+
+  no_parts_while : d.faithful → LeavesOnly HasNoParts (timeline e) (timeline f)
+  no_parts_while faithful =
+      weakened (AgreesBeside e) HasNoParts (timeline e) (timeline f) (agrees_none faithful)
+      (passes_leaves (AgreesBeside e) (timeline e) (timeline f) (present (size.faithful faithful)) (λ image left s inside is. left s inside) (history.beside (size.faithful faithful)).any_moment)
 
   while_writing : d.faithful → IsBlank d → LeavesOnly (IsNoneOrFirst d.sectors entry) (timeline e) (timeline f)
   while_writing faithful blank =
       weakened _ (IsNoneOrFirst d.sectors entry) (timeline e) (timeline f) (none_or_first d.sectors entry page node)
       (both _ _ (timeline e) (timeline f)
       (subst (λ (n : ℕ). LeavesOnly (IsNoneOrFirstPage n Three page) (timeline e) (timeline f)) size.sectors (moments (size.faithful faithful) (still_blank entry d e size (clears faithful) blank)))
-      (journals faithful))
+      (no_parts_while faithful))
 
   pub written : WritesStore entry d f
   written = record {
@@ -120,16 +131,11 @@ module _ (entry : Record) (page : List ℕ) (node : IsNode Leaf [] (entry ∷ []
         record { content = second.content ∙ first.content; left = λ c left. first.left c (second.left c left) };
   }
 
-  no_parts : d.faithful → (image : Image) → IsLeft f image → HasNoParts image
-  no_parts faithful image left s behind =
-      let within : s < e.sectors = omega (arith, behind.1, room, size.sectors) in
-      (cleared faithful).synced s within (image s) ((history.beside (size.faithful faithful)).left s (image s) (beside s behind) (left s (omega (arith, within, history.sectors)))) ∙ (cleared faithful).cleared s behind
-
   pub made : (d.faithful → (image : Image) → IsLeft f image → Means (e.sectors / 8) Three 1 (one_page page) image) → (d.faithful → IsSynced f) → d.faithful → IsMade entry d f
   made means synced faithful = record {
     left = λ image left. (
-      has_first (d.sectors / 8) entry page node image (subst (λ (n : ℕ). Means (n / 8) Three 1 (one_page page) image) size.sectors (means faithful image left)) ((journals faithful).now image left),
-      no_parts faithful image left,
+      has_first (d.sectors / 8) entry page node image (subst (λ (n : ℕ). Means (n / 8) Three 1 (one_page page) image) size.sectors (means faithful image left)) (journal_of image ((no_parts_while faithful).now image left)),
+      (no_parts_while faithful).now image left,
     );
     synced = synced faithful;
   }

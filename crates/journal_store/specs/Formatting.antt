@@ -23,13 +23,13 @@ first_contents entry = record { spelling = Second; records = entry ∷ [] }
 abbrev pub HasFirst : ℕ → Record → Image → Type 0
 HasFirst pages entry image = (has : HasJournaledContents pages (first_contents entry) image) × (has.root ≡ 1)
 
--- no database yet, or one that has this record and no other
-abbrev pub IsNoneOrFirst : ℕ → Record → Image → Type 0
-IsNoneOrFirst sectors entry image = (first_fault sectors image ≡ Some NotADatabase) ⊎ HasFirst (sectors / 8) entry image
-
 -- no sector behind the root sectors holds a part of a record, so that none has a number
 abbrev pub HasNoParts : Image → Type 0
 HasNoParts image = (s : ℕ) → IsBehindRoots s → image s ≡ zeros
+
+-- no database yet, or one that has this record and no other, and a journal without a number
+abbrev pub IsNoneOrFirst : ℕ → Record → Image → Type 0
+IsNoneOrFirst sectors entry image = (first_fault sectors image ≡ Some NotADatabase) ⊎ (HasFirst (sectors / 8) entry image × HasNoParts image)
 
 -- a clock that goes on
 abbrev pub GoesOn : DeviceState → DeviceState → Type 0

@@ -29,4 +29,7 @@ told_with_reason about fault.InUse a b = two_lines (fault_name fault.InUse) (sub
 told_with_reason about (fault.Net cause) a b = two_lines (fault_name (fault.Net cause)) (subject_text about) (reason_text (fault.Net cause))
 told_with_reason about (fault.Script why) a b = two_lines (fault_name (fault.Script why)) (subject_text about) (reason_text (fault.Script why))
 told_with_reason about fault.NoRole a b = two_lines (fault_name fault.NoRole) (subject_text about) (reason_text fault.NoRole)
+told_with_reason about fault.FirstFormat a b = two_lines (fault_name fault.FirstFormat) (subject_text about) (reason_text fault.FirstFormat)
+told_with_reason about fault.NoSwitchRoom a b = two_lines (fault_name fault.NoSwitchRoom) (subject_text about) (reason_text fault.NoSwitchRoom)
+told_with_reason about fault.NoSwitchNumber a b = two_lines (fault_name fault.NoSwitchNumber) (subject_text about) (reason_text fault.NoSwitchNumber)
 told_with_reason about fault.Output a b = absurd (b refl)

@@ -1,5 +1,5 @@
 -- What the program does for `copy`.
-use Rattle.std.specs.Prelude.{◌≡◌, ℕ, List, codes, Result, Ok, Err}
+use Rattle.std.specs.Prelude.{◌≡◌, ℕ, Bool, true, false, List, codes, Result, Ok, Err}
 use Rattle.std.specs.Borrow.{Bor}
 use Rattle.sector_device.specs.declared.device.Device.{Ghosts}
 use Rattle.script_runs.specs.ScriptRun.{Known}
@@ -7,6 +7,8 @@ use Rattle.systems.specs.Systems.{SystemState}
 use Rattle.file_commands.specs.declared.copy_fault.FileCopyFault.{FileCopyFault}
 use Rattle.file_commands.specs.declared.copy_fault.FileCopyFault.TheVariants as copy
 use Rattle.file_commands.specs.Copying.{CopiesFile}
+use Rattle.file_commands.specs.declared.switch_fault.FileSwitchFault.{FileSwitchFault}
+use Rattle.file_commands.specs.Switching.{SwitchesFile}
 use Rattle.session_server.specs.declared.ending.ProgramFault.{ProgramFault}
 use Rattle.session_server.specs.declared.ending.ProgramFault.TheVariants as fault
 use Rattle.session_server.specs.declared.ending.Ending.{Ending}
@@ -16,6 +18,7 @@ use Rattle.session_server.specs.declared.ending.Subject.{Subject}
 use Rattle.session_server.specs.declared.ending.Subject.TheVariants as subject
 use Rattle.session_server.specs.Ending.{Exits, fault_of_command}
 use Rattle.session_server.specs.Printing.{IsPrinted}
+use Rattle.session_server.specs.Switching.{fault_of_switch}
 
 -- the fault of a copy to so many pages
 abbrev pub fault_of_copy : ℕ → FileCopyFault → ProgramFault
@@ -32,15 +35,28 @@ copy_subject file new (Err (copy.New f)) = subject.Named new
 copy_subject file new (Err copy.Partial) = subject.Partial new
 copy_subject file new (Err (copy.Full least)) = subject.Named new
 
--- where the copy was made that was printed; else its fault is the end, and nothing was
-abbrev pub IsCopyAnswered : Result (Unit {0}) FileCopyFault → ℕ → Known → Ending → Known → Type 0
-IsCopyAnswered (Ok x) pages before e after = IsPrinted (codes "ok COPY\n") before e after
-IsCopyAnswered (Err f) pages before e after = (e ≡ ending.Fault (fault_of_copy pages f)) × (after ≡ before)
+-- a copy that was made was given a journal, where one was asked for; else nothing more was done
+abbrev pub GivesJournal : {D L S : Type 0} (g : Ghosts D) → (S → SystemState D L) → Bool → Result (Unit {0}) FileCopyFault → S → List ℕ → Result (Unit {0}) FileSwitchFault → S → Type 0
+GivesJournal g state true (Ok x) old target given new = SwitchesFile g (state old) target true given (state new)
+GivesJournal g state true (Err f) old target given new = (given ≡ Ok tt) × (new ≡ old)
+GivesJournal g state false copied old target given new = (given ≡ Ok tt) × (new ≡ old)
 
--- the database in the file was copied to a new file, or why not was told; `state` is what a system is at one moment
-pub record Copies {D L S : Type 0} (g : Ghosts D) (state : S → SystemState D L) (old : SystemState D L) (file target : Bor (List ℕ)) (pages : ℕ) (exit : Exit) (new : SystemState D L) (out_before out_after err_before err_after : Known) : Type 0 where
+-- where the copy was made, and given a journal that was asked for, that was printed; else its fault is the end, and nothing was
+abbrev pub IsCopyAnswered : Result (Unit {0}) FileCopyFault → Result (Unit {0}) FileSwitchFault → ℕ → Known → Ending → Known → Type 0
+IsCopyAnswered (Ok x) (Ok y) pages before e after = IsPrinted (codes "ok COPY\n") before e after
+IsCopyAnswered (Ok x) (Err f) pages before e after = (e ≡ ending.Fault (fault_of_switch f)) × (after ≡ before)
+IsCopyAnswered (Err f) given pages before e after = (e ≡ ending.Fault (fault_of_copy pages f)) × (after ≡ before)
+
+-- the database in the file was copied to a new file, which was given a journal where one was asked for, or why not was told; `state` is
+-- what a system is at one moment
+pub record Copies {D L S : Type 0} (g : Ghosts D) (state : S → SystemState D L) (old : SystemState D L) (file target : Bor (List ℕ)) (pages : ℕ) (journal : Bool) (exit : Exit) (new : SystemState D L) (out_before out_after err_before err_after : Known) : Type 0 where
   pub copied : Result (Unit {0}) FileCopyFault
-  pub copies : CopiesFile g state old file.now target.now pages copied new
+  pub mid : S
+  pub last : S
+  pub copies : CopiesFile g state old file.now target.now pages copied (state mid)
+  pub given : Result (Unit {0}) FileSwitchFault
+  pub gives : GivesJournal g state journal copied mid target.now given last
+  pub is_last : new ≡ state last
   pub ending : Ending
-  pub answered : IsCopyAnswered copied pages out_before ending out_after
+  pub answered : IsCopyAnswered copied given pages out_before ending out_after
   pub ends : Exits (copy_subject file target copied) ending exit err_before err_after

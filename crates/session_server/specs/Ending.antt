@@ -77,6 +77,9 @@ fault_name fault.InUse = codes "InUse"
 fault_name (fault.Net cause) = codes "Net"
 fault_name (fault.Script why) = codes "Script"
 fault_name fault.NoRole = codes "NoRole"
+fault_name fault.FirstFormat = codes "Format"
+fault_name fault.NoSwitchRoom = codes "Full"
+fault_name fault.NoSwitchNumber = codes "Number"
 fault_name fault.Output = codes "Output"
 
 -- what a fault means for what it is about, and what to do
@@ -96,6 +99,9 @@ reason_text (fault.Net cause) = cause_text cause
 reason_text (fault.Script (script.Unread cause)) = cause_text cause
 reason_text (fault.Script (script.NotUtf8 line byte)) = codes "line " ++ (decimal line ++ (codes ", byte " ++ (decimal byte ++ codes ": not UTF-8")))
 reason_text fault.NoRole = codes "no role of the database has this name"
+reason_text fault.FirstFormat = codes "of format 1; 'guarddb check' brings it to format 2, which can have a journal"
+reason_text fault.NoSwitchRoom = codes "no room is left for this; copy it to a larger file"
+reason_text fault.NoSwitchNumber = codes "no commit number is left for this"
 reason_text fault.Output = codes "closed, or it takes no more"
 
 -- the file or the place

@@ -5,3 +5,4 @@ pub mod Printing
 pub mod Program
 pub mod Running
 pub mod Script
+pub mod Switching

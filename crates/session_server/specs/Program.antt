@@ -1,5 +1,5 @@
 -- What the program does for a command: its output, its messages and its exit status.
-use Rattle.std.specs.Prelude.{◌≡◌, ◌⊎◌, ◌++◌, ℕ, List, codes, Option, Some, Result, Ok, Err, IsUtf8}
+use Rattle.std.specs.Prelude.{◌≡◌, ◌⊎◌, ◌++◌, ℕ, Bool, List, codes, Option, Some, Result, Ok, Err, IsUtf8}
 use Rattle.std.specs.Option.{option_map}
 use Rattle.sql_types.specs.Name.{IsName}
 use Rattle.abstract_database.specs.Lists.{TheName}
@@ -38,6 +38,7 @@ use Rattle.session_server.specs.Describing.{Describes}
 use Rattle.session_server.specs.Printing.{EndsBy, IsPrinted, Prints}
 use Rattle.session_server.specs.Running.{IsNotRun, RunsOverNew}
 use Rattle.session_server.specs.Script.{IsReadAt, Source, ill_encoded}
+use Rattle.session_server.specs.Switching.{Switches}
 
 -- ---- faults of usage
 
@@ -93,10 +94,10 @@ IsAnswered (Err f) text before e after = (e ≡ ending.Fault (fault_of_command f
 abbrev pub StaysSame : {D L : Type 0} → SystemState D L → SystemState D L → Type 0
 StaysSame old new = old.faithful → IsSame old new
 
--- a database was made in a new file, or it was not
-pub record Formats {D L : Type 0} (g : Ghosts D) (old : SystemState D L) (path : List ℕ) (pages : ℕ) (admin : TheName) (before : Known) (e : Ending) (new : SystemState D L) (after : Known) : Type 0 where
+-- a database was made in a new file, with a journal or without, or it was not
+pub record Formats {D L : Type 0} (g : Ghosts D) (old : SystemState D L) (path : List ℕ) (pages : ℕ) (admin : TheName) (journal : Bool) (before : Known) (e : Ending) (new : SystemState D L) (after : Known) : Type 0 where
   pub outcome : Result (Unit {0}) CommandFault
-  pub formats : FormatsFile g old path pages admin outcome new
+  pub formats : FormatsFile g old path pages admin journal outcome new
   pub answered : IsAnswered outcome (codes "ok FORMAT\n") before e after
 
 -- memory was refused before anything was done
@@ -106,8 +107,8 @@ pub record IsNotFormatted {D L : Type 0} (old : SystemState D L) (before : Known
   pub silent : after ≡ before
 
 -- so it was for a name that a role can have; for any other, or where memory was refused before, nothing was done
-pub record DoesFormat {D L K : Type 0} (g : Ghosts D) (k : SinkGhosts K) (old : SystemState D L) (file : Subject) (path : List ℕ) (pages : ℕ) (admin : List ℕ) (exit : Exit) (new : SystemState D L) (out_before out_after : K) (err_before err_after : Known) : Type 0 where
-  pub does : DoneFor file admin (λ e. IsNotFormatted old (k.held out_before) e new (k.held out_after) ⊎ Formats g old path pages admin (k.held out_before) e new (k.held out_after)) exit out_before out_after err_before err_after
+pub record DoesFormat {D L K : Type 0} (g : Ghosts D) (k : SinkGhosts K) (old : SystemState D L) (file : Subject) (path : List ℕ) (pages : ℕ) (admin : List ℕ) (journal : Bool) (exit : Exit) (new : SystemState D L) (out_before out_after : K) (err_before err_after : Known) : Type 0 where
+  pub does : DoneFor file admin (λ e. IsNotFormatted old (k.held out_before) e new (k.held out_after) ⊎ Formats g old path pages admin journal (k.held out_before) e new (k.held out_after)) exit out_before out_after err_before err_after
   pub unnamed : (IsName admin → ⊥) → IsSame old new
 
 -- a database was opened over the file, or none was; that the file was migrated was told, where it was
@@ -194,13 +195,15 @@ pub record Serves (X : Type 0) {D L C : Type 0} (g : Ghosts D) (c : SinkGhosts C
 
 -- `X` decides events, `g` is what is said of the devices of files, `k` of the sink that takes answers, `c` of the sinks of connections,
 -- `listening` of listeners and `state` of systems. The script that was named was run over the database that was named, or why not was told; a
--- database in a file was made, copied, checked, described or served; or a text was printed
+-- database in a file was made, copied, checked, described or served, or its journal was turned on or off; or a text was printed
 module _ (X : Type 0) {D L K C S : Type 0} (g : Ghosts D) (k : SinkGhosts K) (c : SinkGhosts C) (Reads : ReadingRelation) (listening : L → Option Listening) (state : S → SystemState D L) (old : SystemState D L) where
   abbrev pub IsPerformed : Order → Exit → SystemState D L → K → K → Known → Known → Type 0
-  IsPerformed (order.Format file pages admin) exit new out_before out_after err_before err_after =
-      DoesFormat g k old (subject.Named file) file.now pages admin.now exit new out_before out_after err_before err_after
-  IsPerformed (order.Copy file target pages) exit new out_before out_after err_before err_after =
-      Copies g state old file target pages exit new (k.held out_before) (k.held out_after) err_before err_after
+  IsPerformed (order.Format file pages admin journal) exit new out_before out_after err_before err_after =
+      DoesFormat g k old (subject.Named file) file.now pages admin.now journal exit new out_before out_after err_before err_after
+  IsPerformed (order.Copy file target pages journal) exit new out_before out_after err_before err_after =
+      Copies g state old file target pages journal exit new (k.held out_before) (k.held out_after) err_before err_after
+  IsPerformed (order.Journal file on) exit new out_before out_after err_before err_after =
+      Switches g old file on exit new (k.held out_before) (k.held out_after) err_before err_after
   IsPerformed (order.Run file script) exit new out_before out_after err_before err_after =
       RunsOver X g k Reads old (subject.Named file) file.now (subject.Named script) script.now exit new out_before out_after err_before err_after
   IsPerformed (order.RunMemory admin script) exit new out_before out_after err_before err_after =

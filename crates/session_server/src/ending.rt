@@ -53,6 +53,12 @@ pub enum ProgramFault {
     Script(ScriptFault),
     /// The database has no role of the name that was asked for.
     NoRole,
+    /// A journal is asked for, and the records of the database are of format 1.
+    FirstFormat,
+    /// The file has no room left for what waits in its journal, or for a root.
+    NoSwitchRoom,
+    /// No commit number is left for the roots that a journal takes, or the end of one.
+    NoSwitchNumber,
     /// Standard output failed, or standard error, where `serve` tells on it where it listens.
     Output,
 }
@@ -75,6 +81,9 @@ impl fmt::Display for ProgramFault {
             ProgramFault::Net(_) => write!(f, "Net"),
             ProgramFault::Script(_) => write!(f, "Script"),
             ProgramFault::NoRole => write!(f, "NoRole"),
+            ProgramFault::FirstFormat => write!(f, "Format"),
+            ProgramFault::NoSwitchRoom => write!(f, "Full"),
+            ProgramFault::NoSwitchNumber => write!(f, "Number"),
             ProgramFault::Output => write!(f, "Output"),
         }
     }
@@ -130,6 +139,16 @@ impl fmt::Display for Reason {
                 write!(f, "line {line}, byte {byte}: not UTF-8")
             }
             ProgramFault::NoRole => write!(f, "no role of the database has this name"),
+            ProgramFault::FirstFormat => {
+                write!(
+                    f,
+                    "of format 1; 'guarddb check' brings it to format 2, which can have a journal"
+                )
+            }
+            ProgramFault::NoSwitchRoom => {
+                write!(f, "no room is left for this; copy it to a larger file")
+            }
+            ProgramFault::NoSwitchNumber => write!(f, "no commit number is left for this"),
             ProgramFault::Output => write!(f, "closed, or it takes no more"),
         }
     }

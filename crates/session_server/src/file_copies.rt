@@ -1,11 +1,12 @@
 //! What the program does for `copy`.
 
 ghost use Rattle.std.specs.Prelude.{◌≡◌};
-ghost use Rattle.session_server.specs.Copying.{Copies, IsCopyAnswered, copy_subject, fault_of_copy};
+ghost use Rattle.session_server.specs.Copying.{Copies, GivesJournal, IsCopyAnswered, copy_subject, fault_of_copy};
 
 use crate::ending::{Ending, Exit, ProgramFault, Subject, exit_with};
 use crate::printing::print_text;
-use file_commands::{FileCopyFault, copy_file};
+use crate::switching::switch_fault;
+use file_commands::{FileCopyFault, FileSwitchFault, copy_file, switch_journal};
 use script_runs::sink::Sink;
 use script_runs::text_sink::TakesText;
 use sector_device::Device;
@@ -16,31 +17,63 @@ use systems::System;
 /// What `copy` prints where it has copied a database.
 const COPIED: &str = "ok COPY\n";
 
-/// Copies the database in a file to a new file of so many pages, and says so, or tells why not.
+/// Copies the database in a file to a new file of so many pages, gives it a journal where one is asked
+/// for, and says so, or tells why not. The journal comes once the copy is whole and has its name: where
+/// there is no room for it, the copy stays without one.
 pub(crate) fn copy<Y: System, K: TakesText, E: Write>(
     system: &mut Y,
     alloc: Global,
     file: &str,
     new: &str,
     pages: u32,
+    journal: bool,
     out: &mut K,
     err: &mut E,
 ) -> Exit
-    ensures { Copies Y.Device.Device Y.state (Y.state system.old) file.entry new.entry pages result
-        (Y.state system.new) (K.held out.old) (K.held out.new) (E.contents err.old)
+    ensures { Copies Y.Device.Device Y.state (Y.state system.old) file.entry new.entry pages journal
+        result (Y.state system.new) (K.held out.old) (K.held out.new) (E.contents err.old)
         (E.contents err.new) }
 {
     let copied = copy_file(system, alloc, file, new, pages);
-    let ending = end_of_copy(copied, pages, out);
+    let given = give_journal(system, alloc, new, journal, copied);
+    let ending = end_of_copy(copied, given, pages, out);
     exit_with(ending, subject_of_copy(copied, file, new), err)
 }
 
-// How a copy ended: where it was made, that is printed.
-fn end_of_copy<K: TakesText>(copied: Result<(), FileCopyFault>, pages: u32, out: &mut K) -> Ending
-    ensures { IsCopyAnswered copied pages (K.held out.old) result (K.held out.new) }
+// Gives a copy that was made a journal, where one is asked for.
+fn give_journal<Y: System>(
+    system: &mut Y,
+    alloc: Global,
+    new: &str,
+    journal: bool,
+    copied: Result<(), FileCopyFault>,
+) -> Result<(), FileSwitchFault>
+    ensures { GivesJournal Y.Device.Device Y.state journal copied system.old new.now result
+        system.new }
+{
+    if !journal {
+        return Ok(());
+    }
+    match copied {
+        Ok(()) => switch_journal(system, alloc, new, true),
+        Err(_) => Ok(()),
+    }
+}
+
+// How a copy ended: where it was made, and given a journal that was asked for, that is printed.
+fn end_of_copy<K: TakesText>(
+    copied: Result<(), FileCopyFault>,
+    given: Result<(), FileSwitchFault>,
+    pages: u32,
+    out: &mut K,
+) -> Ending
+    ensures { IsCopyAnswered copied given pages (K.held out.old) result (K.held out.new) }
 {
     match copied {
-        Ok(()) => print_text(COPIED, out),
+        Ok(()) => match given {
+            Ok(()) => print_text(COPIED, out),
+            Err(fault) => Ending::Fault(switch_fault(fault)),
+        },
         Err(fault) => Ending::Fault(program_fault(fault, pages)),
     }
 }

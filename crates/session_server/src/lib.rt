@@ -10,4 +10,5 @@ pub mod program;
 pub mod running;
 pub mod runs;
 mod script;
+mod switching;
 pub mod usage;

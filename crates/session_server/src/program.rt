@@ -8,6 +8,7 @@ use crate::ending::{Ending, Exit, ProgramFault, Subject, exit_after, exit_with};
 use crate::file_copies::copy;
 use crate::printing::{print_for, print_text};
 use crate::runs::{run_over_file, run_read_in_memory};
+use crate::switching::switch;
 use crate::usage::report_usage;
 use commands::command::{Order, UsageFault, is_name};
 use commands::texts::{HELP, VERSION};
@@ -45,7 +46,10 @@ const CHECKED: &str = "ok CHECK\n";
 /// no fault. `serve` also tells on `err` where it listens, and how it ended.
 ///
 /// `copy` writes nothing to the file either, and a copy is there only once it is whole. A copy that was
-/// made stays where `out` fails.
+/// made stays where `out` fails, and where it is not given the journal that was asked for.
+///
+/// `journal` gives a database a journal or takes it away, and the database stays the same at every
+/// moment. A file of format 1 cannot have one: the fault is `FirstFormat`.
 ///
 /// `describe` writes nothing to the file. Where the database has no role of the name that is asked
 /// for, the fault is `NoRole`.
@@ -67,10 +71,19 @@ pub fn perform<Y: System, X: Decide + Drop, K: TakesText, E: Write>(
         (E.contents err.old) (E.contents err.new) }
 {
     match order {
-        Order::Format { file, pages, admin } => {
-            format_for(system, alloc, *file, *pages, *admin, out, err)
-        }
-        Order::Copy { file, new, pages } => copy(system, alloc, *file, *new, *pages, out, err),
+        Order::Format {
+            file,
+            pages,
+            admin,
+            journal,
+        } => format_for(system, alloc, *file, *pages, *admin, *journal, out, err),
+        Order::Copy {
+            file,
+            new,
+            pages,
+            journal,
+        } => copy(system, alloc, *file, *new, *pages, *journal, out, err),
+        Order::Journal { file, on } => switch(system, alloc, *file, *on, out, err),
         Order::Run { file, script } => {
             run_over_file(system, alloc, decider, *file, *script, out, err)
         }
@@ -114,20 +127,21 @@ pub fn perform<Y: System, X: Decide + Drop, K: TakesText, E: Write>(
     }
 }
 
-// Makes a database in a new file, whose one role is the superuser `admin`. A name that no role can
-// have is a fault of usage, and no file is made.
+// Makes a database in a new file, whose one role is the superuser `admin`, with a journal or without. A
+// name that no role can have is a fault of usage, and no file is made.
 fn format_for<Y: System, K: TakesText, E: Write>(
     system: &mut Y,
     alloc: Global,
     file: &str,
     pages: u32,
     admin: &str,
+    journal: bool,
     out: &mut K,
     err: &mut E,
 ) -> Exit
     ensures { DoesFormat Y.Device.Device K.Sink (Y.state system.old) (Subject.Named file.entry)
-        file.now pages admin.now result (Y.state system.new) out.old out.new (E.contents err.old)
-        (E.contents err.new) }
+        file.now pages admin.now journal result (Y.state system.new) out.old out.new
+        (E.contents err.old) (E.contents err.new) }
 {
     if !is_name(admin) {
         return report_usage(UsageFault::Name(admin), err);
@@ -136,7 +150,11 @@ fn format_for<Y: System, K: TakesText, E: Write>(
     let Ok(Some(admin)) = Name::from_str(alloc, admin) else {
         return exit_with(Ending::Fault(ProgramFault::Memory), about, err);
     };
-    exit_with(format(system, alloc, file, pages, &admin, out), about, err)
+    exit_with(
+        format(system, alloc, file, pages, &admin, journal, out),
+        about,
+        err,
+    )
 }
 
 // Makes a database in a new file, and says so.
@@ -146,12 +164,13 @@ fn format<Y: System, K: TakesText>(
     file: &str,
     pages: u32,
     admin: &Name,
+    journal: bool,
     out: &mut K,
 ) -> Ending
-    ensures { Formats Y.Device.Device (Y.state system.old) file.now pages admin.now
+    ensures { Formats Y.Device.Device (Y.state system.old) file.now pages admin.now journal
         (K.held out.old) result (Y.state system.new) (K.held out.new) }
 {
-    let formatted = format_file(system, alloc, file, pages, admin);
+    let formatted = format_file(system, alloc, file, pages, admin, journal);
     answer(formatted, FORMATTED, out)
 }
 

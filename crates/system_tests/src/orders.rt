@@ -45,6 +45,7 @@ pub fn make_database(rt: &HostRuntime, alloc: Global, file: &str) -> io::Result<
         file,
         pages: 64,
         admin: "root",
+        journal: false,
     };
     let printed = printed_for_order(rt, alloc, &order)?;
     if printed.as_str() == "ok FORMAT\nstatus 0\n" {

@@ -18,12 +18,16 @@
 //!   writes, and each of its calls fails in turn, without effect and with it. What that leaves is opened by each choice of
 //!   sectors, a part of these openings is stopped once more, and each comes to the records of the second spelling under the next
 //!   number.
+//! - Copies: the database of such a device, and that at the end of a script, is copied to a new device, and this is stopped
+//!   after each count of sector writes. What that leaves is opened by each choice of sectors: it is no database or the whole
+//!   one, and this alone once the copy is answered.
 //! - Bad frames, given whole and byte by byte, are answered by 08P01 for session 0, and nothing after them is.
 //!
 //! A line tells each disagreement. A part of the trials is the same in each run.
 
 mod bad_frames;
 mod choices;
+mod copies;
 mod failing;
 mod failures;
 pub mod fault;
@@ -47,14 +51,19 @@ mod tally;
 use crate::device_images::DeviceImage;
 use crate::files::{names_of, text_of};
 use crate::stops::bad_frames::send_bad_frames;
+use crate::stops::copies::stop_copies;
 use crate::stops::failures::fail_events;
 use crate::stops::fault::TrialFault;
 use crate::stops::first_stops::stop_event;
+use crate::stops::images::Image;
 use crate::stops::migrations::{Migration, hinder_migration};
 use crate::stops::openings::fail_last_openings;
 use crate::stops::parts::Parts;
+use crate::stops::requests::run_first;
 use crate::stops::scripts::Script;
+use crate::stops::servers::{DeviceServer, open_new};
 use crate::stops::tallies::Tallies;
+use kv_store::DEFAULT_CACHE_PAGES;
 use std::alloc::Global;
 use std::io;
 
@@ -75,6 +84,9 @@ const FAILING: [(&str, usize); 4] = [
     ("write_slot", 1),
     ("forty_commits", 8),
 ];
+
+/// The script whose database is copied at its end.
+const COPIED: &str = "forty_commits";
 
 /// How many pages the server keeps where calls fail.
 const CACHES: [usize; 2] = [1, 256];
@@ -106,6 +118,7 @@ fn try_all(
     stop_scripts(rt, alloc, &mut parts, sums)?;
     fail_scripts(rt, alloc, &parts, sums)?;
     hinder_migrations(rt, alloc, all, sums)?;
+    copy_last(rt, alloc, COPIED, sums)?;
     send_frames(rt, alloc, sums)
 }
 
@@ -170,6 +183,42 @@ fn hinder(
     hinder_migration(alloc, &migration, &mut Parts::new(all), &mut tried)?;
     sums.add(rt, name, &tried)?;
     tried.print_migration(rt, name)?;
+    copy(
+        rt,
+        alloc,
+        name,
+        &Image::of_bytes(alloc, image.bytes.as_slice())?,
+        sums,
+    )
+}
+
+/// Stops copies of the database at the end of a script.
+fn copy_last(
+    rt: &HostRuntime,
+    alloc: Global,
+    name: &str,
+    sums: &mut Tallies,
+) -> Result<(), TrialFault> {
+    let script = read_script(rt, alloc, name)?;
+    let events = script.events.as_slice();
+    let mut server = open_new(alloc, DEFAULT_CACHE_PAGES)?;
+    run_first(&mut server, events, events.len());
+    copy(rt, alloc, name, &Image::of(alloc, server.end())?, sums)
+}
+
+/// Stops copies of the database that a device holds, and adds and prints what was tried.
+fn copy(
+    rt: &HostRuntime,
+    alloc: Global,
+    name: &str,
+    source: &Image,
+    sums: &mut Tallies,
+) -> Result<(), TrialFault> {
+    let mut tried = Tallies::new(alloc);
+    stop_copies(alloc, source, &mut tried.copies)?;
+    sums.add(rt, name, &tried)?;
+    print!(rt; "{name}: ")?;
+    tried.copies.print_stops(rt, "stops of a copy")?;
     Ok(())
 }
 

@@ -54,6 +54,8 @@ pub enum TrialFault {
     AnotherContent,
     /// What an opening found is lost by a stop.
     Lost,
+    /// A copy is refused for another fault than that its device stopped.
+    CopyRefused,
 }
 
 impl From<AllocError> for TrialFault {

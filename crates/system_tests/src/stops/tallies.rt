@@ -15,6 +15,8 @@ pub struct Tallies {
     pub failures: Tally,
     /// Calls of openings that failed.
     pub openings: Tally,
+    /// Stops of copies.
+    pub copies: Tally,
     /// Bad frames.
     pub frames: Tally,
 }
@@ -27,6 +29,7 @@ impl Drop for Tallies {
             second_stops: _,
             failures: _,
             openings: _,
+            copies: _,
             frames: _,
         } = self;
     }
@@ -40,6 +43,7 @@ impl Tallies {
             second_stops: Tally::new(alloc),
             failures: Tally::new(alloc),
             openings: Tally::new(alloc),
+            copies: Tally::new(alloc),
             frames: Tally::new(alloc),
         }
     }
@@ -50,10 +54,12 @@ impl Tallies {
         let second_stops = self.second_stops.disagreements;
         let failures = self.failures.disagreements;
         let openings = self.openings.disagreements;
+        let copies = self.copies.disagreements;
         stops
             .saturating_add(second_stops)
             .saturating_add(failures)
             .saturating_add(openings)
+            .saturating_add(copies)
             .saturating_add(self.frames.disagreements)
     }
 
@@ -63,6 +69,7 @@ impl Tallies {
         self.second_stops.add(rt, name, &other.second_stops)?;
         self.failures.add(rt, name, &other.failures)?;
         self.openings.add(rt, name, &other.openings)?;
+        self.copies.add(rt, name, &other.copies)?;
         self.frames.add(rt, name, &other.frames)
     }
 
@@ -72,6 +79,7 @@ impl Tallies {
         self.second_stops.print_stops(rt, "second stops")?;
         self.failures.print_calls(rt, "failing calls")?;
         self.openings.print_calls(rt, "failing calls of openings")?;
+        self.copies.print_stops(rt, "stops of copies")?;
         let (tried, disagreements) = (self.frames.tried, self.frames.disagreements);
         println!(rt; "bad frames: {tried}, {disagreements} disagreements")
     }

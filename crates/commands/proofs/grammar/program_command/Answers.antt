@@ -1,6 +1,6 @@
 use Rattle.std.proofs.lemmas.Result.{IfOk-weaker}
 use Rattle.clap.specs.Words.{with_subcommand}
-use Rattle.commands.specs.CommandGrammar.{IsCommand, bare_app, format_app, run_app, serve_app, check_app, describe_app, copy_app}
+use Rattle.commands.specs.CommandGrammar.{IsCommand, bare_app, format_app, run_app, serve_app, check_app, copy_app, describe_app, journal_app}
 use Rattle.commands.proofs.BuiltCommands.{with_one_below}
 use Rattle.commands.proofs.grammar.program_command.Goals as goal
 
@@ -16,4 +16,6 @@ returns c =
     let checks : IsCommand (with_subcommand four check_app.top) c.in_ok-command-4.command = with_one_below four check_app c.in_ok-command-3.command c.check_command.result c.in_ok-command-4.command serves c.check_command.ensures c.in_ok-command-4.ensures in
     let five = with_subcommand four check_app.top in
     let describes : IsCommand (with_subcommand five describe_app.top) c.in_ok-command-5.command = with_one_below five describe_app c.in_ok-command-4.command c.describe_command.result c.in_ok-command-5.command checks c.describe_command.ensures c.in_ok-command-5.ensures in
-    IfOk-weaker c.with_below-6.result _ _ (λ command h. with_one_below (with_subcommand five describe_app.top) copy_app c.in_ok-command-5.command c.copy_command.result command describes c.copy_command.ensures h) c.with_below-6.ensures
+    let six = with_subcommand five describe_app.top in
+    let copies : IsCommand (with_subcommand six copy_app.top) c.in_ok-command-6.command = with_one_below six copy_app c.in_ok-command-5.command c.copy_command.result c.in_ok-command-6.command describes c.copy_command.ensures c.in_ok-command-6.ensures in
+    IfOk-weaker c.with_below-7.result _ _ (λ command h. with_one_below (with_subcommand six copy_app.top) journal_app c.in_ok-command-6.command c.journal_command.result command copies c.journal_command.ensures h) c.with_below-7.ensures

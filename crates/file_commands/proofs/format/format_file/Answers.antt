@@ -16,8 +16,8 @@ returns-in-Err-make_database g c =
     let made = c.in-Ok.ensures in
     let blank = c.in-Ok.device in
     let left = c.make_database.new.device in
-    subst (λ (fault : CommandFault). IsUnformatted g.Y.Device.Device old path c.args.pages c.args.admin.now fault new) (sym c.from-in-Err-make_database.ensures)
-    (unformatted g.Y.Device.Device old new path c.args.pages c.args.admin.now blank left c.in-Err-make_database.fault c.in-Some.ensures.some.0 made.sectors c.in-Err-make_database.ensures (record {
+    subst (λ (fault : CommandFault). IsUnformatted g.Y.Device.Device old path c.args.pages c.args.admin.now c.args.journal fault new) (sym c.from-in-Err-make_database.ensures)
+    (unformatted g.Y.Device.Device old new path c.args.pages c.args.admin.now c.args.journal blank left c.in-Err-make_database.fault c.in-Some.ensures.some.0 made.sectors c.in-Err-make_database.ensures (record {
       blank = blank;
       left = left;
       why = c.in-Err-make_database.fault;
