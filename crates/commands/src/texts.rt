@@ -63,7 +63,7 @@ Commands:
           backup, a larger file or a smaller one. FILE is not written, of format 1 neither, and
           others may read it meanwhile. A NEW that is there already is left as it is. With
           --journal NEW has a journal, whether FILE has one or not
-          Example: guarddb copy shop.db backup.db --pages 256
+          Example: guarddb copy shop.db backup.db --pages 256 --journal
   journal FILE on|off
           Gives the database in FILE a journal, or takes its journal away: the database stays
           the same. With a journal small commits are quicker, and no older guarddb opens FILE

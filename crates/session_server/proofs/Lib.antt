@@ -3,3 +3,4 @@ pub mod Lasting
 pub mod Machine
 pub mod ScriptEnds
 mod FaultMessages
+mod GivenJournals

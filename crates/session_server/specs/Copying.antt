@@ -41,22 +41,29 @@ GivesJournal g state true (Ok x) old target given new = SwitchesFile g (state ol
 GivesJournal g state true (Err f) old target given new = (given ≡ Ok tt) × (new ≡ old)
 GivesJournal g state false copied old target given new = (given ≡ Ok tt) × (new ≡ old)
 
+-- the copy was made and has its name, and then it was given a journal, or it was not; `state` is what a system is at one moment
+pub record CopiesAndGives {D L S : Type 0} (g : Ghosts D) (state : S → SystemState D L) (old : SystemState D L) (file target : List ℕ) (pages : ℕ) (given : Result (Unit {0}) FileSwitchFault) (new : SystemState D L) : Type 0 where
+  pub made : S
+  pub copies : CopiesFile g state old file target pages (Ok tt) (state made)
+  pub gives : SwitchesFile g (state made) target true given new
+
+-- the database in the file was copied to a new file, or it was not; a copy that was made was given a journal, where one was asked for
+abbrev pub CopiesWith : {D L S : Type 0} (g : Ghosts D) (state : S → SystemState D L) → SystemState D L → List ℕ → List ℕ → ℕ → Bool → Result (Unit {0}) FileCopyFault → Result (Unit {0}) FileSwitchFault → SystemState D L → Type 0
+CopiesWith g state old file target pages true (Ok x) given new = CopiesAndGives g state old file target pages given new
+CopiesWith g state old file target pages true (Err f) given new = (given ≡ Ok tt) × CopiesFile g state old file target pages (Err f) new
+CopiesWith g state old file target pages false copied given new = (given ≡ Ok tt) × CopiesFile g state old file target pages copied new
+
 -- where the copy was made, and given a journal that was asked for, that was printed; else its fault is the end, and nothing was
 abbrev pub IsCopyAnswered : Result (Unit {0}) FileCopyFault → Result (Unit {0}) FileSwitchFault → ℕ → Known → Ending → Known → Type 0
 IsCopyAnswered (Ok x) (Ok y) pages before e after = IsPrinted (codes "ok COPY\n") before e after
 IsCopyAnswered (Ok x) (Err f) pages before e after = (e ≡ ending.Fault (fault_of_switch f)) × (after ≡ before)
 IsCopyAnswered (Err f) given pages before e after = (e ≡ ending.Fault (fault_of_copy pages f)) × (after ≡ before)
 
--- the database in the file was copied to a new file, which was given a journal where one was asked for, or why not was told; `state` is
--- what a system is at one moment
+-- the database in the file was copied to a new file, which was given a journal where one was asked for, or why not was told
 pub record Copies {D L S : Type 0} (g : Ghosts D) (state : S → SystemState D L) (old : SystemState D L) (file target : Bor (List ℕ)) (pages : ℕ) (journal : Bool) (exit : Exit) (new : SystemState D L) (out_before out_after err_before err_after : Known) : Type 0 where
   pub copied : Result (Unit {0}) FileCopyFault
-  pub mid : S
-  pub last : S
-  pub copies : CopiesFile g state old file.now target.now pages copied (state mid)
   pub given : Result (Unit {0}) FileSwitchFault
-  pub gives : GivesJournal g state journal copied mid target.now given last
-  pub is_last : new ≡ state last
+  pub copies : CopiesWith g state old file.now target.now pages journal copied given new
   pub ending : Ending
   pub answered : IsCopyAnswered copied given pages out_before ending out_after
   pub ends : Exits (copy_subject file target copied) ending exit err_before err_after
