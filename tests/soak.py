@@ -3,8 +3,8 @@
 
     python3 tests/soak.py [SECONDS [SEED]]        an hour, if no time is given; a seed of its own, which it prints, if none is
 
-Each round has a new file and a random script (scripts/random_script.py), cut into pieces. A piece is one connection, in which
-the sessions log in again. Each answer must be the one that the same events get over a database in memory (`run --memory`), and
+Each round has a new file, every second one with a journal, and a random script (scripts/random_script.py), cut into pieces. A
+piece is one connection, in which the sessions log in again. Each answer must be the one that the same events get over a database in memory (`run --memory`), and
 `check` must find the file whole whenever a server has ended.
 
 In two rounds out of three each piece has a server of its own. It ends with its connection, or is killed, once it has answered
@@ -203,12 +203,12 @@ def what_was_under_way(pasts):
     return 'either' if len(found) > 1 else 'done' if found.pop() else 'not done'
 
 
-def run_short_servers(seed, folder, counts):
+def run_short_servers(seed, folder, journal, counts):
     """A round in which each piece has a server of its own; the most memory of one."""
     random_numbers = random.Random(seed)
     pieces = pieces_of(random_script(seed, EVENTS), PIECES, 50, random_numbers)
     path, most, kills = os.path.join(folder, 'db'), 0, 0
-    make_database(path, pages=4096)
+    make_database(path, pages=4096, journal=journal)
     pasts, front, rest = [([], None)], [], []
     for number, piece in enumerate(pieces):
         piece = front + rest + piece
@@ -236,12 +236,12 @@ def after(played, piece):
     return [(events, False) for events, _ in ended] + under_way, piece[played.answered + 1:]
 
 
-def run_long_server(seed, folder, counts):
+def run_long_server(seed, folder, journal, counts):
     """A round with one server; its memory after the first piece, and after the last, in bytes."""
     pieces = pieces_of(random_script(seed, LATE_EVENTS), LATE_PIECES, LATE_FIRST, random.Random(seed))
     pieces = pieces[:1] + [OPENS + piece for piece in pieces[1:]]
     path = os.path.join(folder, 'db')
-    make_database(path, pages=4096)
+    make_database(path, pages=4096, journal=journal)
     answers, ends, largest = answers_over_memory([line for piece in pieces for line in piece + CLOSES], folder), [], []
     with serving(path, LATE_PIECES) as (server, port):
         for piece in pieces:
@@ -269,11 +269,12 @@ def main(seconds=3600, seed=None):
     while time.monotonic() < end:
         folder = tempfile.mkdtemp(prefix='guarddb-soak-')
         try:
+            journal = rounds % 2 == 1
             if rounds % 3 == 2:
-                first, last = run_long_server(seed + rounds, folder, counts)
+                first, last = run_long_server(seed + rounds, folder, journal, counts)
                 growths.append(last - first)
             else:
-                most.append(run_short_servers(seed + rounds, folder, counts))
+                most.append(run_short_servers(seed + rounds, folder, journal, counts))
         except (AssertionError, OSError) as fault:
             sys.exit(f'round {rounds} of seed {seed}: {fault}; the files are in {folder}')
         shutil.rmtree(folder)
