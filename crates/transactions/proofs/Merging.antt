@@ -15,9 +15,11 @@ use Rattle.transactions.specs.Places.{AreAhead, IsFoundAt}
 use Rattle.transactions.specs.declared.place.ViewPlace.{ViewPlace}
 use Rattle.transactions.specs.declared.place.ViewPlace.TheVariants.{Merged}
 use Rattle.transactions.specs.declared.merge.MergedPlace.{MergedPlace}
-use Rattle.transactions.specs.Merging.{AreBelow, AreMerged, IsMerge, IsPassed, is_read, passed}
+use Rattle.transactions.specs.Merging.{AreBelow, AreMerged, IsHeld, IsLent, IsLentFrom, IsMerge, IsPassed, comes_first, is_read, is_unread, passed}
 use Rattle.transactions.specs.declared.merge.Below.{Below}
 use Rattle.transactions.specs.declared.merge.Below.TheVariants.{Unread, Read, Ended}
+use Rattle.transactions.specs.declared.merge.Found.{Found}
+use Rattle.transactions.specs.declared.merge.Found.TheVariants.{InMap}
 use Rattle.transactions.specs.declared.merge.Passed.TheVariants.{Entry, Nothing, Removal}
 use Rattle.transactions.specs.declared.merge.Merge.{Merge}
 use Rattle.transactions.proofs.Scanning.{nothing_from, nothing_between, found_none, found_later, from_on, from_less, next_is_from}
@@ -68,6 +70,11 @@ later_some from next change lists late ahead least = record {
   before = λ key on less. least.before key (from_on from next key late on) less;
 }
 
+less_is : (o : Ordering) → is_lt o ≡ true → o ≡ Less
+less_is Less is = refl
+less_is Equal is = cc
+less_is Greater is = cc
+
 -- ---- the record that was read is passed
 
 module _ (rest : Records) (lists : List Changes) (es : Records) (merge : Merge) (records : Records) (rise : IsOrdered es) (m : IsMerge rest lists es merge records) (read : merge.ahead ≡ Read) where
@@ -83,12 +90,13 @@ module _ (rest : Records) (lists : List Changes) (es : Records) (merge : Merge) 
   behind_is : rest ≡ entries_where (is_from next) es
   behind_is = tail_is merge.read rest (entries_where (is_from next) es) (sym was ∙ scanned m.from es merge.read rise read_first)
 
-  record_passed : (after : Merge) → first_from m.from (applied_all lists es) ≡ Some merge.read → HasLeast next after.least lists → after.entry ≡ merge.read → after.ahead ≡ Unread → IsPassed rest lists es Entry after records
-  record_passed after found least entry unread = (
-    merge.read,
-    entries_where (is_from next) (applied_all lists es),
+  -- what is ahead of it
+  abbrev pub behind_record : Records
+  behind_record = entries_where (is_from next) (applied_all lists es)
+
+  taken : (after : Merge) → first_from m.from (applied_all lists es) ≡ Some merge.read → HasLeast next after.least lists → after.ahead ≡ Unread → (records ≡ merge.read ∷ behind_record) × IsMerge rest lists es after behind_record
+  taken after found least unread = (
     sym m.records_are ∙ scanned m.from (applied_all lists es) merge.read (ordered_view lists es rise) found,
-    entry,
     record {
       from = next;
       ahead = subst (λ (a : Below). AreBelow rest a after.read (entries_where (is_from next) es)) (sym unread) (sym behind_is);
@@ -100,25 +108,24 @@ module _ (rest : Records) (lists : List Changes) (es : Records) (merge : Merge) 
   late : is_from m.from next ≡ true
   late = next_on m.from merge.read.0 (found_from m.from es merge.read read_first)
 
-  -- no change is ahead
-  pub record_passed_last : (after : Merge) → merge.least ≡ None → after.entry ≡ merge.read → after.ahead ≡ Unread → after.least ≡ merge.least → IsPassed rest lists es Entry after records
-  record_passed_last after none entry unread same =
+  -- no change is ahead, or it comes before the least one
+  pub taken_before : (after : Merge) (change : Option (List ℕ × Option (List ℕ))) → merge.least ≡ change → comes_first merge.read.0 change ≡ true → after.ahead ≡ Unread → after.least ≡ merge.least
+      → (records ≡ merge.read ∷ behind_record) × IsMerge rest lists es after behind_record
+  taken_before after None none first unread same =
       let least = subst (λ o. HasLeast m.from o lists) none m.least in
-      record_passed after (unchanged_from m.from lists es rise least ∙ read_first)
-      (subst (λ o. HasLeast next o lists) (sym same) (subst (λ o. HasLeast next o lists) (sym none) (later_none m.from next lists late least))) entry unread
-
-  -- it comes before the least change
-  pub record_passed_first : (after : Merge) (change : List ℕ × Option (List ℕ)) → merge.least ≡ Some change → is_lt (key_cmp merge.read.0 change.0) ≡ true
-      → after.entry ≡ merge.read → after.ahead ≡ Unread → after.least ≡ merge.least → IsPassed rest lists es Entry after records
-  record_passed_first after change some first entry unread same =
+      taken after (unchanged_from m.from lists es rise least ∙ read_first)
+      (subst (λ o. HasLeast next o lists) (sym same) (subst (λ o. HasLeast next o lists) (sym none) (later_none m.from next lists late least))) unread
+  taken_before after (Some change) some first unread same =
       let least = subst (λ o. HasLeast m.from o lists) some m.least in
-      record_passed after (entry_is_first m.from lists es merge.read change true rise read_first least first)
-      (subst (λ o. HasLeast next o lists) (sym same) (subst (λ o. HasLeast next o lists) (sym some) (later_some m.from next change lists late (next_before merge.read.0 change.0 (less_is (key_cmp merge.read.0 change.0) first)) least))) entry unread
-    where
-      less_is : (o : Ordering) → is_lt o ≡ true → o ≡ Less
-      less_is Less is = refl
-      less_is Equal is = cc
-      less_is Greater is = cc
+      taken after (entry_is_first m.from lists es merge.read change true rise read_first least first)
+      (subst (λ o. HasLeast next o lists) (sym same) (subst (λ o. HasLeast next o lists) (sym some) (later_some m.from next change lists late (next_before merge.read.0 change.0 (less_is (key_cmp merge.read.0 change.0) first)) least))) unread
+
+  -- so it is found, and the walk keeps it
+  pub record_passed : (after : Merge) (change : Option (List ℕ × Option (List ℕ))) → merge.least ≡ change → comes_first merge.read.0 change ≡ true → IsHeld after merge.read → after.ahead ≡ Unread → after.least ≡ merge.least
+      → IsPassed rest lists es Entry after records
+  record_passed after change is first held unread same =
+      let behind = taken_before after change is first unread same in
+      (merge.read, behind_record, behind.0, held, behind.1)
 
 -- ---- the least change is passed
 
@@ -184,12 +191,12 @@ module _ (rest : Records) (lists : List Changes) (es : Records) (merge : Merge) 
     }
 
     -- it puts a value
-    pub put_passed : (value : List ℕ) → change.1 ≡ Some value → after.entry ≡ (change.0, value) → IsPassed rest lists es Entry after records
-    put_passed value puts entry = (
+    pub put_passed : (value : List ℕ) → change.1 ≡ Some value → IsHeld after (change.0, value) → IsPassed rest lists es Entry after records
+    put_passed value puts held = (
       (change.0, value),
       entries_where (is_from behind) (applied_all lists es),
       sym m.records_are ∙ scanned m.from (applied_all lists es) (change.0, value) (ordered_view lists es rise) (change_is_first m.from lists es merge.read change value (is_read merge.ahead) rise found least_is not_before puts),
-      entry,
+      held,
       goes_on _ refl,
     )
 
@@ -210,6 +217,45 @@ nothing_passed rest lists es merge after records rise m none known ended =
     go Read not unread is = cc
     go Ended not unread is = is
 
+-- ---- a step of the map
+
+pub unread_is : (a : Below) → is_unread a ≡ true → a ≡ Unread
+unread_is Unread is = refl
+unread_is Read is = cc
+unread_is Ended is = cc
+
+module _ {P : Type 0} (below later_below : P → Records → Type 0) (found_at : P → Record → Type 0) (lists : List Changes) (es : Records) (rise : IsOrdered es) (place after : MergedPlace P) (unread : place.merge.ahead ≡ Unread)
+    (still : after.merge.ahead ≡ place.merge.ahead) (same : after.merge.least ≡ place.merge.least) (in_map : after.merge.found ≡ InMap) where
+  not_ended : place.merge.ahead ≢ Ended
+  not_ended is = let bad : Unread ≡ Ended = sym unread ∙ is in cc
+
+  -- the record that it found comes first, and the map lends it
+  pub found_below : ((e : Record) → found_at after.below e → comes_first e.0 place.merge.least ≡ true) → ((rs : Records) → below place.below rs → Takes (found_at after.below) (later_below after.below) true rs)
+      → (records : Records) → AreMerged below lists es place records → Takes (IsLent found_at after) (AreMerged later_below lists es after) true records
+  found_below first step records ahead =
+      let m = ahead.merge in
+      let took = step ahead.rest (ahead.at_place not_ended) in
+      let read : Merge = record place.merge { ahead = Read; read = took.0 } in
+      let is : IsMerge took.1 lists es read records = record {
+        from = m.from;
+        ahead = subst (λ (a : Below). AreBelow ahead.rest a place.merge.read (entries_where (is_from m.from) es)) unread m.ahead ∙ took.2;
+        least = m.least;
+        records_are = m.records_are;
+      } in
+      let behind = taken_before took.1 lists es read records rise is refl after.merge place.merge.least refl (first took.0 took.3) (still ∙ unread) same in (
+        took.0,
+        behind_record took.1 lists es read records rise is refl,
+        behind.0,
+        subst (λ (f : Found). IsLentFrom f found_at after took.0) (sym in_map) took.3,
+        record { rest = took.1; at_place = λ not. took.4; merge = behind.1 },
+      )
+
+-- ---- what is held
+
+-- an entry that a walk keeps is the one that it lends
+pub held_lent : {P : Type 0} (found_at : P → Record → Type 0) (place : MergedPlace P) (e : Record) → IsHeld place.merge e → IsLent found_at place e
+held_lent {P} found_at place e held = subst (λ (f : Found). IsLentFrom f found_at place e) (sym held.0) held.1
+
 -- ---- what was read
 
 pub read_is : (a : Below) → is_read a ≡ true → a ≡ Read
@@ -226,7 +272,7 @@ both_are false b is = cc
 module _ {P : Type 0} (lists : List Changes) (below later_below : P → Records → Type 0) (found_below : P → Record → Type 0) (old new : StoreState) (place : ViewPlace P) (merged after : MergedPlace P) (is : place ≡ Merged merged)
     (reads : OnlyReads old new) where
   -- what a step over the merge takes, a step of the view does
-  takes : (found : Bool) → old.sound → ((records : Records) → AreMerged below lists old.map merged records → Takes (λ e. after.merge.entry ≡ e) (AreMerged later_below lists old.map after) found records)
+  takes : (found : Bool) → old.sound → ((records : Records) → AreMerged below lists old.map merged records → Takes (IsLent found_below after) (AreMerged later_below lists old.map after) found records)
       → (records : Records) → AreAhead below lists old place records → Takes (λ e. IsFoundAt found_below (Merged after) e) (λ later. AreAhead later_below lists new (Merged after) later) found records
   takes true sound step records ahead =
       let at = subst (λ (p : ViewPlace P). AreAhead below lists old p records) is ahead in
@@ -237,7 +283,7 @@ module _ {P : Type 0} (lists : List Changes) (below later_below : P → Records 
       step records at.1
 
   pub merged_steps : (result : Result Bool StoreFault)
-      → Goes (λ found. (records : Records) → AreMerged below lists old.map merged records → Takes (λ e. after.merge.entry ≡ e) (AreMerged later_below lists old.map after) found records) result (view_state lists old) (view_state lists new)
+      → Goes (λ found. (records : Records) → AreMerged below lists old.map merged records → Takes (IsLent found_below after) (AreMerged later_below lists old.map after) found records) result (view_state lists old) (view_state lists new)
       → Goes (λ found. (records : Records) → AreAhead below lists old place records → Takes (λ e. IsFoundAt found_below (Merged after) e) (λ later. AreAhead later_below lists new (Merged after) later) found records) result (view_state lists old) (view_state lists new)
   merged_steps (Ok found) goes = record { only_reads = goes.only_reads; answer = λ sound. takes found sound (goes.answer sound); cause = tt; failed = goes.failed; closed = goes.closed }
   merged_steps (Err fault) goes = record { only_reads = goes.only_reads; answer = λ sound. tt; cause = goes.cause; failed = goes.failed; closed = goes.closed }

@@ -4,7 +4,7 @@ use Rattle.std.proofs.Common.{sym, subst, ◌∙◌}
 use Rattle.store.specs.Records.{Record, Records, Changes}
 use Rattle.store.specs.Store.{StoreState}
 use Rattle.transactions.specs.Calls.{KeepsRecords}
-use Rattle.transactions.specs.Merging.{AreMerged}
+use Rattle.transactions.specs.Merging.{AreMerged, IsLent}
 use Rattle.transactions.specs.declared.place.ViewPlace.{ViewPlace}
 use Rattle.transactions.specs.declared.place.ViewPlace.TheVariants.{Below, Merged}
 
@@ -16,7 +16,7 @@ AreAhead below lists map (Merged place) records = map.sound × AreMerged below l
 -- a step to this place found this record
 abbrev pub IsFoundAt : {P : Type 0} → (P → Record → Type 0) → ViewPlace P → Record → Type 0
 IsFoundAt below (Below place) found = below place found
-IsFoundAt below (Merged place) found = place.merge.entry ≡ found
+IsFoundAt below (Merged place) found = IsLent below place found
 
 -- what is ahead still is once the map below was read
 pub ahead_later : {P : Type 0} (below later_below : P → Records → Type 0) (lists later : List Changes) (old new : StoreState) → ((place : P) (records : Records) → below place records → later_below place records)

@@ -2,12 +2,12 @@
 ghost use Rattle.std.specs.Prelude.{◌≡◌, ◌≢◌, ◌++◌, ◌∷◌, [], List, IfOk, IfErr, OnOk};
 ghost use Rattle.std.specs.Option.{option_copied};
 ghost use Rattle.std.specs.Ordering.{is_lt};
-ghost use Rattle.store.specs.Records.{Records, Changes, IsOrdered, entries_where, is_from, key_cmp};
+ghost use Rattle.store.specs.Records.{Record, Records, Changes, IsOrdered, entries_where, is_from, key_cmp};
 ghost use Rattle.store.specs.Steps.{Goes, Takes};
 ghost use Rattle.store.specs.Walks.{count_of, is_within};
 ghost use Rattle.store.specs.Store.{OnlyReads, HasReadCause, failed_after};
 ghost use Rattle.transactions.specs.Views.{applied_all, view_state, HasLeast};
-ghost use Rattle.transactions.specs.Merging.{AreMerged, IsMerge, IsPassed, is_read, is_unread, passed};
+ghost use Rattle.transactions.specs.Merging.{AreMerged, IsHeld, IsLent, IsMerge, IsPassed, IsReadBelow, comes_first, is_read, is_unread, passed};
 
 use crate::view::{found_before, least_change};
 use sql_types::try_copy::TryCopy;
@@ -65,6 +65,15 @@ impl Below {
     }
 }
 
+/// Where the entry lies that a walk found last.
+#[derive(Clone, Copy, Drop)]
+pub(crate) enum Found {
+    /// In the map, at the place below.
+    InMap,
+    /// In the walk, which keeps it.
+    Held,
+}
+
 /// What was passed at a step.
 pub(crate) enum Passed {
     /// The entry that is found.
@@ -75,16 +84,18 @@ pub(crate) enum Passed {
     Removal,
 }
 
-/// Where a walk goes on between the records of a map and the changes of lists, and the entry that
-/// it found last. It borrows neither of the two.
+/// Where a walk goes on between the records of a map and the changes of lists, and where the entry
+/// lies that it found last. It borrows neither of the two.
 #[derive(Drop)]
 pub struct Merge {
     pub(crate) ahead: Below,
-    // The record of the map that was read.
+    // A copy of the record of the map that was read, which waits behind a change.
     pub(crate) read: Entry,
     // A copy of the least change ahead.
     pub(crate) least: Option<Change>,
-    // The entry that was found last.
+    // Where the entry lies that was found last.
+    pub(crate) found: Found,
+    // That entry, where it is not one of the map at its place.
     pub(crate) entry: Entry,
     // The key behind the change that was passed last.
     next: Vec<u8>,
@@ -119,28 +130,20 @@ impl Merge {
             ahead: Below::Unread,
             read: Entry::new(alloc),
             least: copied(alloc, least_change(lists, key))?,
+            found: Found::Held,
             entry: Entry::new(alloc),
             next: Vec::new(alloc),
         })
     }
 
-    // The entry that was found last, lent.
-    pub(crate) fn lent(&self) -> EntryRef<'_>
-        ensures { result ≡ self.now.entry }
-    {
-        EntryRef {
-            key: self.entry.key(),
-            value: self.entry.value(),
-        }
-    }
-
     // Passes the record that was read, which is found.
     fn pass_record(&mut self)
-        ensures entry { self.new.entry ≡ self.old.read }
+        ensures held { IsHeld self.new self.old.read }
         ensures ahead { self.new.ahead ≡ Below.Unread }
         ensures least { self.new.least ≡ self.old.least }
     {
         mem::swap(&mut self.entry, &mut self.read);
+        self.found = Found::Held;
         self.ahead = Below::Unread;
     }
 
@@ -187,6 +190,7 @@ impl Merge {
         match least.value() {
             Some(value) => {
                 self.entry.set(least.key(), value)?;
+                self.found = Found::Held;
                 Ok(Passed::Entry)
             }
             None => Ok(Passed::Removal),
@@ -194,29 +198,47 @@ impl Merge {
     }
 }
 
-// Reads the record of the map that is ahead, if it was not read yet.
-fn read_below<M: Map>(map: &mut M, place: &mut MergedPlace<M::Place>) -> Result<(), StoreFault>
+// Whether the record that the map has found at its place comes before the least change, if one is
+// ahead.
+fn is_first<M: Map>(map: &M, place: &MergedPlace<M::Place>) -> bool
+    ensures { (e : Record) → M.found_at map.now place.now.below e
+        → result ≡ comes_first e.0 place.now.merge.least }
+{
+    match &place.merge.least {
+        Some(change) => comes_before(map.entry(&place.below).key, change.key()),
+        None => true,
+    }
+}
+
+// Goes on in the map, where nothing is known of what is ahead of its place. True: the next record
+// comes first, and is found. False: it comes behind a change and was read, or no record is ahead.
+fn read_below<M: Map>(map: &mut M, place: &mut MergedPlace<M::Place>) -> Result<bool, StoreFault>
     ensures preserved { M.preserved map.old map.new }
     ensures only_reads { OnlyReads (M.state map.old) (M.state map.new) }
     ensures failed { (M.state map.new).has_failed
         ≡ failed_after result (M.state map.old).has_failed }
     ensures cause { IfErr result (λ f. HasReadCause f (M.state map.old) (M.state map.new)) }
-    ensures read { (M.state map.old).sound → OnOk result ((lists : List Changes) (records : Records)
+    ensures read { (M.state map.old).sound → IfOk result (λ found. (lists : List Changes) (records : Records)
         → AreMerged (M.ahead map.old) lists (M.state map.old).map place.old records
-        → (place.new.merge.ahead ≢ Below.Unread)
-        × AreMerged (M.ahead map.new) lists (M.state map.old).map place.new records) }
+        → IsReadBelow (IsLent (M.found_at map.new) place.new)
+        (AreMerged (M.ahead map.new) lists (M.state map.old).map place.new)
+        place.new.merge.ahead found records) }
 {
     if !place.merge.ahead.is_unread() {
-        return Ok(());
+        return Ok(false);
     }
     if !map.step(&mut place.below)? {
         place.merge.ahead = Below::Ended;
-        return Ok(());
+        return Ok(false);
+    }
+    if is_first(map, place) {
+        place.merge.found = Found::InMap;
+        return Ok(true);
     }
     let entry = map.entry(&place.below);
     place.merge.read.set(entry.key, entry.value)?;
     place.merge.ahead = Below::Read;
-    Ok(())
+    Ok(false)
 }
 
 // Goes on to the first entry ahead. True: it was found. False: none is ahead. The faults are those of
@@ -230,13 +252,15 @@ pub(crate) fn step_merged<M: Map>(
     ensures only_reads { OnlyReads (M.state map.old) (M.state map.new) }
     ensures goes { Goes (λ found. (records : Records)
         → AreMerged (M.ahead map.old) lists.now (M.state map.old).map place.old records
-        → Takes (λ e. place.new.merge.entry ≡ e)
+        → Takes (IsLent (M.found_at map.new) place.new)
         (AreMerged (M.ahead map.new) lists.now (M.state map.old).map place.new)
         found records)
         result (view_state lists.now (M.state map.old)) (view_state lists.now (M.state map.new)) }
 {
     for _ in 0..u64::MAX {
-        read_below(map, place)?;
+        if read_below(map, place)? {
+            return Ok(true);
+        }
         match place.merge.pass(lists)? {
             Passed::Entry => return Ok(true),
             Passed::Nothing => return Ok(false),
@@ -244,6 +268,19 @@ pub(crate) fn step_merged<M: Map>(
         }
     }
     Err(StoreFault::Memory)
+}
+
+// The entry that the last step to a place found, lent by the map or the place.
+pub(crate) fn lent<'a, M: Map>(map: &'a M, place: &'a MergedPlace<M::Place>) -> EntryRef<'a>
+    ensures { (e : Record) → IsLent (M.found_at map.now) place.now e → result ≡ e }
+{
+    match place.merge.found {
+        Found::InMap => map.entry(&place.below),
+        Found::Held => EntryRef {
+            key: place.merge.entry.key(),
+            value: place.merge.entry.value(),
+        },
+    }
 }
 
 // Whether a key begins with this stop or comes before it.
@@ -272,7 +309,7 @@ pub(crate) fn count_merged<M: Map>(
         if !step_merged(map, lists, place)? {
             return Ok(count);
         }
-        if !is_within(stop, place.merge.entry.key()) {
+        if !is_within(stop, lent(map, place).key) {
             return Ok(count);
         }
     }

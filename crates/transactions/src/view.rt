@@ -9,7 +9,7 @@ ghost use Rattle.transactions.specs.Views.{view_state, ordered_view, latest, Has
 ghost use Rattle.transactions.specs.Places.{AreAhead, IsFoundAt, ahead_later};
 ghost use Rattle.transactions.specs.Calls.{IsStep, KeepsLists, keeps_same, keeps_joined, KeepsRecords, records_same, records_joined};
 
-use crate::merge::{Merge, MergedPlace, count_merged, is_within, step_merged};
+use crate::merge::{Merge, MergedPlace, count_merged, is_within, lent, step_merged};
 use crate::place::ViewPlace;
 use std::alloc::{AllocError, Global};
 use store::{Batch, Change, Entry, EntryRef, Map, StoreFault, comes_before};
@@ -291,13 +291,13 @@ impl<'a, M: Map> Map for View<'a, M> {
     }
 }
 
-/// The record that the last step of a view to this place found, lent by the map below and the place. So it can be read
+/// The record that the last step of a view to this place found, lent by the map below or the place. So it can be read
 /// while no view holds the map.
 pub fn entry_at<'a, M: Map>(map: &'a M, place: &'a ViewPlace<M::Place>) -> EntryRef<'a>
     ensures { (e : Record) → IsFoundAt (M.found_at map.now) place.now e → result ≡ e }
 {
     match place {
         ViewPlace::Below(below) => map.entry(below),
-        ViewPlace::Merged(merged) => merged.merge.lent(),
+        ViewPlace::Merged(merged) => lent(map, merged),
     }
 }

@@ -3,7 +3,7 @@ use Rattle.store.specs.Records.{Record, Records, entries_where}
 use Rattle.store.specs.Steps.{Takes}
 use Rattle.store.specs.Walks.{is_within}
 use Rattle.store.proofs.Reading.{reads_joined}
-use Rattle.transactions.specs.Merging.{AreMerged}
+use Rattle.transactions.specs.Merging.{AreMerged, IsLent}
 use Rattle.transactions.proofs.Counting.{counted_all, ends_here, merged_rise, none_more, one_more}
 use Rattle.transactions.proofs.Viewing.{view_found}
 use Rattle.transactions.proofs.merge.count_merged.Goals as goal
@@ -21,7 +21,7 @@ returns-then-not-branch-clause-goes g c =
     let at = inv.counted sound records ahead in
     let here = subst (λ (es : Records). AreMerged (g.M.Map.ahead mid) lists es c.loop-count.place at.0) (sym (inv.reads.unchanged sound).map) at.2 in
     let took = step.goes.answer (inv.reads.history.sound sound) at.0 here in
-    ends_here c.args.stop.now records at.0 c.loop-count.count at.1 (ap (λ (es : Records). length (entries_where (is_within c.args.stop.now) es)) (subst (λ (b : Bool). Takes (λ e. c.step_merged.new.place.merge.entry ≡ e) (AreMerged (g.M.Map.ahead new) lists (g.M.Map.state mid).map c.step_merged.new.place) b at.0) c.if-not-branch.true took)) (omega (arith, c.loop-count-test.true)))
+    ends_here c.args.stop.now records at.0 c.loop-count.count at.1 (ap (λ (es : Records). length (entries_where (is_within c.args.stop.now) es)) (subst (λ (b : Bool). Takes (IsLent (g.M.Map.found_at new) c.step_merged.new.place) (AreMerged (g.M.Map.ahead new) lists (g.M.Map.state mid).map c.step_merged.new.place) b at.0) c.if-not-branch.true took)) (omega (arith, c.loop-count-test.true)))
 
 pub returns-then-not-is_within-clause-goes : goal.returns-then-not-is_within-clause-goes
 returns-then-not-is_within-clause-goes g c =
@@ -36,8 +36,8 @@ returns-then-not-is_within-clause-goes g c =
     (λ sound records ahead.
     let at = inv.counted sound records ahead in
     let here = subst (λ (es : Records). AreMerged (g.M.Map.ahead mid) lists es c.loop-count.place at.0) (sym (inv.reads.unchanged sound).map) at.2 in
-    let took = subst (λ (b : Bool). Takes (λ e. c.step_merged.new.place.merge.entry ≡ e) (AreMerged (g.M.Map.ahead new) lists (g.M.Map.state mid).map c.step_merged.new.place) b at.0) c.if-not-branch.false (step.goes.answer (inv.reads.history.sound sound) at.0 here) in
-    let past : is_within stop took.0.0 ≡ false = ap (λ (e : Record). is_within stop e.0) (sym took.3) ∙ ap (is_within stop) (sym c.key.ensures) ∙ sym c.is_within.ensures ∙ c.if-not-is_within.true in
+    let took = subst (λ (b : Bool). Takes (IsLent (g.M.Map.found_at new) c.step_merged.new.place) (AreMerged (g.M.Map.ahead new) lists (g.M.Map.state mid).map c.step_merged.new.place) b at.0) c.if-not-branch.false (step.goes.answer (inv.reads.history.sound sound) at.0 here) in
+    let past : is_within stop took.0.0 ≡ false = ap (λ (e : Record). is_within stop e.0) (sym (c.lent.ensures took.0 took.3)) ∙ ap (λ (e : Record). is_within stop e.0) (sym c.lent-in-loop-count.view_is) ∙ sym c.is_within.ensures ∙ c.if-not-is_within.true in
     ends_here stop records at.0 c.loop-count.count at.1 (none_more stop at.0 took.0 took.1 took.2 past (merged_rise _ lists _ _ at.0 (g.met.M.Map.ordered old sound) at.2)) (omega (arith, c.loop-count-test.true)))
 
 pub loop-count-preserved : goal.loop-count-preserved
@@ -57,8 +57,8 @@ loop-count-preserved g c =
           let at = inv.counted sound records ahead in
           let same = (inv.reads.unchanged sound).map in
           let here = subst (λ (es : Records). AreMerged (g.M.Map.ahead mid) lists es c.loop-count.place at.0) (sym same) at.2 in
-          let took = subst (λ (b : Bool). Takes (λ e. c.step_merged.new.place.merge.entry ≡ e) (AreMerged (g.M.Map.ahead new) lists (g.M.Map.state mid).map c.step_merged.new.place) b at.0) c.if-not-branch.false (step.goes.answer (inv.reads.history.sound sound) at.0 here) in
-          let within : is_within stop took.0.0 ≡ true = ap (λ (e : Record). is_within stop e.0) (sym took.3) ∙ ap (is_within stop) (sym c.key.ensures) ∙ sym c.is_within.ensures ∙ c.if-not-is_within.false in
+          let took = subst (λ (b : Bool). Takes (IsLent (g.M.Map.found_at new) c.step_merged.new.place) (AreMerged (g.M.Map.ahead new) lists (g.M.Map.state mid).map c.step_merged.new.place) b at.0) c.if-not-branch.false (step.goes.answer (inv.reads.history.sound sound) at.0 here) in
+          let within : is_within stop took.0.0 ≡ true = ap (λ (e : Record). is_within stop e.0) (sym (c.lent.ensures took.0 took.3)) ∙ ap (λ (e : Record). is_within stop e.0) (sym c.lent-in-loop-count.view_is) ∙ sym c.is_within.ensures ∙ c.if-not-is_within.false in
           (took.1, omega (arith, at.1, one_more stop at.0 took.0 took.1 took.2 within), subst (λ (es : Records). AreMerged (g.M.Map.ahead new) lists es c.step_merged.new.place took.1) same took.4);
     }
 

@@ -1,9 +1,10 @@
-use Rattle.std.proofs.Common.{◌≡◌, Bool, false, ◌&&◌, Some, None, ap, sym, ◌∙◌, subst}
+use Rattle.std.proofs.Common.{◌≡◌, Bool, false, ◌&&◌, Some, None, refl, ap, sym, ◌∙◌, subst}
 use Rattle.std.specs.Ordering.{is_lt}
 use Rattle.store.specs.Records.{key_cmp}
 use Rattle.transactions.specs.Merging.{is_read}
+use Rattle.transactions.specs.declared.merge.Found.TheVariants.{Held}
 use Rattle.transactions.specs.declared.merge.Merge.{Merge}
-use Rattle.transactions.proofs.Merging.{record_passed_last, record_passed_first, nothing_passed, put_passed, removal_passed, read_is, both_are}
+use Rattle.transactions.proofs.Merging.{record_passed, nothing_passed, put_passed, removal_passed, read_is, both_are}
 use Rattle.transactions.proofs.merge.Merge.pass.Goals as goal
 
 pub returns-then-found-clause-passed : goal.returns-then-found-clause-passed
@@ -11,7 +12,7 @@ returns-then-found-clause-passed c rest es records rise known m =
     let old = c.args.self.now in
     let is = c.pass_record.ensures in
     let none : old.least ≡ None = sym c.take.ensures.value ∙ c.in_default.is in
-    record_passed_last rest c.args.lists.now es old records rise m (read_is old.ahead (sym c.is_read-found.ensures ∙ c.if-found.true)) c.pass_record.new.self none is.entry is.ahead (is.least ∙ (c.take.ensures.after ∙ sym none))
+    record_passed rest c.args.lists.now es old records rise m (read_is old.ahead (sym c.is_read-found.ensures ∙ c.if-found.true)) c.pass_record.new.self None none refl is.held is.ahead (is.least ∙ (c.take.ensures.after ∙ sym none))
 
 pub returns-in_default-clause-passed : goal.returns-in_default-clause-passed
 returns-in_default-clause-passed c rest es records rise known m =
@@ -26,7 +27,7 @@ returns-then-found_before-clause-passed c rest es records rise known m =
     let change = c.in-Some.least in
     let some : old.least ≡ Some change = sym c.take.ensures.value ∙ c.in-Some.is in
     let both = both_are c.is_read-found.result (is_lt (key_cmp old.read.0 change.0)) (sym c.found_before.ensures ∙ c.if-found_before.true) in
-    record_passed_first rest c.args.lists.now es old records rise m (read_is old.ahead (sym c.is_read-found.ensures ∙ both.0)) c.pass_record-then-found_before.new.self change some both.1 is.entry is.ahead (is.least ∙ sym some)
+    record_passed rest c.args.lists.now es old records rise m (read_is old.ahead (sym c.is_read-found.ensures ∙ both.0)) c.pass_record-then-found_before.new.self (Some change) some both.1 is.held is.ahead (is.least ∙ sym some)
 
 pub returns-in-Some-value-clause-passed : goal.returns-in-Some-value-clause-passed
 returns-in-Some-value-clause-passed c rest es records rise known m =
@@ -35,11 +36,11 @@ returns-in-Some-value-clause-passed c rest es records rise known m =
     let is = c.in_ok-pass_change.ensures in
     let change = c.in-Some.least in
     let value = c.in-Some-value.value.now in
-    let after : Merge = record { ahead = mid.ahead; read = mid.read; least = mid.least; entry = c.set.new.self; next = mid.next } in
+    let after : Merge = record mid { found = Held; entry = c.set.new.self } in
     let not_before : (is_read old.ahead && is_lt (key_cmp old.read.0 change.0)) ≡ false =
     subst (λ (b : Bool). (b && is_lt (key_cmp old.read.0 change.0)) ≡ false) c.is_read-found.ensures (sym c.found_before.ensures ∙ c.if-found_before.false) in
     put_passed rest c.args.lists.now es old records rise m change (sym c.take.ensures.value ∙ c.in-Some.is) known not_before after is.read is.ahead is.least value c.in-Some-value.ensures
-    (c.in_ok-set-in-Some-value.ensures ∙ ap (λ k. (k, value)) c.key.ensures)
+    (refl, c.in_ok-set-in-Some-value.ensures ∙ ap (λ k. (k, value)) c.key.ensures)
 
 pub returns-clause-passed : goal.returns-clause-passed
 returns-clause-passed c rest es records rise known m =
