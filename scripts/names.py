@@ -3,8 +3,8 @@
 
     python3 scripts/names.py
 
-A line for each such name with the places where it is declared; the status is 1 where there is one that LEFT does not have. A type that belongs to a trait
-or an impl is no name of its own there, and is not looked at. Two variants of enums may have one name.
+A line for each such name with the places where it is declared; the status is 1 where there is one. A type that belongs to a trait or an impl is no name
+of its own there, and is not looked at. Two variants of enums may have one name.
 """
 import collections
 import os
@@ -12,9 +12,6 @@ import re
 import sys
 
 CRATES = os.path.join(os.path.dirname(os.path.dirname(os.path.realpath(__file__))), 'crates')
-
-# Names that stand for two types still. A new name there is to come with the next change of the crate.
-LEFT = {'Choice', 'Failing', 'Image', 'Pair', 'Script', 'Tally'}
 
 # A declaration that begins its line, as each item of a module does in the layout of `rt fmt`.
 DECLARED = re.compile(r'(?:pub(?:\([^)]*\))? )?(?:unsafe )?(?:struct|enum|union|trait|type) (\w+)')
@@ -46,7 +43,7 @@ def main():
     for name, places in sorted(twice.items()):
         print(f'{name}: {", ".join(places)}')
     print(f'{len(twice)} names stand for two types')
-    return 1 if twice.keys() - LEFT else 0
+    return 1 if twice else 0
 
 
 sys.exit(main())

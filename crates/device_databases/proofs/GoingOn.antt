@@ -9,7 +9,7 @@ use Rattle.lives.specs.Lives.{IsFoundLeft, LeavesFound, IsNoLife}
 use Rattle.lives.specs.Stopping.{is_left_by, IsWithin}
 use Rattle.lives.proofs.GoingOn.{none_at, stopped_at}
 use Rattle.lives.proofs.Living.{means_is}
-use Rattle.device_databases.specs.declared.fault.DatabaseFault.{DatabaseFault}
+use Rattle.lives.specs.declared.fault.DatabaseFault.{DatabaseFault}
 use Rattle.device_databases.specs.Databases.{records_on}
 use Rattle.device_databases.specs.Openings.{IsRefused}
 use Rattle.device_databases.specs.Following.{Did, ran_script, served_connections, opened_none, Run, AreStopped, LeadsOn, GoOn}

@@ -23,24 +23,22 @@ use Rattle.device_store.proofs.Since.{history_since, content_since}
 use Rattle.abstract_database.specs.Database.{Database}
 use Rattle.server.specs.declared.server.Server.{Server}
 use Rattle.server.specs.Standing.{Stands, Means, at_start}
-use Rattle.opening.specs.declared.fault.OpeningFault.{OpeningFault}
-use Rattle.opening.specs.declared.fault.OpeningFault.TheVariants as opening
+use Rattle.migration.specs.declared.fault.OpeningFault.{OpeningFault}
+use Rattle.migration.specs.declared.fault.OpeningFault.TheVariants as opening
 use Rattle.opening.specs.Openings.{IsOpened as IsServerOpened, IsNumberAfter, HasOpeningCause, KeepsDatabase, OnlyLooks, failed_after_opening}
 use Rattle.script_runs.specs.Closing.{StandsWithinLimit}
 use Rattle.device_databases.specs.declared.database.Opened.{Opened}
-use Rattle.device_databases.specs.declared.fault.DatabaseFault.TheVariants.{WrongSize, NotADatabase, Damaged, Device, Memory, Full, Number}
+use Rattle.lives.specs.OnDevice.{fault_of_opening, fault_of_pages}
+use Rattle.lives.proofs.Opening.{device_of_pages, failed_for, leaves_database, reading_leaves}
+use Rattle.lives.specs.declared.fault.DatabaseFault.TheVariants.{WrongSize, NotADatabase, Damaged, Device, Memory, Full, Number}
 use Rattle.device_databases.specs.Databases.{records_on, HoldsDatabase, HoldsFirstSpelling, IsUnwritten, LeavesAsBefore, LeavesDatabase}
-use Rattle.device_databases.specs.Openings.{IsMigrated, IsOfMigration, IsOnlyRead, IsOpenedOn, IsRefused, IsTriedOn, IsUntried, OpensAs, StandsIn, fault_of_opening, fault_of_pages, is_first}
+use Rattle.device_databases.specs.Openings.{IsMigrated, IsOfMigration, IsOnlyRead, IsOpenedOn, IsRefused, IsTriedOn, IsUntried, OpensAs, StandsIn, is_first}
 
 -- a device of which nothing was written leaves records that might have been left before
-read_leaves : (d e : DeviceState) → KeepsContent d e → LeavesOnly (records_on d).left (records_on d) (read_by (IsReadAs (d.sectors / 8)) (timeline e))
-read_leaves d e keeps =
-    lifted (IsReadAs (d.sectors / 8)) (IsLeft d) (records_on d).left (timeline d) (timeline e) (λ image x left reads. (image, left, reads)) keeps.leaves
-
 leaves_before : (d e : DeviceState) → IsUnwritten d e → LeavesAsBefore d e
 leaves_before d e unwritten =
     subst (λ (n : ℕ). LeavesOnly (records_on d).left (records_on d) (read_by (IsReadAs (n / 8)) (timeline e))) (sym unwritten.history.sectors)
-    (read_leaves d e unwritten.content)
+    (reading_leaves d e unwritten.content)
 
 -- ---- refused for its pages
 
@@ -50,13 +48,6 @@ stands_in pages.NotADatabase d named = named
 stands_in pages.Damaged d named = inl named
 stands_in pages.Device d named = tt
 stands_in pages.Memory d named = named
-
-device_of_pages : (fault : PagesFault) → fault_of_pages fault ≡ Device → fault ≡ pages.Device
-device_of_pages pages.WrongSize is = absurd (let bad : WrongSize ≡ Device = is in cc)
-device_of_pages pages.NotADatabase is = absurd (let bad : NotADatabase ≡ Device = is in cc)
-device_of_pages pages.Damaged is = absurd (let bad : Damaged ≡ Device = is in cc)
-device_of_pages pages.Device is = refl
-device_of_pages pages.Memory is = absurd (let bad : Memory ≡ Device = is in cc)
 
 pub refused_pages : (d e : DeviceState) (fault : PagesFault) → CannotOpen d fault e → d.faithful → IsRefused d (fault_of_pages fault) e
 refused_pages d e fault cannot faithful =
@@ -81,24 +72,6 @@ module _ {D : Type 0} {g : Ghosts D} (present : (device : D) → (g.state device
   left_of_store : (x : Option Contents) → (records_on (state_under t)).left x → (store_state t).time.left x
   left_of_store x left = left
 
-  leaves_since : (P : Option Contents → Type 0) → LeavesOnly P (store_state s).time (store_state t).time
-      → LeavesOnly P (read_by (IsReadAs (d.sectors / 8)) (timeline (state_under s))) (records_on (state_under t))
-  leaves_since P leaves = subst (λ (n : ℕ). LeavesOnly P (read_by (IsReadAs (n / 8)) (timeline (state_under s))) (records_on (state_under t))) opened.history.sectors leaves
-
-  -- the database stayed
-  leaves_database : (db : Database) → LeavesOnly (λ x. Means x db) (store_state s).time (store_state t).time → ((x : Option Contents) → (store_state t).time.left x → Means x db)
-      → LeavesDatabase db d (state_under t)
-  leaves_database db during now =
-      let P : Option Contents → Type 0 = λ x. (records_on d).left x ⊎ Means x db in
-      let old = records_on d in
-      let mid = read_by (IsReadAs (d.sectors / 8)) (timeline (state_under s)) in
-      let new = records_on (state_under t) in
-      record {
-        during = joined P old mid new (weakened old.left P old mid (λ x left. inl left) (read_leaves d (state_under s) (opened.content faithful)))
-            (weakened (λ x. Means x db) P mid new (λ x means. inr means) (leaves_since (λ x. Means x db) during));
-        now = λ x left. now x (left_of_store x left);
-      }
-
   failures_since : (store_state s).faults ≤ (store_state t).faults → d.failures ≤ (state_under t).failures
   failures_since faults = omega (arith, opened.history.failures, faults)
 
@@ -106,35 +79,15 @@ module _ {D : Type 0} {g : Ghosts D} (present : (device : D) → (g.state device
 
 module _ {D : Type 0} {g : Ghosts D} (present : (device : D) → (g.state device).faithful → IsPresent (timeline (g.state device))) (d : DeviceState) (s t : DeviceStore D g) (opened : IsStoreOpened d s) (faithful : d.faithful)
     (history : KeepsHistory (store_state s) (store_state t)) where
-  failed_since : HasDeviceCause (store_state s) (store_state t) → HasFailed d (state_under t)
-  failed_since cause = elim (cause.fault (opened.holds faithful).sound) [
-    | inl failed ↦ absurd (false≢true (sym opened.has_not_failed ∙ failed))
-    | inr rose ↦ elim rose [
-      | inl more ↦ inl (omega (arith, opened.history.failures, more))
-      | inr most ↦ elim (cases_lt d.failures (2 ^ 64 - 1)) [
-        | inl lt ↦ inl (omega (arith, lt, most, history.faults))
-        | inr past ↦ inr (omega (arith, past, most, opened.history.failures))
-      ]
-    ]
-  ]
-
   abbrev holds_first : (store_state s).spelling ≡ First → HoldsFirstSpelling d
   holds_first first = record { contents = stored (store_state s); has = (opened.holds faithful).contents; first = first }
 
-  stands_records : (f : OpeningFault) → ((db : Database) → Stands (stored (store_state s)) db → f ≢ opening.Damaged) → HasOpeningCause f (store_state s) (store_state t) → StandsIn (fault_of_opening f) d
-  stands_records opening.Memory damaged cause = inl (opened.holds faithful).no_fault
-  stands_records opening.Device damaged cause = tt
-  stands_records opening.Damaged damaged cause =
-      inr (record { contents = stored (store_state s); has = (opened.holds faithful).contents; none = λ db stands. damaged db stands refl })
-  stands_records opening.Full damaged cause = holds_first cause.0
-  stands_records opening.Number damaged cause = (holds_first cause.0, (opened.holds faithful).number_is ∙ cause.1)
-
-  failed_records : (f : OpeningFault) → HasOpeningCause f (store_state s) (store_state t) → fault_of_opening f ≡ Device → HasFailed d (state_under t)
-  failed_records opening.Memory cause is = absurd (let bad : Memory ≡ Device = is in cc)
-  failed_records opening.Device cause is = failed_since cause
-  failed_records opening.Damaged cause is = absurd (let bad : Damaged ≡ Device = is in cc)
-  failed_records opening.Full cause is = absurd (let bad : Full ≡ Device = is in cc)
-  failed_records opening.Number cause is = absurd (let bad : Number ≡ Device = is in cc)
+  stands_records : (f : OpeningFault) → HasOpeningCause f (store_state s) (store_state t) → StandsIn (fault_of_opening f) d
+  stands_records opening.Memory cause = inl (opened.holds faithful).no_fault
+  stands_records opening.Device cause = tt
+  stands_records opening.Damaged cause = inr (record { contents = stored (store_state s); has = (opened.holds faithful).contents; none = cause })
+  stands_records opening.Full cause = holds_first cause.0
+  stands_records opening.Number cause = (holds_first cause.0, (opened.holds faithful).number_is ∙ cause.1)
 
   -- a store that answered no fault of the device works
   works_after : (f : OpeningFault) → fault_of_opening f ≢ Device → (store_state t).has_failed ≡ failed_after_opening (Err f) (store_state s).has_failed → (store_state t).has_failed ≡ false
@@ -165,7 +118,7 @@ module _ {D : Type 0} {g : Ghosts D} (present : (device : D) → (g.state device
   tried f of_migration first works unchanged same = record {
     holds = holds_first first;
     of_migration = of_migration;
-    leaves = λ db held. let keeps = same db (stands_for_store db held) in leaves_database present d s t opened faithful db keeps.during keeps.now;
+    leaves = λ db held. leaves_database d s t db (Err f) opened faithful (same db (stands_for_store db held));
     unchanged = λ other x left. left_unchanged f other works (unchanged (of_device f other)) x left;
     failures = failures_since present d s t opened faithful history.faults;
   }
@@ -180,14 +133,14 @@ looked_or_tried First opening.Full looked tried = inr (tried refl tt)
 looked_or_tried First opening.Number looked tried = inr (tried refl tt)
 
 pub refused_records : {D : Type 0} {g : Ghosts D} (present : (device : D) → (g.state device).faithful → IsPresent (timeline (g.state device))) (d : DeviceState) (s t : DeviceStore D g) (f : OpeningFault) → IsStoreOpened d s → d.faithful
-    → KeepsHistory (store_state s) (store_state t) → HasOpeningCause f (store_state s) (store_state t) → ((db : Database) → Stands (stored (store_state s)) db → f ≢ opening.Damaged)
+    → KeepsHistory (store_state s) (store_state t) → HasOpeningCause f (store_state s) (store_state t)
     → (store_state t).has_failed ≡ failed_after_opening (Err f) (store_state s).has_failed → (f ≢ opening.Device → IsUnchanged (store_state s) (store_state t))
     → (OnlyLooks (store_state s).spelling (Err f) → OnlyLooksInto s t) → ((db : Database) → Stands (stored (store_state s)) db → KeepsDatabase db (Err f) (store_state s) (store_state t))
     → IsRefused d (fault_of_opening f) (state_under t)
-refused_records {D} {g} present d s t f opened faithful history cause damaged works unchanged nothing same = record {
+refused_records {D} {g} present d s t f opened faithful history cause works unchanged nothing same = record {
   faithful = faithful_under t (history.sound (opened.holds faithful).sound);
-  stands = stands_records present d s t opened faithful history f damaged cause;
-  failed = failed_records present d s t opened faithful history f cause;
+  stands = stands_records present d s t opened faithful history f cause;
+  failed = failed_for d s t f opened faithful history cause;
   outcome = looked_or_tried (store_state s).spelling f (λ looks. untried present d s t opened faithful (nothing looks))
       (λ first of_migration. tried present d s t opened faithful history f of_migration first works unchanged same);
 }
@@ -226,11 +179,10 @@ opened_on {D} {g} {X} present d s o opened faithful history was_migrated is numb
           })
           (λ first.
           let rises = subst (λ (sp : Spelling). IsNumberAfter sp (store_state s).number (store_state t).number) first number in
-          let keeps = same is.database is.stands in
           record {
             by_one = subst (λ (n : ℕ). (store_state t).number ≤ n + 1) (sym image.number_is) rises.1;
             not_back = subst (λ (n : ℕ). n ≤ (store_state t).number) (sym image.number_is) rises.0;
-            leaves = leaves_database present d s t opened faithful is.database keeps.during keeps.now;
+            leaves = leaves_database d s t is.database (Ok tt) opened faithful (same is.database is.stands);
             failures = failures_since present d s t opened faithful history.faults;
           });
     }

@@ -12,7 +12,7 @@ use Rattle.script_runs.specs.declared.sink.Sink.{Ghosts as SinkGhosts}
 use Rattle.connections.specs.declared.listener.Served.{Served}
 use Rattle.connections.specs.Listening.{Listening}
 use Rattle.device_databases.specs.declared.database.Opened.{Opened}
-use Rattle.device_databases.specs.declared.fault.DatabaseFault.{DatabaseFault}
+use Rattle.lives.specs.declared.fault.DatabaseFault.{DatabaseFault}
 use Rattle.device_databases.specs.Openings.{IsOpenedOn, IsRefused}
 use Rattle.device_databases.specs.Answered.{Answered, IsLived, IsOfListener, IsOfScript}
 use Rattle.device_databases.specs.Runs.{RunsScriptFrom, ServesFrom}

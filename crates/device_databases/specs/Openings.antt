@@ -4,7 +4,6 @@ use Rattle.storage_sizes.specs.declared.spelling.Spelling.{Spelling}
 use Rattle.storage_sizes.specs.declared.spelling.Spelling.TheVariants.{First, Second}
 use Rattle.sector_device.specs.Device.{DeviceState, HasFailed}
 use Rattle.sector_device.specs.declared.device.Device.{Ghosts}
-use Rattle.cow_pages.specs.declared.open.OpenFault.{OpenFault as PagesFault}
 use Rattle.cow_pages.specs.declared.open.OpenFault.TheVariants as pages
 use Rattle.store.specs.Store.{Contents}
 use Rattle.device_store.specs.declared.stores.DeviceStore.{DeviceStore}
@@ -13,10 +12,8 @@ use Rattle.device_store.specs.Stores.{device_of, state_under as state_below, sto
 use Rattle.abstract_database.specs.Database.{Database}
 use Rattle.server.specs.declared.server.Server.{Server}
 use Rattle.server.specs.Standing.{Represents, at_start}
-use Rattle.opening.specs.declared.fault.OpeningFault.{OpeningFault}
-use Rattle.opening.specs.declared.fault.OpeningFault.TheVariants as opening
-use Rattle.device_databases.specs.declared.fault.DatabaseFault.{DatabaseFault}
-use Rattle.device_databases.specs.declared.fault.DatabaseFault.TheVariants.{WrongSize, NotADatabase, Damaged, Device, Memory, Full, Number}
+use Rattle.lives.specs.declared.fault.DatabaseFault.{DatabaseFault}
+use Rattle.lives.specs.declared.fault.DatabaseFault.TheVariants.{WrongSize, NotADatabase, Damaged, Device, Memory, Full, Number}
 use Rattle.device_databases.specs.declared.database.Opened.{Opened}
 use Rattle.device_databases.specs.Databases.{HoldsDatabase, HoldsFirstSpelling, IsUnwritten, KeepsRecords, LeavesAsBefore, LeavesDatabase, MeansNone, records_on}
 
@@ -114,19 +111,3 @@ pub record IsRefused (d : DeviceState) (fault : DatabaseFault) (e : DeviceState)
 -- a server was opened, or the device is handed back
 abbrev pub OpensOn : {D : Type 0} {g : Ghosts D} {X : Type 0} → DeviceState → Result (Opened D X g) (D × DatabaseFault) → Type 0
 OpensOn {g = g} d result = MatchResult result (λ opened. IsOpenedOn d opened) (λ e. IsRefused d e.1 (g.state e.0))
-
--- the fault of the opening of pages
-abbrev pub fault_of_pages : PagesFault → DatabaseFault
-fault_of_pages pages.WrongSize = WrongSize
-fault_of_pages pages.NotADatabase = NotADatabase
-fault_of_pages pages.Damaged = Damaged
-fault_of_pages pages.Device = Device
-fault_of_pages pages.Memory = Memory
-
--- the fault of a server's opening
-abbrev pub fault_of_opening : OpeningFault → DatabaseFault
-fault_of_opening opening.Memory = Memory
-fault_of_opening opening.Device = Device
-fault_of_opening opening.Damaged = Damaged
-fault_of_opening opening.Full = Full
-fault_of_opening opening.Number = Number

@@ -4,9 +4,9 @@ ghost use Rattle.std.specs.Prelude.{◌≡◌, ◌≤◌, false, IfOk};
 ghost use Rattle.device_store.specs.Stores.{store_state};
 ghost use Rattle.device_databases.specs.Openings.{OpensOn, is_first};
 
-use crate::fault::DatabaseFault;
 use device_store::{DeviceStore, MAX_CACHE_PAGES};
 use journal_store::JournalDevice;
+use lives::DatabaseFault;
 use opening::open;
 use sector_device::Device;
 use server::decide::Decide;

@@ -1,16 +1,13 @@
 -- What reading the definitions of a database comes to, by what opening its store and reading that come to.
-use Rattle.std.proofs.Common.{◌≡◌, ◌∙◌, ◌≢◌, ◌⊎◌, ◌≤◌, ◌<◌, ◌^◌, ◌-◌, ℕ, List, Result, Ok, Err, false, inl, inr, refl, ap, sym, subst, arith}
-use Rattle.std.proofs.lemmas.Bool.{cases_lt, false≢true}
-use Rattle.storage_sizes.specs.declared.spelling.Spelling.{Spelling}
-use Rattle.storage_sizes.specs.declared.spelling.Spelling.TheVariants.{First, Second}
+use Rattle.std.proofs.Common.{◌≡◌, ◌⊎◌, ◌≤◌, ◌<◌, ℕ, List, Result, Ok, Err, false, inl, inr, refl, sym, subst}
 use Rattle.sector_device.specs.Timeline.{IsPresent}
-use Rattle.sector_device.specs.Device.{DeviceState, HasFailed, timeline}
+use Rattle.sector_device.specs.Device.{DeviceState, timeline}
 use Rattle.sector_device.specs.declared.device.Device.{Ghosts}
 use Rattle.store.specs.declared.fault.Fault.{Fault}
 use Rattle.store.specs.declared.fault.Fault.TheVariants.{Memory, Device, Damaged}
 use Rattle.store.specs.Readers.{HasFaultCause}
 use Rattle.store.specs.Records.{Records, Changes}
-use Rattle.store.specs.Store.{Contents, stored, KeepsHistory, HasDeviceCause}
+use Rattle.store.specs.Store.{Contents, stored, KeepsHistory}
 use Rattle.cow_pages.specs.declared.open.OpenFault.{OpenFault as PagesFault}
 use Rattle.cow_pages.specs.declared.open.OpenFault.TheVariants as pages
 use Rattle.device_store.specs.declared.stores.DeviceStore.{DeviceStore}
@@ -19,23 +16,19 @@ use Rattle.device_store.specs.Reads.{OnlyLooksInto}
 use Rattle.device_store.specs.Stores.{state_under, store_state}
 use Rattle.device_store.proofs.Since.{history_since, content_since}
 use Rattle.stored_database.specs.Definitions.{Definitions}
-use Rattle.stored_database.specs.Spellings.{spelled_in_second}
 use Rattle.transactions.specs.Views.{applied_all}
 use Rattle.catalogue_loading.specs.Found.{Finds}
 use Rattle.migration.specs.Respelled.{AreRespelling, RespellsFrom}
 use Rattle.opening.specs.Openings.{AreOfDatabase, read_fault}
-use Rattle.device_databases.specs.declared.fault.DatabaseFault.TheVariants as opening
+use Rattle.opening.proofs.Reading.{under_lists}
+use Rattle.lives.specs.declared.fault.DatabaseFault.TheVariants as opening
 use Rattle.device_databases.specs.Databases.{IsUnwritten}
-use Rattle.device_databases.specs.Openings.{fault_of_opening, fault_of_pages}
+use Rattle.lives.specs.OnDevice.{fault_of_opening, fault_of_pages}
+use Rattle.lives.proofs.Opening.{device_cause}
 use Rattle.device_databases.proofs.Opening.{refused_pages}
 use Rattle.file_commands.specs.Reading.{AreDefinitionsOf, HasDefinitions, HasFault, IsOfReading, ReadsOn}
 
 -- ---- what was read of a store
-
--- records under the lists are the same records in the second spelling
-under_lists : (spelling : Spelling) (records : Records) (lists : List Changes) → AreRespelling spelling records lists → applied_all lists records ≡ spelled_in_second spelling records
-under_lists First records lists are = ap (λ (ls : List Changes). applied_all ls records) are.1 ∙ are.2
-under_lists Second records lists are = ap (λ (ls : List Changes). applied_all ls records) are
 
 -- there are no lists where the contents stand for no database
 pub no_lists : (fault : Fault) (contents : Contents) → RespellsFrom contents.spelling (Err fault) contents.records → AreDefinitionsOf contents (Err fault)
@@ -86,22 +79,10 @@ module _ {D : Type 0} {g : Ghosts D} (present : (device : D) → (g.state device
     unwritten = unwritten;
   }
 
-  failed_since : KeepsHistory (store_state s) (store_state t) → HasDeviceCause (store_state s) (store_state t) → HasFailed d (state_under t)
-  failed_since history cause = elim (cause.fault (opened.holds faithful).sound) [
-    | inl failed ↦ absurd (false≢true (sym opened.has_not_failed ∙ failed))
-    | inr rose ↦ elim rose [
-      | inl more ↦ inl (omega (arith, opened.history.failures, more))
-      | inr most ↦ elim (cases_lt d.failures (2 ^ 64 - 1)) [
-        | inl lt ↦ inl (omega (arith, lt, most, history.faults))
-        | inr past ↦ inr (omega (arith, past, most, opened.history.failures))
-      ]
-    ]
-  ]
-
   fault_on : (f : Fault) → KeepsHistory (store_state s) (store_state t) → AreDefinitionsOf (stored (store_state s)) (Err f) → HasFaultCause f (store_state s) (store_state t)
       → HasFault d (fault_of_opening (read_fault f)) (state_under t)
   fault_on Memory history are cause = record { of_reading = tt; stands = inl (opened.holds faithful).no_fault; failed = λ is. absurd (let bad : opening.Memory ≡ opening.Device = is in cc) }
-  fault_on Device history are cause = record { of_reading = tt; stands = tt; failed = λ is. failed_since history cause }
+  fault_on Device history are cause = record { of_reading = tt; stands = tt; failed = λ is. device_cause d s t opened faithful history cause }
   fault_on Damaged history are cause = record {
     of_reading = tt;
     stands = inr (record { contents = stored (store_state s); has = (opened.holds faithful).contents; none = are });

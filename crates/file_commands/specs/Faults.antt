@@ -4,8 +4,8 @@ use Rattle.sector_device.specs.declared.open_file.FileFault.TheVariants as file
 use Rattle.sector_device.specs.declared.system_cause.SystemCause.TheVariants.{NotFound, Other}
 use Rattle.systems.specs.declared.fault.OpenPathFault.{OpenPathFault}
 use Rattle.systems.specs.declared.fault.OpenPathFault.TheVariants as path
-use Rattle.device_databases.specs.declared.fault.DatabaseFault.{DatabaseFault}
-use Rattle.device_databases.specs.declared.fault.DatabaseFault.TheVariants as opening
+use Rattle.lives.specs.declared.fault.DatabaseFault.{DatabaseFault}
+use Rattle.lives.specs.declared.fault.DatabaseFault.TheVariants as opening
 use Rattle.device_databases.specs.declared.making.MakeFault.{MakeFault}
 use Rattle.device_databases.specs.declared.making.MakeFault.TheVariants as made
 use Rattle.file_commands.specs.declared.fault.CommandFault.{CommandFault}

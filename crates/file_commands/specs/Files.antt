@@ -7,7 +7,7 @@ use Rattle.systems.specs.declared.access.Access.{Access}
 use Rattle.systems.specs.declared.access.Access.TheVariants.{Write}
 use Rattle.systems.specs.Systems.{SystemState, HasDevice, IsHeldFrom, IsOpen, IsReadable, IsSame, IsSameBut, IsUnnamed, Rose}
 use Rattle.device_databases.specs.declared.database.Opened.{Opened}
-use Rattle.device_databases.specs.declared.fault.DatabaseFault.{DatabaseFault}
+use Rattle.lives.specs.declared.fault.DatabaseFault.{DatabaseFault}
 use Rattle.device_databases.specs.Openings.{IsOpenedOn, IsRefused}
 use Rattle.file_commands.specs.declared.fault.CommandFault.{CommandFault}
 use Rattle.file_commands.specs.Faults.{of_opening, of_path}

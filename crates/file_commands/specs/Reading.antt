@@ -11,8 +11,8 @@ use Rattle.abstract_database.specs.Database.{Database}
 use Rattle.stored_database.specs.Definitions.{Definitions}
 use Rattle.stored_database.specs.Records.{Shows}
 use Rattle.stored_database.specs.Spellings.{spelled_in_second, Stands}
-use Rattle.device_databases.specs.declared.fault.DatabaseFault.{DatabaseFault}
-use Rattle.device_databases.specs.declared.fault.DatabaseFault.TheVariants as opening
+use Rattle.lives.specs.declared.fault.DatabaseFault.{DatabaseFault}
+use Rattle.lives.specs.declared.fault.DatabaseFault.TheVariants as opening
 use Rattle.device_databases.specs.Databases.{HoldsDatabase, IsUnwritten}
 use Rattle.device_databases.specs.Openings.{StandsIn}
 use Rattle.file_commands.specs.declared.fault.CommandFault.{CommandFault}

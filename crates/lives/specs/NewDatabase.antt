@@ -9,8 +9,8 @@ use Rattle.cow_pages.specs.Held.{KeepsContent}
 use Rattle.device_store.specs.Images.{HasContents}
 use Rattle.abstract_database.specs.Database.{Database}
 use Rattle.server.specs.Standing.{Stands}
-use Rattle.lives.specs.declared.fault.LifeFault.{LifeFault}
-use Rattle.lives.specs.declared.fault.LifeFault.TheVariants.{NotADatabase, Device}
+use Rattle.lives.specs.declared.fault.DatabaseFault.{DatabaseFault}
+use Rattle.lives.specs.declared.fault.DatabaseFault.TheVariants.{NotADatabase, Device}
 use Rattle.lives.specs.Stopping.{IsLeftAt}
 
 -- an image of so many sectors in which there is no database
@@ -31,6 +31,6 @@ pub record IsLeftOf (new : DeviceState) (stop : ℕ) (next : DeviceState) : Type
   pub left : (image : Image) → IsLeft next image → IsLeftAt (timeline new) stop image
 
 -- a device with no database is refused as such, or for itself where it failed, and no sector of it is written
-abbrev pub IsRefusedAsNone : Result (Unit {0}) LifeFault → DeviceState → DeviceState → Type 0
+abbrev pub IsRefusedAsNone : Result (Unit {0}) DatabaseFault → DeviceState → DeviceState → Type 0
 IsRefusedAsNone (Ok x) old new = ⊥
 IsRefusedAsNone (Err fault) old new = ((fault ≡ NotADatabase) ⊎ ((fault ≡ Device) × HasFailed old new)) × KeepsContent old new

@@ -1,13 +1,13 @@
-//! Why no life began.
+//! Why no database was opened on a device.
 
 ghost use Rattle.std.specs.Prelude.{◌≡◌};
 
 use device_store::OpenFault;
 use opening::OpeningFault;
 
-/// Why no life began on a device.
+/// Why no database was opened on a device, and so no life began.
 #[derive(Clone, Copy, Debug, PartialEq, Eq, Drop)]
-pub enum LifeFault {
+pub enum DatabaseFault {
     /// The device has no whole number of pages from 64 to 65,536, or another number than its root
     /// says.
     WrongSize,
@@ -26,34 +26,34 @@ pub enum LifeFault {
     Number,
 }
 
-impl From<OpenFault> for LifeFault {
-    ghost use Rattle.lives.specs.OnDevice.{image_fault};
+impl From<OpenFault> for DatabaseFault {
+    ghost use Rattle.lives.specs.OnDevice.{fault_of_pages};
 
-    ghost from_gives = { λ fault given. given ≡ image_fault fault };
+    ghost from_gives = { λ fault given. given ≡ fault_of_pages fault };
 
-    fn from(fault: OpenFault) -> LifeFault {
+    fn from(fault: OpenFault) -> DatabaseFault {
         match fault {
-            OpenFault::WrongSize => LifeFault::WrongSize,
-            OpenFault::NotADatabase => LifeFault::NotADatabase,
-            OpenFault::Damaged => LifeFault::Damaged,
-            OpenFault::Device => LifeFault::Device,
-            OpenFault::Memory => LifeFault::Memory,
+            OpenFault::WrongSize => DatabaseFault::WrongSize,
+            OpenFault::NotADatabase => DatabaseFault::NotADatabase,
+            OpenFault::Damaged => DatabaseFault::Damaged,
+            OpenFault::Device => DatabaseFault::Device,
+            OpenFault::Memory => DatabaseFault::Memory,
         }
     }
 }
 
-impl From<OpeningFault> for LifeFault {
-    ghost use Rattle.lives.specs.OnDevice.{opening_fault};
+impl From<OpeningFault> for DatabaseFault {
+    ghost use Rattle.lives.specs.OnDevice.{fault_of_opening};
 
-    ghost from_gives = { λ fault given. given ≡ opening_fault fault };
+    ghost from_gives = { λ fault given. given ≡ fault_of_opening fault };
 
-    fn from(fault: OpeningFault) -> LifeFault {
+    fn from(fault: OpeningFault) -> DatabaseFault {
         match fault {
-            OpeningFault::Memory => LifeFault::Memory,
-            OpeningFault::Device => LifeFault::Device,
-            OpeningFault::Damaged => LifeFault::Damaged,
-            OpeningFault::Full => LifeFault::Full,
-            OpeningFault::Number => LifeFault::Number,
+            OpeningFault::Memory => DatabaseFault::Memory,
+            OpeningFault::Device => DatabaseFault::Device,
+            OpeningFault::Damaged => DatabaseFault::Damaged,
+            OpeningFault::Full => DatabaseFault::Full,
+            OpeningFault::Number => DatabaseFault::Number,
         }
     }
 }

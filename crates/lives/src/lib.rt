@@ -8,7 +8,7 @@ mod on_device;
 mod over_store;
 mod stopping;
 
-pub use fault::LifeFault;
+pub use fault::DatabaseFault;
 pub use following::lives_follow_stops;
 pub use new_database::a_stop_leaves_none_or_the_new_one;
 pub use on_device::live;

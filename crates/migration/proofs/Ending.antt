@@ -10,13 +10,13 @@ use Rattle.store.specs.declared.fault.StoreFault.TheVariants as commit
 use Rattle.store.proofs.Reading.{history_joined}
 use Rattle.abstract_database.specs.Database.{Database}
 use Rattle.stored_database.specs.Spellings.{with_places, Stands}
-use Rattle.migration.specs.Migrated.{commit_fault, failed_after_migration, HasMigrationCause, Migrates}
+use Rattle.migration.specs.Migrated.{commit_fault, failed_after_opening, HasOpeningCause, Migrates}
 use Rattle.migration.specs.Respelled.{AreRespelling}
 use Rattle.migration.proofs.Migrating.{IsSettled, commit_cause, nothing_done, commit_fails, commit_done}
 
 -- ---- whether the store has failed
 
-failed_by_commit : (fault : StoreFault) (had between now : Bool) → between ≡ had → now ≡ failed_after {T = Unit {0}} (Err fault) between → now ≡ failed_after_migration (Err (commit_fault fault)) had
+failed_by_commit : (fault : StoreFault) (had between now : Bool) → between ≡ had → now ≡ failed_after {T = Unit {0}} (Err fault) between → now ≡ failed_after_opening (Err (commit_fault fault)) had
 failed_by_commit commit.Full had between now same is = is ∙ same
 failed_by_commit commit.Memory had between now same is = is ∙ same
 failed_by_commit commit.Device had between now same is = is
@@ -74,16 +74,16 @@ module _ {S : Type 0} (state : S → StoreState) (old mid new : S) (lists : List
   ends_history result none some = history_joined (state old) (state mid) (state new) reads.history
       (by_lists lists (λ is. subst (λ (x : S). KeepsHistory (state mid) (state x)) (sym (none is).1) (same_history (state mid))) (λ c cs is. (some c cs is).history))
 
-  pub failed_ok : (u v : Unit {0}) → CommitsNone (Ok u) mid new lists → CommitsOne (Ok u) (state mid) (state new) lists → (state new).has_failed ≡ failed_after_migration (Ok v) (state old).has_failed
+  pub failed_ok : (u v : Unit {0}) → CommitsNone (Ok u) mid new lists → CommitsOne (Ok u) (state mid) (state new) lists → (state new).has_failed ≡ failed_after_opening (Ok v) (state old).has_failed
   failed_ok u v none some = by_lists lists (λ is. ap (λ (x : S). (state x).has_failed) (none is).1 ∙ unfailed) (λ c cs is. (some c cs is).failed ∙ unfailed)
 
   pub failed_err : (fault : StoreFault) → CommitsNone (Err fault) mid new lists → CommitsOne (Err fault) (state mid) (state new) lists
-      → (state new).has_failed ≡ failed_after_migration (Err (commit_fault fault)) (state old).has_failed
+      → (state new).has_failed ≡ failed_after_opening (Err (commit_fault fault)) (state old).has_failed
   failed_err fault none some = by_lists lists (λ is. absurd (no_fault (none is).0))
       (λ c cs is. failed_by_commit fault (state old).has_failed (state mid).has_failed (state new).has_failed unfailed (some c cs is).failed)
 
   module _ (sound : (state old).sound) (are : AreRespelling (state old).spelling (state old).map lists) where
-    pub cause_err : (fault : StoreFault) → CommitsNone (Err fault) mid new lists → CommitsOne (Err fault) (state mid) (state new) lists → HasMigrationCause (commit_fault fault) (state old) (state new)
+    pub cause_err : (fault : StoreFault) → CommitsNone (Err fault) mid new lists → CommitsOne (Err fault) (state mid) (state new) lists → HasOpeningCause (commit_fault fault) (state old) (state new)
     cause_err fault none some = by_lists lists (λ is. absurd (no_fault (none is).0))
         (λ c cs is. commit_cause fault (state old) (state mid) (state new) (is_first (state old) lists c cs is are).first reads (reads.unchanged sound) unfailed (some c cs is).history (some c cs is).cause)
 

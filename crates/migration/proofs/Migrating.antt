@@ -14,7 +14,9 @@ use Rattle.store.specs.declared.fault.StoreFault.TheVariants as commit
 use Rattle.store.proofs.Reading.{cause_later, rose_later}
 use Rattle.abstract_database.specs.Database.{Database}
 use Rattle.stored_database.specs.Spellings.{with_places, spelled_in_second, Stands, Means}
-use Rattle.migration.specs.Migrated.{in_second, read_fault, commit_fault, HasMigrationCause, AfterMigration, Migrates}
+use Rattle.migration.specs.Migrated.{in_second, read_fault, commit_fault, HasOpeningCause, KeepsDatabase, AfterMigration, Migrates}
+use Rattle.migration.specs.declared.fault.OpeningFault.{OpeningFault}
+use Rattle.migration.specs.declared.fault.OpeningFault.TheVariants.{Device}
 use Rattle.migration.specs.Respelled.{RespellsFrom}
 
 -- ---- contents
@@ -41,13 +43,13 @@ respelled_contents changes old mid first same is = same_contents refl (ap (appli
 
 -- ---- causes
 
-pub read_cause : (fault : Fault) (old new : StoreState) → HasFaultCause fault old new → RespellsFrom old.spelling (Err fault) old.map → HasMigrationCause (read_fault fault) old new
+pub read_cause : (fault : Fault) (old new : StoreState) → HasFaultCause fault old new → RespellsFrom old.spelling (Err fault) old.map → HasOpeningCause (read_fault fault) old new
 read_cause read.Memory old new cause none = tt
 read_cause read.Device old new cause none = cause
 read_cause read.Damaged old new cause none = none
 
 pub commit_cause : (fault : StoreFault) (old mid new : StoreState) → old.spelling ≡ First → OnlyReads old mid → IsUnchanged old mid → mid.has_failed ≡ old.has_failed → KeepsHistory mid new
-    → HasCause fault mid new → HasMigrationCause (commit_fault fault) old new
+    → HasCause fault mid new → HasOpeningCause (commit_fault fault) old new
 commit_cause commit.Full old mid new first reads same unfailed later cause = (first, rose_later old.fulls mid.fulls new.fulls reads.history.fulls later.fulls cause)
 commit_cause commit.Memory old mid new first reads same unfailed later cause = tt
 commit_cause commit.Device old mid new first reads same unfailed later cause = cause_later commit.Device old mid new reads.history unfailed later cause
@@ -60,22 +62,20 @@ IsSettled old = (x : Option Contents) → old.time.left x → x ≡ Some (stored
 
 -- a migration that ends before its commit
 module _ (old new : StoreState) (db : Database) (sound : old.sound) (settled : IsSettled old) (stands : Stands (stored old) db) (reads : OnlyReads old new) where
-  pub read_leaves : LeavesOnly (λ x. Means x db) old.time new.time
+  read_leaves : LeavesOnly (λ x. Means x db) old.time new.time
   read_leaves = weakened old.time.left (λ x. Means x db) old.time new.time (λ x left. means (stored old) db stands x (settled x left)) (reads.leaves sound)
 
-  pub read_number : new.number ≤ old.number + 1
-  read_number = let same = (reads.unchanged sound).number in omega (arith, same)
+  pub read_keeps : (result : Result (Unit {0}) OpeningFault) → KeepsDatabase db result old new
+  read_keeps result = record { during = read_leaves; now = read_leaves.now; number = inr (let same = (reads.unchanged sound).number in omega (arith, same)) }
 
   pub read_fails : (fault : Fault) → Migrates (Err (read_fault fault)) db old new
-  read_fails read.Memory = record { during = read_leaves; now = read_leaves.now; number = inr read_number; outcome = reads.unchanged sound }
-  read_fails read.Device = record { during = read_leaves; now = read_leaves.now; number = inr read_number; outcome = tt }
-  read_fails read.Damaged = record { during = read_leaves; now = read_leaves.now; number = inr read_number; outcome = reads.unchanged sound }
+  read_fails read.Memory = record { keeps = read_keeps _; outcome = reads.unchanged sound }
+  read_fails read.Device = record { keeps = read_keeps _; outcome = tt }
+  read_fails read.Damaged = record { keeps = read_keeps _; outcome = reads.unchanged sound }
 
   pub nothing_done : old.spelling ≡ Second → (u : Unit {0}) → Migrates (Ok u) db old new
   nothing_done second u = record {
-    during = read_leaves;
-    now = read_leaves.now;
-    number = inr read_number;
+    keeps = read_keeps (Ok u);
     outcome = same_contents (reads.unchanged sound).spelling (reads.unchanged sound).map ∙ already (stored old) second;
   }
 
@@ -97,13 +97,6 @@ module _ (changes : Changes) (old mid new : StoreState) (sound : old.sound) (rea
 
   stays : IsUnchanged mid new → new.number ≤ old.number + 1
   stays then = let is = (unchanged then).number in omega (arith, is)
-
-  pub commit_number : (result : Result (Unit {0}) StoreFault) → CommitsAtOnce result after mid new → (result ≡ Err commit.Device) ⊎ (new.number ≤ old.number + 1)
-  commit_number (Ok u) c = inr (let is = (reads.unchanged sound).number in let by_one = c.committed.by_one in omega (arith, is, by_one))
-  commit_number (Err commit.Full) c = inr (stays c.committed)
-  commit_number (Err commit.Memory) c = inr (stays c.committed)
-  commit_number (Err commit.Device) c = inl refl
-  commit_number (Err commit.Number) c = inr (stays c.committed)
 
   module _ (db : Database) (settled : IsSettled old) (stands : Stands (stored old) db) where
     before_means : (x : Option Contents) → x ≡ Some (stored mid) → Means x db
@@ -129,26 +122,28 @@ module _ (changes : Changes) (old mid new : StoreState) (sound : old.sound) (rea
     now_means (Err commit.Device) x m = either_means x m
     now_means (Err commit.Number) x m = before_means x m
 
-    pub commit_leaves : (result : Result (Unit {0}) StoreFault) → CommitsAtOnce result after mid new → LeavesOnly (λ x. Means x db) old.time new.time
+    commit_leaves : (result : Result (Unit {0}) StoreFault) → CommitsAtOnce result after mid new → LeavesOnly (λ x. Means x db) old.time new.time
     commit_leaves result c = joined (λ x. Means x db) old.time mid.time new.time (read_leaves old mid db sound settled stands reads)
         (weakened (MayLeaveDuring result (stored mid) after) (λ x. Means x db) mid.time new.time (during_means result) c.leaves)
 
-    pub commit_left : (result : Result (Unit {0}) StoreFault) → CommitsAtOnce result after mid new → (x : Option Contents) → new.time.left x → Means x db
+    commit_left : (result : Result (Unit {0}) StoreFault) → CommitsAtOnce result after mid new → (x : Option Contents) → new.time.left x → Means x db
     commit_left result c x left = now_means result x (c.left x left)
 
-    refused : (fault : StoreFault) → CommitsAtOnce (Err fault) after mid new → new.number ≤ old.number + 1 → AfterMigration (Err (commit_fault fault)) old new → Migrates (Err (commit_fault fault)) db old new
-    refused fault c number outcome = record { during = commit_leaves (Err fault) c; now = commit_left (Err fault) c; number = inr number; outcome = outcome }
+    commit_keeps : (result : Result (Unit {0}) StoreFault) (told : Result (Unit {0}) OpeningFault) → CommitsAtOnce result after mid new
+        → (told ≡ Err Device) ⊎ (new.number ≤ old.number + 1) → KeepsDatabase db told old new
+    commit_keeps result told c number = record { during = commit_leaves result c; now = commit_left result c; number = number }
+
+    refused : (fault : StoreFault) → CommitsAtOnce (Err fault) after mid new → IsUnchanged mid new → AfterMigration (Err (commit_fault fault)) old new → Migrates (Err (commit_fault fault)) db old new
+    refused fault c same outcome = record { keeps = commit_keeps (Err fault) _ c (inr (stays same)); outcome = outcome }
 
     pub commit_fails : (fault : StoreFault) → CommitsAtOnce (Err fault) after mid new → Migrates (Err (commit_fault fault)) db old new
-    commit_fails commit.Full c = refused commit.Full c (stays c.committed) (unchanged c.committed)
-    commit_fails commit.Memory c = refused commit.Memory c (stays c.committed) (unchanged c.committed)
-    commit_fails commit.Number c = refused commit.Number c (stays c.committed) (unchanged c.committed)
-    commit_fails commit.Device c = record { during = commit_leaves (Err commit.Device) c; now = commit_left (Err commit.Device) c; number = inl refl; outcome = tt }
+    commit_fails commit.Full c = refused commit.Full c c.committed (unchanged c.committed)
+    commit_fails commit.Memory c = refused commit.Memory c c.committed (unchanged c.committed)
+    commit_fails commit.Number c = refused commit.Number c c.committed (unchanged c.committed)
+    commit_fails commit.Device c = record { keeps = commit_keeps (Err commit.Device) _ c (inl refl); outcome = tt }
 
     pub commit_done : (u : Unit {0}) → CommitsAtOnce (Ok u) after mid new → Migrates (Ok u) db old new
     commit_done u c = record {
-      during = commit_leaves (Ok u) c;
-      now = commit_left (Ok u) c;
-      number = inr (let is = (reads.unchanged sound).number in let by_one = c.committed.by_one in omega (arith, is, by_one));
+      keeps = commit_keeps (Ok u) _ c (inr (let is = (reads.unchanged sound).number in let by_one = c.committed.by_one in omega (arith, is, by_one)));
       outcome = same_contents c.committed.spelling c.committed.map ∙ leads;
     }

@@ -7,55 +7,12 @@ ghost use Rattle.store.specs.Store.{StoreState, KeepsHistory, Commits, stored};
 ghost use Rattle.store.specs.Contents.{changed_in};
 ghost use Rattle.abstract_database.specs.Database.{Database};
 ghost use Rattle.stored_database.specs.Spellings.{Stands};
-ghost use Rattle.migration.specs.Migrated.{failed_after_migration, HasMigrationCause, Migrates};
+ghost use Rattle.migration.specs.Migrated.{failed_after_opening, HasOpeningCause, Migrates};
 
+use crate::fault::OpeningFault;
 use crate::lists::respelled_lists;
 use std::alloc::Global;
-use store::{Batch, Fault, Store, StoreFault};
-
-/// Why a store was not migrated.
-#[derive(Clone, Copy, Debug, PartialEq, Eq, Drop)]
-pub enum MigrationFault {
-    /// An allocation failed.
-    Memory,
-    /// The device below failed, or what it gave was none of the store's.
-    Device,
-    /// The records stand for no database.
-    Damaged,
-    /// No room is left for the records with their places.
-    Full,
-    /// No commit number is left.
-    Number,
-}
-
-impl From<Fault> for MigrationFault {
-    ghost use Rattle.migration.specs.Migrated.{read_fault};
-
-    ghost from_gives = { λ fault given. given ≡ read_fault fault };
-
-    fn from(fault: Fault) -> MigrationFault {
-        match fault {
-            Fault::Memory => MigrationFault::Memory,
-            Fault::Device => MigrationFault::Device,
-            Fault::Damaged => MigrationFault::Damaged,
-        }
-    }
-}
-
-impl From<StoreFault> for MigrationFault {
-    ghost use Rattle.migration.specs.Migrated.{commit_fault};
-
-    ghost from_gives = { λ fault given. given ≡ commit_fault fault };
-
-    fn from(fault: StoreFault) -> MigrationFault {
-        match fault {
-            StoreFault::Full => MigrationFault::Full,
-            StoreFault::Memory => MigrationFault::Memory,
-            StoreFault::Device => MigrationFault::Device,
-            StoreFault::Number => MigrationFault::Number,
-        }
-    }
-}
+use store::{Batch, Store, StoreFault};
 
 /// Commits the one list that there is and with it that the records are of the second spelling, or
 /// does nothing where there is no list. The faults are those of a commit.
@@ -77,12 +34,12 @@ pub fn commit_respelled<S: Store>(store: &mut S, lists: &[Batch]) -> Result<(), 
 /// Memory: an allocation failed. Damaged: the records stand for no database. Full: no room is left.
 /// Number: no commit number is. After these nothing has changed. Device: the device failed, and
 /// which spelling is there is known only when the device is opened again.
-pub fn migrate<S: Store>(alloc: Global, store: &mut S) -> Result<(), MigrationFault>
+pub fn migrate<S: Store>(alloc: Global, store: &mut S) -> Result<(), OpeningFault>
     ensures history { KeepsHistory (S.state store.old) (S.state store.new) }
     ensures failed { (S.state store.new).has_failed
-        ≡ failed_after_migration result (S.state store.old).has_failed }
+        ≡ failed_after_opening result (S.state store.old).has_failed }
     ensures cause { (S.state store.old).sound
-        → IfErr result (λ fault. HasMigrationCause fault (S.state store.old)
+        → IfErr result (λ fault. HasOpeningCause fault (S.state store.old)
         (S.state store.new)) }
     ensures nothing { (S.state store.old).spelling ≡ Second
         → (result ≡ Ok tt) × (store.new ≡ store.old) }
@@ -92,10 +49,10 @@ pub fn migrate<S: Store>(alloc: Global, store: &mut S) -> Result<(), MigrationFa
 {
     let lists = match respelled_lists(alloc, store) {
         Ok(lists) => lists,
-        Err(fault) => return Err(MigrationFault::from(fault)),
+        Err(fault) => return Err(OpeningFault::from(fault)),
     };
     match commit_respelled(store, lists.as_slice()) {
         Ok(()) => Ok(()),
-        Err(fault) => Err(MigrationFault::from(fault)),
+        Err(fault) => Err(OpeningFault::from(fault)),
     }
 }

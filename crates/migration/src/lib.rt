@@ -2,8 +2,10 @@
 #![tactic(auto)]
 
 mod commits;
+mod fault;
 mod lists;
 mod places;
 
-pub use commits::{MigrationFault, commit_respelled, migrate};
+pub use commits::{commit_respelled, migrate};
+pub use fault::OpeningFault;
 pub use lists::{respelled_lists, respelling};

@@ -1,3 +1,3 @@
 mod Faults
-mod Reading
+pub mod Reading
 pub mod Outcomes

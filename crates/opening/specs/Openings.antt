@@ -3,10 +3,7 @@ use Rattle.std.specs.Prelude.{◌≡◌, ◌⊎◌, ◌≤◌, ◌+◌, ◌^◌,
 use Rattle.sector_device.specs.Timeline.{LeavesOnly}
 use Rattle.storage_sizes.specs.declared.spelling.Spelling.{Spelling}
 use Rattle.storage_sizes.specs.declared.spelling.Spelling.TheVariants.{First, Second}
-use Rattle.store.specs.declared.fault.Fault.{Fault}
 use Rattle.store.specs.declared.fault.Fault.TheVariants as read
-use Rattle.store.specs.declared.fault.StoreFault.{StoreFault}
-use Rattle.store.specs.declared.fault.StoreFault.TheVariants as commit
 use Rattle.store.specs.Readers.{HasRead}
 use Rattle.store.specs.Records.{Records}
 use Rattle.store.specs.Store.{StoreState, Contents, Rose, HasDeviceCause}
@@ -14,11 +11,12 @@ use Rattle.abstract_database.specs.Database.{Database}
 use Rattle.stored_database.specs.Definitions.{Definitions}
 use Rattle.stored_database.specs.Records.{Shows}
 use Rattle.stored_database.specs.Spellings.{Stands, Means}
+use Rattle.migration.specs.declared.fault.OpeningFault.{OpeningFault}
+use Rattle.migration.specs.declared.fault.OpeningFault.TheVariants.{Memory, Device, Damaged, Full, Number}
+pub use Rattle.migration.specs.Migrated.{read_fault, commit_fault, failed_after_opening, HasOpeningCause, KeepsDatabase}
 use Rattle.server.specs.declared.server.Server.{Server}
 use Rattle.server.specs.Standing.{Represents, at_start}
 use Rattle.opening.specs.declared.opening.Refused.{Refused}
-use Rattle.opening.specs.declared.fault.OpeningFault.{OpeningFault}
-use Rattle.opening.specs.declared.fault.OpeningFault.TheVariants.{Memory, Device, Damaged, Full, Number}
 
 -- the records stand for a database with these definitions
 abbrev pub AreOfDatabase : Records → Definitions → Type 0
@@ -33,36 +31,6 @@ store_of (Err refused) = refused.store
 abbrev pub outcome_of : {S X : Type 0} → Result (Server S X) (Refused S) → Result (Unit {0}) OpeningFault
 outcome_of (Ok server) = Ok tt
 outcome_of (Err refused) = Err refused.fault
-
--- ---- faults
-
-abbrev pub read_fault : Fault → OpeningFault
-read_fault read.Memory = Memory
-read_fault read.Device = Device
-read_fault read.Damaged = Damaged
-
-abbrev pub commit_fault : StoreFault → OpeningFault
-commit_fault commit.Full = Full
-commit_fault commit.Memory = Memory
-commit_fault commit.Device = Device
-commit_fault commit.Number = Number
-
--- whether a store has failed after this outcome: Device stays, and no other sets it
-abbrev pub failed_after_opening : Result (Unit {0}) OpeningFault → Bool → Bool
-failed_after_opening (Ok x) had_failed = had_failed
-failed_after_opening (Err Memory) had_failed = had_failed
-failed_after_opening (Err Device) had_failed = true
-failed_after_opening (Err Damaged) had_failed = had_failed
-failed_after_opening (Err Full) had_failed = had_failed
-failed_after_opening (Err Number) had_failed = had_failed
-
--- why an opening answers a fault: an allocation may always fail, and what is damaged is said apart
-abbrev pub HasOpeningCause : OpeningFault → StoreState → StoreState → Type 0
-HasOpeningCause Memory old new = Unit {0}
-HasOpeningCause Device old new = HasDeviceCause old new
-HasOpeningCause Damaged old new = Unit {0}
-HasOpeningCause Full old new = (old.spelling ≡ First) × Rose old.fulls new.fulls
-HasOpeningCause Number old new = (old.spelling ≡ First) × (old.number ≡ 2 ^ 64 - 1)
 
 -- ---- what is written
 
@@ -94,12 +62,6 @@ HasLooked (Err Device) old new = HasRead {T = Unit {0}} (Err read.Device) old ne
 HasLooked (Err Damaged) old new = HasRead {T = Unit {0}} (Err read.Damaged) old new
 HasLooked (Err Full) old new = ⊥
 HasLooked (Err Number) old new = ⊥
-
--- a stop leaves this database, at every moment and now; the number rises by one at most
-pub record KeepsDatabase (db : Database) (outcome : Result (Unit {0}) OpeningFault) (old new : StoreState) : Type 0 where
-  pub during : LeavesOnly (λ x. Means x db) old.time new.time
-  pub now : (x : Option Contents) → new.time.left x → Means x db
-  pub number : (outcome ≡ Err Device) ⊎ (new.number ≤ old.number + 1)
 
 -- the server has just been opened over the database that these contents stand for, and its store is of the second spelling
 pub record IsOpened {S X : Type 0} (state : S → StoreState) (contents : Contents) (server : Server S X) : Type 0 where

@@ -2,9 +2,8 @@
 #![tactic(auto)]
 
 mod checks;
-mod fault;
 mod opening;
 
 pub use checks::read_under;
-pub use fault::OpeningFault;
+pub use migration::OpeningFault;
 pub use opening::{Refused, open};

@@ -6,13 +6,13 @@ ghost use Rattle.store.specs.Readers.{HasRead};
 ghost use Rattle.store.specs.Store.{StoreState, KeepsHistory, IsUnchanged, stored};
 ghost use Rattle.abstract_database.specs.Database.{Database};
 ghost use Rattle.stored_database.specs.Spellings.{Stands};
-ghost use Rattle.opening.specs.Openings.{IsOpened, HasLooked, HasOpeningCause, IsNumberAfter, KeepsDatabase, OnlyLooks, failed_after_opening, outcome_of, store_of};
+ghost use Rattle.migration.specs.Migrated.{HasOpeningCause, KeepsDatabase, failed_after_opening};
+ghost use Rattle.opening.specs.Openings.{IsOpened, HasLooked, IsNumberAfter, OnlyLooks, outcome_of, store_of};
 ghost use Rattle.opening.specs.Read.{AreRead};
 
 use crate::checks::{check_store, read_under};
-use crate::fault::OpeningFault;
 use catalogue::definitions::Catalogue;
-use migration::{commit_respelled, respelled_lists};
+use migration::{OpeningFault, commit_respelled, respelled_lists};
 use server::decide::Decide;
 use server::server::Server;
 use sql_types::items::Items;

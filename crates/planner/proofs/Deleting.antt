@@ -23,11 +23,10 @@ use Rattle.abstract_database.specs.Checks.{has_needed, condition_parts, checked_
 use Rattle.stored_database.specs.Definitions.{TableDefinition, Definitions, database_with}
 use Rattle.stored_database.specs.Valid.{AreValid, Describes}
 use Rattle.planner.specs.declared.rights.Rights.{Rights}
-use Rattle.planner.specs.declared.delete.DeletePlan.{DeletePlan}
 use Rattle.planner.specs.Changed.{Terms, where_parts, bound_changes}
 use Rattle.planner.specs.Rights.{AreRightsOf, meets}
 use Rattle.planner.specs.Tables.{table_in}
-use Rattle.planner.specs.Deleted.{checked_of, allowed_delete, delete_from, planned_delete, IsDeletePlan, IsDeleteRefusal}
+use Rattle.planner.specs.Deleted.{allowed_delete, delete_from, planned_delete}
 use Rattle.planner.proofs.Checking.{definition_found, own_table}
 use Rattle.planner.proofs.Needing.{delete_alike}
 use Rattle.planner.proofs.Steps.{same_after, two_wanted}
@@ -66,19 +65,8 @@ module _ (d : Definitions) (role : TheName) (r : Rights) (s : Delete) (rights : 
     delete_same : length rows ≡ length d.tables → checked_delete (database_with d rows) users s ≡ planned_delete d r s
     delete_same e = ap (λ a. a >>= staged) (definition_found d rows s.table e) ∙ from_table (table_in d s.table) refl
 
-  deletes : (db : Database) (users : UserNames) → Describes d db → users.current ≡ role → checked_delete db users s ≡ planned_delete d r s
+  pub deletes : (db : Database) (users : UserNames) → Describes d db → users.current ≡ role → checked_delete db users s ≡ planned_delete d r s
   deletes db users h is = ap (λ x. checked_delete x users s) h.is ∙ delete_same h.rows users h.valid is h.each_table
-
-  pub is_plan : (p : DeletePlan) → planned_delete d r s ≡ Ok (checked_of p) → IsDeletePlan d role s p
-  is_plan p e db users h is = deletes db users h is ∙ e
-
-  pub refused_at_table : (x : Refusal) → (x.0 ≡ OutOfMemory) ⊎ (table_in d s.table ≡ Err x.0) → IsDeleteRefusal d role s x
-  refused_at_table x (inl e) = inl e
-  refused_at_table x (inr e) = inr (λ db users h is. deletes db users h is ∙ ap (λ a. a >>= delete_from r s) e)
-
-  pub refused_later : (t : TableDefinition) → table_in d s.table ≡ Ok t → (x : Refusal) → (x.0 ≡ OutOfMemory) ⊎ (delete_from r s t ≡ Err x.0) → IsDeleteRefusal d role s x
-  refused_later t found x (inl e) = inl e
-  refused_later t found x (inr e) = inr (λ db users h is. deletes db users h is ∙ ap (λ a. a >>= delete_from r s) found ∙ e)
 
 -- ---- the stages over the table that was found
 

@@ -27,13 +27,13 @@ use Rattle.abstract_database.proofs.ResultLemmas.{ok_inside, length_each}
 use Rattle.stored_database.specs.Definitions.{TableDefinition, Definitions, database_with}
 use Rattle.stored_database.specs.Valid.{AreValid, Describes}
 use Rattle.planner.specs.declared.rights.Rights.{Rights}
-use Rattle.planner.specs.declared.insert.InsertPlan.{InsertPlan}
+use Rattle.planner.specs.Answers.{ChecksRefuse}
 use Rattle.planner.specs.Rights.{AreRightsOf, meets}
 use Rattle.planner.specs.Tables.{table_in}
 use Rattle.abstract_database.specs.Statements.{inserts as inserts_rows, checked_over_rows}
 use Rattle.sql_ast.specs.declared.statement.RowStatement.TheVariants as over_rows
 use Rattle.planner.specs.Plans.{IsRefusalOf}
-use Rattle.planner.specs.Inserted.{checked_of, AreAsLong, bound_rows, insert_from, allowed_insert, planned_insert, IsInsertPlan, IsInsertRefusal}
+use Rattle.planner.specs.Inserted.{AreAsLong, bound_rows, insert_from, allowed_insert, planned_insert, IsInsertRefusal}
 use Rattle.planner.proofs.Checking.{definition_found, own_table}
 use Rattle.planner.proofs.Needing.{columns_or_one_alike}
 use Rattle.planner.proofs.Steps.{same_after, one_wanted}
@@ -97,27 +97,13 @@ module _ (d : Definitions) (role : TheName) (r : Rights) (s : Insert) (rights : 
     insert_same : length rows ≡ length d.tables → checked_insert (database_with d rows) users s ≡ planned_insert d r s
     insert_same e = ap (λ a. a >>= staged) (definition_found d rows s.table e) ∙ from_table (table_in d s.table) refl
 
-  inserts : (db : Database) (users : UserNames) → Describes d db → users.current ≡ role → checked_insert db users s ≡ planned_insert d r s
+  pub inserts : (db : Database) (users : UserNames) → Describes d db → users.current ≡ role → checked_insert db users s ≡ planned_insert d r s
   inserts db users h is = ap (λ x. checked_insert x users s) h.is ∙ insert_same h.rows users h.valid is h.each_table
-
-  pub is_plan : (p : InsertPlan) → (HaveOneLength s.rows → planned_insert d r s ≡ Ok (checked_of p)) → IsInsertPlan d role s p
-  is_plan p e one db users h is = inserts db users h is ∙ e one
-
-  pub refused_at_table : (x : Refusal) → (x.0 ≡ OutOfMemory) ⊎ (table_in d s.table ≡ Err x.0) → IsInsertRefusal d role s x
-  refused_at_table x (inl e) one = inl e
-  refused_at_table x (inr e) one = inr (λ db users h is. inserts db users h is ∙ ap (λ a. a >>= insert_from r s) e)
-
-  pub refused_later : (t : TableDefinition) → table_in d s.table ≡ Ok t → (x : Refusal) → (HaveOneLength s.rows → (x.0 ≡ OutOfMemory) ⊎ (insert_from r s t ≡ Err x.0)) → IsInsertRefusal d role s x
-  refused_later t found x h one = go (h one) where
-    go : (x.0 ≡ OutOfMemory) ⊎ (insert_from r s t ≡ Err x.0) → (x.0 ≡ OutOfMemory) ⊎ ((db : Database) (users : UserNames) → Describes d db → users.current ≡ role → checked_insert db users s ≡ Err x.0)
-    go (inl e) = inl e
-    go (inr e) = inr (λ db users k is. inserts db users k is ∙ ap (λ a. a >>= insert_from r s) found ∙ e)
 
 -- the same of a statement over rows
 pub over_rows_refused : (d : Definitions) (role : TheName) (s : Insert) (x : Refusal) → IsInsertRefusal d role s x → IsRefusalOf d role (over_rows.Insert s) x
 over_rows_refused d role s x h one = go (h one) where
-  go : (x.0 ≡ OutOfMemory) ⊎ ((db : Database) (users : UserNames) → Describes d db → users.current ≡ role → checked_insert db users s ≡ Err x.0) →
-      (x.0 ≡ OutOfMemory) ⊎ ((db : Database) (users : UserNames) → Describes d db → users.current ≡ role → checked_over_rows db users (over_rows.Insert s) ≡ Err x.0)
+  go : ChecksRefuse d role (λ db users. checked_insert db users s) x → ChecksRefuse d role (λ db users. checked_over_rows db users (over_rows.Insert s)) x
   go (inl e) = inl e
   go (inr f) = inr (λ db users k is. ap (λ a. a >>= λ c. Ok (inserts_rows c)) (f db users k is))
 

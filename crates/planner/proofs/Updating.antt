@@ -19,11 +19,10 @@ use Rattle.abstract_database.specs.Checks.{has_needed, found_column, set_names, 
 use Rattle.stored_database.specs.Definitions.{TableDefinition, Definitions, database_with}
 use Rattle.stored_database.specs.Valid.{AreValid, Describes}
 use Rattle.planner.specs.declared.rights.Rights.{Rights}
-use Rattle.planner.specs.declared.update.UpdatePlan.{UpdatePlan}
 use Rattle.planner.specs.Changed.{Terms, change_parts, bound_changes}
 use Rattle.planner.specs.Rights.{AreRightsOf, meets}
 use Rattle.planner.specs.Tables.{table_in}
-use Rattle.planner.specs.Updated.{checked_of, allowed_update, update_from, planned_update, IsUpdatePlan, IsUpdateRefusal}
+use Rattle.planner.specs.Updated.{allowed_update, update_from, planned_update}
 use Rattle.planner.proofs.Checking.{definition_found, own_table}
 use Rattle.planner.proofs.Deleting.{own_parts}
 use Rattle.planner.proofs.Needing.{update_alike}
@@ -69,19 +68,8 @@ module _ (d : Definitions) (role : TheName) (r : Rights) (s : Update) (rights : 
     update_same : length rows ≡ length d.tables → checked_update (database_with d rows) users s ≡ planned_update d r s
     update_same e = ap (λ a. a >>= staged) (definition_found d rows s.table e) ∙ from_table (table_in d s.table) refl
 
-  updates : (db : Database) (users : UserNames) → Describes d db → users.current ≡ role → checked_update db users s ≡ planned_update d r s
+  pub updates : (db : Database) (users : UserNames) → Describes d db → users.current ≡ role → checked_update db users s ≡ planned_update d r s
   updates db users h is = ap (λ x. checked_update x users s) h.is ∙ update_same h.rows users h.valid is h.each_table
-
-  pub is_plan : (p : UpdatePlan) → planned_update d r s ≡ Ok (checked_of p) → IsUpdatePlan d role s p
-  is_plan p e db users h is = updates db users h is ∙ e
-
-  pub refused_at_table : (x : Refusal) → (x.0 ≡ OutOfMemory) ⊎ (table_in d s.table ≡ Err x.0) → IsUpdateRefusal d role s x
-  refused_at_table x (inl e) = inl e
-  refused_at_table x (inr e) = inr (λ db users h is. updates db users h is ∙ ap (λ a. a >>= update_from r s) e)
-
-  pub refused_later : (t : TableDefinition) → table_in d s.table ≡ Ok t → (x : Refusal) → (x.0 ≡ OutOfMemory) ⊎ (update_from r s t ≡ Err x.0) → IsUpdateRefusal d role s x
-  refused_later t found x (inl e) = inl e
-  refused_later t found x (inr e) = inr (λ db users h is. updates db users h is ∙ ap (λ a. a >>= update_from r s) found ∙ e)
 
 -- ---- the stages over the table that was found
 

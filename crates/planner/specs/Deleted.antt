@@ -1,26 +1,24 @@
 -- What DELETE is checked for, in the definitions of a database.
-use Rattle.std.specs.Prelude.{◌≡◌, ◌⊎◌, [], Option, option_to_list, Result, Ok, Err}
+use Rattle.std.specs.Prelude.{[], Option, option_to_list, Result, Ok}
 use Rattle.std.specs.List.{list_all}
 use Rattle.sql_types.specs.declared.state.Refusal.{Refusal}
 use Rattle.sql_types.specs.declared.state.SqlState.{SqlState}
-use Rattle.sql_types.specs.declared.state.SqlState.TheVariants.{OutOfMemory, InsufficientPrivilege}
+use Rattle.sql_types.specs.declared.state.SqlState.TheVariants.{InsufficientPrivilege}
 use Rattle.sql_ast.specs.declared.scope.ColumnIndex.{ColumnIndex}
 use Rattle.sql_ast.specs.declared.statement.Delete.{Delete}
 use Rattle.sql_ast.specs.Term.{Term}
-use Rattle.expressions.specs.Meaning.{UserNames}
 use Rattle.expressions.specs.Stages.{◌>>=◌, require}
 use Rattle.abstract_database.specs.Lists.{TheName}
-use Rattle.abstract_database.specs.Database.{Database}
 use Rattle.abstract_database.specs.Expressions.{own_scope}
 use Rattle.abstract_database.specs.Needs.{has_any, columns_read, needs_of_delete}
 use Rattle.abstract_database.specs.Changes.{CheckedDelete}
 use Rattle.abstract_database.specs.Checks.{checked_delete}
 use Rattle.stored_database.specs.Definitions.{TableDefinition, Definitions}
-use Rattle.stored_database.specs.Valid.{Describes}
 use Rattle.planner.specs.declared.rights.Rights.{Rights}
 use Rattle.planner.specs.declared.delete.CheckedCondition.{CheckedCondition}
 use Rattle.planner.specs.declared.delete.DeletePlan.{DeletePlan}
 use Rattle.planner.specs.Changed.{where_of, bound_changes}
+use Rattle.planner.specs.Answers.{ChecksGive, ChecksRefuse}
 use Rattle.planner.specs.Rights.{meets}
 use Rattle.planner.specs.Tables.{table_in}
 
@@ -51,11 +49,8 @@ planned_delete d r s = table_in d s.table >>= delete_from r s
 
 -- its checks give the plan
 abbrev pub IsDeletePlan : Definitions → TheName → Delete → DeletePlan → Type 0
-IsDeletePlan d current s p = (db : Database) (users : UserNames) → Describes d db → users.current ≡ current
-    → checked_delete db users s ≡ Ok (checked_of p)
+IsDeletePlan d current s p = ChecksGive d current (λ db users. checked_delete db users s) (checked_of p)
 
 -- memory was refused, or its checks refuse the statement in this way
 abbrev pub IsDeleteRefusal : Definitions → TheName → Delete → Refusal → Type 0
-IsDeleteRefusal d current s refusal = (refusal.0 ≡ OutOfMemory)
-    ⊎ ((db : Database) (users : UserNames) → Describes d db → users.current ≡ current
-    → checked_delete db users s ≡ Err refusal.0)
+IsDeleteRefusal d current s refusal = ChecksRefuse d current (λ db users. checked_delete db users s) refusal

@@ -1,9 +1,9 @@
 -- What INSERT is checked for, in the definitions of a database.
-use Rattle.std.specs.Prelude.{◌≡◌, ◌⊎◌, ℕ, nat_le, not, List, [], ◌∷◌, take, drop, length, map, flat_map, unwrap_or, Result, Ok, Err}
+use Rattle.std.specs.Prelude.{◌≡◌, ℕ, nat_le, not, List, [], ◌∷◌, take, drop, length, map, flat_map, unwrap_or, Result, Ok}
 use Rattle.std.specs.List.{list_all}
 use Rattle.sql_types.specs.declared.state.Refusal.{Refusal}
 use Rattle.sql_types.specs.declared.state.SqlState.{SqlState}
-use Rattle.sql_types.specs.declared.state.SqlState.TheVariants.{OutOfMemory, DuplicateColumn, SyntaxError, InsufficientPrivilege, ProgramLimitExceeded}
+use Rattle.sql_types.specs.declared.state.SqlState.TheVariants.{DuplicateColumn, SyntaxError, InsufficientPrivilege, ProgramLimitExceeded}
 use Rattle.sql_ast.specs.declared.expression.ColumnName.{ColumnName}
 use Rattle.sql_ast.specs.declared.scope.ColumnIndex.{ColumnIndex}
 use Rattle.sql_ast.specs.declared.statement.Insert.{Insert}
@@ -11,21 +11,19 @@ use Rattle.sql_ast.specs.Layout.{Layout}
 use Rattle.sql_ast.specs.Read.{HaveOneLength}
 use Rattle.sql_ast.specs.Scope.{Table as ScopeTable}
 use Rattle.sql_ast.specs.Term.{Term}
-use Rattle.expressions.specs.Meaning.{UserNames}
 use Rattle.expressions.specs.Names.{resolved}
 use Rattle.expressions.specs.Parts.{check_expressions}
 use Rattle.expressions.specs.Stages.{◌>>=◌, each, require}
 use Rattle.expressions.specs.Types.{TypedTerm}
 use Rattle.abstract_database.specs.Lists.{TheName, has_double}
-use Rattle.abstract_database.specs.Database.{Database}
 use Rattle.abstract_database.specs.Changes.{CheckedInsert}
 use Rattle.abstract_database.specs.Checks.{counts_fit, target_columns, value_parts, checked_insert}
 use Rattle.abstract_database.specs.Needs.{needs_of_insert}
 use Rattle.stored_database.specs.Definitions.{TableDefinition, Definitions}
-use Rattle.stored_database.specs.Valid.{Describes}
 use Rattle.planner.specs.declared.rights.Rights.{Rights}
 use Rattle.planner.specs.declared.insert.CheckedRows.{CheckedRows}
 use Rattle.planner.specs.declared.insert.InsertPlan.{InsertPlan}
+use Rattle.planner.specs.Answers.{ChecksGive, ChecksRefuse}
 use Rattle.planner.specs.Rights.{meets}
 use Rattle.planner.specs.Tables.{table_in}
 
@@ -85,11 +83,8 @@ planned_insert d r s = table_in d s.table >>= insert_from r s
 
 -- its checks give the plan
 abbrev pub IsInsertPlan : Definitions → TheName → Insert → InsertPlan → Type 0
-IsInsertPlan d current s p = HaveOneLength s.rows → (db : Database) (users : UserNames) → Describes d db → users.current ≡ current
-    → checked_insert db users s ≡ Ok (checked_of p)
+IsInsertPlan d current s p = HaveOneLength s.rows → ChecksGive d current (λ db users. checked_insert db users s) (checked_of p)
 
 -- memory was refused, or its checks refuse the statement in this way
 abbrev pub IsInsertRefusal : Definitions → TheName → Insert → Refusal → Type 0
-IsInsertRefusal d current s refusal = HaveOneLength s.rows → (refusal.0 ≡ OutOfMemory)
-    ⊎ ((db : Database) (users : UserNames) → Describes d db → users.current ≡ current
-    → checked_insert db users s ≡ Err refusal.0)
+IsInsertRefusal d current s refusal = HaveOneLength s.rows → ChecksRefuse d current (λ db users. checked_insert db users s) refusal

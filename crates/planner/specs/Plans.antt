@@ -1,8 +1,7 @@
 -- Plans of all statements over rows: what holds of each, and what the definitions of a database say in their place.
-use Rattle.std.specs.Prelude.{◌≡◌, ◌⊎◌, true, false, Ok, Err}
+use Rattle.std.specs.Prelude.{true, false}
 use Rattle.std.specs.List.{All}
 use Rattle.sql_types.specs.declared.state.Refusal.{Refusal}
-use Rattle.sql_types.specs.declared.state.SqlState.TheVariants.{OutOfMemory}
 use Rattle.sql_ast.specs.declared.privilege.Action.TheVariants as action
 use Rattle.sql_ast.specs.declared.statement.Select.{Select}
 use Rattle.sql_ast.specs.declared.statement.Insert.{Insert}
@@ -11,19 +10,17 @@ use Rattle.sql_ast.specs.declared.statement.Delete.{Delete}
 use Rattle.sql_ast.specs.declared.statement.RowStatement.{RowStatement}
 use Rattle.sql_ast.specs.declared.statement.RowStatement.TheVariants as over_rows
 use Rattle.sql_ast.specs.Read.{HaveOneLength}
-use Rattle.expressions.specs.Meaning.{UserNames}
 use Rattle.abstract_database.specs.Lists.{TheName}
-use Rattle.abstract_database.specs.Database.{Database}
 use Rattle.abstract_database.specs.Queries.{tables_in}
 use Rattle.abstract_database.specs.Statements.{Checked, selects, inserts, updates, deletes, checked_over_rows}
 use Rattle.stored_database.specs.Definitions.{Definitions}
-use Rattle.stored_database.specs.Valid.{Describes}
 use Rattle.planner.specs.declared.select.SelectPlan.{SelectPlan}
 use Rattle.planner.specs.declared.insert.InsertPlan.{InsertPlan}
 use Rattle.planner.specs.declared.update.UpdatePlan.{UpdatePlan}
 use Rattle.planner.specs.declared.delete.DeletePlan.{DeletePlan}
 use Rattle.planner.specs.declared.plans.Plan.{Plan}
 use Rattle.planner.specs.declared.plans.Plan.TheVariants as plan
+use Rattle.planner.specs.Answers.{ChecksGive, ChecksRefuse}
 use Rattle.planner.specs.Bound.{HasWidths, HasTypes}
 use Rattle.planner.specs.Rights.{AreItsRoles}
 use Rattle.planner.specs.Sources.{IsGuardedFrom}
@@ -89,11 +86,8 @@ checked_of (plan.Delete p) = deletes (checked_delete_of p)
 
 -- the checks of the statement give the plan
 abbrev pub Means : Definitions → TheName → RowStatement → Plan → Type 0
-Means d current s p = HasRowsOfOneLength s → (db : Database) (users : UserNames) → Describes d db → users.current ≡ current
-    → checked_over_rows db users s ≡ Ok (checked_of p)
+Means d current s p = HasRowsOfOneLength s → ChecksGive d current (λ db users. checked_over_rows db users s) (checked_of p)
 
 -- memory was refused, or its checks refuse the statement in this way
 abbrev pub IsRefusalOf : Definitions → TheName → RowStatement → Refusal → Type 0
-IsRefusalOf d current s refusal = HasRowsOfOneLength s → (refusal.0 ≡ OutOfMemory)
-    ⊎ ((db : Database) (users : UserNames) → Describes d db → users.current ≡ current
-    → checked_over_rows db users s ≡ Err refusal.0)
+IsRefusalOf d current s refusal = HasRowsOfOneLength s → ChecksRefuse d current (λ db users. checked_over_rows db users s) refusal

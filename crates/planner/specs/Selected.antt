@@ -1,26 +1,24 @@
 -- What SELECT is checked for, in the definitions of a database.
-use Rattle.std.specs.Prelude.{◌≡◌, ◌⊎◌, ℕ, ◌+◌, ◌&&◌, Bool, true, nat_le, not, List, [], ◌∷◌, map, length, Result, Ok, Err}
+use Rattle.std.specs.Prelude.{ℕ, ◌+◌, ◌&&◌, Bool, true, nat_le, not, List, [], ◌∷◌, map, length, Result, Ok}
 use Rattle.std.specs.List.{list_all}
 use Rattle.sql_types.specs.declared.state.Refusal.{Refusal}
 use Rattle.sql_types.specs.declared.state.SqlState.{SqlState}
-use Rattle.sql_types.specs.declared.state.SqlState.TheVariants.{OutOfMemory, DuplicateAlias, InsufficientPrivilege, ProgramLimitExceeded}
+use Rattle.sql_types.specs.declared.state.SqlState.TheVariants.{DuplicateAlias, InsufficientPrivilege, ProgramLimitExceeded}
 use Rattle.sql_ast.specs.declared.privilege.Action.TheVariants as action
 use Rattle.sql_ast.specs.declared.statement.Select.{Select}
 use Rattle.sql_ast.specs.Scope.{Table as ScopeTable}
-use Rattle.expressions.specs.Meaning.{UserNames}
 use Rattle.expressions.specs.Stages.{◌>>=◌, require}
 use Rattle.abstract_database.specs.Lists.{TheName, has_double}
-use Rattle.abstract_database.specs.Database.{Database}
 use Rattle.abstract_database.specs.Needs.{on_columns_or_one, columns_of_query}
 use Rattle.abstract_database.specs.Queries.{tables_in, name_in_scope, scope_of, bound_query, BoundQuery, CheckedSelect}
 use Rattle.abstract_database.specs.Checks.{checked_select}
 use Rattle.stored_database.specs.Definitions.{TableDefinition, Definitions}
-use Rattle.stored_database.specs.Valid.{Describes}
 use Rattle.gathering.specs.declared.query.Query.{Query}
 use Rattle.gathering.specs.Queries.{bound_of}
 use Rattle.planner.specs.declared.rights.Rights.{Rights}
 use Rattle.planner.specs.declared.select.CheckedQuery.{CheckedQuery}
 use Rattle.planner.specs.declared.select.SelectPlan.{SelectPlan}
+use Rattle.planner.specs.Answers.{ChecksGive, ChecksRefuse}
 use Rattle.planner.specs.Rights.{meets}
 use Rattle.planner.specs.Tables.{tables_for, definitions_in}
 
@@ -78,11 +76,8 @@ planned_select d r s = do
 
 -- its checks give the plan
 abbrev pub IsSelectPlan : Definitions → TheName → Select → SelectPlan → Type 0
-IsSelectPlan d current s p = (db : Database) (users : UserNames) → Describes d db → users.current ≡ current
-    → checked_select db users s ≡ Ok (checked_of p)
+IsSelectPlan d current s p = ChecksGive d current (λ db users. checked_select db users s) (checked_of p)
 
 -- memory was refused, or its checks refuse the statement in this way
 abbrev pub IsSelectRefusal : Definitions → TheName → Select → Refusal → Type 0
-IsSelectRefusal d current s refusal = (refusal.0 ≡ OutOfMemory)
-    ⊎ ((db : Database) (users : UserNames) → Describes d db → users.current ≡ current
-    → checked_select db users s ≡ Err refusal.0)
+IsSelectRefusal d current s refusal = ChecksRefuse d current (λ db users. checked_select db users s) refusal

@@ -1,24 +1,22 @@
 -- What UPDATE is checked for, in the definitions of a database.
-use Rattle.std.specs.Prelude.{◌≡◌, ◌⊎◌, ◌++◌, ℕ, not, List, option_to_list, Result, Ok, Err}
+use Rattle.std.specs.Prelude.{◌++◌, ℕ, not, List, option_to_list, Result, Ok}
 use Rattle.std.specs.List.{list_all}
 use Rattle.sql_types.specs.declared.state.Refusal.{Refusal}
 use Rattle.sql_types.specs.declared.state.SqlState.{SqlState}
-use Rattle.sql_types.specs.declared.state.SqlState.TheVariants.{OutOfMemory, DuplicateColumn, InsufficientPrivilege}
+use Rattle.sql_types.specs.declared.state.SqlState.TheVariants.{DuplicateColumn, InsufficientPrivilege}
 use Rattle.sql_ast.specs.declared.statement.Update.{Update}
-use Rattle.expressions.specs.Meaning.{UserNames}
 use Rattle.expressions.specs.Stages.{◌>>=◌, each, require}
 use Rattle.abstract_database.specs.Lists.{TheName, has_double}
-use Rattle.abstract_database.specs.Database.{Database}
 use Rattle.abstract_database.specs.Expressions.{own_scope}
 use Rattle.abstract_database.specs.Needs.{has_any, columns_read, needs_of_update}
 use Rattle.abstract_database.specs.Changes.{CheckedUpdate}
 use Rattle.abstract_database.specs.Checks.{found_column, set_names, new_values, checked_update}
 use Rattle.stored_database.specs.Definitions.{TableDefinition, Definitions}
-use Rattle.stored_database.specs.Valid.{Describes}
 use Rattle.planner.specs.declared.rights.Rights.{Rights}
 use Rattle.planner.specs.declared.update.CheckedChanges.{CheckedChanges}
 use Rattle.planner.specs.declared.update.UpdatePlan.{UpdatePlan}
 use Rattle.planner.specs.Changed.{Terms, values_of, where_of, bound_changes}
+use Rattle.planner.specs.Answers.{ChecksGive, ChecksRefuse}
 use Rattle.planner.specs.Rights.{meets}
 use Rattle.planner.specs.Tables.{table_in}
 
@@ -69,11 +67,8 @@ planned_update d r s = table_in d s.table >>= update_from r s
 
 -- its checks give the plan
 abbrev pub IsUpdatePlan : Definitions → TheName → Update → UpdatePlan → Type 0
-IsUpdatePlan d current s p = (db : Database) (users : UserNames) → Describes d db → users.current ≡ current
-    → checked_update db users s ≡ Ok (checked_of p)
+IsUpdatePlan d current s p = ChecksGive d current (λ db users. checked_update db users s) (checked_of p)
 
 -- memory was refused, or its checks refuse the statement in this way
 abbrev pub IsUpdateRefusal : Definitions → TheName → Update → Refusal → Type 0
-IsUpdateRefusal d current s refusal = (refusal.0 ≡ OutOfMemory)
-    ⊎ ((db : Database) (users : UserNames) → Describes d db → users.current ≡ current
-    → checked_update db users s ≡ Err refusal.0)
+IsUpdateRefusal d current s refusal = ChecksRefuse d current (λ db users. checked_update db users s) refusal

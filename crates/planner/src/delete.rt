@@ -1,12 +1,9 @@
 //! DELETE, checked (SQL:2016 Foundation, 14.9; PostgreSQL manual, DELETE).
 
 ghost use Rattle.std.specs.Prelude.{IfOk, IfErr};
-ghost use Rattle.sql_ast.specs.declared.privilege.Action.TheVariants as action;
 ghost use Rattle.planner.specs.Answers.{AnswersBy};
-ghost use Rattle.planner.specs.Sources.{IsGuardedFrom};
-ghost use Rattle.planner.specs.Rights.{AreItsRoles, AreRightsOf};
-ghost use Rattle.planner.specs.Tables.{IsTableNamed};
-ghost use Rattle.planner.specs.Deleted.{checked_in, delete_from, IsDeletePlan, IsDeleteRefusal};
+ghost use Rattle.planner.specs.Plans.{IsCheckedDelete};
+ghost use Rattle.planner.specs.Deleted.{checked_in, delete_from, IsDeleteRefusal};
 
 use crate::changes::bind_changes;
 use crate::reading::changes_read;
@@ -55,35 +52,10 @@ pub fn plan_delete<'c>(
     current: &'c Name,
     statement: &Delete,
 ) -> Result<DeletePlan<'c>, Refusal>
-    ensures plan { IfOk result (IsDeletePlan catalogue.now current.now statement.now) }
-    ensures table { IfOk result (λ p.
-        IsTableNamed catalogue.now statement.now.table p.target.table.now) }
-    ensures guard { IfOk result (λ p.
-        IsGuardedFrom catalogue.now current.now action.Delete p.reads p.target) }
-    ensures roles { IfOk result (λ p. AreItsRoles catalogue.now current.now p.roles) }
+    ensures plan { IfOk result (IsCheckedDelete catalogue.now current.now statement.now) }
     ensures refusal { IfErr result (IsDeleteRefusal catalogue.now current.now statement.now) }
 {
     let rights = Rights::of(alloc, catalogue, current)?;
-    plan_with_rights(alloc, catalogue, rights, current, statement)
-}
-
-/// The same with the rights of the role.
-fn plan_with_rights<'c>(
-    alloc: Global,
-    catalogue: &'c Catalogue,
-    rights: Rights<'c>,
-    current: &Name,
-    statement: &Delete,
-) -> Result<DeletePlan<'c>, Refusal>
-    requires { AreRightsOf catalogue.now current.now rights }
-    ensures plan { IfOk result (IsDeletePlan catalogue.now current.now statement.now) }
-    ensures table { IfOk result (λ p.
-        IsTableNamed catalogue.now statement.now.table p.target.table.now) }
-    ensures guard { IfOk result (λ p.
-        IsGuardedFrom catalogue.now current.now action.Delete p.reads p.target) }
-    ensures roles { IfOk result (λ p. AreItsRoles catalogue.now current.now p.roles) }
-    ensures refusal { IfErr result (IsDeleteRefusal catalogue.now current.now statement.now) }
-{
     let table = find_table(catalogue, &statement.table)?;
     let checked = check_delete(alloc, &rights, table, statement)?;
     let reads = checked.reads;

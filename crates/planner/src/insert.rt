@@ -1,13 +1,10 @@
 //! INSERT, checked (SQL:2016 Foundation, 14.11; PostgreSQL manual, INSERT).
 
 ghost use Rattle.std.specs.Prelude.{IfOk, IfErr, false};
-ghost use Rattle.sql_ast.specs.declared.privilege.Action.TheVariants as action;
 ghost use Rattle.sql_ast.specs.Read.{HaveOneLength};
 ghost use Rattle.planner.specs.Answers.{AnswersBy};
-ghost use Rattle.planner.specs.Sources.{IsGuardedFrom};
-ghost use Rattle.planner.specs.Rights.{AreItsRoles, AreRightsOf};
-ghost use Rattle.planner.specs.Tables.{IsTableNamed};
-ghost use Rattle.planner.specs.Inserted.{checked_in, insert_from, IsInsertPlan, IsInsertRefusal};
+ghost use Rattle.planner.specs.Plans.{IsCheckedInsert};
+ghost use Rattle.planner.specs.Inserted.{checked_in, insert_from, IsInsertRefusal};
 
 use crate::rights::Rights;
 use crate::sources::{Source, guard};
@@ -63,35 +60,10 @@ pub fn plan_insert<'c>(
     current: &'c Name,
     statement: &Insert,
 ) -> Result<InsertPlan<'c>, Refusal>
-    ensures plan { IfOk result (IsInsertPlan catalogue.now current.now statement.now) }
-    ensures table { IfOk result (λ p.
-        IsTableNamed catalogue.now statement.now.table p.target.table.now) }
-    ensures guard { IfOk result (λ p.
-        IsGuardedFrom catalogue.now current.now action.Insert false p.target) }
-    ensures roles { IfOk result (λ p. AreItsRoles catalogue.now current.now p.roles) }
+    ensures plan { IfOk result (IsCheckedInsert catalogue.now current.now statement.now) }
     ensures refusal { IfErr result (IsInsertRefusal catalogue.now current.now statement.now) }
 {
     let rights = Rights::of(alloc, catalogue, current)?;
-    plan_with_rights(alloc, catalogue, rights, current, statement)
-}
-
-/// The same with the rights of the role.
-fn plan_with_rights<'c>(
-    alloc: Global,
-    catalogue: &'c Catalogue,
-    rights: Rights<'c>,
-    current: &Name,
-    statement: &Insert,
-) -> Result<InsertPlan<'c>, Refusal>
-    requires { AreRightsOf catalogue.now current.now rights }
-    ensures plan { IfOk result (IsInsertPlan catalogue.now current.now statement.now) }
-    ensures table { IfOk result (λ p.
-        IsTableNamed catalogue.now statement.now.table p.target.table.now) }
-    ensures guard { IfOk result (λ p.
-        IsGuardedFrom catalogue.now current.now action.Insert false p.target) }
-    ensures roles { IfOk result (λ p. AreItsRoles catalogue.now current.now p.roles) }
-    ensures refusal { IfErr result (IsInsertRefusal catalogue.now current.now statement.now) }
-{
     let table = find_table(catalogue, &statement.table)?;
     let checked = check_insert(alloc, &rights, table, statement)?;
     let target = guard(

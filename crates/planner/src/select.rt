@@ -2,16 +2,13 @@
 
 ghost use Rattle.std.specs.Prelude.{◌≡◌, ◌∷◌, map, IfOk, IfErr, nat_le};
 ghost use Rattle.std.specs.Prelude.{true};
-ghost use Rattle.std.specs.List.{All};
-ghost use Rattle.sql_ast.specs.declared.privilege.Action.TheVariants as action;
-ghost use Rattle.planner.specs.Sources.{IsGuardedFrom};
 ghost use Rattle.planner.specs.Answers.{AnswersBy};
 ghost use Rattle.gathering.specs.Queries.{bound_of};
-ghost use Rattle.planner.specs.Rights.{AreItsRoles, AreRightsOf};
+ghost use Rattle.planner.specs.Plans.{IsCheckedSelect};
 ghost use Rattle.planner.specs.Tables.{AreTablesOf};
 ghost use Rattle.planner.specs.Bound.{HasWidths, HasTypes};
 ghost use Rattle.abstract_database.specs.Queries.{tables_in, scope_of};
-ghost use Rattle.planner.specs.Selected.{tables_of_plan, scope_of_plan, checked_with, checked_over, may_read_each, query_over, planned_select, IsSelectPlan, IsSelectRefusal};
+ghost use Rattle.planner.specs.Selected.{checked_with, checked_over, may_read_each, query_over, planned_select, IsSelectRefusal};
 ghost use Rattle.planner.specs.Tables.{definitions_in};
 
 use crate::bound::bind_query;
@@ -63,39 +60,10 @@ pub fn plan_select<'c>(
     current: &'c Name,
     statement: &Select,
 ) -> Result<SelectPlan<'c>, Refusal>
-    ensures plan { IfOk result (IsSelectPlan catalogue.now current.now statement.now) }
-    ensures tables { IfOk result (λ p.
-        AreTablesOf catalogue.now (tables_in statement.now.source) (tables_of_plan p)) }
-    ensures widths { IfOk result (λ p. HasWidths (scope_of_plan statement.now p) p.query.list) }
-    ensures types { IfOk result (λ p. HasTypes (scope_of_plan statement.now p) p.query) }
-    ensures guards { IfOk result (λ p.
-        All (IsGuardedFrom catalogue.now current.now action.Select true) p.sources) }
-    ensures roles { IfOk result (λ p. AreItsRoles catalogue.now current.now p.roles) }
+    ensures plan { IfOk result (IsCheckedSelect catalogue.now current.now statement.now) }
     ensures refusal { IfErr result (IsSelectRefusal catalogue.now current.now statement.now) }
 {
     let rights = Rights::of(alloc, catalogue, current)?;
-    plan_with_rights(alloc, catalogue, rights, current, statement)
-}
-
-/// The same with the rights of the role.
-fn plan_with_rights<'c>(
-    alloc: Global,
-    catalogue: &'c Catalogue,
-    rights: Rights<'c>,
-    current: &Name,
-    statement: &Select,
-) -> Result<SelectPlan<'c>, Refusal>
-    requires { AreRightsOf catalogue.now current.now rights }
-    ensures plan { IfOk result (IsSelectPlan catalogue.now current.now statement.now) }
-    ensures tables { IfOk result (λ p.
-        AreTablesOf catalogue.now (tables_in statement.now.source) (tables_of_plan p)) }
-    ensures widths { IfOk result (λ p. HasWidths (scope_of_plan statement.now p) p.query.list) }
-    ensures types { IfOk result (λ p. HasTypes (scope_of_plan statement.now p) p.query) }
-    ensures guards { IfOk result (λ p.
-        All (IsGuardedFrom catalogue.now current.now action.Select true) p.sources) }
-    ensures roles { IfOk result (λ p. AreItsRoles catalogue.now current.now p.roles) }
-    ensures refusal { IfErr result (IsSelectRefusal catalogue.now current.now statement.now) }
-{
     let checked = check_select(alloc, catalogue, &rights, statement)?;
     let tables = checked.tables.as_slice();
     let sources = guard_each(alloc, catalogue, &rights, current, tables)?;

@@ -1,12 +1,9 @@
 //! UPDATE, checked (SQL:2016 Foundation, 14.14; PostgreSQL manual, UPDATE).
 
 ghost use Rattle.std.specs.Prelude.{IfOk, IfErr};
-ghost use Rattle.sql_ast.specs.declared.privilege.Action.TheVariants as action;
 ghost use Rattle.planner.specs.Answers.{AnswersBy};
-ghost use Rattle.planner.specs.Sources.{IsGuardedFrom};
-ghost use Rattle.planner.specs.Rights.{AreItsRoles, AreRightsOf};
-ghost use Rattle.planner.specs.Tables.{IsTableNamed};
-ghost use Rattle.planner.specs.Updated.{checked_in, update_from, IsUpdatePlan, IsUpdateRefusal};
+ghost use Rattle.planner.specs.Plans.{IsCheckedUpdate};
+ghost use Rattle.planner.specs.Updated.{checked_in, update_from, IsUpdateRefusal};
 
 use crate::changes::bind_changes;
 use crate::reading::changes_read;
@@ -65,35 +62,10 @@ pub fn plan_update<'c>(
     current: &'c Name,
     statement: &Update,
 ) -> Result<UpdatePlan<'c>, Refusal>
-    ensures plan { IfOk result (IsUpdatePlan catalogue.now current.now statement.now) }
-    ensures table { IfOk result (λ p.
-        IsTableNamed catalogue.now statement.now.table p.target.table.now) }
-    ensures guard { IfOk result (λ p.
-        IsGuardedFrom catalogue.now current.now action.Update p.reads p.target) }
-    ensures roles { IfOk result (λ p. AreItsRoles catalogue.now current.now p.roles) }
+    ensures plan { IfOk result (IsCheckedUpdate catalogue.now current.now statement.now) }
     ensures refusal { IfErr result (IsUpdateRefusal catalogue.now current.now statement.now) }
 {
     let rights = Rights::of(alloc, catalogue, current)?;
-    plan_with_rights(alloc, catalogue, rights, current, statement)
-}
-
-/// The same with the rights of the role.
-fn plan_with_rights<'c>(
-    alloc: Global,
-    catalogue: &'c Catalogue,
-    rights: Rights<'c>,
-    current: &Name,
-    statement: &Update,
-) -> Result<UpdatePlan<'c>, Refusal>
-    requires { AreRightsOf catalogue.now current.now rights }
-    ensures plan { IfOk result (IsUpdatePlan catalogue.now current.now statement.now) }
-    ensures table { IfOk result (λ p.
-        IsTableNamed catalogue.now statement.now.table p.target.table.now) }
-    ensures guard { IfOk result (λ p.
-        IsGuardedFrom catalogue.now current.now action.Update p.reads p.target) }
-    ensures roles { IfOk result (λ p. AreItsRoles catalogue.now current.now p.roles) }
-    ensures refusal { IfErr result (IsUpdateRefusal catalogue.now current.now statement.now) }
-{
     let table = find_table(catalogue, &statement.table)?;
     let checked = check_update(alloc, &rights, table, statement)?;
     let reads = checked.reads;

@@ -16,8 +16,8 @@ use Rattle.stored_database.specs.Records.{StandsFor}
 use Rattle.stored_database.specs.Spellings.{spelled_in_second}
 use Rattle.server.specs.declared.server.Server.{Server}
 use Rattle.server.specs.Standing.{Represents, at_start}
-use Rattle.opening.specs.declared.fault.OpeningFault.{OpeningFault}
-use Rattle.opening.specs.declared.fault.OpeningFault.TheVariants as opening
+use Rattle.migration.specs.declared.fault.OpeningFault.{OpeningFault}
+use Rattle.migration.specs.declared.fault.OpeningFault.TheVariants as opening
 use Rattle.opening.specs.Openings.{HasLooked, IsOpened, OnlyLooks}
 use Rattle.script_runs.specs.Closing.{StandsWithinLimit}
 use Rattle.script_runs.specs.declared.sink.Sink.{Ghosts as SinkGhosts}

@@ -3,8 +3,8 @@ use Rattle.std.specs.Prelude.{◌≡◌, ◌++◌, ℕ, Bool, true, List, [], co
 use Rattle.std.specs.Io.KnownBytes.{Appends}
 use Rattle.sector_device.specs.declared.system_cause.SystemCause.TheVariants.{Other}
 use Rattle.sector_device.specs.SystemCause.{cause_text}
-use Rattle.opening.specs.declared.fault.OpeningFault.{OpeningFault}
-use Rattle.opening.specs.declared.fault.OpeningFault.TheVariants as opening
+use Rattle.migration.specs.declared.fault.OpeningFault.{OpeningFault}
+use Rattle.migration.specs.declared.fault.OpeningFault.TheVariants as opening
 use Rattle.wire.specs.AnswerText.{newline}
 use Rattle.script_runs.specs.declared.run.ScriptEnd.{ScriptEnd}
 use Rattle.script_runs.specs.declared.run.ScriptEnd.TheVariants as end

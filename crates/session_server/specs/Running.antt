@@ -4,8 +4,8 @@ use Rattle.sql_types.specs.declared.answer.Answer.{Answer}
 use Rattle.sql_types.specs.declared.answer.Answer.TheVariants.{Refused}
 use Rattle.sql_types.specs.declared.event.Event.{Event}
 use Rattle.sql_types.specs.declared.state.SqlState.TheVariants.{OutOfMemory}
-use Rattle.opening.specs.declared.fault.OpeningFault.{OpeningFault}
-use Rattle.opening.specs.declared.fault.OpeningFault.TheVariants.{Damaged}
+use Rattle.migration.specs.declared.fault.OpeningFault.{OpeningFault}
+use Rattle.migration.specs.declared.fault.OpeningFault.TheVariants.{Damaged}
 use Rattle.store.specs.declared.memory.MemStore.{MemStore}
 use Rattle.store.specs.Memory.{new_state}
 use Rattle.store.specs.MemoryStore.{memory_store_state}

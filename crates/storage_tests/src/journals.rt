@@ -40,9 +40,9 @@ mod stops;
 mod tally;
 mod wanted;
 
-use crate::journals::batches::Script;
+use crate::journals::batches::BatchScript;
 use crate::journals::stops::Stops;
-use crate::journals::tally::Tally;
+use crate::journals::tally::TrialTally;
 use crate::stores::call::{CallWords, number_in};
 use anyhow::{Result, bail};
 use kv_store::MAX_CACHE_PAGES;
@@ -60,12 +60,12 @@ pub fn follow(alloc: Global, tries_all: bool, line: &str, out: &mut String) -> R
         ("", _) => Ok(()),
         ("full", _) => full::fill(&first, out),
         (_, Some(words)) => {
-            let script = Script::new(alloc, words)?;
+            let script = BatchScript::new(alloc, words)?;
             let tally = tried(&first, tries_all, &script)?;
             Ok(tally.push_disagreements(&first, out)?)
         }
         (_, None) => {
-            let script = Script::new(alloc, rest)?;
+            let script = BatchScript::new(alloc, rest)?;
             let tally = tried(&first, tries_all, &script)?;
             Ok(tally.push(&first, out)?)
         }
@@ -73,7 +73,7 @@ pub fn follow(alloc: Global, tries_all: bool, line: &str, out: &mut String) -> R
 }
 
 /// What came of the trial that a word names, with this script.
-fn tried(first: &CallWords<'_>, tries_all: bool, script: &Script) -> Result<Tally> {
+fn tried(first: &CallWords<'_>, tries_all: bool, script: &BatchScript) -> Result<TrialTally> {
     let cache = number_in(first.first) as usize;
     if cache == 0 || cache > MAX_CACHE_PAGES {
         bail!("no cache has so many pages");

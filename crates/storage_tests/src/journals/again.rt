@@ -1,15 +1,15 @@
 //! Commits that are refused memory.
 
-use crate::journals::batches::Script;
+use crate::journals::batches::BatchScript;
 use crate::journals::devices::{TrialStore, new_device, opened};
-use crate::journals::tally::Tally;
+use crate::journals::tally::TrialTally;
 use crate::journals::wanted::{new_memory, same_records};
 use anyhow::Result;
 use store::{Batch, MemStore, Store, StoreFault};
 
 /// Makes the commits of a script, each again that is refused memory, and sees that nothing has changed by the first.
-pub fn commit_again(script: &Script, cache: usize) -> Result<Tally> {
-    let mut tally = Tally::new(script.alloc, "commits", "looks");
+pub fn commit_again(script: &BatchScript, cache: usize) -> Result<TrialTally> {
+    let mut tally = TrialTally::new(script.alloc, "commits", "looks");
     let mut store = opened(script.alloc, new_device(script.alloc, true)?, cache)?;
     let mut memory = new_memory(script.alloc)?;
     for index in 0..script.len() {
@@ -25,11 +25,11 @@ pub fn commit_again(script: &Script, cache: usize) -> Result<Tally> {
 
 /// Makes a commit, and again where it is refused memory. The store in memory does not have it yet.
 fn commit(
-    script: &Script,
+    script: &BatchScript,
     store: &mut TrialStore,
     memory: &mut MemStore,
     batch: &Batch,
-    tally: &mut Tally,
+    tally: &mut TrialTally,
 ) -> Result<()> {
     let number = store.number();
     let answer = store.commit(batch);
@@ -46,10 +46,10 @@ fn commit(
 
 /// Sees that a store has the records of one in memory, again where it is refused memory.
 fn look(
-    script: &Script,
+    script: &BatchScript,
     store: &mut TrialStore,
     memory: &mut MemStore,
-    tally: &mut Tally,
+    tally: &mut TrialTally,
 ) -> Result<()> {
     let found = match same_records(script.alloc, store, memory) {
         Err(StoreFault::Memory) => same_records(script.alloc, store, memory)?,

@@ -7,14 +7,14 @@ use store::{Batch, MAX_KEY_LENGTH, MAX_VALUE_LENGTH};
 
 /// The words of each batch of a script.
 #[derive(Drop)]
-pub struct Script {
+pub struct BatchScript {
     pub alloc: Global,
     batches: Vec<String>,
 }
 
-impl Script {
+impl BatchScript {
     /// The script that words make.
-    pub fn new(alloc: Global, words: &str) -> Result<Script> {
+    pub fn new(alloc: Global, words: &str) -> Result<BatchScript> {
         let mut batches = Vec::new(alloc);
         let mut batch = String::new(alloc);
         for word in words.split(' ') {
@@ -26,7 +26,7 @@ impl Script {
                 batch.push_str(" ")?;
             }
         }
-        Ok(Script { alloc, batches })
+        Ok(BatchScript { alloc, batches })
     }
 
     /// How many batches there are.

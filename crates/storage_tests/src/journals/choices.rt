@@ -5,7 +5,7 @@ use std::alloc::{AllocError, Global};
 
 /// Which unsynced sectors have their last content after a stop: none, all, those of even or of odd number, or a single one.
 #[derive(Clone, Copy, Debug)]
-pub enum Choice {
+pub enum SectorChoice {
     Old,
     New,
     Even,
@@ -13,15 +13,15 @@ pub enum Choice {
     Single(u32),
 }
 
-impl Choice {
+impl SectorChoice {
     /// Whether a sector has its last content.
     pub fn is_new(self, sector: u32) -> bool {
         match self {
-            Choice::Old => false,
-            Choice::New => true,
-            Choice::Even => sector % 2 == 0,
-            Choice::Odd => sector % 2 == 1,
-            Choice::Single(number) => sector == number,
+            SectorChoice::Old => false,
+            SectorChoice::New => true,
+            SectorChoice::Even => sector % 2 == 0,
+            SectorChoice::Odd => sector % 2 == 1,
+            SectorChoice::Single(number) => sector == number,
         }
     }
 }
@@ -30,14 +30,19 @@ impl Choice {
 pub fn choices_for(
     alloc: Global,
     unsynced: &[bool; SECTORS as usize],
-) -> Result<Vec<Choice>, AllocError> {
+) -> Result<Vec<SectorChoice>, AllocError> {
     let mut choices = Vec::from_slice(
         alloc,
-        &[Choice::Old, Choice::New, Choice::Even, Choice::Odd],
+        &[
+            SectorChoice::Old,
+            SectorChoice::New,
+            SectorChoice::Even,
+            SectorChoice::Odd,
+        ],
     )?;
     for sector in 0..SECTORS {
         if unsynced[sector as usize] {
-            choices.push(Choice::Single(sector))?;
+            choices.push(SectorChoice::Single(sector))?;
         }
     }
     if choices.len() == 4 {

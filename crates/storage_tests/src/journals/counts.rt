@@ -1,14 +1,14 @@
 //! How much commits write.
 
-use crate::journals::batches::Script;
+use crate::journals::batches::BatchScript;
 use crate::journals::devices::{TrialStore, new_device, opened};
-use crate::journals::tally::Tally;
+use crate::journals::tally::TrialTally;
 use anyhow::Result;
 use store::Store;
 
 /// Counts the sectors that the commits of a script write, and the syncs that they make.
-pub fn count(script: &Script, cache: usize) -> Result<Tally> {
-    let mut tally = Tally::new(script.alloc, "sectors", "syncs");
+pub fn count(script: &BatchScript, cache: usize) -> Result<TrialTally> {
+    let mut tally = TrialTally::new(script.alloc, "sectors", "syncs");
     let mut store = opened(script.alloc, new_device(script.alloc, true)?, cache)?;
     let (writes, syncs) = written(&store);
     for index in 0..script.len() {

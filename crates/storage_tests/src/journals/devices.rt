@@ -1,6 +1,6 @@
 //! Devices of a trial, what they hold, and the stores on them.
 
-use crate::journals::choices::Choice;
+use crate::journals::choices::SectorChoice;
 use crate::journals::logged::{LoggedDevice, SECTORS};
 use anyhow::{Result, bail};
 use device_store::DeviceStore;
@@ -28,24 +28,24 @@ struct HeldSector {
 }
 
 /// What a device holds.
-pub struct Image {
+pub struct TrialImage {
     alloc: Global,
     sectors: Vec<HeldSector>,
 }
 
 // Written and not derived: where a value is dropped this is one call, and not its parts one by one.
-impl Drop for Image {
+impl Drop for TrialImage {
     fn drop(self) {
-        let Image {
+        let TrialImage {
             alloc: _,
             sectors: _,
         } = self;
     }
 }
 
-impl Image {
+impl TrialImage {
     /// What a device holds. It is started again for that.
-    pub fn of(alloc: Global, device: TrialDevice) -> Result<Image> {
+    pub fn of(alloc: Global, device: TrialDevice) -> Result<TrialImage> {
         let mut device = device.into_device().into_device();
         // calls pass again
         device.stop_after(u64::MAX);
@@ -58,16 +58,16 @@ impl Image {
                 last,
             })?;
         }
-        restart(&mut device, Choice::Old)?;
+        restart(&mut device, SectorChoice::Old)?;
         for held in sectors.iter_mut() {
             held.synced = content(&mut device, held.number)?;
         }
         sectors.retain(|held| !held.is_zero());
-        Ok(Image { alloc, sectors })
+        Ok(TrialImage { alloc, sectors })
     }
 
     /// What the device holds after a stop.
-    pub fn restarted(&self, choice: Choice) -> Result<Image, AllocError> {
+    pub fn restarted(&self, choice: SectorChoice) -> Result<TrialImage, AllocError> {
         let mut sectors = self.sectors.clone()?;
         for held in sectors.iter_mut() {
             if choice.is_new(held.number) {
@@ -76,7 +76,7 @@ impl Image {
                 held.last = held.synced;
             }
         }
-        Ok(Image {
+        Ok(TrialImage {
             alloc: self.alloc,
             sectors,
         })
@@ -123,7 +123,7 @@ fn write(device: &mut MemDevice, sector: u32, bytes: &[u8; SECTOR_SIZE]) -> Resu
 }
 
 /// Starts a device again after a stop.
-fn restart(device: &mut MemDevice, choice: Choice) -> Result<()> {
+fn restart(device: &mut MemDevice, choice: SectorChoice) -> Result<()> {
     if device.sectors() != SECTORS {
         bail!("a device of another size");
     }
@@ -136,7 +136,7 @@ fn restart(device: &mut MemDevice, choice: Choice) -> Result<()> {
 }
 
 /// A device that is started again after a stop.
-pub fn restarted(device: TrialDevice, choice: Choice) -> Result<TrialDevice> {
+pub fn restarted(device: TrialDevice, choice: SectorChoice) -> Result<TrialDevice> {
     let mut device = device.into_device().into_device();
     restart(&mut device, choice)?;
     Ok(Guarded::new(LoggedDevice::new(device)))

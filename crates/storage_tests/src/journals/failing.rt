@@ -1,9 +1,9 @@
 //! Commits of which a call of the device fails.
 
-use crate::journals::batches::Script;
+use crate::journals::batches::BatchScript;
 use crate::journals::choices::choices_for;
-use crate::journals::devices::{Image, TrialStore, memory_below, new_device, opened};
-use crate::journals::tally::Tally;
+use crate::journals::devices::{TrialImage, TrialStore, memory_below, new_device, opened};
+use crate::journals::tally::TrialTally;
 use crate::journals::wanted::{Made, same_records, wanted_after};
 use anyhow::Result;
 use store::{Entry, Map, Store, StoreFault};
@@ -13,20 +13,20 @@ const MAX_CALLS: u64 = 1_024;
 
 /// The commits of a script of which one has calls that fail.
 #[derive(Drop)]
-struct Failing<'a> {
-    script: &'a Script,
+struct FailingCommits<'a> {
+    script: &'a BatchScript,
     cache: usize,
     index: usize,
-    tally: Tally,
+    tally: TrialTally,
 }
 
 /// Makes each call fail that a commit of a script makes.
-pub fn fail_commits(script: &Script, cache: usize) -> Result<Tally> {
-    let mut failing = Failing {
+pub fn fail_commits(script: &BatchScript, cache: usize) -> Result<TrialTally> {
+    let mut failing = FailingCommits {
         script,
         cache,
         index: 0,
-        tally: Tally::new(script.alloc, "failing calls", "devices"),
+        tally: TrialTally::new(script.alloc, "failing calls", "devices"),
     };
     for index in 0..script.len() {
         failing.index = index;
@@ -37,7 +37,7 @@ pub fn fail_commits(script: &Script, cache: usize) -> Result<Tally> {
             }
         }
     }
-    let Failing {
+    let FailingCommits {
         script: _,
         cache: _,
         index: _,
@@ -46,7 +46,7 @@ pub fn fail_commits(script: &Script, cache: usize) -> Result<Tally> {
     Ok(tally)
 }
 
-impl<'a> Failing<'a> {
+impl<'a> FailingCommits<'a> {
     /// Makes a call fail that comes after so many. Answers whether the commit makes no more calls than these.
     fn fail_call(&mut self, calls: u64, is_late: bool) -> Result<bool> {
         let mut store = self.opened_before()?;
@@ -102,7 +102,7 @@ impl<'a> Failing<'a> {
     fn check_restarts(&mut self, store: TrialStore) -> Result<()> {
         let device = store.into_device();
         let unsynced = device.device().unsynced();
-        let image = Image::of(self.script.alloc, device)?;
+        let image = TrialImage::of(self.script.alloc, device)?;
         self.check(&image)?;
         for choice in &choices_for(self.script.alloc, &unsynced)? {
             self.check(&image.restarted(*choice)?)?;
@@ -111,7 +111,7 @@ impl<'a> Failing<'a> {
     }
 
     /// Sees that a device has the records before the commit or those after it.
-    fn check(&mut self, image: &Image) -> Result<()> {
+    fn check(&mut self, image: &TrialImage) -> Result<()> {
         self.tally.count_second();
         let mut store = opened(self.script.alloc, image.device()?, self.cache)?;
         let is_found = self.has(&mut store, self.index)?

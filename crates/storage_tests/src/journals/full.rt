@@ -55,7 +55,7 @@ impl Filled {
 }
 
 /// A store with a journal, and one without.
-struct Pair {
+struct StorePair {
     alloc: Global,
     journaled: Filled,
     plain: Filled,
@@ -65,9 +65,9 @@ struct Pair {
 }
 
 // Written and not derived: where a value is dropped this is one call, and not its parts one by one.
-impl Drop for Pair {
+impl Drop for StorePair {
     fn drop(self) {
-        let Pair {
+        let StorePair {
             alloc: _,
             journaled: _,
             plain: _,
@@ -79,7 +79,7 @@ impl Drop for Pair {
 
 /// Fills the two stores that a line names, changes rows of them in so many rounds, and appends what came of it.
 pub fn fill(call: &CallWords<'_>, out: &mut String) -> Result<()> {
-    let mut pair = Pair::new(call.alloc, number_in(call.second) as usize)?;
+    let mut pair = StorePair::new(call.alloc, number_in(call.second) as usize)?;
     let rows = pair.fill()?;
     for round in 0..number_in(call.first) {
         pair.change(round, rows)?;
@@ -93,13 +93,13 @@ pub fn fill(call: &CallWords<'_>, out: &mut String) -> Result<()> {
     Ok(())
 }
 
-impl Pair {
+impl StorePair {
     /// Two new stores, whose rows are to have so many bytes.
-    fn new(alloc: Global, size: usize) -> Result<Pair> {
+    fn new(alloc: Global, size: usize) -> Result<StorePair> {
         if size > MAX_VALUE_LENGTH {
             bail!("no value of a store");
         }
-        Ok(Pair {
+        Ok(StorePair {
             alloc,
             journaled: Filled::new(alloc, true)?,
             plain: Filled::new(alloc, false)?,

@@ -1,8 +1,8 @@
 //! Openings of which a call of the device fails.
 
-use crate::journals::batches::Script;
-use crate::journals::devices::{Image, TrialDevice, new_device, opened};
-use crate::journals::tally::Tally;
+use crate::journals::batches::BatchScript;
+use crate::journals::devices::{TrialDevice, TrialImage, new_device, opened};
+use crate::journals::tally::TrialTally;
 use crate::journals::wanted::{Made, same_records, wanted_after};
 use anyhow::{Result, bail};
 use device_store::DeviceStore;
@@ -14,8 +14,8 @@ use store::Store;
 const MAX_CALLS: u64 = 2_048;
 
 /// Makes each call of an opening fail, behind each commit of a script.
-pub fn fail_openings(script: &Script, cache: usize) -> Result<Tally> {
-    let mut tally = Tally::new(script.alloc, "failing calls", "openings");
+pub fn fail_openings(script: &BatchScript, cache: usize) -> Result<TrialTally> {
+    let mut tally = TrialTally::new(script.alloc, "failing calls", "openings");
     let mut made = Vec::new(script.alloc);
     for index in 0..script.len().saturating_add(1) {
         let image = image_after(script, cache, &made)?;
@@ -30,22 +30,22 @@ pub fn fail_openings(script: &Script, cache: usize) -> Result<Tally> {
 }
 
 /// What a device holds on which these commits were made.
-fn image_after(script: &Script, cache: usize, made: &[Made]) -> Result<Image> {
+fn image_after(script: &BatchScript, cache: usize, made: &[Made]) -> Result<TrialImage> {
     let mut store = opened(script.alloc, new_device(script.alloc, true)?, cache)?;
     for commit in made {
         store.commit(&script.batch(commit.index, commit.life)?)?;
     }
-    Image::of(script.alloc, store.into_device())
+    TrialImage::of(script.alloc, store.into_device())
 }
 
 /// Makes a call fail that comes after so many. Answers whether the opening makes no more calls than these.
 fn fail_opening(
-    script: &Script,
+    script: &BatchScript,
     cache: usize,
-    image: &Image,
+    image: &TrialImage,
     made: &[Made],
     calls: u64,
-    tally: &mut Tally,
+    tally: &mut TrialTally,
 ) -> Result<bool> {
     if cache == 0 || cache > MAX_CACHE_PAGES {
         bail!("no size of a cache");
@@ -72,11 +72,11 @@ fn fail_opening(
 
 /// Sees that a device has the records after these commits.
 fn check(
-    script: &Script,
+    script: &BatchScript,
     cache: usize,
     device: TrialDevice,
     made: &[Made],
-    tally: &mut Tally,
+    tally: &mut TrialTally,
 ) -> Result<()> {
     tally.count_second();
     let mut store = opened(script.alloc, device, cache)?;

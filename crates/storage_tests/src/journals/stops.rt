@@ -1,9 +1,11 @@
 //! Stops of commits after each count of sector writes, several lives deep.
 
-use crate::journals::batches::Script;
-use crate::journals::choices::{Choice, choices_for};
-use crate::journals::devices::{Image, TrialStore, memory_below, new_device, opened, restarted};
-use crate::journals::tally::Tally;
+use crate::journals::batches::BatchScript;
+use crate::journals::choices::{SectorChoice, choices_for};
+use crate::journals::devices::{
+    TrialImage, TrialStore, memory_below, new_device, opened, restarted,
+};
+use crate::journals::tally::TrialTally;
 use crate::journals::wanted::{Made, same_records, wanted_after, with};
 use anyhow::Result;
 use std::alloc::Global;
@@ -15,7 +17,7 @@ const MAX_WRITES: u64 = 1_024;
 /// What a device holds after a stop: the commits before the one that was under way, that one, whether it was answered, and the
 /// number before it.
 struct Stopped {
-    image: Image,
+    image: TrialImage,
     before: Vec<Made>,
     under_way: Made,
     is_answered: bool,
@@ -42,19 +44,19 @@ impl Drop for Stopped {
 #[derive(Drop)]
 pub struct Stops<'a> {
     alloc: Global,
-    script: &'a Script,
+    script: &'a BatchScript,
     cache: usize,
     lives: u8,
     every: u64,
     restarts: u64,
-    tally: Tally,
+    tally: TrialTally,
     /// The devices whose lives are still to come.
     waiting: Vec<Stopped>,
 }
 
 impl<'a> Stops<'a> {
     /// No stop yet.
-    pub fn new(script: &'a Script, cache: usize, lives: u32, every: u32) -> Stops<'a> {
+    pub fn new(script: &'a BatchScript, cache: usize, lives: u32, every: u32) -> Stops<'a> {
         let alloc = script.alloc;
         Stops {
             alloc,
@@ -63,15 +65,15 @@ impl<'a> Stops<'a> {
             lives: u8::try_from(lives).unwrap_or(u8::MAX),
             every: u64::from(every.max(1)),
             restarts: 0,
-            tally: Tally::new(alloc, "stops", "restarts"),
+            tally: TrialTally::new(alloc, "stops", "restarts"),
             waiting: Vec::new(alloc),
         }
     }
 
     /// Stops each commit of the script, and lets the lives that follow come.
-    pub fn try_all(self) -> Result<Tally> {
+    pub fn try_all(self) -> Result<TrialTally> {
         let mut stops = self;
-        let image = Image::of(stops.alloc, new_device(stops.alloc, true)?)?;
+        let image = TrialImage::of(stops.alloc, new_device(stops.alloc, true)?)?;
         for index in 0..stops.script.len() {
             stops.stop_at(&image, &[], 0, index)?;
             stops.follow_waiting()?;
@@ -102,7 +104,13 @@ impl<'a> Stops<'a> {
 
     /// In a life of a device with these commits makes the next ones up to the one of an index, and stops that after each count
     /// of writes.
-    fn stop_at(&mut self, image: &Image, before: &[Made], life: u8, index: usize) -> Result<()> {
+    fn stop_at(
+        &mut self,
+        image: &TrialImage,
+        before: &[Made],
+        life: u8,
+        index: usize,
+    ) -> Result<()> {
         for writes in 0..MAX_WRITES {
             let mut store = opened(self.alloc, image.device()?, self.cache)?;
             let mut made = Vec::from_slice(self.alloc, before)?;
@@ -140,7 +148,7 @@ impl<'a> Stops<'a> {
         )?;
         let device = store.into_device();
         let unsynced = device.device().unsynced();
-        let image = Image::of(self.alloc, device)?;
+        let image = TrialImage::of(self.alloc, device)?;
         for choice in &choices_for(self.alloc, &unsynced)? {
             let stopped = Stopped {
                 image: image.restarted(*choice)?,
@@ -211,7 +219,7 @@ impl<'a> Stops<'a> {
         let answer = store.commit(&self.batch(next)?);
         self.tally
             .disagree(answer.is_ok(), "the next commit is not made")?;
-        let device = restarted(store.into_device(), Choice::Old)?;
+        let device = restarted(store.into_device(), SectorChoice::Old)?;
         let mut store = opened(self.alloc, device, self.cache)?;
         let is_found = self.has(&mut store, &with(self.alloc, before, next)?)?;
         self.tally

@@ -5,7 +5,7 @@ use std::alloc::{AllocError, Global};
 
 /// What was counted in a trial: two numbers with what they count, and a line for each disagreement.
 #[derive(Drop)]
-pub struct Tally {
+pub struct TrialTally {
     pub first: u64,
     pub second: u64,
     firsts: &'static str,
@@ -14,10 +14,10 @@ pub struct Tally {
     told: String,
 }
 
-impl Tally {
+impl TrialTally {
     /// Nothing was counted.
-    pub fn new(alloc: Global, firsts: &'static str, seconds: &'static str) -> Tally {
-        Tally {
+    pub fn new(alloc: Global, firsts: &'static str, seconds: &'static str) -> TrialTally {
+        TrialTally {
             first: 0,
             second: 0,
             firsts,

@@ -1,6 +1,6 @@
 //! What a store is to have.
 
-use crate::journals::batches::Script;
+use crate::journals::batches::BatchScript;
 use anyhow::{Result, bail};
 use sql_types::name::Name;
 use std::alloc::{AllocError, Global};
@@ -22,7 +22,7 @@ pub fn new_memory(alloc: Global) -> Result<MemStore> {
 }
 
 /// A store in memory after these commits.
-pub fn wanted_after(script: &Script, commits: &[Made]) -> Result<MemStore> {
+pub fn wanted_after(script: &BatchScript, commits: &[Made]) -> Result<MemStore> {
     let mut memory = new_memory(script.alloc)?;
     for made in commits {
         let batch = script.batch(made.index, made.life)?;

@@ -2,8 +2,9 @@ use Rattle.std.proofs.Common.{◌∙◌, ap, sym, subst}
 use Rattle.storage_sizes.specs.declared.spelling.Spelling.{Spelling}
 use Rattle.std.specs.Prelude.{Ok}
 use Rattle.opening.specs.Openings.{OnlyLooks}
-use Rattle.device_databases.specs.declared.fault.DatabaseFault.{DatabaseFault}
-use Rattle.device_databases.specs.Openings.{IsRefused, fault_of_opening, is_first}
+use Rattle.lives.specs.declared.fault.DatabaseFault.{DatabaseFault}
+use Rattle.lives.specs.OnDevice.{fault_of_opening}
+use Rattle.device_databases.specs.Openings.{IsRefused, is_first}
 use Rattle.device_databases.proofs.Opening.{opened_on, refused_pages, refused_records}
 use Rattle.device_databases.proofs.database.open_database.Goals as goal
 
@@ -35,7 +36,7 @@ returns-in-Err-open-clause-opens g c = λ faithful.
     let opened = c.in-Ok.ensures in
     let is = c.in-Err-open.ensures in
     let sound = (opened.holds faithful).sound in
-    let whole = refused_records g.met.D.Device.only_now d c.in-Ok.store refused.store refused.fault opened faithful is.history (is.cause sound) (is.damaged sound) is.works (is.unchanged sound)
+    let whole = refused_records g.met.D.Device.only_now d c.in-Ok.store refused.store refused.fault opened faithful is.history (is.cause sound) is.works (is.unchanged sound)
     (λ looks. is.preserved looks opened.has_not_failed) (is.same sound opened.has_not_failed) in
     subst (λ (f : DatabaseFault). IsRefused d f (g.D.Device.state c.into_device.result)) (sym c.from-fault.ensures)
     (subst (λ (e : g.row.D.Denot). IsRefused d (fault_of_opening refused.fault) (g.D.Device.state e)) (sym c.into_device.ensures) whole)

@@ -1,7 +1,7 @@
 use Rattle.std.proofs.Common.{◌≡◌, ◌∙◌, ap, sym, subst, Ok, Err}
 use Rattle.opening.specs.Openings.{read_fault}
-use Rattle.device_databases.specs.declared.fault.DatabaseFault.{DatabaseFault}
-use Rattle.device_databases.specs.Openings.{fault_of_opening}
+use Rattle.lives.specs.declared.fault.DatabaseFault.{DatabaseFault}
+use Rattle.lives.specs.OnDevice.{fault_of_opening}
 use Rattle.file_commands.specs.Reading.{ReadsOn}
 use Rattle.file_commands.proofs.OnlyRead.{read_definitions_on, unread_on}
 use Rattle.file_commands.proofs.reading.read_definitions.Goals as goal

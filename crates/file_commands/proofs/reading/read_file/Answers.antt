@@ -1,6 +1,6 @@
 use Rattle.std.proofs.Common.{Result, inr, subst}
 use Rattle.stored_database.specs.Definitions.{Definitions}
-use Rattle.device_databases.specs.declared.fault.DatabaseFault.{DatabaseFault}
+use Rattle.lives.specs.declared.fault.DatabaseFault.{DatabaseFault}
 use Rattle.file_commands.specs.Reading.{ReadsOn}
 use Rattle.file_commands.proofs.Changes.{released_again}
 use Rattle.file_commands.proofs.reading.read_file.Goals as goal

@@ -1,7 +1,7 @@
 use Rattle.std.proofs.Common.{◌≡◌, List, Ok, Err, sym, subst}
 use Rattle.store.specs.Records.{Changes}
-use Rattle.migration.specs.Migrated.{failed_after_migration, HasMigrationCause, Migrates}
-use Rattle.migration.specs.declared.commits.MigrationFault.{MigrationFault}
+use Rattle.migration.specs.Migrated.{failed_after_opening, HasOpeningCause, Migrates}
+use Rattle.migration.specs.declared.fault.OpeningFault.{OpeningFault}
 use Rattle.migration.specs.Respelled.{AreRespelling}
 use Rattle.migration.proofs.Ending.{ends_history, failed_ok, failed_err, cause_err, migrates_ok, migrates_err}
 use Rattle.migration.proofs.commits.migrate.Goals as goal
@@ -37,7 +37,7 @@ pub returns-clause-failed : goal.returns-clause-failed
 returns-clause-failed g c =
     let had = (g.S.Map.state c.args.store.now).has_failed in
     let now = (g.S.Map.state c.commit_respelled.new.store).has_failed in
-    subst (λ (fault : MigrationFault). now ≡ failed_after_migration (Err fault) had) (sym c.from-in-Err-commit_respelled.ensures)
+    subst (λ (fault : OpeningFault). now ≡ failed_after_opening (Err fault) had) (sym c.from-in-Err-commit_respelled.ensures)
     (failed_err g.S.Map.state c.args.store.now c.respelled_lists.new.store c.commit_respelled.new.store c.as_slice.result.now c.in-Ok.ensures.read.only_reads c.in-Ok.ensures.read.failed
     c.in-Err-commit_respelled.fault c.in-Err-commit_respelled.ensures.none c.in-Err-commit_respelled.ensures.some)
 
@@ -46,7 +46,7 @@ returns-clause-cause g c = λ sound.
     let old = g.S.Map.state c.args.store.now in
     let new = g.S.Map.state c.commit_respelled.new.store in
     let are = subst (λ (lists : List Changes). AreRespelling old.spelling old.map lists) (sym c.as_slice.ensures) (c.in-Ok.ensures.spelled sound) in
-    subst (λ (fault : MigrationFault). HasMigrationCause fault old new) (sym c.from-in-Err-commit_respelled.ensures)
+    subst (λ (fault : OpeningFault). HasOpeningCause fault old new) (sym c.from-in-Err-commit_respelled.ensures)
     (cause_err g.S.Map.state c.args.store.now c.respelled_lists.new.store c.commit_respelled.new.store c.as_slice.result.now c.in-Ok.ensures.read.only_reads c.in-Ok.ensures.read.failed
     sound are c.in-Err-commit_respelled.fault c.in-Err-commit_respelled.ensures.none c.in-Err-commit_respelled.ensures.some)
 
@@ -55,7 +55,7 @@ returns-clause-migrates g c = λ sound works db stands.
     let old = g.S.Map.state c.args.store.now in
     let new = g.S.Map.state c.commit_respelled.new.store in
     let are = subst (λ (lists : List Changes). AreRespelling old.spelling old.map lists) (sym c.as_slice.ensures) (c.in-Ok.ensures.spelled sound) in
-    subst (λ (fault : MigrationFault). Migrates (Err fault) db old new) (sym c.from-in-Err-commit_respelled.ensures)
+    subst (λ (fault : OpeningFault). Migrates (Err fault) db old new) (sym c.from-in-Err-commit_respelled.ensures)
     (migrates_err g.S.Map.state c.args.store.now c.respelled_lists.new.store c.commit_respelled.new.store c.as_slice.result.now c.in-Ok.ensures.read.only_reads c.in-Ok.ensures.read.failed
     sound are works db (λ x left. g.met.S.Store.settled c.args.store.now x sound works left) stands
     c.in-Err-commit_respelled.fault c.in-Err-commit_respelled.ensures.none c.in-Err-commit_respelled.ensures.some)

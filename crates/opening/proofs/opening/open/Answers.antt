@@ -1,17 +1,18 @@
-use Rattle.std.proofs.Common.{◌≡◌, List, Ok, Err, ⊎_elim, sym, ◌∙◌, subst}
-use Rattle.store.specs.Store.{KeepsHistory, stored}
+use Rattle.std.proofs.Common.{◌≡◌, List, Ok, Err, ⊎_elim, ap, sym, ◌∙◌, subst}
+use Rattle.store.specs.Store.{Contents, KeepsHistory, stored}
 use Rattle.stored_database.specs.Spellings.{Stands}
 use Rattle.storage_sizes.specs.declared.spelling.Spelling.TheVariants.{Second}
-use Rattle.store.specs.Records.{Changes}
+use Rattle.store.specs.Records.{Changes, Records}
+use Rattle.stored_database.specs.Records.{Shows}
 use Rattle.server.specs.Standing.{Represents, at_start}
 use Rattle.migration.specs.Respelled.{AreRespelling}
-use Rattle.migration.proofs.Migrating.{IsSettled}
-use Rattle.migration.proofs.Ending.{ends_history, failed_ok}
-use Rattle.opening.specs.Openings.{failed_after_opening, HasLooked, HasOpeningCause, IsNumberAfter, KeepsDatabase, OnlyLooks}
-use Rattle.opening.specs.declared.fault.OpeningFault.{OpeningFault}
-use Rattle.opening.proofs.Outcomes.{looked, read_failed, read_cause, read_not_damaged, read_keeps, opened_looking, no_look_refused}
-use Rattle.opening.proofs.Outcomes.{not_damaged_by_commit, looked_through, cause_of_commit, failed_by_commit, unchanged_refused}
-use Rattle.opening.proofs.Outcomes.{number_then, opening_keeps, refusal_keeps, second_then, shown_then}
+use Rattle.migration.specs.declared.fault.OpeningFault.{OpeningFault}
+use Rattle.migration.specs.Migrated.{failed_after_opening, HasOpeningCause, KeepsDatabase, Migrates}
+use Rattle.migration.proofs.Migrating.{IsSettled, read_keeps}
+use Rattle.migration.proofs.Ending.{ends_history, failed_ok, failed_err, cause_err, migrates_ok, migrates_err}
+use Rattle.opening.specs.Openings.{HasLooked, IsNumberAfter, OnlyLooks}
+use Rattle.opening.proofs.Outcomes.{looked, read_failed, read_cause, not_damaged, opened_looking, no_look_refused}
+use Rattle.opening.proofs.Outcomes.{looked_through, unchanged_refused, number_then}
 use Rattle.opening.proofs.opening.open.Goals as goal
 
 -- ---- the store was not read
@@ -24,16 +25,18 @@ returns-in-Err-clause-read g c = λ looks.
 
 pub returns-in-Err-clause-same : goal.returns-in-Err-clause-same
 returns-in-Err-clause-same g c = λ sound unfailed db stands.
-    read_keeps _ (g.S.Map.state c.args.store) (g.S.Map.state c.read_store.new.store) db sound (λ x left. g.met.S.Store.settled c.args.store x sound unfailed left) stands c.in-Err.ensures.read.only_reads
-
-pub returns-in-Err-clause-damaged : goal.returns-in-Err-clause-damaged
-returns-in-Err-clause-damaged g c = λ sound db stands is. read_not_damaged c.in-Err.fault (stored (g.S.Map.state c.args.store)) (c.in-Err.ensures.found sound) db stands (sym c.from-fault.ensures ∙ is)
+    read_keeps (g.S.Map.state c.args.store) (g.S.Map.state c.read_store.new.store) db sound (λ x left. g.met.S.Store.settled c.args.store x sound unfailed left) stands c.in-Err.ensures.read.only_reads _
 
 pub returns-in-Err-clause-cause : goal.returns-in-Err-clause-cause
 returns-in-Err-clause-cause g c = λ sound.
     let old = g.S.Map.state c.args.store in
     let new = g.S.Map.state c.read_store.new.store in
-    subst (λ (fault : OpeningFault). HasOpeningCause fault old new) (sym c.from-fault.ensures) (read_cause c.in-Err.fault old new c.in-Err.ensures.read.cause)
+    subst (λ (fault : OpeningFault). HasOpeningCause fault old new) (sym c.from-fault.ensures)
+    (read_cause c.in-Err.fault old new c.in-Err.ensures.read.cause (c.in-Err.ensures.found sound))
+
+pub returns-in-Err-clause-damaged : goal.returns-in-Err-clause-damaged
+returns-in-Err-clause-damaged g c = λ sound db stands.
+    not_damaged c.from-fault.result (g.S.Map.state c.args.store) (g.S.Map.state c.read_store.new.store) (returns-in-Err-clause-cause g c sound) db stands
 
 pub returns-in-Err-clause-works : goal.returns-in-Err-clause-works
 returns-in-Err-clause-works g c =
@@ -70,9 +73,9 @@ returns-in-Ok-commit_respelled-clause-same g c = λ sound works db stands.
     let old = g.S.Map.state c.args.store in
     let are = subst (λ (lists : List Changes). AreRespelling old.spelling old.map lists) (sym c.as_slice.ensures) (c.in-Ok.ensures.found sound).0 in
     subst (λ (store : _). KeepsDatabase db (Ok tt) old (g.S.Map.state store)) (sym c.over.ensures.store)
-    (opening_keeps g.S.Map.state c.args.store c.read_store.new.store c.commit_respelled.new.store c.as_slice.result.now c.in-Ok.ensures.read.only_reads c.in-Ok.ensures.read.failed
-    sound works are db (λ x left. g.met.S.Store.settled c.args.store x sound works left) stands
-    c.in-Ok-commit_respelled.field-0 c.in-Ok-commit_respelled.ensures.none c.in-Ok-commit_respelled.ensures.some)
+    (migrates_ok g.S.Map.state c.args.store c.read_store.new.store c.commit_respelled.new.store c.as_slice.result.now c.in-Ok.ensures.read.only_reads c.in-Ok.ensures.read.failed
+    sound are works db (λ x left. g.met.S.Store.settled c.args.store x sound works left) stands
+    c.in-Ok-commit_respelled.field-0 c.in-Ok-commit_respelled.ensures.none c.in-Ok-commit_respelled.ensures.some).keeps
 
 pub returns-in-Ok-commit_respelled-clause-opened : goal.returns-in-Ok-commit_respelled-clause-opened
 returns-in-Ok-commit_respelled-clause-opened g c = λ sound.
@@ -83,11 +86,11 @@ returns-in-Ok-commit_respelled-clause-opened g c = λ sound.
     let db = found.0 in
     let stands : Stands (stored old) db = (c.in-Ok.read.1, found.1) in
     let settled : IsSettled old = λ x left. g.met.S.Store.settled c.args.store x sound works left in
-    let second = second_then g.S.Map.state c.args.store c.read_store.new.store c.commit_respelled.new.store c.as_slice.result.now c.in-Ok.ensures.read.only_reads c.in-Ok.ensures.read.failed
-    sound works are db settled stands c.in-Ok-commit_respelled.field-0 c.in-Ok-commit_respelled.ensures.none c.in-Ok-commit_respelled.ensures.some in
-    let shown = shown_then g.S.Map.state c.args.store c.read_store.new.store c.commit_respelled.new.store c.as_slice.result.now c.in-Ok.ensures.read.only_reads c.in-Ok.ensures.read.failed
-    sound works are db settled stands c.in-Ok-commit_respelled.field-0 c.in-Ok-commit_respelled.ensures.none c.in-Ok-commit_respelled.ensures.some
-    c.in-Ok.read.1 found.1 in
+    let migrated : Migrates (Ok c.in-Ok-commit_respelled.field-0) db old (g.S.Map.state c.commit_respelled.new.store) =
+    migrates_ok g.S.Map.state c.args.store c.read_store.new.store c.commit_respelled.new.store c.as_slice.result.now c.in-Ok.ensures.read.only_reads c.in-Ok.ensures.read.failed
+    sound are works db settled stands c.in-Ok-commit_respelled.field-0 c.in-Ok-commit_respelled.ensures.none c.in-Ok-commit_respelled.ensures.some in
+    let second = ap (λ (contents : Contents). contents.spelling) migrated.outcome in
+    let shown = subst (λ (records : Records). Shows records c.in-Ok.read.1 db) (sym (ap (λ (contents : Contents). contents.records) migrated.outcome)) found.1 in
     let history = ends_history g.S.Map.state c.args.store c.read_store.new.store c.commit_respelled.new.store c.as_slice.result.now c.in-Ok.ensures.read.only_reads c.in-Ok.ensures.read.failed
     (Ok c.in-Ok-commit_respelled.field-0) c.in-Ok-commit_respelled.ensures.none c.in-Ok-commit_respelled.ensures.some in
     let unfailed = failed_ok g.S.Map.state c.args.store c.read_store.new.store c.commit_respelled.new.store c.as_slice.result.now c.in-Ok.ensures.read.only_reads c.in-Ok.ensures.read.failed
@@ -142,12 +145,9 @@ returns-in-Err-commit_respelled-clause-same g c = λ sound works db stands.
     let new = g.S.Map.state c.commit_respelled.new.store in
     let are = subst (λ (lists : List Changes). AreRespelling old.spelling old.map lists) (sym c.as_slice.ensures) (c.in-Ok.ensures.found sound).0 in
     subst (λ (fault : OpeningFault). KeepsDatabase db (Err fault) old new) (sym c.from-fault-in-Err-commit_respelled.ensures)
-    (refusal_keeps g.S.Map.state c.args.store c.read_store.new.store c.commit_respelled.new.store c.as_slice.result.now c.in-Ok.ensures.read.only_reads c.in-Ok.ensures.read.failed
-    sound works are db (λ x left. g.met.S.Store.settled c.args.store x sound works left) stands
-    c.in-Err-commit_respelled.fault c.in-Err-commit_respelled.ensures.none c.in-Err-commit_respelled.ensures.some)
-
-pub returns-in-Err-commit_respelled-clause-damaged : goal.returns-in-Err-commit_respelled-clause-damaged
-returns-in-Err-commit_respelled-clause-damaged g c = λ sound db stands is. not_damaged_by_commit c.in-Err-commit_respelled.fault (sym c.from-fault-in-Err-commit_respelled.ensures ∙ is)
+    (migrates_err g.S.Map.state c.args.store c.read_store.new.store c.commit_respelled.new.store c.as_slice.result.now c.in-Ok.ensures.read.only_reads c.in-Ok.ensures.read.failed
+    sound are works db (λ x left. g.met.S.Store.settled c.args.store x sound works left) stands
+    c.in-Err-commit_respelled.fault c.in-Err-commit_respelled.ensures.none c.in-Err-commit_respelled.ensures.some).keeps
 
 pub returns-in-Err-commit_respelled-clause-cause : goal.returns-in-Err-commit_respelled-clause-cause
 returns-in-Err-commit_respelled-clause-cause g c = λ sound.
@@ -155,15 +155,19 @@ returns-in-Err-commit_respelled-clause-cause g c = λ sound.
     let new = g.S.Map.state c.commit_respelled.new.store in
     let are = subst (λ (lists : List Changes). AreRespelling old.spelling old.map lists) (sym c.as_slice.ensures) (c.in-Ok.ensures.found sound).0 in
     subst (λ (fault : OpeningFault). HasOpeningCause fault old new) (sym c.from-fault-in-Err-commit_respelled.ensures)
-    (cause_of_commit g.S.Map.state c.args.store c.read_store.new.store c.commit_respelled.new.store c.as_slice.result.now c.in-Ok.ensures.read.only_reads c.in-Ok.ensures.read.failed
+    (cause_err g.S.Map.state c.args.store c.read_store.new.store c.commit_respelled.new.store c.as_slice.result.now c.in-Ok.ensures.read.only_reads c.in-Ok.ensures.read.failed
     sound are c.in-Err-commit_respelled.fault c.in-Err-commit_respelled.ensures.none c.in-Err-commit_respelled.ensures.some)
+
+pub returns-in-Err-commit_respelled-clause-damaged : goal.returns-in-Err-commit_respelled-clause-damaged
+returns-in-Err-commit_respelled-clause-damaged g c = λ sound db stands.
+    not_damaged c.from-fault-in-Err-commit_respelled.result (g.S.Map.state c.args.store) (g.S.Map.state c.commit_respelled.new.store) (returns-in-Err-commit_respelled-clause-cause g c sound) db stands
 
 pub returns-in-Err-commit_respelled-clause-works : goal.returns-in-Err-commit_respelled-clause-works
 returns-in-Err-commit_respelled-clause-works g c =
     let old = g.S.Map.state c.args.store in
     let new = g.S.Map.state c.commit_respelled.new.store in
     subst (λ (fault : OpeningFault). new.has_failed ≡ failed_after_opening (Err fault) old.has_failed) (sym c.from-fault-in-Err-commit_respelled.ensures)
-    (failed_by_commit g.S.Map.state c.args.store c.read_store.new.store c.commit_respelled.new.store c.as_slice.result.now c.in-Ok.ensures.read.only_reads c.in-Ok.ensures.read.failed
+    (failed_err g.S.Map.state c.args.store c.read_store.new.store c.commit_respelled.new.store c.as_slice.result.now c.in-Ok.ensures.read.only_reads c.in-Ok.ensures.read.failed
     c.in-Err-commit_respelled.fault c.in-Err-commit_respelled.ensures.none c.in-Err-commit_respelled.ensures.some)
 
 pub returns-in-Err-commit_respelled-clause-unchanged : goal.returns-in-Err-commit_respelled-clause-unchanged

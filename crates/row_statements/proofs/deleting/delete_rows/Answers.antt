@@ -3,7 +3,6 @@ use Rattle.abstract_database.specs.Statements as meaning
 use Rattle.catalogue.specs.Executed.{Executes}
 use Rattle.table_rows.specs.Failures.{IsDamagedFor}
 use Rattle.row_statements.specs.Damage.{DeleteFindsDamage}
-use Rattle.planner.specs.Plans.{IsCheckedDelete}
 use Rattle.row_statements.specs.Users.{seen_users}
 use Rattle.row_statements.proofs.Meanings.{handed_on}
 use Rattle.row_statements.proofs.Carrying.{delete_refused}
@@ -12,7 +11,7 @@ use Rattle.row_statements.proofs.deleting.delete_rows.Goals as goal
 
 pub returns-clause-executed : goal.returns-clause-executed
 returns-clause-executed g c = λ sound db shown.
-    c.delete_planned.ensures.executed sound c.args.catalogue.now db c.args.statement.now shown (record { plan = c.in_ok-plan.ensures.plan; table = c.in_ok-plan.ensures.table; guard = c.in_ok-plan.ensures.guard; roles = c.in_ok-plan.ensures.roles })
+    c.delete_planned.ensures.executed sound c.args.catalogue.now db c.args.statement.now shown c.in_ok-plan.ensures.plan
 
 pub returns-in_err-plan-clause-executed : goal.returns-in_err-plan-clause-executed
 returns-in_err-plan-clause-executed g c = λ sound db shown.
@@ -26,7 +25,7 @@ returns-in_err-plan-clause-executed g c = λ sound db shown.
 
 pub returns-clause-damage : goal.returns-clause-damage
 returns-clause-damage g c = λ sound.
-    let checked : IsCheckedDelete c.args.catalogue.now c.args.current.now c.args.statement.now c.in_ok-plan.plan = record { plan = c.in_ok-plan.ensures.plan; table = c.in_ok-plan.ensures.table; guard = c.in_ok-plan.ensures.guard; roles = c.in_ok-plan.ensures.roles } in
+    let checked = c.in_ok-plan.ensures.plan in
     damaged_by c.delete_planned.result _ _ (λ found. (c.in_ok-plan.plan, checked, found)) (c.delete_planned.ensures.damage sound c.args.catalogue.now c.args.statement.now checked)
 
 pub returns-in_err-plan-clause-damage : goal.returns-in_err-plan-clause-damage

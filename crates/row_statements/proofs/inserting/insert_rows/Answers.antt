@@ -7,7 +7,7 @@ use Rattle.row_statements.proofs.inserting.insert_rows.Goals as goal
 
 pub returns-clause-executed : goal.returns-clause-executed
 returns-clause-executed g c = λ sound db shown roles read.
-    c.insert_planned.ensures.executed sound c.args.catalogue.now db c.args.statement.now shown (record { plan = c.in_ok-plan.ensures.plan; table = c.in_ok-plan.ensures.table; guard = c.in_ok-plan.ensures.guard; roles = c.in_ok-plan.ensures.roles }) roles read
+    c.insert_planned.ensures.executed sound c.args.catalogue.now db c.args.statement.now shown c.in_ok-plan.ensures.plan roles read
 
 pub returns-in_err-plan-clause-executed : goal.returns-in_err-plan-clause-executed
 returns-in_err-plan-clause-executed g c = λ sound db shown roles read.

@@ -3,7 +3,6 @@ use Rattle.abstract_database.specs.Statements as meaning
 use Rattle.catalogue.specs.Executed.{Executes}
 use Rattle.table_rows.specs.Failures.{IsDamagedFor}
 use Rattle.row_statements.specs.Damage.{SelectFindsDamage}
-use Rattle.planner.specs.Plans.{IsCheckedSelect}
 use Rattle.row_statements.specs.Users.{seen_users}
 use Rattle.row_statements.proofs.Meanings.{handed_on}
 use Rattle.row_statements.proofs.Querying.{select_refused}
@@ -13,8 +12,7 @@ use Rattle.row_statements.proofs.selecting.select_rows.Goals as goal
 
 pub returns-clause-executed : goal.returns-clause-executed
 returns-clause-executed g c = λ sound db shown.
-    c.select_planned.ensures.executed sound c.args.catalogue.now db c.args.statement.now shown
-    (record { plan = c.in_ok-plan.ensures.plan; tables = c.in_ok-plan.ensures.tables; widths = c.in_ok-plan.ensures.widths; types = c.in_ok-plan.ensures.types; guards = c.in_ok-plan.ensures.guards; roles = c.in_ok-plan.ensures.roles })
+    c.select_planned.ensures.executed sound c.args.catalogue.now db c.args.statement.now shown c.in_ok-plan.ensures.plan
 
 pub returns-in_err-plan-clause-executed : goal.returns-in_err-plan-clause-executed
 returns-in_err-plan-clause-executed g c = λ sound db shown.
@@ -28,7 +26,7 @@ returns-in_err-plan-clause-executed g c = λ sound db shown.
 
 pub returns-clause-damage : goal.returns-clause-damage
 returns-clause-damage g c = λ sound.
-    let checked : IsCheckedSelect c.args.catalogue.now c.args.current.now c.args.statement.now c.in_ok-plan.plan = record { plan = c.in_ok-plan.ensures.plan; tables = c.in_ok-plan.ensures.tables; widths = c.in_ok-plan.ensures.widths; types = c.in_ok-plan.ensures.types; guards = c.in_ok-plan.ensures.guards; roles = c.in_ok-plan.ensures.roles } in
+    let checked = c.in_ok-plan.ensures.plan in
     damaged_by c.select_planned.result _ _ (λ found. (c.in_ok-plan.plan, checked, found)) (c.select_planned.ensures.damage sound c.args.catalogue.now c.args.statement.now checked)
 
 pub returns-in_err-plan-clause-damage : goal.returns-in_err-plan-clause-damage
@@ -41,5 +39,5 @@ returns-in_err-plan-clause-damage g c = λ sound.
 
 pub returns-clause-reads : goal.returns-clause-reads
 returns-clause-reads g c = λ sound.
-    let checked : IsCheckedSelect c.args.catalogue.now c.args.current.now c.args.statement.now c.in_ok-plan.plan = record { plan = c.in_ok-plan.ensures.plan; tables = c.in_ok-plan.ensures.tables; widths = c.in_ok-plan.ensures.widths; types = c.in_ok-plan.ensures.types; guards = c.in_ok-plan.ensures.guards; roles = c.in_ok-plan.ensures.roles } in
+    let checked = c.in_ok-plan.ensures.plan in
     reads_by c.select_planned.result _ _ (λ answer planned. (c.in_ok-plan.plan, checked, planned)) (c.select_planned.ensures.reads sound c.args.catalogue.now c.args.statement.now checked)

@@ -1,10 +1,10 @@
-//! Why no server was opened.
+//! Why a store was not opened.
 
 ghost use Rattle.std.specs.Prelude.{◌≡◌};
 
 use store::{Fault, StoreFault};
 
-/// Why no server was opened over a store.
+/// Why a store was not migrated, or no server was opened over it.
 #[derive(Clone, Copy, Debug, PartialEq, Eq, Drop)]
 pub enum OpeningFault {
     /// An allocation failed.
@@ -20,7 +20,7 @@ pub enum OpeningFault {
 }
 
 impl From<Fault> for OpeningFault {
-    ghost use Rattle.opening.specs.Openings.{read_fault};
+    ghost use Rattle.migration.specs.Migrated.{read_fault};
 
     ghost from_gives = { λ fault given. given ≡ read_fault fault };
 
@@ -34,7 +34,7 @@ impl From<Fault> for OpeningFault {
 }
 
 impl From<StoreFault> for OpeningFault {
-    ghost use Rattle.opening.specs.Openings.{commit_fault};
+    ghost use Rattle.migration.specs.Migrated.{commit_fault};
 
     ghost from_gives = { λ fault given. given ≡ commit_fault fault };
 
