@@ -1,11 +1,12 @@
 #!/usr/bin/env python3
 """Refuses requests for memory of the program, each in a run of its own, over the scripts of crates/system_tests/data:
 
-    GUARDDB=crates/guarddb/out/guarddb python3 tests/memory_tests.py [files] [EVERY [NAME..]]
+    GUARDDB=crates/guarddb/out/guarddb python3 tests/memory_tests.py [files|journals] [EVERY [NAME..]]
 
 EVERY (1 where there is none) says that of so many requests one is tried; NAME is a script without its ending, and without names
-all are run but four_thousand_events, which makes too many requests to try each. They run over a database in memory, or with the word `files` over one in a file, a new one for each run. The program
-is the one in the environment variable GUARDDB. Its Nth call of malloc or realloc is answered by a null pointer, for N from 1
+all are run but four_thousand_events, which makes too many requests to try each. They run over a database in memory, or with the word
+`files` over one in a file, a new one for each run, which with `journals` has a journal. The program is the one in the environment
+variable GUARDDB. Its Nth call of malloc or realloc is answered by a null pointer, for N from 1
 until a run meets none; a C compiler, cc, makes the library that does so.
 
 A run in which a request is refused must print the answers of a run in which none is, or only the first of them and then
@@ -23,6 +24,20 @@ the events that were carried out. Two runs that leave the same bytes are checked
 With the word `full` the rules are the same, and EVERY is 101 where there is none. One script runs over a file of 64 pages: in a
 block it adds 300 rows of 1,000 bytes, for which the file has no room, so the COMMIT is refused by 53100. It counts the rows, rolls
 back, and counts them again.
+
+    python3 tests/memory_tests.py switches [EVERY]
+
+With the word `switches` the commands `journal FILE on` and `journal FILE off` are run over files of 64 pages, of which the second has
+records that wait in its journal. A run must print what one does in which no request is refused, and the file has a journal then, or
+none. Or it prints `guarddb: Memory` alone, with status 1, and the file is as it was in this; then the command is repeated. After both
+`check` must find the file whole, with the same rows.
+
+    STORES=crates/storage_tests/out/storage_tests python3 tests/memory_tests.py stores [EVERY]
+
+With the word `stores` it is the program of crates/storage_tests whose requests are refused, the one in the environment variable
+STORES. It is given the lines of its part `journals` that make each step again which is refused memory: openings and commits of a
+store with a journal, and the turns of the journal on and off. The run must print what a run with ample memory prints, with status 0,
+or only the first lines of it, with status 1, where the memory of the trial itself was refused.
 
     FEEDS=crates/feed_tests/out/feed_tests python3 tests/memory_tests.py feeds [EVERY]
 
@@ -49,6 +64,7 @@ TOP = os.path.dirname(os.path.dirname(os.path.abspath(__file__)))
 DATA = os.path.join(TOP, 'crates', 'system_tests', 'data')
 PROGRAM = os.path.abspath(os.environ.get('GUARDDB') or os.path.join(TOP, 'crates', 'guarddb', 'out', 'guarddb'))
 REFUSAL = 'refused 53200\n'
+STORES = os.path.abspath(os.environ.get('STORES') or os.path.join(TOP, 'crates', 'storage_tests', 'out', 'storage_tests'))
 PAGES = '64'     # enough for each script but FULL
 LONG = 'four_thousand_events'
 FEEDS = os.path.abspath(os.environ.get('FEEDS') or os.path.join(TOP, 'crates', 'feed_tests', 'out', 'feed_tests'))
@@ -56,6 +72,10 @@ AGAIN = 'feed_tests: again\n'
 FULL = ['open r root', 'r: CREATE TABLE big (k BIGINT PRIMARY KEY, v TEXT)', 'r: BEGIN',
         *(f"r: INSERT INTO big VALUES ({number}, '{'x' * 1000}')" for number in range(300)),
         'r: COMMIT', 'r: SELECT count(*) FROM big', 'r: ROLLBACK', 'r: SELECT count(*) FROM big', '']
+# Commits of which some are records of a journal, with what fills several leaves.
+SWITCHED = ['open r root', 'r: CREATE TABLE t (k BIGINT PRIMARY KEY, v TEXT)',
+            *(f"r: INSERT INTO t VALUES ({number}, '{'x' * 300}')" for number in range(40)),
+            *(f"r: UPDATE t SET v = 'y{number}' WHERE k = {number}" for number in (3, 35, 7)), 'r: DELETE FROM t WHERE k = 30', '']
 FULL_END = 'refused 53100\nrows 1\n300\nok ROLLBACK\nrows 1\n0\n'
 
 REFUSE = r'''
@@ -116,11 +136,12 @@ def run_program(words, given, environment=None):
 class Tests:
     """The program, with requests for memory refused."""
 
-    def __init__(self, folder, is_file):
+    def __init__(self, folder, is_file, has_journal=False):
         self.folder, self.is_file, self.found = folder, is_file, {}     # `found`: what files of the same bytes hold
         self.library = refusing_library(folder)
         if is_file:
-            subprocess.run([PROGRAM, 'format', self.path('new'), '--pages', PAGES, '--admin', 'root'], check=True, stdout=subprocess.DEVNULL)
+            words = ['format', self.path('new'), '--pages', PAGES, '--admin', 'root', *['--journal'] * has_journal]
+            subprocess.run([PROGRAM, *words], check=True, stdout=subprocess.DEVNULL)
             self.new = content_of(self.path('new'))
 
     def path(self, name):
@@ -223,6 +244,95 @@ class ScriptTest:
                    for run in (self.tests.run(twice, self.tables, REFUSED=str(request + more)) for more in (0, 1, -1, 2, -2)))
 
 
+class SwitchTest:
+    """A file whose journal is turned on or off."""
+
+    def __init__(self, folder, word):
+        self.tests, self.word, self.source = Tests(folder, True, word == 'off'), word, os.path.join(folder, 'switched')
+        with open(self.source, 'w', encoding='utf-8') as file:
+            file.write('\n'.join(SWITCHED))
+        path = self.tests.path(f'to_be_{word}')
+        with open(path, 'wb') as file:
+            file.write(self.tests.new)
+        status, _, _ = self.tests.program(['run', path, self.source], '')
+        self.before = content_of(path)
+        assert status == 0 and has_journal(self.before) == (word == 'off') == (waiting(self.before) > 1)
+        self.rows = self.left(path)
+        self.ample = self.turned(path, COUNTS='1')
+        assert self.ample[:2] == (0, 'ok JOURNAL\n')
+
+    def left(self, path):
+        return self.tests.left_in(path, f'{path}.reads', ['t'])
+
+    def turned(self, path, **words):
+        """The status, the output and the messages of the command over the file as it was."""
+        with open(path, 'wb') as file:
+            file.write(self.before)
+        return self.again(path, **words)
+
+    def again(self, path, **words):
+        return self.tests.program(['journal', path, self.word], '', {**os.environ, 'LD_PRELOAD': self.tests.library, **words})
+
+    def requests(self):
+        """How many requests the command makes."""
+        return int(self.ample[2].splitlines()[-1])
+
+    def refused(self, request):
+        """What the run with this request refused gave: an outcome of OUTCOMES, or else what is wrong."""
+        path = self.tests.path(f'{self.word}{threading.get_ident()}')
+        run = self.turned(path, REFUSED=str(request))
+        is_refused = run == (1, '', 'guarddb: Memory\n')
+        if not is_refused and run != (0, 'ok JOURNAL\n', ''):
+            return f'ended by {run!r}'
+        if has_journal(content_of(path)) != ((self.word == 'on') != is_refused) or self.left(path) != self.rows:
+            return 'left another journal, or other rows'
+        if is_refused and (self.again(path) != (0, 'ok JOURNAL\n', '') or self.left(path) != self.rows):
+            return 'was refused, and repeated it gives something else'
+        return OUTCOMES[2] if is_refused else OUTCOMES[3]
+
+
+def root_of(data):
+    """The root sector of the greatest number."""
+    return max((data[at:at + 512] for at in (0, 512)), key=lambda root: root[16:24])
+
+
+def has_journal(data):
+    """Whether the root is of format 3."""
+    return root_of(data)[11] == 3
+
+
+def waiting(data):
+    """How many sectors of the journal follow the root."""
+    return sum(data[at:at + 12] == b'GDBJ' + root_of(data)[16:24] for at in range(1024, 4096, 512))
+
+
+class Stores:
+    """The program of crates/storage_tests, with requests for memory refused."""
+
+    def __init__(self, library):
+        self.library = library
+        with open(os.path.join(TOP, 'crates', 'storage_tests', 'stdin'), encoding='utf-8') as file:
+            self.given = 'part journals\n' + ''.join(line for line in file if line.startswith('again:'))
+        self.ample = self.run()
+
+    def run(self, **words):
+        """The status, the output and the messages of the program."""
+        return run_program([STORES], self.given, {**os.environ, 'LD_PRELOAD': self.library, **words})
+
+    def requests(self):
+        """How many requests the program makes."""
+        return int(self.run(COUNTS='1')[2].splitlines()[-1])
+
+    def refused(self, request):
+        """What the run with this request refused gave: an outcome of STORED, or else what is wrong."""
+        status, printed, messages = self.run(REFUSED=str(request))
+        if (status, printed) == self.ample[:2]:
+            return STORED[0]
+        if status == 1 and self.ample[1].startswith(printed):
+            return STORED[1]
+        return f'ended by {status} with {messages!r}, and printed {printed!r}'
+
+
 class Feeds:
     """The program of crates/feed_tests, with requests for memory refused."""
 
@@ -249,6 +359,7 @@ class Feeds:
 OTHERWISE = 'did otherwise'
 OUTCOMES = ['answered another event with 53200', 'answered a COMMIT with 53200', 'ended with guarddb: Memory', 'took no notice']
 FED = ['fed a piece again']
+STORED = ['printed the same', 'ended, since the trial was refused memory']
 
 
 def counted(pool, name, test, requests, outcomes):
@@ -277,6 +388,22 @@ def try_feeds(folder, pool, every):
     return tell('feed_tests', counted(pool, 'feed_tests', test, range(1, test.requests() + 1, every), FED), FED)
 
 
+def try_switches(folder, pool, every):
+    counts = collections.Counter()
+    for word in ('on', 'off'):
+        test = SwitchTest(tempfile.mkdtemp(dir=folder), word)
+        counts += counted(pool, f'journal FILE {word}', test, range(1, test.requests() + 1, every), OUTCOMES)
+    return tell('a journal turned on and off', counts, OUTCOMES[2:])
+
+
+def try_stores(folder, pool, every):
+    test = Stores(refusing_library(folder))
+    if test.ample[0] != 0 or test.ample[1].count(' 0 disagreements\n') != test.given.count('\nagain:'):
+        print(f'with ample memory {STORES} ends otherwise: {test.ample!r}')
+        return 1
+    return tell('storage_tests', counted(pool, 'storage_tests', test, range(1, test.requests() + 1, every), STORED), STORED)
+
+
 def try_full(folder, pool, every):
     tests = Tests(folder, True)
     test = ScriptTest(tests, '\n'.join(FULL))
@@ -288,25 +415,26 @@ def try_full(folder, pool, every):
 
 
 def try_scripts(folder, pool, words):
-    is_file = words[:1] == ['files']
-    words = words[1:] if is_file else words
+    where = words[0] if words[:1] in (['files'], ['journals']) else 'memory'
+    words = words if where == 'memory' else words[1:]
     every, names = int(words[0]) if words else 1, words[1:]
     names = names or sorted({os.path.basename(path)[:-len('.script')] for path in glob.glob(f'{DATA}/*.script')} - {LONG})
     files = [os.path.join(DATA, f'{name}.script') for name in names]
-    tests, counts = Tests(folder, is_file), collections.Counter()
+    tests, counts = Tests(folder, where != 'memory', where == 'journals'), collections.Counter()
     for number, file in enumerate(files):
         with open(file, encoding='utf-8', newline='') as opened:
             test = ScriptTest(tests, opened.read())
         requests = range(1 + number % every, tests.requests(test.script) + 1, every)
         counts += counted(pool, os.path.basename(file), test, requests, OUTCOMES)
-    return tell(f'{len(files)} scripts over {"files" if is_file else "memory"}', counts, OUTCOMES)
+    return tell(f'{len(files)} scripts over {"files with a journal" if where == "journals" else where}', counts, OUTCOMES)
 
 
 def main(words):
     memory = '/dev/shm' if os.path.isdir('/dev/shm') else None      # where a sync takes no time
     with tempfile.TemporaryDirectory(dir=memory) as folder, concurrent.futures.ThreadPoolExecutor(os.cpu_count()) as pool:
-        if words[:1] == ['feeds']:
-            return try_feeds(folder, pool, int(words[1]) if words[1:] else 1)
+        for word, try_word in (('feeds', try_feeds), ('stores', try_stores), ('switches', try_switches)):
+            if words[:1] == [word]:
+                return try_word(folder, pool, int(words[1]) if words[1:] else 1)
         if words[:1] == ['full']:
             return try_full(folder, pool, int(words[1]) if words[1:] else 101)
         return try_scripts(folder, pool, words)

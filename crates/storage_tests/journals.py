@@ -4,8 +4,8 @@
 tests/second_program.py hands it the lines, and python3 journals.py makes them. It shares nothing with the code, and keeps of a device
 only how many commits it has, its root's number and where its records end (docs/formats.md). What it says beside that is what is promised:
 that a record writes its parts and syncs; that a commit to the pages writes a leaf, a map page, and, after a sync, the root; that no
-record or commit is lost, and that none is half there. Where a line asks for what nothing promises, it ends with an error. The lines are
-described at the head of src/journals.rt.
+record or commit is lost, and that none is half there. Where a journal is turned on or off, it keeps the formats of the two roots too.
+Where a line asks for what nothing promises, it ends with an error. The lines are described at the head of src/journals.rt.
 """
 import typing
 
@@ -13,6 +13,7 @@ PART = 488                  # of a record's bytes in a sector
 FIRST, ROOM = 2, 6          # the sectors of a journal
 LEAF = 4096 - 4             # of the cells of a leaf
 PAGES = [8 * page + sector for page in (1, 2) for sector in range(8)]       # those of a leaf and a map page, or of other pages
+JOURNAL = list(range(FIRST, FIRST + ROOM))
 MOST_CHANGES = 12           # wait in a journal behind a tree of one leaf, for which a device of 64 pages has room
 
 
@@ -30,13 +31,16 @@ def length_of(text):
 
 
 class Script:
-    """Of each batch how many changes and parts it has. All records have room in one leaf."""
+    """Of each batch how many changes and parts it has, and the steps. All records have room in one leaf."""
 
     def __init__(self, words):
         self.batches, changes, cells = [], {}, {}
+        self.turns = [word for word in words if word in ("commit", "on", "off")]
         for word in words:
             name, *arguments = word.split(":")
-            if name == "commit":
+            if name in ("on", "off"):
+                assert not changes
+            elif name == "commit":
                 cells |= {key: 4 + length + (value or 0) for key, (length, value) in changes.items()}
                 assert sum(cells.values()) <= LEAF - 9, "nothing promises what a tree of several leaves writes"
                 size = sum(3 + key if value is None else 5 + key + value for key, value in changes.values())
@@ -118,6 +122,69 @@ class Stops:
                 self.stop_at(holding, life, holding.made)
 
 
+class Kind(typing.NamedTuple):
+    """What a device has, the format of its root, and that of the other root sector, 0 where that is empty."""
+    holding: Holding = Holding()
+    form: int = 2
+    other: int = 0
+
+
+def committed(script, kind):
+    """What a device has after the next commit."""
+    if kind.form == 2:
+        return Kind(Holding(kind.holding.made + 1, kind.holding.root + 1), 2, 2)
+    _, holding = script.steps(kind.holding)
+    return Kind(holding, 3, kind.other if holding.root == kind.holding.root else 3)
+
+
+def under(kind, root, form):
+    """A device under another root: what waits is in its pages."""
+    return Kind(Holding(kind.holding.made, root), form, kind.form)
+
+
+def turned(kind, word):
+    """The sectors that turning a journal on or off writes, those before each sync together, and what the device has once these are
+    there. `on` puts zeros in place of the journal, and then the next root says that there is one. `off` brings what waits to the
+    pages under the next root; the one after that says that there is no journal, and the sector of the one before it becomes empty."""
+    root = kind.holding.root + 1
+    if word == "on" and kind.form == 2:
+        return [(JOURNAL, kind), ([], kind), ([root % 2], under(kind, root, 3))]
+    if word == "off" and kind.form == 3:
+        pages, off = under(kind, root, 3), under(under(kind, root, 3), root + 1, 2)
+        return [(PAGES if kind.holding.end else [], kind), ([root % 2], pages), ([], pages), ([(root + 1) % 2], off),
+                ([root % 2], off._replace(other=0))]
+    return [([root % 2], kind._replace(other=0))] if word == "off" and kind.other == 3 else [([], kind)]
+
+
+class Switches:
+    def __init__(self, script, every):
+        self.script, self.every = script, every
+        self.restarts = {2: 0, 3: 0}
+
+    def answer(self):
+        kind, followed = Kind(), 0
+        for word in self.script.turns:
+            for left in self.stop_each(kind, word) if word != "commit" else []:
+                followed += 1
+                if followed % self.every == 0:
+                    self.stop_each(left, word)
+            kind = committed(self.script, kind) if word == "commit" else turned(kind, word)[-1][1]
+        return f"{self.restarts[3]} restarts with a journal, {self.restarts[2]} restarts without one, 0 disagreements"
+
+    def stop_each(self, kind, word):
+        """What is left by a stop after each count of writes, and by each choice."""
+        steps = turned(kind, word)
+        is_whole, writes, found = False, 0, []
+        while not is_whole:
+            unsynced, is_whole, syncs = unsynced_after([sectors for sectors, _ in steps], writes)
+            kinds, writes = [kind, *(after for _, after in steps)], writes + 1
+            for is_new in choices_for(unsynced):
+                is_there = not is_whole and len(unsynced) == len(steps[syncs][0]) and all(map(is_new, unsynced))
+                found.append(kinds[syncs + is_there])
+                self.restarts[found[-1].form] += 1
+        return found
+
+
 def failing(script):
     """Each call of a commit fails, carried out or not. Then the device is opened as it is, and by each choice."""
     calls = devices = 0
@@ -146,13 +213,15 @@ def answer_to(line, tries_all):
     if name == "full":
         return "full 0 times where the other is not, all that was taken is there: true"
     if words[0] == "uncounted":
-        assert name in ("stops", "fails", "openings")
+        assert name in ("stops", "fails", "openings", "switches", "failing_switches")
         return "0 disagreements"
     script = Script(words)
     if name == "stops":
         return Stops(script, int(numbers[1]), 1 if tries_all else int(numbers[2])).answer()
+    if name == "switches":
+        return Switches(script, 1 if tries_all else int(numbers[1])).answer()
     if name == "again":
-        return f"{len(script.batches)} commits, 1 looks, 0 disagreements"
+        return f"{len(script.turns)} steps, 1 looks, 0 disagreements"
     assert name == "counts" or name == "fails" and numbers[0] != "1", "nothing promises what is counted"
     return counted(script) if name == "counts" else failing(script)
 
@@ -179,6 +248,10 @@ MIXED = ("put:61:07 put:62:600*07 commit remove:61 put:63:08 commit put:62:01 re
 # A tree of some leaves, of which rows that lie apart are changed.
 FILLED = "rise:0:14:300*07 commit " + " ".join(f"put:{2 * row:08x}:300*{8 + row:02x} commit" for row in range(7))
 SPLIT = "rise:0:24:150*07 commit put:00000003:1000*08 commit remove:00000003 commit rise:24:26:150*08 commit"
+# A journal is turned on and off, twice too, with records that wait in it and without.
+SWITCHED = "put:61:07 commit on on put:62:08 commit put:63:900*09 commit off off put:64:01 commit on off off"
+AFTER_PAGES = f"on {ROWS} off put:61:2*01 commit on"
+SWITCHED_TREE = "rise:0:14:300*07 commit on put:00000003:300*08 commit off"
 MANY = " ".join(f"put:{row % 7 + 0x61:02x}:{row % 251:02x} commit" for row in range(700))
 
 
@@ -192,10 +265,13 @@ def lines():
     yield "# Calls that fail"
     yield from [f"fails:256 {ROWS}", f"fails:256 {LONG}", f"fails:1 uncounted {MIXED}", f"fails:1 uncounted {SPLIT}"]
     yield from [f"openings:256 uncounted {ROWS}", f"openings:1 uncounted {MIXED}"]
+    yield "# A journal is turned on and off: stops, and calls that fail"
+    yield from [f"switches:256:200 {SWITCHED}", f"switches:1:300 {AFTER_PAGES}", f"switches:1:500 uncounted {SWITCHED_TREE}"]
+    yield f"failing_switches:1 uncounted {SWITCHED_TREE}"
     yield "# A full device: rows of 200 bytes and of others"
     yield from ["full:200:200", "full:40:20", "full:40:1200"]
-    yield "# Where memory is refused, commits are made again"
-    yield from [f"again:256 {LONG}", f"again:1 {MIXED}"]
+    yield "# What is refused memory is made again: commits, openings, and a journal that is turned on and off"
+    yield from [f"again:256 {LONG}", f"again:1 {MIXED}", f"again:256 {SWITCHED}"]
 
 
 def main():

@@ -2,7 +2,8 @@
 //! often something else was found than was to be found.
 //!
 //! A line is a trial by itself; one that begins with `#` is printed as it is. Its first word names the trial, the others make a
-//! script: `put:KEY:VALUE`, `remove:KEY` and `rise:FROM:TO:VALUE` as in the part `stores`, and `commit` behind each batch. In the
+//! script: `put:KEY:VALUE`, `remove:KEY` and `rise:FROM:TO:VALUE` as in the part `stores`, and `commit` behind each batch. `on`
+//! and `off` between two batches turn the journal on and off, in the trials that know of steps. In the
 //! life n of a device, from 0 on, all bytes of values are n more. Each store lies on a device of 64 pages, and is made new with
 //! the record of the role root, unless it says otherwise. A trial answers what was counted, or, with the word `uncounted` before
 //! the script, only how often there was a disagreement, of which a line tells each one.
@@ -22,7 +23,16 @@
 //! - `full:ROUNDS:SIZE`: rows are put into a store with a journal and into one without, until one is full, and then seven rows
 //!   that lie apart are changed in each of so many rounds, each in a commit. It answers how often the one with a journal is full
 //!   where the other is not.
-//! - `again:CACHE`: the commits of the script. One that is refused memory is made again.
+//! - `switches:CACHE:EVERY`: each step of the script that turns the journal on or off is stopped after each count of its sector
+//!   writes, and the device starts again as above. It is made new without a journal. What is found there has the records of the
+//!   commits before, and a journal exactly where the root in force says so. The number of the root does not fall, nor that of
+//!   a store with a journal. With all sectors new the step is made once more, whole: after `off` neither root says that there is a
+//!   journal, and the device opens as a store in pages alone. On one in EVERY of the devices that were started again the step is
+//!   stopped once more. It answers how many of them had a journal.
+//! - `failing_switches:CACHE`: each call of such a step fails, before it is carried out or after. It is answered by Device, and
+//!   the device starts again with its unsynced sectors all new, and all old.
+//! - `again:CACHE`: the steps of the script, and an opening at its end. Each that is refused memory is made again: for runs in
+//!   which a request for memory is refused, of which each that ends well prints the same.
 //!
 //! What is to be found is what a store in memory has after the same commits. The counts stand beside `journals.py`, another program,
 //! which knows of stores what docs/formats.md says of a journal.
@@ -33,11 +43,16 @@ mod choices;
 mod counts;
 mod devices;
 mod failing;
+mod failing_switches;
 mod full;
 mod logged;
 mod openings;
+mod roots;
 mod stops;
+mod switch;
+mod switches;
 mod tally;
+mod turning;
 mod wanted;
 
 use crate::journals::batches::BatchScript;
@@ -86,7 +101,16 @@ fn tried(first: &CallWords<'_>, tries_all: bool, script: &BatchScript) -> Result
         "fails" => failing::fail_commits(script, cache),
         "openings" => openings::fail_openings(script, cache),
         "counts" => counts::count(script, cache),
-        "again" => again::commit_again(script, cache),
+        "switches" => {
+            let every = if tries_all {
+                1
+            } else {
+                number_in(first.second)
+            };
+            switches::stop_switches(script, cache, every)
+        }
+        "failing_switches" => failing_switches::fail_switches(script, cache),
+        "again" => again::step_again(script, cache),
         _ => bail!("there is no such trial"),
     }
 }

@@ -15,10 +15,12 @@ use crate::reports::report;
 use crate::stops::fault::TrialFault;
 use crate::stops::images::Image;
 use crate::stops::records::scan;
-use crate::stops::servers::{Answering, DeviceServer, OnDevice, StoreOnDevice, open_device};
-use kv_store::PageStore;
+use crate::stops::servers::{
+    Answering, CACHE_PAGES, DeviceServer, OnDevice, StoreOnDevice, device_of, open_device,
+};
+use device_store::{DeviceStore, OpenFault};
 use opening::{Refused, open};
-use sector_device::MemDevice;
+use sector_device::{Guarded, MemDevice};
 use sessions::Decider;
 use sql_types::event::Event;
 use statements::Statements;
@@ -134,9 +136,17 @@ fn open_or_why(
     alloc: Global,
     device: MemDevice,
 ) -> Result<(MemDevice, Option<String>), AllocError> {
-    match PageStore::open(alloc, device) {
+    match open_store(alloc, device) {
         Ok(store) => open_over(alloc, store),
         Err((device, fault)) => Ok((device, Some(format!(in alloc; "{fault:?}")?))),
+    }
+}
+
+/// Opens the store on a device, or hands the device back.
+fn open_store(alloc: Global, device: MemDevice) -> Result<StoreOnDevice, (MemDevice, OpenFault)> {
+    match DeviceStore::open_with(alloc, Guarded::new(device), CACHE_PAGES) {
+        Ok(store) => Ok(store),
+        Err((device, fault)) => Err((device.into_device(), fault)),
     }
 }
 
@@ -148,28 +158,34 @@ fn open_over(
     match open(alloc, store, Decider::new(Statements)) {
         Ok(server) => Ok((server.end(), None)),
         Err(Refused { store, fault }) => {
-            Ok((store.into_device(), Some(format!(in alloc; "{fault:?}")?)))
+            Ok((device_of(store), Some(format!(in alloc; "{fault:?}")?)))
         }
     }
 }
 
 /// Tells what a device holds: the number of the last commit, the format, and the bytes of the records with their digest.
 fn tell_contents(alloc: Global, image: &Image, out: &mut String) -> Result<(), TrialFault> {
-    let mut store = match PageStore::open(alloc, image.running(alloc)?) {
+    let mut store = match open_store(alloc, image.running(alloc)?) {
         Ok(store) => store,
         Err((_, fault)) => return Err(TrialFault::NoStore(fault)),
     };
     let records = scan(alloc, &mut store)?;
-    let format = match store.spelling() {
-        Spelling::First => 1,
-        Spelling::Second => 2,
-    };
-    let (number, length, digest) = (store.number(), records.len(), digest_of(records.as_slice()));
+    let (number, format) = (store.number(), format_of(&store));
+    let (length, digest) = (records.len(), digest_of(records.as_slice()));
     writeln!(
         out,
         "number {number}, format {format}, {length} bytes of records, {digest:08x}"
     )?;
     Ok(())
+}
+
+/// The format of the store on a device.
+fn format_of(store: &StoreOnDevice) -> u32 {
+    match (store, store.spelling()) {
+        (DeviceStore::Journaled(_), _) => 3,
+        (DeviceStore::Pages(_), Spelling::First) => 1,
+        (DeviceStore::Pages(_), Spelling::Second) => 2,
+    }
 }
 
 /// The Adler-32 digest (Adler's two sums) of bytes.

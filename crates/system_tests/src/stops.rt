@@ -61,9 +61,8 @@ use crate::stops::openings::fail_last_openings;
 use crate::stops::parts::Parts;
 use crate::stops::requests::run_first;
 use crate::stops::scripts::Script;
-use crate::stops::servers::{DeviceServer, open_new};
+use crate::stops::servers::{CACHE_PAGES, DeviceServer, open_new};
 use crate::stops::tallies::Tallies;
-use kv_store::DEFAULT_CACHE_PAGES;
 use std::alloc::Global;
 use std::io;
 
@@ -89,7 +88,7 @@ const FAILING: [(&str, usize); 4] = [
 const COPIED: &str = "forty_commits";
 
 /// How many pages the server keeps where calls fail.
-const CACHES: [usize; 2] = [1, 256];
+const CACHES: [usize; 2] = [1, CACHE_PAGES];
 
 /// Tries a part of each kind of trial, or all of it, and counts what goes otherwise than expected.
 pub fn try_stops(
@@ -201,7 +200,7 @@ fn copy_last(
 ) -> Result<(), TrialFault> {
     let script = read_script(rt, alloc, name)?;
     let events = script.events.as_slice();
-    let mut server = open_new(alloc, DEFAULT_CACHE_PAGES)?;
+    let mut server = open_new(alloc, CACHE_PAGES)?;
     run_first(&mut server, events, events.len());
     copy(rt, alloc, name, &Image::of(alloc, server.end())?, sums)
 }

@@ -1,32 +1,64 @@
-//! The batches of a script.
+//! The steps of a script, and its batches.
 
+use crate::journals::switch::JournalSwitch;
 use crate::stores::call::{CallWords, bytes_in, number_in};
 use anyhow::{Result, bail};
 use std::alloc::Global;
 use store::{Batch, MAX_KEY_LENGTH, MAX_VALUE_LENGTH};
 
-/// The words of each batch of a script.
+/// A step of a script.
+#[derive(Clone, Copy)]
+pub enum ScriptStep {
+    /// The commit of the batch of this index.
+    Commit(usize),
+    /// The journal is turned on or off.
+    Turn(JournalSwitch),
+}
+
+/// The words of each batch of a script, and its steps.
 #[derive(Drop)]
 pub struct BatchScript {
     pub alloc: Global,
     batches: Vec<String>,
+    steps: Vec<ScriptStep>,
 }
 
 impl BatchScript {
     /// The script that words make.
     pub fn new(alloc: Global, words: &str) -> Result<BatchScript> {
-        let mut batches = Vec::new(alloc);
+        let mut script = BatchScript {
+            alloc,
+            batches: Vec::new(alloc),
+            steps: Vec::new(alloc),
+        };
         let mut batch = String::new(alloc);
         for word in words.split(' ') {
-            if word == "commit" {
-                batches.push(batch.clone()?)?;
+            script.take(word, &mut batch)?;
+        }
+        Ok(script)
+    }
+
+    /// Takes a word: it ends the batch that the words before it began, is a step by itself, or goes on with a batch.
+    fn take(&mut self, word: &str, batch: &mut String) -> Result<()> {
+        match word {
+            "commit" => {
+                self.steps.push(ScriptStep::Commit(self.batches.len()))?;
+                self.batches.push(batch.clone()?)?;
                 batch.clear();
-            } else {
+            }
+            "on" => self.steps.push(ScriptStep::Turn(JournalSwitch::On))?,
+            "off" => self.steps.push(ScriptStep::Turn(JournalSwitch::Off))?,
+            _ => {
                 batch.push_str(word)?;
                 batch.push_str(" ")?;
             }
         }
-        Ok(BatchScript { alloc, batches })
+        Ok(())
+    }
+
+    /// What is done, one after the other.
+    pub fn steps(&self) -> &[ScriptStep] {
+        self.steps.as_slice()
     }
 
     /// How many batches there are.

@@ -82,6 +82,16 @@ impl TrialImage {
         })
     }
 
+    /// What a sector was given last.
+    pub fn last_content(&self, sector: u32) -> [u8; SECTOR_SIZE] {
+        for held in &self.sectors {
+            if held.number == sector {
+                return held.last;
+            }
+        }
+        [0; SECTOR_SIZE]
+    }
+
     /// A device that holds this: what is unsynced is unsynced still.
     pub fn device(&self) -> Result<TrialDevice> {
         let mut device = MemDevice::new(self.alloc, PAGES)?;

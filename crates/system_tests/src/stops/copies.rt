@@ -5,13 +5,13 @@ use crate::stops::first_stops::MAX_WRITES;
 use crate::stops::images::Image;
 use crate::stops::places::TrialPlace;
 use crate::stops::restarts::check_restarts;
-use crate::stops::servers::{OpeningOutcome, end_and_scan, open_device, try_opening};
+use crate::stops::servers::{CACHE_PAGES, OpeningOutcome, end_and_scan, open_device, try_opening};
 use crate::stops::tally::Tally;
 use crate::stores::SMALL_PAGES;
 use database_copies::{DatabaseCopyFault, copy_database};
-use kv_store::{DEFAULT_CACHE_PAGES, OpenFault};
+use device_store::OpenFault;
 use opening::OpeningFault;
-use sector_device::MemDevice;
+use sector_device::{Guarded, MemDevice};
 use std::alloc::Global;
 
 /// Copies the database that a device holds to a new device, which stops after each count of sector writes. Whatever its
@@ -59,7 +59,7 @@ fn is_copied_before(
 fn stopped(alloc: Global, source: MemDevice, writes: u64) -> Result<(Image, bool), TrialFault> {
     let target = MemDevice::new(alloc, SMALL_PAGES)?;
     target.stop_after(writes);
-    let (_, target, copied) = copy_database(alloc, source, target);
+    let (_, target, copied) = copy_database(alloc, Guarded::new(source), target);
     let is_copied = match copied {
         Ok(()) => true,
         Err(DatabaseCopyFault::Device) => false,
@@ -75,7 +75,7 @@ fn check_copy(
     records: &[u8],
     is_copied: bool,
 ) -> Result<(), TrialFault> {
-    match try_opening(alloc, device, DEFAULT_CACHE_PAGES) {
+    match try_opening(alloc, device, CACHE_PAGES) {
         Ok(OpeningOutcome::Server(server)) => {
             let (_, found) = end_and_scan(alloc, server)?;
             if found.as_slice() == records {

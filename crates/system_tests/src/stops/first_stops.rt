@@ -10,9 +10,8 @@ use crate::stops::requests::run_first;
 use crate::stops::restarts::check_restarts;
 use crate::stops::scripts::Script;
 use crate::stops::second_stops::stop_again;
-use crate::stops::servers::{Answering, DeviceServer, open_new};
+use crate::stops::servers::{Answering, CACHE_PAGES, DeviceServer, open_new};
 use crate::stops::tallies::Tallies;
-use kv_store::DEFAULT_CACHE_PAGES;
 use std::alloc::Global;
 
 /// More writes than a commit makes on 64 pages.
@@ -78,7 +77,7 @@ fn is_answered_before(
     parts: &mut Parts,
     tried: &mut Tallies,
 ) -> Result<bool, TrialFault> {
-    let server = open_new(alloc, DEFAULT_CACHE_PAGES)?;
+    let server = open_new(alloc, CACHE_PAGES)?;
     let stop = stop_server(alloc, script, index, server, writes)?;
     check_stop(alloc, script, &stop, parts, tried)?;
     Ok(stop.is_answered)
@@ -117,7 +116,7 @@ fn check_stop(
 ) -> Result<(), TrialFault> {
     open_all(alloc, script, stop, parts, tried)?;
     if parts.openings.takes_next() {
-        let cache = DEFAULT_CACHE_PAGES;
+        let cache = CACHE_PAGES;
         let opening = FailingOpening {
             script,
             stop,

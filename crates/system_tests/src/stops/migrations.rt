@@ -11,10 +11,11 @@ use crate::stops::outcome::Outcome;
 use crate::stops::parts::Parts;
 use crate::stops::places::TrialPlace;
 use crate::stops::restarts::check_restarts;
-use crate::stops::servers::{DeviceServer, OpeningOutcome, end_and_scan, open_device, try_opening};
+use crate::stops::servers::{
+    CACHE_PAGES, DeviceServer, OpeningOutcome, end_and_scan, open_device, try_opening,
+};
 use crate::stops::tallies::Tallies;
 use crate::stops::tally::Tally;
-use kv_store::DEFAULT_CACHE_PAGES;
 use sector_device::{Device, MemDevice};
 use std::alloc::Global;
 use store::{Spelling, Store};
@@ -121,7 +122,7 @@ fn is_opened_before(
 /// What a device holds whose opening is stopped after so many writes, and whether a server was opened before.
 fn stopped(alloc: Global, device: MemDevice, writes: u64) -> Result<(Image, bool), TrialFault> {
     device.stop_after(writes);
-    match try_opening(alloc, device, DEFAULT_CACHE_PAGES)? {
+    match try_opening(alloc, device, CACHE_PAGES)? {
         OpeningOutcome::Server(server) => Ok((Image::of(alloc, server.end())?, true)),
         OpeningOutcome::Device(device) => Ok((Image::of(alloc, device)?, false)),
     }
@@ -169,7 +170,7 @@ impl Failing for FailingMigration<'_> {
         } else {
             device.fail_call(calls);
         }
-        match try_opening(alloc, device, DEFAULT_CACHE_PAGES)? {
+        match try_opening(alloc, device, CACHE_PAGES)? {
             OpeningOutcome::Server(server) => passed(server.device()),
             OpeningOutcome::Device(device) => handed_back(alloc, device),
         }

@@ -9,9 +9,10 @@ use crate::stops::places::TrialPlace;
 use crate::stops::requests::run_first;
 use crate::stops::restarts::check_restarts;
 use crate::stops::scripts::{FoundStore, Script};
-use crate::stops::servers::{DeviceServer, OpeningOutcome, open_new, try_opening};
+use crate::stops::servers::{
+    CACHE_PAGES, DeviceServer, OpeningOutcome, device_of, open_new, try_opening,
+};
 use crate::stops::tally::Tally;
-use kv_store::DEFAULT_CACHE_PAGES;
 use sector_device::{Device, MemDevice};
 use std::alloc::Global;
 
@@ -86,7 +87,7 @@ pub fn fail_last_openings(
 
 /// What a device holds after all events of a script, each of them answered.
 fn end_of(alloc: Global, script: &Script) -> Result<StoppedDevice, TrialFault> {
-    let mut server = open_new(alloc, DEFAULT_CACHE_PAGES)?;
+    let mut server = open_new(alloc, CACHE_PAGES)?;
     run_first(&mut server, &script.events, script.events.len());
     let index = script.events.len().saturating_sub(1);
     Ok(StoppedDevice {
@@ -143,7 +144,7 @@ fn open_running(
 ) -> Result<(), TrialFault> {
     tally.count_opened();
     let FoundStore { store, moment } = opening.find(alloc, image.running(alloc)?)?;
-    let found = Image::of(alloc, store.into_device())?;
+    let found = Image::of(alloc, device_of(store))?;
     check_restarts(alloc, &found, place, tally, |_, device| {
         let again = opening.find(alloc, device)?;
         if again.moment == moment {

@@ -1,13 +1,13 @@
-//! Servers on devices of 64 pages, of whose calls some fail. The functions that open servers and call them have no contract, so
-//! that the trials are checked without those of a server.
+//! Servers on devices of 64 pages, of whose calls some fail, opened as the program opens them: whether there is a journal, the root
+//! says. The functions that open servers and call them have no contract, so that the trials are checked without those of a server.
 
 use crate::servers::ServerOver;
 use crate::stops::fault::TrialFault;
 use crate::stops::records::scan;
 use crate::stores::{SMALL_PAGES, new_device};
-use kv_store::{DEFAULT_CACHE_PAGES, OpenFault, PageStore};
+use device_store::{DeviceStore, MAX_CACHE_PAGES, OpenFault};
 use opening::{OpeningFault, Refused, open};
-use sector_device::MemDevice;
+use sector_device::{Guarded, MemDevice};
 use sessions::Decider;
 use sql_types::answer::Answer;
 use sql_types::event::Event;
@@ -15,8 +15,11 @@ use statements::Statements;
 use std::alloc::Global;
 use store::Store;
 
-/// A store on a device.
-pub type StoreOnDevice = PageStore<MemDevice>;
+/// How many pages the program keeps.
+pub const CACHE_PAGES: usize = MAX_CACHE_PAGES;
+
+/// A store on a device, with a journal or without.
+pub type StoreOnDevice = DeviceStore<Guarded<MemDevice>>;
 
 /// A server over a store on a device.
 pub type OnDevice = ServerOver<StoreOnDevice>;
@@ -44,12 +47,17 @@ pub trait DeviceServer {
 
 impl DeviceServer for OnDevice {
     fn device(&self) -> &MemDevice {
-        self.store().device()
+        self.store().device().device()
     }
 
     fn end(self) -> MemDevice {
-        self.into_store().into_device()
+        device_of(self.into_store())
     }
+}
+
+/// The device of a store.
+pub fn device_of(store: StoreOnDevice) -> MemDevice {
+    store.into_device().into_device()
 }
 
 /// What an opening came to: a server, or the device, handed back because a call of it failed.
@@ -65,12 +73,12 @@ pub fn try_opening(
     device: MemDevice,
     cache: usize,
 ) -> Result<OpeningOutcome, TrialFault> {
-    if cache == 0 || cache > DEFAULT_CACHE_PAGES {
+    if cache == 0 || cache > MAX_CACHE_PAGES {
         return Err(TrialFault::NoSuchCache);
     }
-    match PageStore::open_with(alloc, device, cache) {
+    match DeviceStore::open_with(alloc, Guarded::new(device), cache) {
         Ok(store) => try_server(alloc, store),
-        Err((device, OpenFault::Device)) => Ok(OpeningOutcome::Device(device)),
+        Err((device, OpenFault::Device)) => Ok(OpeningOutcome::Device(device.into_device())),
         Err((_, fault)) => Err(TrialFault::NoStore(fault)),
     }
 }
@@ -86,7 +94,7 @@ fn try_server(alloc: Global, store: StoreOnDevice) -> Result<OpeningOutcome, Tri
 /// What an opening came to that opened no server over a store.
 fn without_server(store: StoreOnDevice, fault: OpeningFault) -> Result<OpeningOutcome, TrialFault> {
     match fault {
-        OpeningFault::Device => Ok(OpeningOutcome::Device(store.into_device())),
+        OpeningFault::Device => Ok(OpeningOutcome::Device(device_of(store))),
         _ => Err(TrialFault::NoServer(fault)),
     }
 }
@@ -101,7 +109,7 @@ pub fn open_cached(alloc: Global, device: MemDevice, cache: usize) -> Result<OnD
 
 /// Opens a server on a device no call of which fails.
 pub fn open_device(alloc: Global, device: MemDevice) -> Result<OnDevice, TrialFault> {
-    open_cached(alloc, device, DEFAULT_CACHE_PAGES)
+    open_cached(alloc, device, CACHE_PAGES)
 }
 
 /// Opens a server over a new database on a device, with a cache of so many pages.
