@@ -1,6 +1,7 @@
 //! How many pages are free.
 
-ghost use Rattle.cow_pages.specs.Free.{HasFreePages};
+ghost use Rattle.std.specs.Prelude.{◌⊎◌, IsTrue};
+ghost use Rattle.cow_pages.specs.Free.{HasFreePages, HasOwn, HasMoreFree};
 
 use crate::cow::CowPages;
 use sector_device::Device;
@@ -12,5 +13,16 @@ impl<D: Device> CowPages<D> {
         ensures { HasFreePages result self.now }
     {
         self.map.allocator.free_count()
+    }
+
+    /// Whether a write of a page leaves the last so many free pages alone: the page has one of its own, or more than so many
+    /// are free.
+    pub fn spares(&self, page: u32, last: u32) -> bool
+        ensures { IsTrue result → HasOwn self.now page ⊎ HasMoreFree self.now last }
+    {
+        if self.map.has_own_page(page) {
+            return true;
+        }
+        self.free_pages() > last
     }
 }

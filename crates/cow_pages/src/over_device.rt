@@ -66,4 +66,8 @@ impl<D: Device> Pages for CowPages<D> {
     fn free_page(&mut self, page: u32) -> Result<(), PageFault> {
         CowPages::free_page(self, page)
     }
+
+    fn spares(&self, page: u32, last: u32) -> bool {
+        CowPages::spares(self, page, last)
+    }
 }

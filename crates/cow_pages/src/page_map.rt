@@ -124,6 +124,15 @@ impl PageMap {
         self.take_for(logical)
     }
 
+    // Whether a logical page has a page of its own, which is not the durable one.
+    pub(crate) fn has_own_page(&self, logical: u32) -> bool
+        ensures { result ≡ true → (0 < slice_index self.now.working.items logical)
+            × (IsShared self.now logical → ⊥) }
+    {
+        let page = self.page(logical);
+        page != 0 && page != self.durable[logical as usize]
+    }
+
     // Leaves a logical page without a physical one. The page is given back where it is not the durable one.
     pub(crate) fn release(&mut self, logical: u32)
         requires inside { logical < 65536 }

@@ -78,4 +78,8 @@ impl<D: Device> Pages for ReadOnlyPages<D> {
     fn free_page(&mut self, page: u32) -> Result<(), PageFault> {
         self.below.free_page(page)
     }
+
+    fn spares(&self, _page: u32, _last: u32) -> bool {
+        false
+    }
 }

@@ -35,3 +35,4 @@ mod LeafChanges
 mod Bounded
 mod Made
 mod LeavesBehind
+pub mod LeafJoins

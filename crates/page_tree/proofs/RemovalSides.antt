@@ -118,7 +118,7 @@ pair_later key l c (d ∷ ds) (x ∷ xs) y at hs e all stop =
 pub without_here : (c : Entry) (cs : List Entry) → without c.0 (c ∷ cs) ≡ cs
 without_here c cs = rw (irreflexive c.0) refl
 
-without_head : (k : List ℕ) (c : Entry) (cs : List Entry) → is_below c.0 k ≡ true → without k (c ∷ cs) ≡ c ∷ without k cs
+pub without_head : (k : List ℕ) (c : Entry) (cs : List Entry) → is_below c.0 k ≡ true → without k (c ∷ cs) ≡ c ∷ without k cs
 without_head k c cs below = rw below refl
 
 pub without_mid : (k b : List ℕ) (xs hs : List Entry) → AllUnder (Some k) xs → without k (xs ++ ((k, b) ∷ hs)) ≡ xs ++ hs
@@ -137,7 +137,7 @@ under_lt : (j k : List ℕ) (es : List Entry) → is_below j k ≡ true → AllU
 under_lt j k [] lt all = tt
 under_lt j k (e ∷ es) lt all = (lt_lt e.0 j k all.0 lt, under_lt j k es lt all.1)
 
-head_under : (k : List ℕ) (head : Entry) (rest xs ys : List Entry) → head ∷ rest ≡ xs ++ ys → 0 < length xs → AllUnder (Some k) xs → is_below head.0 k ≡ true
+pub head_under : (k : List ℕ) (head : Entry) (rest xs ys : List Entry) → head ∷ rest ≡ xs ++ ys → 0 < length xs → AllUnder (Some k) xs → is_below head.0 k ≡ true
 head_under k head rest [] ys e some all = absurd (omega (arith, some))
 head_under k head rest (x ∷ xs) ys e some all = rw (head_is head x rest (xs ++ ys) e) all.0
 

@@ -20,7 +20,7 @@ above_joined key k [] [] all lt from = tt
 above_joined key k [] (y ∷ ys) all lt from = (lt_le key k y.0 lt from.0, above_joined key k [] ys tt lt from.1)
 above_joined key k (x ∷ xs) ys all lt from = (all.0, above_joined key k xs ys all.1 lt from)
 
-rising_joined : (k : List ℕ) (xs ys : List Entry) → IsRising xs → IsRising ys → AllUnder (Some k) xs → AllFrom k ys → IsRising (xs ++ ys)
+pub rising_joined : (k : List ℕ) (xs ys : List Entry) → IsRising xs → IsRising ys → AllUnder (Some k) xs → AllFrom k ys → IsRising (xs ++ ys)
 rising_joined k [] ys front rest under from = rest
 rising_joined k (x ∷ xs) ys front rest under from = (above_joined x.0 k xs ys front.0 under.0 from, rising_joined k xs ys front.1 rest under.1 from)
 

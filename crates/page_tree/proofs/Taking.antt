@@ -8,7 +8,7 @@ use Rattle.pages.specs.declared.array.PageFault.{PageFault}
 use Rattle.pages.specs.declared.array.PageFault.TheVariants.{Full, Memory, Device, Malformed}
 use Rattle.pages.specs.declared.array.Pages.{Ghosts}
 use Rattle.page_tree.specs.declared.removal.Underflow.{Underflow}
-use Rattle.page_tree.specs.declared.removal.Underflow.TheVariants.{Nothing, Child, Trees}
+use Rattle.page_tree.specs.declared.removal.Underflow.TheVariants.{Nothing, Child, Trees, FewCells}
 use Rattle.page_tree.specs.Forest.{Forest}
 use Rattle.page_tree.specs.Removal.{Describes}
 use Rattle.page_tree.specs.Taking.{TakesPages, TakesAtMost, TakesToPut, TakesToGrow, count_made, most_left, most_stored, most_merged}
@@ -41,23 +41,27 @@ pub stored_merged : (left : Underflow) → 2 + most_stored left ≤ most_merged 
 stored_merged Nothing = omega arith
 stored_merged (Child child) = omega arith
 stored_merged (Trees made) = omega arith
+stored_merged FewCells = omega arith
 
 -- a leaf is a tree of least depth
 pub least_left : (depth : ℕ) (left : Underflow) → 0 + most_left 0 left ≤ most_left depth left
 least_left depth Nothing = omega arith
 least_left depth (Child child) = omega arith
 least_left depth (Trees made) = omega arith
+least_left depth FewCells = omega arith
 
 -- what an inner node takes after its child, of which nothing was left, or one child
 pub removed_next : (depth : ℕ) (left : Underflow) → 2 * depth + most_stored left ≤ most_left (suc depth) left
 removed_next depth Nothing = omega arith
 removed_next depth (Child child) = omega arith
 removed_next depth (Trees made) = omega arith
+removed_next depth FewCells = omega arith
 
 pub merged_next : (depth : ℕ) (left : Underflow) → 0 < depth → 2 * depth - 2 + most_merged left ≤ most_left (suc depth) left
 merged_next depth Nothing deep = omega (arith, deep)
 merged_next depth (Child child) deep = omega (arith, deep)
 merged_next depth (Trees made) deep = omega (arith, deep)
+merged_next depth FewCells deep = omega (arith, deep)
 
 -- a tree of which one child is left has depth
 pub deep_child : (underflow : Underflow) (A : Array) (depth : ℕ) (low : List ℕ) (high : Option (List ℕ)) (page : ℕ) (separator : List ℕ) (f : Forest) (child : ℕ) → underflow ≡ Child child

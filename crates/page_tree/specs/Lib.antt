@@ -14,3 +14,4 @@ pub mod Counts
 pub mod Bounds
 pub mod Changed
 pub mod Appending
+pub mod Joining

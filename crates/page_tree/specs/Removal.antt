@@ -8,7 +8,7 @@ use Rattle.page_nodes.specs.Search.{pair_from}
 use Rattle.page_tree.specs.Forest.{Forest, no_trees, leaf, inner, append, cells, entries, Meets, IsUnder, next, IsSound, IsFull}
 use Rattle.page_tree.specs.Puts.{AreInScratch, made_cells}
 use Rattle.page_tree.specs.declared.removal.Underflow.{Underflow}
-use Rattle.page_tree.specs.declared.removal.Underflow.TheVariants.{Nothing, Child, Trees}
+use Rattle.page_tree.specs.declared.removal.Underflow.TheVariants.{Nothing, Child, Trees, FewCells}
 
 -- a number of 32 bits
 abbrev pub IsPageNumber : ℕ → Type 0
@@ -42,11 +42,17 @@ pub record HasOneChild (A : Array) (depth : ℕ) (low : List ℕ) (high : Option
   pub apart : Meets page children → ⊥
   pub there : IsSome (A page)
 
+-- the tree under a page is a leaf
+pub record IsOneLeaf (A : Array) (depth : ℕ) (low : List ℕ) (high : Option (List ℕ)) (page : ℕ) (f : Forest) : Type 0 where
+  pub flat : depth ≡ 0
+  pub spells : SpellsTrees A depth high ((low, four_bytes page) ∷ []) f
+
 -- what is left of the tree under a page
 abbrev pub Describes : Underflow → Array → ℕ → List ℕ → Option (List ℕ) → ℕ → List ℕ → Forest → Type 0
 Describes Nothing A depth low high page separator f = HasNoEntry A depth low page f
 Describes (Child child) A depth low high page separator f = HasOneChild A depth low high page child f
 Describes (Trees made) A depth low high page separator f = SpellsTrees A depth high ((low, four_bytes page) ∷ made_cells separator made) f
+Describes FewCells A depth low high page separator f = IsOneLeaf A depth low high page f
 
 -- where a second tree is left, the separator is a key
 abbrev pub HasSeparator : Underflow → List ℕ → Type 0
@@ -54,6 +60,7 @@ HasSeparator Nothing separator = Unit {0}
 HasSeparator (Child child) separator = Unit {0}
 HasSeparator (Trees None) separator = Unit {0}
 HasSeparator (Trees (Some made)) separator = IsKeySize separator
+HasSeparator FewCells separator = Unit {0}
 
 -- a call turns trees into others, which have these entries
 pub record Becomes (old new : PagesState) (from : Forest) (es : List Entry) (IsResult : Forest → Type 0) : Type 0 where

@@ -12,7 +12,7 @@ use Rattle.page_tree.specs.Bounds.{IsBound}
 use Rattle.page_tree.specs.declared.bound.KeyBound.{KeyBound}
 use Rattle.page_tree.specs.declared.changes.Changed.{Changed}
 use Rattle.page_tree.specs.declared.removal.Underflow.{Underflow}
-use Rattle.page_tree.specs.declared.removal.Underflow.TheVariants.{Nothing, Child, Trees}
+use Rattle.page_tree.specs.declared.removal.Underflow.TheVariants.{Nothing, Child, Trees, FewCells}
 
 -- of all logical pages these alone, and so many others at most, get a page of their own
 pub record TakesPages {P : Type 0} (g : Ghosts P) (old new : P) (pages : List ℕ) (most : ℕ) : Type 0 where
@@ -56,6 +56,7 @@ abbrev pub most_left : ℕ → Underflow → ℕ
 most_left depth Nothing = 2 * depth
 most_left depth (Child child) = 2 * depth - 2
 most_left depth (Trees made) = 2 * depth + 1
+most_left depth FewCells = 2 * depth + 1
 
 -- how many an inner node takes that writes what is left of it
 abbrev pub most_stored : Underflow → ℕ

@@ -1,5 +1,5 @@
 //! Changes of the tree: as many of a list as one leaf takes.
-ghost use Rattle.std.specs.Prelude.{◌≡◌, ◌≢◌, ◌↔◌, ◌<◌, ◌≤◌, ℕ, List, Option, true, length, IsTrue, IfOk, OnOk, IfErr, IfSome, MatchResult};
+ghost use Rattle.std.specs.Prelude.{◌≡◌, ◌≢◌, ◌↔◌, ◌⊎◌, ◌<◌, ◌≤◌, ℕ, List, Option, None, true, length, IsTrue, IfOk, OnOk, IfErr, IfSome, MatchResult};
 ghost use Rattle.std.specs.List.{AllByRecursion};
 ghost use Rattle.page_nodes.specs.Map.{Entry, is_below};
 ghost use Rattle.page_nodes.specs.Node.{four_bytes, IsNode, IsCount, FitsPage};
@@ -10,12 +10,14 @@ ghost use Rattle.store.specs.Records.{IsChangeSize};
 ghost use Rattle.page_tree.specs.Forest.{IsUnder};
 ghost use Rattle.page_tree.specs.Bounds.{IsBound, bound_past};
 ghost use Rattle.page_tree.specs.Removal.{HasSeparator};
+ghost use Rattle.page_tree.specs.declared.removal.Underflow.TheVariants.{FewCells, Trees};
 ghost use Rattle.page_tree.specs.Taking.{TakesAtMost, TakesToChange, TakesToSettle, TakesToChangeBelow, most_changed};
 ghost use Rattle.page_tree.specs.RemovalCalls.{SettlesRoot};
 ghost use Rattle.page_tree.specs.Changed.{MergesChanges, CopiesChanged, ChangesLeaf, ChangesBelow, ChangesFirst, PutsFirst};
 
 use crate::appending::append_leaf;
 use crate::bound::KeyBound;
+use crate::joining::{are_few, pages_to_spare};
 use crate::puts::{grow_root, put};
 use crate::removal::{Underflow, clear_root, collapse_root, follow_child, write_cells};
 use crate::scratch::{NodeScratch, Scratch};
@@ -119,6 +121,17 @@ pub(crate) fn copy_changed(
     })
 }
 
+/// What a change has left of a leaf whose cells have so many bytes: few cells, if it removes a key and they are few.
+fn left_in(change: &Change, cells: usize) -> Underflow
+    ensures { (result ≡ FewCells) ⊎ (result ≡ Trees None) }
+{
+    if change.value().is_none() && are_few(cells) {
+        Underflow::FewCells
+    } else {
+        Underflow::Trees(None)
+    }
+}
+
 /// Makes changes in the leaf that has been read, as many as it takes, and writes it once. Where no cell is left, nothing is
 /// written; where the leaf has no room for the first one, which comes after its cells, a new leaf takes as many. None: no change
 /// is made.
@@ -164,7 +177,7 @@ fn change_leaf<P: Pages>(
     )?;
     Ok(Some(Changed {
         made,
-        left: Underflow::Trees(None),
+        left: left_in(&changes[made - 1], scratch.cells.len()),
     }))
 }
 
@@ -262,6 +275,7 @@ fn settle_root<P: Pages>(
             };
             grow_root(pages, second, scratch)
         }
+        Underflow::FewCells => Ok(()),
     }
 }
 
@@ -309,6 +323,7 @@ pub fn change_first<P: Pages>(
     let bound = &mut scratch.bound;
     let nodes = &mut scratch.nodes;
     bound.clear();
+    nodes.spared = pages_to_spare(changes.len());
     match change_below(pages, bytes, 0, MAX_HEIGHT, changes, bound, nodes)? {
         Some(changed) => {
             settle_root(pages, bytes, changed.left, nodes)?;

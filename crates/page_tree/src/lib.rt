@@ -8,6 +8,7 @@ mod check;
 mod counting;
 mod cursor;
 mod cuts;
+mod joining;
 mod laws;
 mod leaf;
 mod puts;

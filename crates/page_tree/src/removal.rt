@@ -9,6 +9,7 @@ ghost use Rattle.page_tree.specs.Taking.{TakesAtMost, TakesToFollow, most_left, 
 ghost use Rattle.page_tree.specs.RemovalCalls.{WritesCells, PairsChildren, CopiesRest, StoresRest, RemovesChild, JoinsBefore, JoinsNeighbour, MergesChild, FollowsChild, ClearsRoot, CollapsesRoot};
 
 use crate::cuts::SplitPoint;
+use crate::joining::join_leaves;
 use crate::puts::{copy_with, put_child, set_separator, store_cells};
 use crate::scratch::NodeScratch;
 use page_nodes::{NodeKind, Pair, edit_cells, first_child, pair_for, write_node};
@@ -24,6 +25,8 @@ pub enum Underflow {
     Child(u32),
     /// A tree under its page, and perhaps a second one under a new page, from the separator on.
     Trees(Option<u32>),
+    /// A leaf under its page, with few cells: it is to be joined with the one beside it.
+    FewCells,
 }
 
 /// An inner node without one of its children: the first child that is left, and how many cells are in scratch.
@@ -35,7 +38,7 @@ struct Rest {
 
 /// Copies to scratch the cells of a node without the cell of a key, and gives their number. Malformed: these bytes are no
 /// node of that kind.
-fn copy_without(
+pub(crate) fn copy_without(
     bytes: &[u8; PAGE_SIZE],
     kind: NodeKind,
     key: &[u8],
@@ -79,7 +82,7 @@ pub fn write_cells<P: Pages>(
 
 /// The child of a key beside the one before it; the first child beside the one after it. Malformed: these bytes are no
 /// inner node with a cell.
-fn pair_at<'a>(bytes: &'a [u8; PAGE_SIZE], key: &[u8]) -> Result<Pair<'a>, PageFault>
+pub(crate) fn pair_at<'a>(bytes: &'a [u8; PAGE_SIZE], key: &[u8]) -> Result<Pair<'a>, PageFault>
     ensures pair { PairsChildren bytes.now key.now result }
     ensures size { IfOk result (λ p. IsKeySize p.key.now) }
     ensures faults { IfErr result (λ f. f ≢ PageFault.Full) }
@@ -315,6 +318,11 @@ pub fn follow_child<P: Pages>(
             };
             let split = put_child(pages, page, second, scratch)?;
             Ok(Underflow::Trees(split))
+        }
+        Underflow::FewCells => {
+            pages.read(page, bytes)?;
+            join_leaves(pages, bytes, page, key, scratch)?;
+            Ok(Underflow::Trees(None))
         }
     }
 }

@@ -169,6 +169,10 @@ pub trait Pages {
             (λ f. (f ≡ PageFault.Malformed) ⊎ (f ≡ PageFault.Device)) }
         ensures own { OnOk result (GetOwn [] (own self.old) (own self.new)) };
 
+    /// Whether a write of a page leaves the last so many free pages below alone: the page has one of its own there, or more
+    /// than so many are free. A caller that may choose asks it; no promise rests on the answer.
+    fn spares(&self, page: u32, last: u32) -> bool;
+
     /// Where no call is made, nothing is written.
     ghost writes_nothing_same: { (p : Self) → writes_nothing p p };
 }

@@ -158,4 +158,9 @@ impl Pages for MemPages {
         }
         Ok(())
     }
+
+    // No page is below, so that none is taken there.
+    fn spares(&self, _page: u32, _last: u32) -> bool {
+        true
+    }
 }

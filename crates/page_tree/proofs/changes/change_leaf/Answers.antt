@@ -1,12 +1,15 @@
-use Rattle.std.proofs.Common.{take, arith, subst}
+use Rattle.std.proofs.Common.{[], take, arith, subst}
 use Rattle.std.specs.Prelude.{IsSome}
 use Rattle.page_nodes.specs.declared.cell.NodeKind.TheVariants.{Leaf}
+use Rattle.page_tree.specs.Forest.{no_trees, leaf}
 use Rattle.page_tree.specs.Changed.{Change, edited_in_turn}
+use Rattle.page_tree.specs.Taking.{most_left}
 use Rattle.page_tree.proofs.Faults.{fails, memory_is}
 use Rattle.page_tree.proofs.RemovalNodes.{copied_slice}
 use Rattle.page_tree.proofs.RemovalSteps.{leaf_emptied, leaf_changed}
 use Rattle.page_tree.proofs.Edits.{in_turn_from, in_turn_under, in_turn_rising, within_lower}
-use Rattle.page_tree.proofs.Taking.{same_taken}
+use Rattle.page_tree.proofs.Taking.{same_taken, taken_in_all}
+use Rattle.page_tree.proofs.LeafJoins.{leaf_becomes_left, no_separator, one_left}
 use Rattle.page_tree.proofs.LeavesBehind.{first_same}
 use Rattle.page_tree.proofs.changes.change_leaf.Goals as goal
 
@@ -40,8 +43,9 @@ returns-clause-changed g c sound used es d low high first rest whole bound under
     let copied = copied_slice Leaf new c.copy_changed.new.cells.items c.as_slice.result.now c.in_ok-leaf.leaf.count c.as_slice.ensures.value a.cells in
     let w = c.in_ok-write_cells.ensures.written sound used new copied in (
       a.within,
-      leaf_changed (g.P.Pages.state c.args.pages.now) (g.P.Pages.state c.write_cells.new.pages) d low high c.args.page es new w.0 s (omega (arith, a.cells.count_is, c.if-count-eq0.false))
-          (in_turn_from low high cs es (within_lower low first.0 high cs reaches a.within) s.2.0) (in_turn_under first.0 high cs es a.within s.2.1) (in_turn_rising cs es s.2.2) w.1,
+      leaf_becomes_left c.left_in.result (g.P.Pages.state c.args.pages.now) (g.P.Pages.state c.write_cells.new.pages) (leaf low c.args.page es no_trees) new d low high c.args.page _ c.left_in.ensures s.1
+          (leaf_changed (g.P.Pages.state c.args.pages.now) (g.P.Pages.state c.write_cells.new.pages) d low high c.args.page es new w.0 s (omega (arith, a.cells.count_is, c.if-count-eq0.false))
+          (in_turn_from low high cs es (within_lower low first.0 high cs reaches a.within) s.2.0) (in_turn_under first.0 high cs es a.within s.2.1) (in_turn_rising cs es s.2.2) w.1),
     )
 
 pub returns-in_err-leaf-clause-takes : goal.returns-in_err-leaf-clause-takes
@@ -59,4 +63,8 @@ returns-in_err-write_cells-clause-takes g c =
     fails c.from_residual-in_err-write_cells.result c.in_err-write_cells.field-0.0 _ _ c.from_residual-in_err-write_cells.ensures.1 c.in_err-write_cells.ensures.takes
 
 pub returns-clause-takes : goal.returns-clause-takes
-returns-clause-takes g c = c.in_ok-write_cells.ensures.takes
+returns-clause-takes g c =
+    taken_in_all g.P.Pages c.args.pages.now c.write_cells.new.pages [] 1 (most_left 0 c.left_in.result) c.in_ok-write_cells.ensures.takes (omega (arith, one_left c.left_in.result c.left_in.ensures))
+
+pub returns-clause-size : goal.returns-clause-size
+returns-clause-size g c = no_separator c.left_in.result _ c.left_in.ensures

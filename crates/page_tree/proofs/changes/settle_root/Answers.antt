@@ -1,7 +1,7 @@
 use Rattle.std.proofs.Common.{ℕ, Option, Some, None, [], ◌∷◌, ap, ◌∙◌, arith, ◌+◌, ◌*◌, ◌-◌, subst}
 use Rattle.page_nodes.specs.Node.{four_bytes}
 use Rattle.page_tree.specs.declared.removal.Underflow.{Underflow}
-use Rattle.page_tree.specs.declared.removal.Underflow.TheVariants.{Nothing, Child, Trees}
+use Rattle.page_tree.specs.declared.removal.Underflow.TheVariants.{Nothing, Child, Trees, FewCells}
 use Rattle.page_tree.specs.Taking.{TakesPages, most_left}
 use Rattle.page_tree.proofs.Faults.{gives_as}
 use Rattle.page_tree.proofs.Descent.{numbered_of}
@@ -15,6 +15,12 @@ returns-in_default-clause-settled g c sound d f left only =
     let A = (g.P.Pages.state c.args.pages.now).array in
     let e = left_as A d [] None 0 c.args.scratch.now.separator.items f _ (Trees None) (c.in-Trees.is ∙ ap (λ (m : Option ℕ). Trees m) c.in_default.is) left in
     (sound, root_preserved A f d e only)
+
+pub returns-in-FewCells-clause-settled : goal.returns-in-FewCells-clause-settled
+returns-in-FewCells-clause-settled g c sound d f left only =
+    let A = (g.P.Pages.state c.args.pages.now).array in
+    let e = left_as A d [] None 0 c.args.scratch.now.separator.items f _ FewCells c.in-FewCells.is left in
+    (sound, root_preserved A f d e.spells only)
 
 pub returns-in-Nothing-clause-settled : goal.returns-in-Nothing-clause-settled
 returns-in-Nothing-clause-settled g c sound d f left only =

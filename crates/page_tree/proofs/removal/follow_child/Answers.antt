@@ -1,11 +1,14 @@
 use Rattle.std.proofs.Common.{ℕ, Option, Some, None, ◌∷◌, ap, ◌∙◌, arith, ◌+◌, ◌*◌, suc, [], subst, ◌-◌}
+use Rattle.page_nodes.specs.declared.cell.NodeKind.TheVariants.{Inner}
 use Rattle.page_nodes.specs.Map.{with_entry}
 use Rattle.page_nodes.specs.Node.{four_bytes}
-use Rattle.page_tree.specs.Forest.{append, next}
-use Rattle.page_tree.specs.declared.removal.Underflow.TheVariants.{Nothing, Child, Trees}
-use Rattle.page_tree.proofs.Faults.{fails, gives_since}
+use Rattle.page_tree.specs.Forest.{no_trees, inner, append, entries, next}
+use Rattle.page_tree.specs.declared.removal.Underflow.TheVariants.{Nothing, Child, Trees, FewCells}
+use Rattle.page_tree.proofs.Faults.{fails, caused_since, gives_since}
 use Rattle.page_tree.proofs.PutKeys.{with_some}
 use Rattle.page_tree.proofs.RemovalTrees.{stored, stored_becomes}
+use Rattle.page_tree.proofs.RemovalJoins.{read_holds, becomes_read, parent_keep}
+use Rattle.page_tree.proofs.LeafJoins.{holds_then}
 use Rattle.page_tree.proofs.RemovalSteps.{followed_parent, same_becomes}
 use Rattle.page_tree.proofs.RemovalFollows.{given_back, emptied_meets, after_emptied, child_meets, left_between, left_spells, after_left, left_as}
 use Rattle.page_tree.proofs.Taking.{none_taken, taken_then, takes_since, removed_next, merged_next, not_read, one_made, taken_in_all}
@@ -123,3 +126,52 @@ returns-in_ok-split-in-Trees-clause-takes g c before depth deep taken =
     let count = 0 + count_made c.in_ok-split-in-Trees.split in
     taken_in_all g.P.Pages before c.put_child.new.pages (c.args.page ∷ []) (2 * depth + 1 + count) (2 * suc depth + 1)
     (taken_then g.P.Pages before c.args.pages.now c.put_child.new.pages [] (c.args.page ∷ []) (2 * depth + 1) count (2 * depth + 1 + count) start c.in_ok-split-in-Trees.ensures.takes (omega arith)) (omega (arith, one_made c.in_ok-split-in-Trees.split))
+
+pub returns-in_err-join_leaves-in-FewCells-clause-followed : goal.returns-in_err-join_leaves-in-FewCells-clause-followed
+returns-in_err-join_leaves-in-FewCells-clause-followed g c sound w between around left apart holds =
+    let old = g.P.Pages.state c.args.pages.now in
+    let mid = g.P.Pages.state c.read-in-FewCells.new.self in
+    let e = left_as old.array w.depth w.from (next w.after w.high) c.args.child c.args.scratch.now.separator.items between c.args.underflow FewCells c.in-FewCells.is left in
+    let parent = followed_parent old.array c.args.page w.depth w.low w.high c.args.key.now c.args.child w.first w.c w.cs w.from w.before between w.after None c.args.scratch.now.separator.items around apart e.spells in
+    let only_reads = c.in_ok-read-in-FewCells.ensures.only_reads sound in
+    let node = read_holds old.array c.args.page Inner w.first (w.c ∷ w.cs) c.read-in-FewCells.new.bytes holds (c.in_ok-read-in-FewCells.ensures.found sound) in
+    fails c.from_residual-in_err-join_leaves-in-FewCells.result c.in_err-join_leaves-in-FewCells.field-0.0 _ _ c.from_residual-in_err-join_leaves-in-FewCells.ensures.1
+    (caused_since g.P.Pages c.args.pages.now c.read-in-FewCells.new.self c.join_leaves.new.pages c.in_err-join_leaves-in-FewCells.field-0.0 c.in_ok-read-in-FewCells.ensures.preserved
+    (c.in_err-join_leaves-in-FewCells.ensures.joined only_reads.sound w.depth w.low w.high w.first w.c w.cs (append w.before (append between w.after)) e.flat
+    (parent_keep old.array mid.array c.args.page w.depth w.low w.high w.first (w.c ∷ w.cs) (append w.before (append between w.after)) only_reads.same parent) (holds_then old mid c.args.page Inner w.first (w.c ∷ w.cs) only_reads holds) node))
+
+pub returns-in_ok-join_leaves-in-FewCells-clause-followed : goal.returns-in_ok-join_leaves-in-FewCells-clause-followed
+returns-in_ok-join_leaves-in-FewCells-clause-followed g c sound w between around left apart holds =
+    let old = g.P.Pages.state c.args.pages.now in
+    let mid = g.P.Pages.state c.read-in-FewCells.new.self in
+    let new = g.P.Pages.state c.join_leaves.new.pages in
+    let e = left_as old.array w.depth w.from (next w.after w.high) c.args.child c.args.scratch.now.separator.items between c.args.underflow FewCells c.in-FewCells.is left in
+    let parent = followed_parent old.array c.args.page w.depth w.low w.high c.args.key.now c.args.child w.first w.c w.cs w.from w.before between w.after None c.args.scratch.now.separator.items around apart e.spells in
+    let only_reads = c.in_ok-read-in-FewCells.ensures.only_reads sound in
+    let node = read_holds old.array c.args.page Inner w.first (w.c ∷ w.cs) c.read-in-FewCells.new.bytes holds (c.in_ok-read-in-FewCells.ensures.found sound) in
+    becomes_read old mid new (inner w.low c.args.page (append w.before (append between w.after)) no_trees) (entries (append w.before (append between w.after))) _ only_reads
+    (c.in_ok-join_leaves-in-FewCells.ensures.joined only_reads.sound w.depth w.low w.high w.first w.c w.cs (append w.before (append between w.after)) e.flat
+    (parent_keep old.array mid.array c.args.page w.depth w.low w.high w.first (w.c ∷ w.cs) (append w.before (append between w.after)) only_reads.same parent) (holds_then old mid c.args.page Inner w.first (w.c ∷ w.cs) only_reads holds) node)
+
+pub returns-in_err-read-in-FewCells-clause-takes : goal.returns-in_err-read-in-FewCells-clause-takes
+returns-in_err-read-in-FewCells-clause-takes g c before depth deep taken =
+    fails c.from_residual-in_err-read-in-FewCells.result c.in_err-read-in-FewCells.field-0.0 _ _ c.from_residual-in_err-read-in-FewCells.ensures.1 (λ is. not_read c.in_err-read-in-FewCells.field-0.0 c.in_err-read-in-FewCells.ensures.faults is)
+
+pub returns-in_err-join_leaves-in-FewCells-clause-takes : goal.returns-in_err-join_leaves-in-FewCells-clause-takes
+returns-in_err-join_leaves-in-FewCells-clause-takes g c before depth deep taken =
+    let start = subst (λ (u : Underflow). TakesPages g.P.Pages before c.args.pages.now [] (most_left depth u)) c.in-FewCells.is taken in
+    let read = taken_then g.P.Pages before c.args.pages.now c.read-in-FewCells.new.self [] [] (2 * depth + 1) 0 (2 * depth + 1) start (none_taken g.P.Pages c.args.pages.now c.read-in-FewCells.new.self 0 c.in_ok-read-in-FewCells.ensures.own) (omega arith) in
+    fails c.from_residual-in_err-join_leaves-in-FewCells.result c.in_err-join_leaves-in-FewCells.field-0.0 _ _ c.from_residual-in_err-join_leaves-in-FewCells.ensures.1
+    (λ is. taken_then g.P.Pages before c.read-in-FewCells.new.self c.join_leaves.new.pages [] [] (2 * depth + 1) 1 (2 * suc depth + 2) read (c.in_err-join_leaves-in-FewCells.ensures.takes is) (omega arith))
+
+pub returns-in_ok-join_leaves-in-FewCells-clause-takes : goal.returns-in_ok-join_leaves-in-FewCells-clause-takes
+returns-in_ok-join_leaves-in-FewCells-clause-takes g c before depth deep taken =
+    let start = subst (λ (u : Underflow). TakesPages g.P.Pages before c.args.pages.now [] (most_left depth u)) c.in-FewCells.is taken in
+    let read = taken_then g.P.Pages before c.args.pages.now c.read-in-FewCells.new.self [] [] (2 * depth + 1) 0 (2 * depth + 1) start (none_taken g.P.Pages c.args.pages.now c.read-in-FewCells.new.self 0 c.in_ok-read-in-FewCells.ensures.own) (omega arith) in
+    taken_then g.P.Pages before c.read-in-FewCells.new.self c.join_leaves.new.pages [] [] (2 * depth + 1) 2 (2 * suc depth + 1) read c.in_ok-join_leaves-in-FewCells.ensures.takes (omega arith)
+
+pub returns-in_err-join_leaves-in-FewCells-clause-preserved : goal.returns-in_err-join_leaves-in-FewCells-clause-preserved
+returns-in_err-join_leaves-in-FewCells-clause-preserved g c = g.P.Pages.preserved_joined c.args.pages.now c.read-in-FewCells.new.self c.join_leaves.new.pages c.in_ok-read-in-FewCells.ensures.preserved c.in_err-join_leaves-in-FewCells.ensures.preserved
+
+pub returns-in_ok-join_leaves-in-FewCells-clause-preserved : goal.returns-in_ok-join_leaves-in-FewCells-clause-preserved
+returns-in_ok-join_leaves-in-FewCells-clause-preserved g c = g.P.Pages.preserved_joined c.args.pages.now c.read-in-FewCells.new.self c.join_leaves.new.pages c.in_ok-read-in-FewCells.ensures.preserved c.in_ok-join_leaves-in-FewCells.ensures.preserved
