@@ -152,6 +152,37 @@ class Program(unittest.TestCase):
                    + 'refused 53100\nrows 1\n300\nok ROLLBACK\nrows 1\n0\n')
         self.assertEqual(run('run', path, script), (0, answers, ''))
 
+    def make_full(self, path, journal):
+        """A file of 64 pages that INSERTs of a row each have filled. How many rows it took."""
+        make_database(path, pages=64, journal=journal)
+        inserts = ''.join(f"r: INSERT INTO big VALUES ({k}, '{'o' * 1000}')\n" for k in range(300))
+        script = self.write('script', 'open r root\nr: CREATE TABLE big (k BIGINT PRIMARY KEY, v TEXT)\n' + inserts)
+        answers = run('run', path, script)[1].split('\n')
+        self.assertEqual(answers.count('refused 53100'), 300 - answers.count('ok INSERT 1'))
+        self.assertLess(120, answers.count('ok INSERT 1'))
+        self.assertEqual(answers[-2], 'refused 53100')
+        return answers.count('ok INSERT 1')
+
+    def test_a_full_file_is_emptied(self):
+        """What removes many rows goes through on a file that INSERTs have filled, and INSERTs go through after it."""
+        full, path = self.path('full'), self.path('db')
+        inserts = ''.join(f"r: INSERT INTO big VALUES ({k}, '{'o' * 1000}')\n" for k in range(1000, 1030))
+        for journal in (False, True):
+            count = self.make_full(full, journal)
+            cases = [('DELETE FROM big', count), ('DELETE FROM big WHERE k < 80', 80), ('DELETE FROM big WHERE k >= 80', count - 80),
+                     ('DELETE FROM big WHERE k >= 21 AND k < 101', 80), ('DROP TABLE big', count)]
+            for statement, removed in cases:
+                with self.subTest(statement, journal=journal):
+                    shutil.copy(full, path)
+                    dropped = statement.startswith('DROP')
+                    script = self.write('script', f"open r root\nr: UPDATE big SET v = '{'p' * 1000}' WHERE k = 50\nr: {statement}\n"
+                                        + 'r: CREATE TABLE big (k BIGINT PRIMARY KEY, v TEXT)\n' * dropped + inserts + 'r: SELECT count(*) FROM big\n')
+                    answers = ('ok OPEN\nok UPDATE 1\n' + ('ok DROP TABLE\nok CREATE TABLE\n' if dropped else f'ok DELETE {removed}\n')
+                               + 'ok INSERT 1\n' * 30 + f'rows 1\n{count - removed + 30}\n')
+                    self.assertEqual(run('run', path, script), (0, answers, ''))
+                    self.assertEqual(run('check', path), (0, 'ok CHECK\n', ''))
+            os.remove(full)
+
     def test_a_file_that_is_open_in_a_server(self):
         path = self.path('db')
         make_database(path)
@@ -406,7 +437,7 @@ class Program(unittest.TestCase):
         self.assertTrue(count / 4 < wanted < count / 3 + 8, (count, wanted))
         fewer = f'the database does not fit in {wanted - 1} pages; it wants at least {wanted}'
         self.refuses_copy(self.told('Full', smaller, fewer), larger, smaller, wanted - 1)
-        self.assertEqual(self.copied(larger, smaller, wanted + 8), (0, 'ok COPY\n', ''))
+        self.assertEqual(self.copied(larger, smaller, wanted + 16), (0, 'ok COPY\n', ''))    # and the reserve
         os.remove(smaller)
         run('run', larger, self.write('less', 'open r root\nr: DELETE FROM big WHERE k > 20\n'))
         self.assertEqual(self.copied(larger, smaller), (0, 'ok COPY\n', ''))

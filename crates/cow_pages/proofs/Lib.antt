@@ -32,3 +32,4 @@ pub mod Putting
 pub mod Changing
 pub mod Beside
 pub mod Freed
+pub mod Counted

@@ -154,10 +154,12 @@ pub record MakesDurable {D : Type 0} {g : Ghosts D} (next : Format) (old new : C
   pub durable : (l : ℕ) → durable_array new l ≡ working_array old l
   pub working : (l : ℕ) → working_array new l ≡ working_array old l
 
--- the root is of the next format, each logical page has its durable physical page, and there is room for dirty pages
+-- the root is of the next format, the durable map is the one that was worked on, each logical page has its durable physical page, and there is room for
+-- dirty pages
 pub record IsCommitted {D : Type 0} {g : Ghosts D} (next : Format) (old new : CowPages D g) : Type 0 where
   pub has_not_failed : new.has_failed ≡ false
   pub format : new.map.root.format ≡ next
+  pub map : new.map.durable.items ≡ old.map.working.items
   pub same_maps : new.map.working.items ≡ new.map.durable.items
   pub space : HasDirtySpace new
   pub durable : IsOpen old → MakesDurable next old new

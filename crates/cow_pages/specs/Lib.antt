@@ -15,3 +15,4 @@ pub mod Preserved
 pub mod PreservedLaws
 pub mod ReadingLaws
 pub mod Free
+pub mod Used

@@ -3,6 +3,7 @@
 ghost use Rattle.std.specs.Prelude.{Ok, MatchResult, ◌≡◌, ◌≢◌, ◌⊎◌, ◌<◌, ◌≤◌, ◌*◌, ◌+◌, ◌-◌, ◌^◌, ℕ, true, false, OnOk, IsErrOf, IfOk, IfSome, IfNone, OnErr, IsErr, slice_index, slice_set, length};
 ghost use Rattle.cow_pages.specs.PageMap.{IsConsistent, AreChangedParts, DiffersWithin, EndsWith, IsUsedBelow, IsOwn, IsUsedUp, IsIdle, IsChanged, HasMapPage, IsNeeded, IsNextRoot, AreReplaced, HasNoMapRoom};
 ghost use Rattle.cow_pages.specs.Held.{part_of};
+ghost use Rattle.cow_pages.specs.Used.{named, grown};
 
 use crate::open::MAX_ENTRIES;
 use page_allocator::{Full, PageAllocator};
@@ -52,6 +53,13 @@ impl Span {
             to: self.to.max(entry + 1),
         }
     }
+}
+
+// One for an entry that names a page, and nothing for 0.
+fn named_by(entry: u32) -> u32
+    ensures { result ≡ named entry }
+{
+    if entry == 0 { 0 } else { 1 }
 }
 
 // The maps between two calls: the durable root with its map, and the map that the next commit makes
@@ -365,6 +373,21 @@ impl PageMap {
             }
         }
         false
+    }
+
+    // How many more pages are in use in the working map than in the durable one, 0 where they are not more. Outside the span
+    // of what changed they are the same.
+    pub(crate) fn grown_pages(&self) -> u32
+        ensures { result ≡ grown self.now.durable.items self.now.working.items }
+    {
+        let to = self.changed.to.min(MAX_ENTRIES as u32);
+        let mut before = 0;
+        let mut after = 0;
+        for entry in self.changed.from..to {
+            before += named_by(self.durable[entry as usize]);
+            after += named_by(self.working[entry as usize]);
+        }
+        after.saturating_sub(before)
     }
 
     // The map page of the next root at an index: the reserved page, or the durable one.

@@ -14,6 +14,7 @@ use Rattle.store.specs.declared.fault.StoreFault.{StoreFault}
 use Rattle.store.specs.declared.fault.StoreFault.TheVariants.{Full, Memory, Device, Number}
 use Rattle.kv_store.specs.declared.page_store.PageStore.{PageStore}
 use Rattle.kv_store.specs.declared.tree_store.TreeStore.{TreeStore}
+use Rattle.kv_store.specs.declared.reserve.Reserve.{Reserve}
 use Rattle.kv_store.specs.Batches.{CommitsBatch, IsTakenBack}
 use Rattle.kv_store.specs.Contents.{HasContentsWith, LeavesContents, is_journaled}
 use Rattle.kv_store.specs.ContentLaws.{same_parts}
@@ -78,8 +79,8 @@ module _ {D : Type 0} {g : Ghosts D} (present : (device : D) → (g.state device
   left_now contents sound works spelling map x left =
       settled_on (Pages t) x sound works left ∙ ap (λ (c : Contents). Some c) (same_parts (stored (pages_state t)) contents spelling map)
 
-  module _ (changes : Changes) (after : Contents) (sound : (pages_state s).sound) (works : (pages_state s).has_failed ≡ false) where
-    pub at_once_on : (result : Result (Unit {0}) StoreFault) → Commits result after (pages_state s) (pages_state t) → CommitsBatch changes result before after (pages_of s) (pages_of t)
+  module _ (reserve : Reserve) (changes : Changes) (after : Contents) (sound : (pages_state s).sound) (works : (pages_state s).has_failed ≡ false) where
+    pub at_once_on : (result : Result (Unit {0}) StoreFault) → Commits result after (pages_state s) (pages_state t) → CommitsBatch reserve changes result before after (pages_of s) (pages_of t)
         → CommitsAtOnce result after (store_state (Pages s)) (store_state (Pages t))
     at_once_on (Ok x) commits batch =
         let done = (commits.at_once sound works).committed in
@@ -133,11 +134,11 @@ module _ {D : Type 0} {g : Ghosts D} (present : (device : D) → (g.state device
   cause_on (Err Number) cause = cause
 
   -- the commit of a batch
-  pub pages_commits : (changes : Changes) (changed : Contents → Contents) (result : Result (Unit {0}) StoreFault) → Commits result (changed before) (pages_state s) (pages_state t)
-      → CommitsWhole changes changed result s.tree t.tree → IsStill result s.tree t.tree → Commits result (changed before) (store_state (Pages s)) (store_state (Pages t))
-  pages_commits changes changed result commits whole still = record {
+  pub pages_commits : (reserve : Reserve) (changes : Changes) (changed : Contents → Contents) (result : Result (Unit {0}) StoreFault) → Commits result (changed before) (pages_state s) (pages_state t)
+      → CommitsWhole reserve changes changed result s.tree t.tree → IsStill result s.tree t.tree → Commits result (changed before) (store_state (Pages s)) (store_state (Pages t))
+  pages_commits reserve changes changed result commits whole still = record {
     history = record { sound = commits.history.sound; fulls = commits.history.fulls; failures = commits.history.failures; faults = commits.history.faults };
-    at_once = λ sound works. at_once_on changes (changed before) sound works result commits (whole works before (sound.works works));
+    at_once = λ sound works. at_once_on reserve changes (changed before) sound works result commits (whole works before (sound.works works));
     cause = cause_on result commits.cause;
     failed = commits.failed;
     closed = commits.closed;
@@ -145,7 +146,7 @@ module _ {D : Type 0} {g : Ghosts D} (present : (device : D) → (g.state device
   }
 
   -- of the store on a device, where it is this one
-  pub commits_in_pages : (x : DeviceStore D g) → x ≡ Pages s → (changes : Changes) (changed : Contents → Contents) (result : Result (Unit {0}) StoreFault) → Commits result (changed before) (pages_state s) (pages_state t)
-      → CommitsWhole changes changed result s.tree t.tree → IsStill result s.tree t.tree → Commits result (changed (stored (store_state x))) (store_state x) (store_state (Pages t))
-  commits_in_pages x is changes changed result commits whole still =
-      subst (λ (y : DeviceStore D g). Commits result (changed (stored (store_state y))) (store_state y) (store_state (Pages t))) (sym is) (pages_commits changes changed result commits whole still)
+  pub commits_in_pages : (x : DeviceStore D g) → x ≡ Pages s → (reserve : Reserve) (changes : Changes) (changed : Contents → Contents) (result : Result (Unit {0}) StoreFault) → Commits result (changed before) (pages_state s) (pages_state t)
+      → CommitsWhole reserve changes changed result s.tree t.tree → IsStill result s.tree t.tree → Commits result (changed (stored (store_state x))) (store_state x) (store_state (Pages t))
+  commits_in_pages x is reserve changes changed result commits whole still =
+      subst (λ (y : DeviceStore D g). Commits result (changed (stored (store_state y))) (store_state y) (store_state (Pages t))) (sym is) (pages_commits reserve changes changed result commits whole still)

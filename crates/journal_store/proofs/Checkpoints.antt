@@ -20,6 +20,7 @@ use Rattle.store.specs.declared.fault.StoreFault.{StoreFault}
 use Rattle.store.specs.declared.fault.StoreFault.TheVariants.{Full, Memory, Device, Number}
 use Rattle.transactions.specs.Views.{applied_all}
 use Rattle.cow_pages.specs.declared.cow.CowPages.{CowPages}
+use Rattle.kv_store.specs.declared.reserve.Reserve.{Reserve}
 use Rattle.kv_store.specs.Batches.{CommitsBatch, IsTakenBack, HadNoRoom}
 use Rattle.kv_store.specs.Contents.{HoldsContents}
 use Rattle.kv_store.specs.ContentLaws.{same_parts}
@@ -37,11 +38,11 @@ use Rattle.journal_store.proofs.Numbers.{under_next}
 use Rattle.journal_store.proofs.Records.{both}
 
 -- a commit to the pages found no room
-pub full_where : {D : Type 0} {g : Ghosts D} (fault : StoreFault) (changes : Changes) (before after : Contents) (old new : CowPages D g) → fault ≡ Full → CommitsBatch changes (Err fault) before after old new → HadNoRoom changes before.records old
-full_where Full changes before after old new is commits = commits.outcome.0
-full_where Memory changes before after old new is commits = absurd cc
-full_where Device changes before after old new is commits = absurd cc
-full_where Number changes before after old new is commits = absurd cc
+pub full_where : {D : Type 0} {g : Ghosts D} (reserve : Reserve) (fault : StoreFault) (changes : Changes) (before after : Contents) (old new : CowPages D g) → fault ≡ Full → CommitsBatch reserve changes (Err fault) before after old new → HadNoRoom reserve changes before.records old
+full_where reserve Full changes before after old new is commits = commits.outcome.0
+full_where reserve Memory changes before after old new is commits = absurd cc
+full_where reserve Device changes before after old new is commits = absurd cc
+full_where reserve Number changes before after old new is commits = absurd cc
 
 -- where no more is said of the present than what a stop may leave, time that passes is a run
 pub passes_leaves : {X : Type 0} (P : X → Type 0) (old new : Timeline X) → IsPresent old → Implies old.left P → Passes P old new → LeavesOnly P old new
@@ -173,7 +174,7 @@ module _ {D : Type 0} {g : Ghosts D} (present : (device : D) → (g.state device
   -- all is committed
   module _ (waiting : t.waiting ≡ []) (ends : t.end ≡ 0) (commits : Commits (Ok tt) (changed_by_batch joined (base_of s)) (store_state s.store) (store_state t.store)) (anew : root_number t ≡ root_number s + 1)
       (numbered : (contents : Contents) → HoldsContents contents (pages_of s.store) → LeavesEither contents (changed_by_batch joined contents) (pages_of s.store) (pages_of t.store))
-      (whole : (contents : Contents) → HoldsContents contents (pages_of s.store) → CommitsBatch joined (Ok tt) contents (changed_by_batch joined contents) (pages_of s.store) (pages_of t.store)) where
+      (reserve : Reserve) (whole : (contents : Contents) → HoldsContents contents (pages_of s.store) → CommitsBatch reserve joined (Ok tt) contents (changed_by_batch joined contents) (pages_of s.store) (pages_of t.store)) where
     base_after : (sound : IsSoundJournal s) → base_of t ≡ changed_by_batch joined (base_of s)
     base_after sound = contents_are (changed_by_batch joined (base_of s)) (pages_of t.store) (whole (base_of s) (held s sound works)).outcome.holds
 
@@ -274,11 +275,11 @@ module _ {D : Type 0} {g : Ghosts D} (present : (device : D) → (g.state device
       left_back pages still x left = settled t (sound_back pages) still x left ∙ ap (λ (c : Contents). Some c) stored_back
 
     -- by the fault
-    pub not_checkpointed : (fault : StoreFault) → s.top < 2 ^ 64 → Commits (Err fault) (changed_by_batch joined (base_of s)) (store_state s.store) (store_state t.store)
+    pub not_checkpointed : (reserve : Reserve) (fault : StoreFault) → s.top < 2 ^ 64 → Commits (Err fault) (changed_by_batch joined (base_of s)) (store_state s.store) (store_state t.store)
         → ((contents : Contents) → HoldsContents contents (pages_of s.store) → LeavesNumbered (Err fault) contents (changed_by_batch joined contents) (pages_of s.store) (pages_of t.store))
-        → ((contents : Contents) → HoldsContents contents (pages_of s.store) → CommitsBatch joined (Err fault) contents (changed_by_batch joined contents) (pages_of s.store) (pages_of t.store))
+        → ((contents : Contents) → HoldsContents contents (pages_of s.store) → CommitsBatch reserve joined (Err fault) contents (changed_by_batch joined contents) (pages_of s.store) (pages_of t.store))
         → Commits (Err fault) after (journal_state s) (journal_state t)
-    not_checkpointed Full fits commits numbered whole = record {
+    not_checkpointed reserve Full fits commits numbered whole = record {
       history = record { sound = λ sound. sound_back sound (whole (base_of s) (held s sound works)).outcome.1 (commits.history.sound sound.pages); fulls = commits.history.fulls; failures = commits.history.failures; faults = commits.history.faults };
       at_once = λ sound worked.
           let back = (whole (base_of s) (held s sound works)).outcome.1 in
@@ -288,7 +289,7 @@ module _ {D : Type 0} {g : Ghosts D} (present : (device : D) → (g.state device
       closed = λ had. absurd (false≢true (sym works ∙ had));
       still = λ sound had. absurd (false≢true (sym works ∙ had));
     }
-    not_checkpointed Memory fits commits numbered whole = record {
+    not_checkpointed reserve Memory fits commits numbered whole = record {
       history = record { sound = λ sound. sound_back sound (whole (base_of s) (held s sound works)).outcome (commits.history.sound sound.pages); fulls = commits.history.fulls; failures = commits.history.failures; faults = commits.history.faults };
       at_once = λ sound worked.
           let back = (whole (base_of s) (held s sound works)).outcome in
@@ -298,7 +299,7 @@ module _ {D : Type 0} {g : Ghosts D} (present : (device : D) → (g.state device
       closed = λ had. absurd (false≢true (sym works ∙ had));
       still = λ sound had. absurd (false≢true (sym works ∙ had));
     }
-    not_checkpointed Device fits commits numbered whole = record {
+    not_checkpointed reserve Device fits commits numbered whole = record {
       history = record { sound = λ sound. record { pages = commits.history.sound sound.pages; works = λ is. absurd (false≢true (sym is ∙ commits.failed)) }; fulls = commits.history.fulls; failures = commits.history.failures; faults = commits.history.faults };
       at_once = λ sound worked.
           let leaves = leaves_either sound (ap (λ (r : RootFields). r.pages) (whole (base_of s) (held s sound works)).outcome.keeps.root) (numbered (base_of s) (held s sound works)) in
@@ -308,7 +309,7 @@ module _ {D : Type 0} {g : Ghosts D} (present : (device : D) → (g.state device
       closed = λ had. refl;
       still = λ sound had. absurd (false≢true (sym works ∙ had));
     }
-    not_checkpointed Number fits commits numbered whole = record {
+    not_checkpointed reserve Number fits commits numbered whole = record {
       history = record { sound = λ sound. sound_back sound (whole (base_of s) (held s sound works)).outcome.1 (commits.history.sound sound.pages); fulls = commits.history.fulls; failures = commits.history.failures; faults = commits.history.faults };
       at_once = λ sound worked.
           let back = (whole (base_of s) (held s sound works)).outcome.1 in

@@ -4,6 +4,8 @@ use Rattle.sector_device.specs.declared.device.Device.{Ghosts}
 use Rattle.cow_pages.specs.Free.{HasFreePages}
 use Rattle.store.specs.Records.{Records, Changes, IsOrdered, applied}
 use Rattle.transactions.specs.Views.{applied_all}
+use Rattle.kv_store.specs.declared.reserve.Reserve.{Reserve}
+use Rattle.kv_store.specs.declared.reserve.Reserve.TheVariants.{Kept, Open}
 use Rattle.kv_store.specs.Batches.{HadNoRoom, most_taken}
 use Rattle.kv_store.specs.TreeStore.{pages_of}
 use Rattle.journal_store.specs.declared.stores.JournalStore.{JournalStore}
@@ -32,8 +34,14 @@ pub record HasRoomFor {D : Type 0} {g : Ghosts D} (changes : ℕ) (s : JournalSt
   pub free_is : HasFreePages free (pages_of s.store)
   pub enough : AreEnough ((device_under s).sectors / 8) free changes
 
+-- What waits may take the reserve by itself, so that it can be committed to the pages: a record is made only where these have room
+-- for it. With a batch behind it the reserve is kept.
+abbrev pub reserve_for : Changes → Reserve
+reserve_for [] = Open
+reserve_for (c ∷ cs) = Kept
+
 -- the pages had no room for these changes: all that waited, and then those of a batch
 pub record HadNoRoomFor {D : Type 0} {g : Ghosts D} (batch : Changes) (s : JournalStore D g) : Type 0 where
   pub changes : Changes
   pub all : (es : Records) → IsOrdered es → applied changes es ≡ applied batch (applied_all s.waiting es)
-  pub none : HadNoRoom changes (base_of s).records (pages_of s.store)
+  pub none : HadNoRoom (reserve_for batch) changes (base_of s).records (pages_of s.store)

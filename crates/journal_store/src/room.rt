@@ -1,13 +1,25 @@
 //! Whether the pages have room for what waits, and for a batch behind it.
 ghost use Rattle.std.specs.Prelude.{◌≡◌, ◌+◌, IsTrue, IfSome, length};
-ghost use Rattle.journal_store.specs.Room.{changes_in, AreEnough, HasRoomFor};
+ghost use Rattle.journal_store.specs.Room.{changes_in, reserve_for, AreEnough, HasRoomFor};
 
 use crate::stores::JournalStore;
+use kv_store::Reserve;
 use sector_device::{Device, SECTORS_PER_PAGE};
 use store::Batch;
 
 // The pages whose entries one map page has.
 const PAGES_PER_MAP_PAGE: u32 = 1_024;
+
+// Whether a commit to the pages of what waits and a batch keeps the reserve. What waits may take it by itself.
+pub(crate) fn reserve_with(batch: &Batch) -> Reserve
+    ensures { result ≡ reserve_for batch.now }
+{
+    if batch.is_empty() {
+        Reserve::Open
+    } else {
+        Reserve::Kept
+    }
+}
 
 // What is left of so many changes after those of a batch, or `None` where the batch has more.
 fn left_after(most: usize, batch: &Batch) -> Option<usize>

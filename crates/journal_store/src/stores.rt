@@ -5,8 +5,9 @@ ghost use Rattle.kv_store.specs.Contents.{is_journaled};
 ghost use Rattle.kv_store.specs.TreeStore.{pages_of};
 
 use crate::devices::JournalDevice;
+use crate::room::reserve_with;
 use journal_records::write_sectors;
-use kv_store::TreeStore;
+use kv_store::{Reserve, TreeStore};
 use sector_device::Device;
 use sql_types::try_copy::TryCopy;
 use std::alloc::{AllocError, Global};
@@ -93,7 +94,8 @@ impl<D: JournalDevice> JournalStore<D> {
     ghost use Rattle.store.specs.Contents.{changed_by_batch};
     ghost use Rattle.store.specs.Store.{Commits, stored};
     ghost use Rattle.journal_records.specs.Changes.{Spells};
-    ghost use Rattle.journal_store.specs.Room.{changes_in, HasRoomFor, HadNoRoomFor};
+    ghost use Rattle.kv_store.specs.Reserve.{KeepsReserve};
+    ghost use Rattle.journal_store.specs.Room.{changes_in, reserve_for, HasRoomFor, HadNoRoomFor};
     ghost use Rattle.journal_store.specs.Stores.{journal_state, end_of_records, root_number, base_of, device_under, IsSoundJournal};
 
     /// Commits a batch as the record of the next number, whose parts have these bytes, with one sync. A stop at any moment
@@ -140,8 +142,8 @@ impl<D: JournalDevice> JournalStore<D> {
         Ok(joined)
     }
 
-    // Commits to the pages these changes, which are all that waits and a batch.
-    fn commit_joined(&mut self, joined: &Batch) -> Result<(), StoreFault>
+    // Commits to the pages these changes, which are all that waits and a batch, and keeps the reserve or may take it.
+    fn commit_joined(&mut self, joined: &Batch, reserve: Reserve) -> Result<(), StoreFault>
         requires { (journal_state self.old).has_failed ≡ false }
         ensures commits { (batch : Changes) → ((es : Records) → IsOrdered es
             → applied joined.now es ≡ applied batch (applied_all self.old.waiting es))
@@ -152,10 +154,12 @@ impl<D: JournalDevice> JournalStore<D> {
         ensures cleared { OnOk result (self.new.waiting ≡ []) }
         ensures history { KeepsHistory (device_under self.old) (device_under self.new) }
         ensures room { IsSoundJournal self.old → result ≡ Err StoreFault.Full
-            → HadNoRoom joined.now (base_of self.old).records (pages_of self.old.store) }
+            → HadNoRoom reserve joined.now (base_of self.old).records (pages_of self.old.store) }
+        ensures spares { IsSoundJournal self.old
+            → OnOk result (KeepsReserve reserve (pages_of self.old.store) (pages_of self.new.store)) }
     {
         let _top = self.top;
-        match self.store.checkpoint(joined) {
+        match self.store.checkpoint(joined, reserve) {
             Ok(()) => {
                 self.waiting = ChangeLists::new(self.alloc);
                 self.end = 0;
@@ -168,7 +172,8 @@ impl<D: JournalDevice> JournalStore<D> {
     /// Commits all that waits and a batch to the pages, under the next root, behind which the journal has no record. A stop
     /// at any moment leaves the contents before the batch or those after it, and from `Ok` on those after it alone. After a
     /// fault that is not Device nothing has changed, and what waits waits still. With `Ok` nothing waits. The sectors beside are
-    /// left alone. Full: the pages had no room for all of it at once. Number: no number is left. Memory: an allocation failed.
+    /// left alone. Full: the pages had no room for all of it at once, or, with a batch that changes something, none beside the
+    /// reserve: what waits by itself may take that. Number: no number is left. Memory: an allocation failed.
     /// Device: the device failed.
     pub fn checkpoint(&mut self, batch: &Batch) -> Result<(), StoreFault>
         requires { (journal_state self.old).has_failed ≡ false }
@@ -180,13 +185,16 @@ impl<D: JournalDevice> JournalStore<D> {
         ensures history { KeepsHistory (device_under self.old) (device_under self.new) }
         ensures room { IsSoundJournal self.old → result ≡ Err StoreFault.Full
             → HadNoRoomFor batch.now self.old }
+        ensures spares { IsSoundJournal self.old → OnOk result (KeepsReserve (reserve_for batch.now)
+            (pages_of self.old.store) (pages_of self.new.store)) }
     {
+        let reserve = reserve_with(batch);
         if self.waiting.is_empty() {
-            return self.commit_joined(batch);
+            return self.commit_joined(batch, reserve);
         }
         let Ok(joined) = self.joined_with(batch) else {
             return Err(StoreFault::Memory);
         };
-        self.commit_joined(&joined)
+        self.commit_joined(&joined, reserve)
     }
 }

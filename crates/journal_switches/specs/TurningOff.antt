@@ -9,6 +9,7 @@ use Rattle.store.specs.Contents.{changed_by_batch}
 use Rattle.store.specs.Records.{Changes}
 use Rattle.store.specs.Store.{Contents}
 use Rattle.store.specs.declared.fault.StoreFault.TheVariants.{Full, Memory, Device, Number}
+use Rattle.kv_store.specs.declared.reserve.Reserve.TheVariants.{Open}
 use Rattle.kv_store.specs.Batches.{HadNoRoom}
 use Rattle.kv_store.specs.Contents.{HoldsContents}
 use Rattle.kv_store.specs.Numbered.{HasContentsUnder}
@@ -57,7 +58,7 @@ pub record HadNoRoomForWaiting {D : Type 0} (g : Ghosts D) (contents : Contents)
   pub holds : HoldsContents base pages
   pub waiting : Changes
   pub made : contents ≡ changed_by_batch waiting base
-  pub none : HadNoRoom waiting base.records pages
+  pub none : HadNoRoom Open waiting base.records pages
 
 -- once what waited was in the pages, these had no room for a map page
 pub record HadNoMapRoomThen {D : Type 0} (g : Ghosts D) (contents : Contents) (d : DeviceState) : Type 0 where

@@ -23,9 +23,12 @@ use Rattle.page_tree.proofs.Represented.{one_map, map_of_same, root_used}
 use Rattle.store.specs.Store.{Contents}
 use Rattle.store.specs.declared.fault.StoreFault.{StoreFault}
 use Rattle.store.specs.declared.fault.StoreFault.TheVariants.{Full, Memory, Device, Number}
+use Rattle.kv_store.specs.declared.reserve.Reserve.{Reserve}
 use Rattle.kv_store.specs.Contents.{HasContentsWith, HoldsContents, LeavesContents, is_journaled}
 use Rattle.kv_store.specs.ContentLaws.{same_parts}
 use Rattle.kv_store.specs.Batches.{applied_in_turn, KeepsDurable, IsGivenUp, IsLost, CannotFinish, IsBatchCommitted, IsTakenBack, CannotCommitBatch}
+use Rattle.kv_store.specs.Reserve.{KeepsReserve}
+use Rattle.kv_store.proofs.Sparing.{no_map_room}
 
 module _ {D : Type 0} {g : Ghosts D} (before after : Contents) (old mid : CowPages D g) where
   abbrev Either : Image → Type 0
@@ -178,8 +181,8 @@ module _ {D : Type 0} {g : Ghosts D} (before : Contents) (old mid : CowPages D g
       | inr rise ↦ omega (arith, rise, same_root)
     ]
 
-    pub committed : IsCommitted next mid new → IsBatchCommitted before after old new
-    committed is =
+    pub committed : (reserve : Reserve) → KeepsReserve reserve old new → IsCommitted next mid new → IsBatchCommitted reserve before after old new
+    committed reserve spares is =
         let durable = is.durable opened in
         record {
           holds = record {
@@ -193,14 +196,16 @@ module _ {D : Type 0} {g : Ghosts D} (before : Contents) (old mid : CowPages D g
           not_back = (number_is durable.numbered).0;
           by_one = (number_is durable.numbered).1;
           rises = rises_by_one durable.is_open durable.durable durable.numbered;
+          spares = spares;
         }
 
-    pub cannot_commit : (changes : Changes) → Represents (applied_in_turn changes before.records) (working_array mid) → KeepsHistory (device_below mid) (device_below new) → (fault : StoreFault) → CannotFinish fault mid new → CannotCommitBatch fault changes before old new
-    cannot_commit changes stand history Full is = (inr (record { mid = mid; preserved = preserved; holds = stand; few = is.0 }), taken_back new is.1)
-    cannot_commit changes stand history Memory is = absurd is
-    cannot_commit changes stand history Device is = record {
+    pub cannot_commit : (reserve : Reserve) (changes : Changes) → Represents (applied_in_turn changes before.records) (working_array mid) → KeepsHistory (device_below mid) (device_below new) → (fault : StoreFault) → CannotFinish fault mid new → CannotCommitBatch reserve fault changes before old new
+    cannot_commit reserve changes stand history Full is =
+        (no_map_room reserve changes before.records old (record { mid = mid; preserved = preserved; holds = stand; few = is.0 }), taken_back new is.1)
+    cannot_commit reserve changes stand history Memory is = absurd is
+    cannot_commit reserve changes stand history Device is = record {
       has_failed = is.has_failed;
       cause = failed_later (device_below old) (device_below mid) (device_below new) preserved.preserved.history history is.cause;
       keeps = kept_on new is.keeps;
     }
-    cannot_commit changes stand history Number is = (sym same_root ∙ is.0, taken_back new is.1)
+    cannot_commit reserve changes stand history Number is = (sym same_root ∙ is.0, taken_back new is.1)

@@ -18,6 +18,7 @@ use Rattle.store.specs.Store.{Contents, Rose, KeepsHistory, IsUnchanged, MayLeav
 use Rattle.store.specs.declared.fault.StoreFault.{StoreFault}
 use Rattle.store.specs.declared.fault.StoreFault.TheVariants.{Full, Memory, Device, Number}
 use Rattle.kv_store.specs.declared.tree_store.TreeStore.{TreeStore}
+use Rattle.kv_store.specs.declared.reserve.Reserve.{Reserve}
 use Rattle.kv_store.specs.Contents.{IsReadWith, HoldsContents, LeavesContents, contents_of, is_journaled}
 use Rattle.kv_store.specs.ContentLaws.{read_with, read_either}
 use Rattle.kv_store.specs.Batches.{IsLost, IsTakenBack, CommitsBatch}
@@ -86,8 +87,8 @@ module _ {D : Type 0} {g : Ghosts D} (present : (device : D) → (g.state device
     keeps sound = record { sound = sound; fulls = fulls; failures = failures; faults = history.failures }
 
     -- all is committed
-    pub all_committed : (changes : Changes) → new.has_failed ≡ false → (IsSoundStore old → CommitsBatch changes (Ok tt) before after old.pages.below new.pages.below) → Commits (Ok tt) after (store_state old) (store_state new)
-    all_committed changes works batch = record {
+    pub all_committed : (reserve : Reserve) (changes : Changes) → new.has_failed ≡ false → (IsSoundStore old → CommitsBatch reserve changes (Ok tt) before after old.pages.below new.pages.below) → Commits (Ok tt) after (store_state old) (store_state new)
+    all_committed reserve changes works batch = record {
       history = keeps (λ sound. holds_sound after new (batch sound).outcome.holds (forgot (contents_of new.pages.below).records));
       at_once = λ sound still.
           let done = batch sound in
@@ -120,9 +121,9 @@ module _ {D : Type 0} {g : Ghosts D} (present : (device : D) → (g.state device
       place = forgot (contents_of new.pages.below).records;
     }
 
-    pub none_committed : (changes : Changes) (fault : StoreFault) → RefusesCommit fault old new → (fault ≡ Number → (root_of old.pages.below).number ≡ 2 ^ 64 - 1)
-        → (IsSoundStore old → CommitsBatch changes (Err fault) before after old.pages.below new.pages.below) → Commits (Err fault) after (store_state old) (store_state new)
-    none_committed changes Full counted number batch = record {
+    pub none_committed : (reserve : Reserve) (changes : Changes) (fault : StoreFault) → RefusesCommit fault old new → (fault ≡ Number → (root_of old.pages.below).number ≡ 2 ^ 64 - 1)
+        → (IsSoundStore old → CommitsBatch reserve changes (Err fault) before after old.pages.below new.pages.below) → Commits (Err fault) after (store_state old) (store_state new)
+    none_committed reserve changes Full counted number batch = record {
       history = keeps (λ sound. holds_sound before new (batch sound).outcome.1.holds (forgot (contents_of new.pages.below).records));
       at_once = λ sound still.
           let back = (batch sound).outcome.1 in
@@ -132,7 +133,7 @@ module _ {D : Type 0} {g : Ghosts D} (present : (device : D) → (g.state device
       closed = λ had. absurd (false≢true (sym worked ∙ had));
       still = λ sound had. absurd (false≢true (sym worked ∙ had));
     }
-    none_committed changes Memory counted number batch = record {
+    none_committed reserve changes Memory counted number batch = record {
       history = keeps (λ sound. holds_sound before new (batch sound).outcome.holds (forgot (contents_of new.pages.below).records));
       at_once = λ sound still.
           let back = (batch sound).outcome in
@@ -142,7 +143,7 @@ module _ {D : Type 0} {g : Ghosts D} (present : (device : D) → (g.state device
       closed = λ had. absurd (false≢true (sym worked ∙ had));
       still = λ sound had. absurd (false≢true (sym worked ∙ had));
     }
-    none_committed changes Device counted number batch = record {
+    none_committed reserve changes Device counted number batch = record {
       history = keeps (λ sound. lost_sound sound (batch sound).outcome counted.failed);
       at_once = λ sound still.
           let done = batch sound in
@@ -158,7 +159,7 @@ module _ {D : Type 0} {g : Ghosts D} (present : (device : D) → (g.state device
       closed = λ had. refl;
       still = λ sound had. absurd (false≢true (sym worked ∙ had));
     }
-    none_committed changes Number counted number batch = record {
+    none_committed reserve changes Number counted number batch = record {
       history = keeps (λ sound. holds_sound before new (batch sound).outcome.1.holds (forgot (contents_of new.pages.below).records));
       at_once = λ sound still.
           let back = (batch sound).outcome.1 in

@@ -12,10 +12,12 @@ use Rattle.store.specs.Store.{Contents}
 use Rattle.store.specs.declared.fault.StoreFault.{StoreFault}
 use Rattle.store.specs.declared.fault.StoreFault.TheVariants.{Full, Memory, Device, Number}
 use Rattle.kv_store.specs.declared.tree_store.TreeStore.{TreeStore}
+use Rattle.kv_store.specs.declared.reserve.Reserve.{Reserve}
 use Rattle.kv_store.specs.Contents.{HoldsContents}
 use Rattle.kv_store.specs.Batches.{CommitsBatch}
 use Rattle.kv_store.specs.TreeStore.{CountsNothing, CountsRefusal, CountsAlone, CountsRead}
 use Rattle.kv_store.proofs.Batches.{leaves_before}
+use Rattle.kv_store.proofs.Sparing.{none_taken}
 
 -- an entry was copied, or memory was refused
 pub copy_counts : {D : Type 0} {g : Ghosts D} (result : Result Bool StoreFault) (old new : TreeStore D g) → OnErr result (result ≡ Err Memory) → CountsNothing old new → CountsRead result old new
@@ -44,9 +46,9 @@ alone_counts {D} {g} Device mid old new fulls failures is = is ∙ fulls
 alone_counts {D} {g} Number mid old new fulls failures is = record { fulls = is.fulls ∙ fulls; failures = is.failures ∙ failures }
 
 -- nothing is to be committed
-pub nothing_committed : {D : Type 0} {g : Ghosts D} → ((device : D) → (g.state device).faithful → IsPresent (timeline (g.state device))) → (changes : Changes) (contents after : Contents) (p : CowPages D g) → after ≡ contents → HoldsContents contents p
-    → CommitsBatch changes (Ok tt) contents after p p
-nothing_committed {D} {g} present changes contents after p same holds = subst (λ (c : Contents). CommitsBatch changes (Ok tt) contents c p p) (sym same) (record {
+pub nothing_committed : {D : Type 0} {g : Ghosts D} → ((device : D) → (g.state device).faithful → IsPresent (timeline (g.state device))) → (reserve : Reserve) (changes : Changes) (contents after : Contents) (p : CowPages D g) → after ≡ contents → HoldsContents contents p
+    → CommitsBatch reserve changes (Ok tt) contents after p p
+nothing_committed {D} {g} present reserve changes contents after p same holds = subst (λ (c : Contents). CommitsBatch reserve changes (Ok tt) contents c p p) (sym same) (record {
   leaves = leaves_before contents contents p p holds (open_holds p (present p.device holds.is_open.faithful) holds.is_open).now;
-  outcome = record { holds = holds; pages = refl; kind = refl; not_back = omega arith; by_one = omega arith; rises = λ differs. absurd (differs refl) };
+  outcome = record { holds = holds; pages = refl; kind = refl; not_back = omega arith; by_one = omega arith; rises = λ differs. absurd (differs refl); spares = none_taken reserve p };
 })

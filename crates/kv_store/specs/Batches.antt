@@ -6,16 +6,21 @@ use Rattle.page_roots.specs.declared.format.Format.{Format}
 use Rattle.pages.specs.declared.array.PageFault.{PageFault}
 use Rattle.pages.specs.declared.array.PageFault.TheVariants.{Full as NoPage}
 use Rattle.cow_pages.specs.declared.cow.CowPages.{CowPages}
-use Rattle.cow_pages.specs.Cow.{device_below, root_of, has_failed, durable_array, working_array, IsOpen, LeavesBeforeOrAfter, HasFewerFree, HasNoRoomForMaps}
+use Rattle.cow_pages.specs.Cow.{device_below, root_of, has_failed, durable_array, working_array, durable_map, working_map, IsOpen, LeavesBeforeOrAfter, HasFewerFree, HasNoRoomForMaps}
 use Rattle.cow_pages.specs.Calls.{IsCommitted}
 use Rattle.cow_pages.specs.Preserved.{IsPreserved, FailedWith}
+use Rattle.cow_pages.specs.Free.{HasFreePages}
+use Rattle.cow_pages.specs.Used.{grown}
 use Rattle.page_tree.specs.Forest.{Represents}
 use Rattle.page_tree.specs.Calls.{IsCaused}
 use Rattle.store.specs.Records.{Records, Changes, changed}
 use Rattle.store.specs.Store.{Contents}
 use Rattle.store.specs.declared.fault.StoreFault.{StoreFault}
 use Rattle.store.specs.declared.fault.StoreFault.TheVariants.{Full, Memory, Device, Number}
+use Rattle.kv_store.specs.declared.reserve.Reserve.{Reserve}
+use Rattle.kv_store.specs.declared.reserve.Reserve.TheVariants.{Kept, Open}
 use Rattle.kv_store.specs.Contents.{HoldsContents, LeavesContents, is_journaled}
+use Rattle.kv_store.specs.Reserve.{TakesReserve, KeepsReserve}
 
 -- the records after these changes, the first of them first
 abbrev pub applied_in_turn : Changes → Records → Records
@@ -60,14 +65,15 @@ pub record Finishes {D : Type 0} {g : Ghosts D} (next : Format) (result : Result
   pub outcome : MatchResult result (λ _. IsCommitted next old new) (λ fault. CannotFinish fault old new)
 
 -- These are the contents now, and the root says of a journal what it said. Its number has risen by one at most: by exactly one
--- where the contents changed.
-pub record IsBatchCommitted {D : Type 0} {g : Ghosts D} (before after : Contents) (old new : CowPages D g) : Type 0 where
+-- where the contents changed. The reserve is free where it was to be kept and more pages are in use.
+pub record IsBatchCommitted {D : Type 0} {g : Ghosts D} (reserve : Reserve) (before after : Contents) (old new : CowPages D g) : Type 0 where
   pub holds : HoldsContents after new
   pub pages : (root_of new).pages ≡ (root_of old).pages
   pub kind : is_journaled new ≡ is_journaled old
   pub not_back : (root_of old).number ≤ (root_of new).number
   pub by_one : (root_of new).number ≤ (root_of old).number + 1
   pub rises : before ≢ after → (root_of new).number ≡ (root_of old).number + 1
+  pub spares : KeepsReserve reserve old new
 
 -- nothing is committed: a stop leaves the contents as they were, and the pages hold them under the same root
 pub record IsTakenBack {D : Type 0} {g : Ghosts D} (before : Contents) (old new : CowPages D g) : Type 0 where
@@ -98,9 +104,19 @@ pub record LacksRoomForMaps {D : Type 0} {g : Ghosts D} (changes : Changes) (rec
   pub holds : Represents (applied_in_turn changes records) (working_array mid)
   pub few : HasNoRoomForMaps mid
 
--- too few pages were free for the changes, or for the map of what they made
-abbrev pub HadNoRoom : {D : Type 0} {g : Ghosts D} → Changes → Records → CowPages D g → Type 0
-HadNoRoom changes records old = LacksRoom changes records old ⊎ LacksRoomForMaps changes records old
+-- All of them were made, and more pages were in use than before: so many that some of the reserve was taken.
+pub record LacksReserve {D : Type 0} {g : Ghosts D} (changes : Changes) (records : Records) (old : CowPages D g) : Type 0 where
+  pub mid : CowPages D g
+  pub preserved : IsPreserved old mid
+  pub holds : Represents (applied_in_turn changes records) (working_array mid)
+  pub free : ℕ
+  pub free_is : HasFreePages free old
+  pub takes : TakesReserve (root_of old).pages free (grown (durable_map mid) (working_map mid))
+
+-- too few pages were free for the changes, or for the map of what they made, or beside them for a reserve that was to be kept
+abbrev pub HadNoRoom : {D : Type 0} {g : Ghosts D} → Reserve → Changes → Records → CowPages D g → Type 0
+HadNoRoom Kept changes records old = LacksRoom changes records old ⊎ (LacksRoomForMaps changes records old ⊎ LacksReserve changes records old)
+HadNoRoom Open changes records old = LacksRoom changes records old ⊎ LacksRoomForMaps changes records old
 
 -- where changes of the working array find no page left, too few were free for one of them
 abbrev pub IsFullFor : {D : Type 0} {g : Ghosts D} → Changes → Result (Unit {0}) PageFault → CowPages D g → Type 0
@@ -108,13 +124,13 @@ IsFullFor changes result old =
     (device_below old).faithful → (records : Records) → Represents records (working_array old)
     → IfErr result (λ fault. fault ≡ NoPage → LacksRoom changes records old)
 
-abbrev pub CannotCommitBatch : {D : Type 0} {g : Ghosts D} → StoreFault → Changes → Contents → CowPages D g → CowPages D g → Type 0
-CannotCommitBatch Full changes before old new = HadNoRoom changes before.records old × IsTakenBack before old new
-CannotCommitBatch Memory changes before old new = IsTakenBack before old new
-CannotCommitBatch Device changes before old new = IsLost old new
-CannotCommitBatch Number changes before old new = ((root_of old).number ≡ 2 ^ 64 - 1) × IsTakenBack before old new
+abbrev pub CannotCommitBatch : {D : Type 0} {g : Ghosts D} → Reserve → StoreFault → Changes → Contents → CowPages D g → CowPages D g → Type 0
+CannotCommitBatch reserve Full changes before old new = HadNoRoom reserve changes before.records old × IsTakenBack before old new
+CannotCommitBatch reserve Memory changes before old new = IsTakenBack before old new
+CannotCommitBatch reserve Device changes before old new = IsLost old new
+CannotCommitBatch reserve Number changes before old new = ((root_of old).number ≡ 2 ^ 64 - 1) × IsTakenBack before old new
 
 -- all of these changes are committed or nothing of them, whenever a stop comes
-pub record CommitsBatch {D : Type 0} {g : Ghosts D} (changes : Changes) (result : Result (Unit {0}) StoreFault) (before after : Contents) (old new : CowPages D g) : Type 0 where
+pub record CommitsBatch {D : Type 0} {g : Ghosts D} (reserve : Reserve) (changes : Changes) (result : Result (Unit {0}) StoreFault) (before after : Contents) (old new : CowPages D g) : Type 0 where
   pub leaves : LeavesContents before after old new
-  pub outcome : MatchResult result (λ _. IsBatchCommitted before after old new) (λ fault. CannotCommitBatch fault changes before old new)
+  pub outcome : MatchResult result (λ _. IsBatchCommitted reserve before after old new) (λ fault. CannotCommitBatch reserve fault changes before old new)

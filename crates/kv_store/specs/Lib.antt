@@ -1,5 +1,6 @@
 pub mod Contents
 pub mod ContentLaws
+pub mod Reserve
 pub mod Batches
 pub mod Numbered
 pub mod Switches

@@ -14,6 +14,7 @@ use Rattle.store.specs.Store.{Contents, StoreState, Rose}
 use Rattle.store.specs.declared.fault.StoreFault.{StoreFault}
 use Rattle.store.specs.declared.fault.StoreFault.TheVariants.{Full, Memory, Device, Number}
 use Rattle.kv_store.specs.declared.tree_store.TreeStore.{TreeStore}
+use Rattle.kv_store.specs.declared.reserve.Reserve.{Reserve}
 use Rattle.kv_store.specs.Batches.{CommitsBatch}
 use Rattle.kv_store.specs.Contents.{IsReadWith, HoldsContents, contents_of, is_journaled}
 
@@ -104,6 +105,6 @@ abbrev pub IsStill : {D : Type 0} {g : Ghosts D} {T : Type 0} → Result T Store
 IsStill result old new = old.has_failed ≡ true → (result ≡ Err Device) × (new ≡ old)
 
 -- all of these changes, which change contents so, are committed to the pages or nothing of them, if they held contents
-abbrev pub CommitsWhole : {D : Type 0} {g : Ghosts D} → Changes → (Contents → Contents) → Result (Unit {0}) StoreFault → TreeStore D g → TreeStore D g → Type 0
-CommitsWhole changes changed result old new = old.has_failed ≡ false
-    → (contents : Contents) → HoldsContents contents (pages_of old) → CommitsBatch changes result contents (changed contents) (pages_of old) (pages_of new)
+abbrev pub CommitsWhole : {D : Type 0} {g : Ghosts D} → Reserve → Changes → (Contents → Contents) → Result (Unit {0}) StoreFault → TreeStore D g → TreeStore D g → Type 0
+CommitsWhole reserve changes changed result old new = old.has_failed ≡ false
+    → (contents : Contents) → HoldsContents contents (pages_of old) → CommitsBatch reserve changes result contents (changed contents) (pages_of old) (pages_of new)

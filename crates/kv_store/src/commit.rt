@@ -15,6 +15,7 @@ ghost use Rattle.kv_store.specs.Batches.{MakesChanges, IsFullFor, Finishes, Comm
 ghost use Rattle.kv_store.specs.Numbered.{LeavesNumbered};
 ghost use Rattle.kv_store.specs.Switches.{IsAnew, KeepsKind};
 
+use crate::reserve::{Reserve, may_commit};
 use cow_pages::{CommitFault, CowPages, Format, PageFault, preserved_stays};
 use page_tree::{Scratch, change_first};
 use sector_device::Device;
@@ -112,13 +113,15 @@ pub(crate) fn finish<D: Device>(
     }
 }
 
-// Commits all changes of a batch, in this format, or none of them. Over pages that hold no map nothing is said of the answer, but that
-// Number comes at the last number alone, and that the root says of a journal what it said.
+// Commits all changes of a batch, in this format, or none of them. A batch that is to keep the reserve is Full where it would take
+// some of it. Over pages that hold no map nothing is said of the answer, but that Number comes at the last number alone, and that the
+// root says of a journal what it said.
 pub(crate) fn commit_batch<D: Device>(
     pages: &mut CowPages<D>,
     scratch: &mut Scratch,
     format: Format,
     switch: Switch,
+    reserve: Reserve,
     batch: &Batch,
 ) -> Result<(), StoreFault>
     requires { has_journal format ≡ is_journaled pages.old }
@@ -130,13 +133,20 @@ pub(crate) fn commit_batch<D: Device>(
         → LeavesNumbered result contents (changed_in (spelling_of format) batch.now contents)
         pages.old pages.new }
     ensures batch { (contents : Contents) → HoldsContents contents pages.old
-        → CommitsBatch batch.now result contents
+        → CommitsBatch reserve batch.now result contents
         (changed_in (spelling_of format) batch.now contents) pages.old pages.new }
 {
+    let free = pages.free_pages();
     let made = make_pieces(pages, scratch, batch.pieces());
     preserved_stays(pages);
     match made {
-        Ok(()) => finish(pages, format, switch),
+        Ok(()) => {
+            if !may_commit(pages, reserve, free) {
+                pages.abandon();
+                return Err(StoreFault::Full);
+            }
+            finish(pages, format, switch)
+        }
         Err(fault) => {
             pages.abandon();
             if pages.has_failed() {

@@ -200,6 +200,7 @@ impl<D: Device> Store for PageStore<D> {
     ghost use Rattle.store.specs.Contents.{changed_by_batch, changed_in};
     ghost use Rattle.store.specs.Records.{applied};
     ghost use Rattle.store.specs.Store.{Commits, stored};
+    ghost use Rattle.kv_store.specs.declared.reserve.Reserve.TheVariants.{Kept, Open};
     ghost use Rattle.kv_store.specs.PageStore.{store_state};
     ghost use Rattle.kv_store.specs.StoreLaws.{settled_now};
     ghost use Rattle.kv_store.specs.TreeStore.{CountsCommit, CommitsWhole, IsStill};
@@ -226,14 +227,15 @@ impl<D: Device> Store for PageStore<D> {
 
     /// Commits all changes of a batch, or none of them, as `Store` says. With `Ok` a batch that changes the records of a
     /// sound store raises the number by exactly one. Over pages that hold contents it is said of each image that a stop
-    /// leaves what contents it has, and Full is answered where a page was wanted and none was left. Once the store has
-    /// answered Device nothing changes. `fulls` rises with an answer Full alone, and `failures` with Device.
+    /// leaves what contents it has. Full is answered where a page was wanted and none was left, and where more pages would be in
+    /// use than before, and fewer free than the reserve has: so removals may take it. Once the store has answered Device nothing
+    /// changes. `fulls` rises with an answer Full alone, and `failures` with Device.
     fn commit(&mut self, batch: &Batch) -> Result<(), StoreFault>
         ensures commits { Commits result (changed_by_batch batch.now (stored (store_state self.old)))
             (store_state self.old) (store_state self.new) }
         ensures empty { batch.now ≡ [] → (store_state self.old).has_failed ≡ false
             → (result ≡ Ok tt) × (self.new ≡ self.old) }
-        ensures batch { CommitsWhole batch.now (changed_by_batch batch.now) result
+        ensures batch { CommitsWhole Kept batch.now (changed_by_batch batch.now) result
             self.old.tree self.new.tree }
         ensures still { IsStill result self.old.tree self.new.tree }
         ensures counts { CountsCommit result self.old.tree self.new.tree }
@@ -245,12 +247,12 @@ impl<D: Device> Store for PageStore<D> {
     }
 
     /// Commits all changes of a batch and that the records are of the second spelling, or nothing, as `Store` says. With
-    /// `Ok` a sound store whose records were of the first spelling has the next number, whatever the batch. All else is as
-    /// at `commit`.
+    /// `Ok` a sound store whose records were of the first spelling has the next number, whatever the batch. It may take the
+    /// reserve. All else is as at `commit`.
     fn commit_migration(&mut self, batch: &Batch) -> Result<(), StoreFault>
         ensures commits { Commits result (changed_in Second batch.now (stored (store_state self.old)))
             (store_state self.old) (store_state self.new) }
-        ensures batch { CommitsWhole batch.now (changed_in Second batch.now) result
+        ensures batch { CommitsWhole Open batch.now (changed_in Second batch.now) result
             self.old.tree self.new.tree }
         ensures still { IsStill result self.old.tree self.new.tree }
         ensures counts { CountsCommit result self.old.tree self.new.tree }

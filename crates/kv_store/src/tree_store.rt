@@ -11,6 +11,7 @@ ghost use Rattle.page_tree.specs.Ahead.{IsFoundBy};
 ghost use Rattle.kv_store.specs.Walks.{AreAhead, ahead_later};
 ghost use Rattle.store.specs.Records.{first_from as first_record_from};
 ghost use Rattle.kv_store.specs.Contents.{HoldsContents, is_journaled};
+ghost use Rattle.kv_store.specs.declared.reserve.Reserve.TheVariants.{Kept, Open};
 ghost use Rattle.sector_device.specs.Device.{KeepsHistory};
 ghost use Rattle.cow_pages.specs.Cow.{device_of, device_below};
 ghost use Rattle.kv_store.specs.TreeStore.{store_state, pages_of, RefusesRead, RefusesCommit, CountsRefusal, CountsAlone, CountsRead, CountsCommit, CommitsWhole, IsStill};
@@ -24,6 +25,7 @@ ghost use Rattle.kv_store.specs.TreeLaws.{keys_rise, present_now, settled_now};
 
 use crate::commit::{Switch, commit_batch};
 use crate::read_only::ReadOnlyPages;
+use crate::reserve::Reserve;
 use cow_pages::{CowPages, Format, MAX_CACHE_PAGES, OpenFault, PageFault, preserved_stays};
 use page_tree::{Scratch, TreeCursor, TreeWalk, check_tree, contains, count, first_on, get, step};
 use sector_device::Device;
@@ -345,14 +347,20 @@ impl<D: Device> Map for TreeStore<D> {
 impl<D: Device> TreeStore<D> {
     // Commits all changes of a batch, in this format, which says of a journal what the root says, or none of them. The answer
     // is counted.
-    fn change(&mut self, format: Format, switch: Switch, batch: &Batch) -> Result<(), StoreFault>
+    fn change(
+        &mut self,
+        format: Format,
+        switch: Switch,
+        reserve: Reserve,
+        batch: &Batch,
+    ) -> Result<(), StoreFault>
         requires works { (store_state self.old).has_failed ≡ false }
         requires kind { has_journal format ≡ is_journaled (pages_of self.old) }
         ensures kind { is_journaled (pages_of self.new) ≡ is_journaled (pages_of self.old) }
         ensures commits { Commits result
             (changed_in (spelling_of format) batch.now (stored (store_state self.old)))
             (store_state self.old) (store_state self.new) }
-        ensures batch { CommitsWhole batch.now (changed_in (spelling_of format) batch.now)
+        ensures batch { CommitsWhole reserve batch.now (changed_in (spelling_of format) batch.now)
             result self.old self.new }
         ensures counts { CountsCommit result self.old self.new }
         ensures rises { (store_state self.old).sound → stored (store_state self.old)
@@ -367,7 +375,7 @@ impl<D: Device> TreeStore<D> {
     {
         self.cursor.forget();
         let pages = &mut self.pages.below;
-        match commit_batch(pages, &mut self.scratch, format, switch, batch) {
+        match commit_batch(pages, &mut self.scratch, format, switch, reserve, batch) {
             Ok(()) => Ok(()),
             Err(fault) => {
                 self.count(fault);
@@ -400,14 +408,15 @@ impl<D: Device> Store for TreeStore<D> {
 
     /// Commits all changes of a batch, or none of them, as `Store` says. With `Ok` a batch that changes the records of a
     /// sound store raises the number by exactly one. Over pages that hold contents it is said of each image that a stop
-    /// leaves what contents it has, and Full is answered where a page was wanted and none was left. Once the store has
-    /// answered Device nothing changes. `fulls` rises with an answer Full alone, and `failures` with Device.
+    /// leaves what contents it has. Full is answered where a page was wanted and none was left, and where more pages would be in
+    /// use than before, and fewer free than the reserve has: so removals may take it. Once the store has answered Device nothing
+    /// changes. `fulls` rises with an answer Full alone, and `failures` with Device.
     fn commit(&mut self, batch: &Batch) -> Result<(), StoreFault>
         ensures commits { Commits result (changed_by_batch batch.now (stored (store_state self.old)))
             (store_state self.old) (store_state self.new) }
         ensures empty { batch.now ≡ [] → (store_state self.old).has_failed ≡ false
             → (result ≡ Ok tt) × (self.new ≡ self.old) }
-        ensures batch { CommitsWhole batch.now (changed_by_batch batch.now) result
+        ensures batch { CommitsWhole Kept batch.now (changed_by_batch batch.now) result
             self.old self.new }
         ensures still { IsStill result self.old self.new }
         ensures counts { CountsCommit result self.old self.new }
@@ -423,16 +432,16 @@ impl<D: Device> Store for TreeStore<D> {
             return Ok(());
         }
         let format = self.pages.below.format();
-        self.change(format, Switch::IfChanged, batch)
+        self.change(format, Switch::IfChanged, Reserve::Kept, batch)
     }
 
     /// Commits all changes of a batch and that the records are of the second spelling, or nothing, as `Store` says. With
-    /// `Ok` a sound store whose records were of the first spelling has the next number, whatever the batch. All else is as
-    /// at `commit`.
+    /// `Ok` a sound store whose records were of the first spelling has the next number, whatever the batch. It may take the
+    /// reserve. All else is as at `commit`.
     fn commit_migration(&mut self, batch: &Batch) -> Result<(), StoreFault>
         ensures commits { Commits result (changed_in Second batch.now (stored (store_state self.old)))
             (store_state self.old) (store_state self.new) }
-        ensures batch { CommitsWhole batch.now (changed_in Second batch.now) result
+        ensures batch { CommitsWhole Open batch.now (changed_in Second batch.now) result
             self.old self.new }
         ensures still { IsStill result self.old self.new }
         ensures counts { CountsCommit result self.old self.new }
@@ -444,15 +453,15 @@ impl<D: Device> Store for TreeStore<D> {
             return Err(StoreFault::Device);
         }
         let format = self.pages.below.format().respelled();
-        self.change(format, Switch::IfChanged, batch)
+        self.change(format, Switch::IfChanged, Reserve::Open, batch)
     }
 }
 
 impl<D: Device> TreeStore<D> {
     /// Commits all changes of a batch, or none of them, as `commit` does, and with `Ok` always under the next number,
-    /// whatever the batch: also where it changes nothing. It is said of each image that a stop leaves under which number it
-    /// has its contents: those before under the old number, those after under the next one.
-    pub fn checkpoint(&mut self, batch: &Batch) -> Result<(), StoreFault>
+    /// whatever the batch: also where it changes nothing. It keeps the reserve, or may take it. It is said of each image that a
+    /// stop leaves under which number it has its contents: those before under the old number, those after under the next one.
+    pub fn checkpoint(&mut self, batch: &Batch, reserve: Reserve) -> Result<(), StoreFault>
         ensures commits { Commits result (changed_by_batch batch.now (stored (store_state self.old)))
             (store_state self.old) (store_state self.new) }
         ensures anew { OnOk result ((store_state self.new).number ≡ (store_state self.old).number + 1) }
@@ -460,7 +469,7 @@ impl<D: Device> TreeStore<D> {
             → (contents : Contents) → HoldsContents contents (pages_of self.old)
             → LeavesNumbered result contents (changed_by_batch batch.now contents)
             (pages_of self.old) (pages_of self.new) }
-        ensures batch { CommitsWhole batch.now (changed_by_batch batch.now) result
+        ensures batch { CommitsWhole reserve batch.now (changed_by_batch batch.now) result
             self.old self.new }
         ensures history { KeepsHistory
             (device_below (pages_of self.old)) (device_below (pages_of self.new)) }
@@ -472,6 +481,6 @@ impl<D: Device> TreeStore<D> {
             return Err(StoreFault::Device);
         }
         let durable = self.pages.below.format();
-        self.change(durable, Switch::Anew, batch)
+        self.change(durable, Switch::Anew, reserve, batch)
     }
 }

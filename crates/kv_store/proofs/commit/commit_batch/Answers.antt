@@ -1,6 +1,7 @@
 use Rattle.std.proofs.Common.{◌≡◌, ◌≢◌, ◌⊎◌, ◌+◌, ℕ, Result, Ok, Err, OnOk, inl, inr, false, refl, sym, ap, ◌∙◌, subst, arith}
 use Rattle.std.proofs.lemmas.Bool.{false≢true}
 use Rattle.std.proofs.lemmas.Result.{MatchResult-weaker}
+use Rattle.sector_device.specs.Device.{history_joined}
 use Rattle.sector_device.specs.declared.device.Device.{Ghosts}
 use Rattle.page_roots.specs.Formats.{spelling_of}
 use Rattle.page_roots.specs.Root.{RootFields}
@@ -14,15 +15,16 @@ use Rattle.page_tree.specs.Forest.{Represents}
 use Rattle.page_tree.proofs.Represented.{map_rises}
 use Rattle.store.specs.Records.{Records, Changes}
 use Rattle.store.specs.Contents.{changed_in}
-use Rattle.kv_store.specs.Batches.{applied_in_turn, LacksRoom}
+use Rattle.kv_store.specs.Batches.{applied_in_turn, LacksRoom, LacksReserve}
 use Rattle.kv_store.specs.TreeLaws.{ordered_is}
 use Rattle.kv_store.proofs.InTurn.{in_turn_is}
 use Rattle.kv_store.proofs.Batches.{working_holds, first_used, still_represents, leaves_either, abandoned_back, abandoned_lost, abandoned_leaves, committed, cannot_commit}
 use Rattle.kv_store.proofs.Numbering.{before_still, numbered_by, numbered_failed}
+use Rattle.kv_store.proofs.Sparing.{spares_of_old, takes_of_old, kept_by, no_room, no_reserve}
 use Rattle.kv_store.proofs.commit.commit_batch.Goals as goal
 
-pub returns-in-Ok-clause-batch : goal.returns-in-Ok-clause-batch
-returns-in-Ok-clause-batch g c contents holds =
+pub returns-else-not-may_commit-clause-batch : goal.returns-else-not-may_commit-clause-batch
+returns-else-not-may_commit-clause-batch g c contents holds =
     let old = c.args.pages.now in
     let mid = c.make_pieces-made.new.pages in
     let new = c.finish.new.pages in
@@ -40,9 +42,47 @@ returns-in-Ok-clause-batch g c contents holds =
     record {
       leaves = leaves_either contents after old mid new c.args.format refl c.requires preserved.preserved.root holds (still_represents contents old mid holds preserved leaves stays) leaves represents is.leaves;
       outcome = MatchResult-weaker c.finish.result is.outcome
-          (λ x done. committed contents old mid holds preserved leaves stays after new c.args.format refl c.requires represents opened done)
-          (λ fault not. cannot_commit contents old mid holds preserved leaves stays after new c.args.format refl c.requires represents opened c.args.batch.now stand c.finish.ensures.history fault not);
+          (λ x done. committed contents old mid holds preserved leaves stays after new c.args.format refl c.requires represents opened c.args.reserve
+          (kept_by c.args.reserve c.free_pages-free.result old mid new c.free_pages-free.ensures preserved.preserved.durable done.map
+          (spares_of_old (c.args.reserve) c.free_pages-free.result old mid preserved.preserved.root (c.may_commit.ensures.spares c.if-not-may_commit.false))) done)
+          (λ fault not. cannot_commit contents old mid holds preserved leaves stays after new c.args.format refl c.requires represents opened c.args.reserve c.args.batch.now stand c.finish.ensures.history fault not);
     }
+
+pub returns-then-not-may_commit-clause-batch : goal.returns-then-not-may_commit-clause-batch
+returns-then-not-may_commit-clause-batch g c contents holds =
+    let old = c.args.pages.now in
+    let mid = c.make_pieces-made.new.pages in
+    let new = c.abandon.new.self in
+    let preserved = c.in-Ok.ensures.preserved in
+    let leaves = c.preserved_stays.ensures.leaves old holds.is_open preserved in
+    let stays = c.preserved_stays.ensures.stays old holds.is_open preserved in
+    let opened = c.preserved_stays.ensures.open old holds.is_open preserved (c.in-Ok.ensures.works holds.is_open.has_not_failed) in
+    let made = c.in-Ok.ensures.made holds.is_open.faithful contents.records (working_holds contents old holds) in
+    let stand = subst (λ (cs : Changes). Represents (applied_in_turn cs contents.records) (working_array mid)) c.pieces.ensures.changes made.1 in
+    let takes = c.may_commit.ensures.takes c.if-not-may_commit.true in
+    let lacks : LacksReserve c.args.batch.now contents.records old = record {
+      mid = mid;
+      preserved = preserved;
+      holds = stand;
+      free = c.free_pages-free.result;
+      free_is = c.free_pages-free.ensures;
+      takes = takes_of_old c.free_pages-free.result old mid preserved.preserved.root takes.1;
+    } in
+    record {
+      leaves = abandoned_leaves contents old mid holds preserved leaves stays new c.abandon.ensures.outcome c.abandon.ensures.preserved (changed_in (spelling_of c.args.format) c.args.batch.now contents);
+      outcome = (
+        no_reserve c.args.reserve c.args.batch.now contents.records old takes.0 lacks,
+        abandoned_back contents old mid holds preserved leaves stays new c.abandon.ensures.outcome c.abandon.ensures.preserved opened,
+      );
+    }
+
+pub returns-then-not-may_commit-clause-numbered : goal.returns-then-not-may_commit-clause-numbered
+returns-then-not-may_commit-clause-numbered g c contents holds =
+    let old = c.args.pages.now in
+    before_still contents contents old c.make_pieces-made.new.pages holds (c.preserved_stays.ensures.leaves old holds.is_open c.in-Ok.ensures.preserved) c.abandon.new.self c.abandon.ensures.outcome.device
+
+pub returns-else-not-may_commit-clause-history : goal.returns-else-not-may_commit-clause-history
+returns-else-not-may_commit-clause-history g c = history_joined _ _ _ c.in-Ok.ensures.preserved.preserved.history c.finish.ensures.history
 
 -- the number is that of the root before the changes, and one
 on_ok_number : {T E : Type 0} (r : Result T E) (old mid new : ℕ) → mid ≡ old → OnOk r (new ≡ mid + 1) → OnOk r (new ≡ old + 1)
@@ -59,13 +99,13 @@ pub returns-then-has_failed-clause-batch : goal.returns-then-has_failed-clause-b
 returns-then-has_failed-clause-batch g c contents holds =
     let old = c.args.pages.now in
     let mid = c.make_pieces-made.new.pages in
-    let new = c.abandon.new.self in
+    let new = c.abandon-in-Err.new.self in
     let preserved = c.in-Err.ensures.preserved in
     let leaves = c.preserved_stays.ensures.leaves old holds.is_open preserved in
     let stays = c.preserved_stays.ensures.stays old holds.is_open preserved in
     record {
-      leaves = abandoned_leaves contents old mid holds preserved leaves stays new c.abandon.ensures.outcome c.abandon.ensures.preserved (changed_in (spelling_of c.args.format) c.args.batch.now contents);
-      outcome = abandoned_lost contents old mid holds preserved leaves stays new c.abandon.ensures.outcome c.abandon.ensures.preserved
+      leaves = abandoned_leaves contents old mid holds preserved leaves stays new c.abandon-in-Err.ensures.outcome c.abandon-in-Err.ensures.preserved (changed_in (spelling_of c.args.format) c.args.batch.now contents);
+      outcome = abandoned_lost contents old mid holds preserved leaves stays new c.abandon-in-Err.ensures.outcome c.abandon-in-Err.ensures.preserved
           (sym c.has_failed.ensures ∙ c.if-has_failed.true);
     }
 
@@ -73,9 +113,9 @@ pub returns-in-Full-clause-batch : goal.returns-in-Full-clause-batch
 returns-in-Full-clause-batch g c contents holds =
     let old = c.args.pages.now in
     let mid = c.make_pieces-made.new.pages in
-    let new = c.abandon.new.self in
+    let new = c.abandon-in-Err.new.self in
     let preserved = c.in-Err.ensures.preserved in
-    let abandoned = c.abandon.ensures.outcome in
+    let abandoned = c.abandon-in-Err.ensures.outcome in
     let leaves = c.preserved_stays.ensures.leaves old holds.is_open preserved in
     let stays = c.preserved_stays.ensures.stays old holds.is_open preserved in
     let works : has_failed mid ≡ false = sym abandoned.has_failed ∙ sym c.has_failed.ensures ∙ c.if-has_failed.false in
@@ -83,10 +123,10 @@ returns-in-Full-clause-batch g c contents holds =
     subst (λ (cs : Changes). LacksRoom cs contents.records old) c.pieces.ensures.changes
     (c.in-Err.ensures.room holds.is_open.faithful contents.records (working_holds contents old holds) c.in-Full.is) in
     record {
-      leaves = abandoned_leaves contents old mid holds preserved leaves stays new abandoned c.abandon.ensures.preserved (changed_in (spelling_of c.args.format) c.args.batch.now contents);
+      leaves = abandoned_leaves contents old mid holds preserved leaves stays new abandoned c.abandon-in-Err.ensures.preserved (changed_in (spelling_of c.args.format) c.args.batch.now contents);
       outcome = (
-        inl lacks,
-        abandoned_back contents old mid holds preserved leaves stays new abandoned c.abandon.ensures.preserved
+        no_room c.args.reserve c.args.batch.now contents.records old lacks,
+        abandoned_back contents old mid holds preserved leaves stays new abandoned c.abandon-in-Err.ensures.preserved
             (c.preserved_stays.ensures.open old holds.is_open preserved works),
       );
     }
@@ -95,15 +135,15 @@ pub returns-in-Memory-clause-batch : goal.returns-in-Memory-clause-batch
 returns-in-Memory-clause-batch g c contents holds =
     let old = c.args.pages.now in
     let mid = c.make_pieces-made.new.pages in
-    let new = c.abandon.new.self in
+    let new = c.abandon-in-Err.new.self in
     let preserved = c.in-Err.ensures.preserved in
-    let abandoned = c.abandon.ensures.outcome in
+    let abandoned = c.abandon-in-Err.ensures.outcome in
     let leaves = c.preserved_stays.ensures.leaves old holds.is_open preserved in
     let stays = c.preserved_stays.ensures.stays old holds.is_open preserved in
     let works : has_failed mid ≡ false = sym abandoned.has_failed ∙ sym c.has_failed.ensures ∙ c.if-has_failed.false in
     record {
-      leaves = abandoned_leaves contents old mid holds preserved leaves stays new abandoned c.abandon.ensures.preserved (changed_in (spelling_of c.args.format) c.args.batch.now contents);
-      outcome = abandoned_back contents old mid holds preserved leaves stays new abandoned c.abandon.ensures.preserved
+      leaves = abandoned_leaves contents old mid holds preserved leaves stays new abandoned c.abandon-in-Err.ensures.preserved (changed_in (spelling_of c.args.format) c.args.batch.now contents);
+      outcome = abandoned_back contents old mid holds preserved leaves stays new abandoned c.abandon-in-Err.ensures.preserved
           (c.preserved_stays.ensures.open old holds.is_open preserved works);
     }
 
@@ -111,7 +151,7 @@ pub returns-in-Device-clause-batch : goal.returns-in-Device-clause-batch
 returns-in-Device-clause-batch g c contents holds =
     let old = c.args.pages.now in
     let mid = c.make_pieces-made.new.pages in
-    let abandoned = c.abandon.ensures.outcome in
+    let abandoned = c.abandon-in-Err.ensures.outcome in
     let works : has_failed mid ≡ false = sym abandoned.has_failed ∙ sym c.has_failed.ensures ∙ c.if-has_failed.false in
     let made = c.in-Err.ensures.made holds.is_open.faithful contents.records (working_holds contents old holds) in
     elim c.in-Device.is [
@@ -122,18 +162,18 @@ returns-in-Device-clause-batch g c contents holds =
       | inr malformed ↦ absurd ((cause_of old mid _ _ malformed made).0 refl)
     ]
 
-pub returns-in-Ok-clause-anew : goal.returns-in-Ok-clause-anew
-returns-in-Ok-clause-anew g c is =
+pub returns-else-not-may_commit-clause-anew : goal.returns-else-not-may_commit-clause-anew
+returns-else-not-may_commit-clause-anew g c is =
     let number = ap (λ (r : RootFields). r.number) c.in-Ok.ensures.preserved.preserved.root in
     on_ok_number c.finish.result _ _ _ number (c.finish.ensures.anew is)
 
-pub returns-in-Ok-clause-number : goal.returns-in-Ok-clause-number
-returns-in-Ok-clause-number g c is =
+pub returns-else-not-may_commit-clause-number : goal.returns-else-not-may_commit-clause-number
+returns-else-not-may_commit-clause-number g c is =
     let number = ap (λ (r : RootFields). r.number) c.in-Ok.ensures.preserved.preserved.root in
     sym number ∙ c.finish.ensures.number is
 
-pub returns-in-Ok-clause-numbered : goal.returns-in-Ok-clause-numbered
-returns-in-Ok-clause-numbered g c contents holds =
+pub returns-else-not-may_commit-clause-numbered : goal.returns-else-not-may_commit-clause-numbered
+returns-else-not-may_commit-clause-numbered g c contents holds =
     let old = c.args.pages.now in
     let mid = c.make_pieces-made.new.pages in
     let new = c.finish.new.pages in
@@ -152,19 +192,19 @@ returns-in-Ok-clause-numbered g c contents holds =
 pub returns-then-has_failed-clause-numbered : goal.returns-then-has_failed-clause-numbered
 returns-then-has_failed-clause-numbered g c contents holds =
     let old = c.args.pages.now in
-    numbered_failed contents _ old c.make_pieces-made.new.pages holds (c.preserved_stays.ensures.leaves old holds.is_open c.in-Err.ensures.preserved) c.abandon.new.self c.abandon.ensures.outcome.device
+    numbered_failed contents _ old c.make_pieces-made.new.pages holds (c.preserved_stays.ensures.leaves old holds.is_open c.in-Err.ensures.preserved) c.abandon-in-Err.new.self c.abandon-in-Err.ensures.outcome.device
 
 pub returns-in-Full-clause-numbered : goal.returns-in-Full-clause-numbered
 returns-in-Full-clause-numbered g c contents holds =
     let old = c.args.pages.now in
-    before_still contents contents old c.make_pieces-made.new.pages holds (c.preserved_stays.ensures.leaves old holds.is_open c.in-Err.ensures.preserved) c.abandon.new.self c.abandon.ensures.outcome.device
+    before_still contents contents old c.make_pieces-made.new.pages holds (c.preserved_stays.ensures.leaves old holds.is_open c.in-Err.ensures.preserved) c.abandon-in-Err.new.self c.abandon-in-Err.ensures.outcome.device
 
 pub returns-in-Memory-clause-numbered : goal.returns-in-Memory-clause-numbered
 returns-in-Memory-clause-numbered g c contents holds =
     let old = c.args.pages.now in
-    before_still contents contents old c.make_pieces-made.new.pages holds (c.preserved_stays.ensures.leaves old holds.is_open c.in-Err.ensures.preserved) c.abandon.new.self c.abandon.ensures.outcome.device
+    before_still contents contents old c.make_pieces-made.new.pages holds (c.preserved_stays.ensures.leaves old holds.is_open c.in-Err.ensures.preserved) c.abandon-in-Err.new.self c.abandon-in-Err.ensures.outcome.device
 
 pub returns-in-Device-clause-numbered : goal.returns-in-Device-clause-numbered
 returns-in-Device-clause-numbered g c contents holds =
     let old = c.args.pages.now in
-    numbered_failed contents _ old c.make_pieces-made.new.pages holds (c.preserved_stays.ensures.leaves old holds.is_open c.in-Err.ensures.preserved) c.abandon.new.self c.abandon.ensures.outcome.device
+    numbered_failed contents _ old c.make_pieces-made.new.pages holds (c.preserved_stays.ensures.leaves old holds.is_open c.in-Err.ensures.preserved) c.abandon-in-Err.new.self c.abandon-in-Err.ensures.outcome.device

@@ -1,4 +1,4 @@
-use Rattle.std.proofs.Common.{◌≡◌, ◌<◌, ◌+◌, ◌++◌, [], Err, Ok, List, ℕ, length, take, drop, refl, ap, sym, ◌∙◌, subst, arith, length-drop}
+use Rattle.std.proofs.Common.{◌<◌, ◌++◌, [], Err, Ok, length, take, drop, ap, sym, ◌∙◌, subst, arith, length-drop}
 use Rattle.std.proofs.lemmas.List.{take-append-drop, append-nil}
 use Rattle.std.specs.List.{AllByRecursion}
 use Rattle.cow_pages.specs.PreservedLaws.{preserved_same, preserved_joined}
@@ -6,7 +6,7 @@ use Rattle.page_tree.proofs.Faults.{fails}
 use Rattle.store.specs.Records.{Changes, IsChangeSize}
 use Rattle.kv_store.specs.Batches.{MakesChanges, applied_in_turn}
 use Rattle.kv_store.proofs.InTurn.{makes_more, take_on, tree_makes, both_hold, from_index}
-use Rattle.kv_store.proofs.Room.{lacks_later, lacks_first, fewer_free, no_page, err_fails, if_err_both}
+use Rattle.kv_store.proofs.Room.{lacks_later, lacks_first, fewer_free, no_page, err_fails}
 use Rattle.kv_store.proofs.commit.make_changes.Goals as goal
 
 pub loop-made-init : goal.loop-made-init

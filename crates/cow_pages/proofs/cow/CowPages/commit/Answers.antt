@@ -25,6 +25,7 @@ returns-clause-outcome g c =
     record {
       has_not_failed = c.if-self.false;
       format = kept;
+      map = sym same;
       same_maps = same;
       space = c.clear.ensures.space;
       durable = λ was. record {

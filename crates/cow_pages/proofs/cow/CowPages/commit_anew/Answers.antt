@@ -50,6 +50,7 @@ returns-in-Ok-clause-outcome g c =
     record {
       has_not_failed = c.if-self.false;
       format = ap (λ r. r.format) c.advance.ensures.root ∙ c.in_ok-next.ensures.format;
+      map = c.advance.ensures.durable ∙ is.working;
       same_maps = c.advance.ensures.working ∙ sym c.advance.ensures.durable;
       space = c.clear.ensures.space;
       durable = λ was.

@@ -1,6 +1,7 @@
 use Rattle.storage_sizes.specs.declared.spelling.Spelling.TheVariants.{Second}
 use Rattle.store.specs.Contents.{changed_in}
 use Rattle.store.specs.Store.{Contents}
+use Rattle.kv_store.specs.declared.reserve.Reserve.TheVariants.{Open}
 use Rattle.device_store.proofs.Committing.{commits_in_pages}
 use Rattle.device_store.proofs.Journaled.{commits_in_journal}
 use Rattle.device_store.proofs.writes.DeviceStoreStore.commit_migration.Goals as goal
@@ -9,7 +10,7 @@ pub returns-in-Pages : goal.returns-in-Pages
 returns-in-Pages g c =
     let is = c.commit_migration.ensures in
     record {
-      commits = commits_in_pages g.met.D.Device.only_now c.in-Pages.store c.commit_migration.new.self c.args.self.now c.in-Pages.is c.args.batch.now
+      commits = commits_in_pages g.met.D.Device.only_now c.in-Pages.store c.commit_migration.new.self c.args.self.now c.in-Pages.is Open c.args.batch.now
           (λ (contents : Contents). changed_in Second c.args.batch.now contents) _ is.commits is.batch is.still;
     }
 

@@ -1,6 +1,10 @@
-use Rattle.std.proofs.Common.{List, refl, ap, sym}
+use Rattle.std.proofs.Common.{List, refl, ap, sym, subst}
 use Rattle.store.specs.Records.{Changes, applied}
 use Rattle.transactions.specs.Views.{applied_all}
+use Rattle.kv_store.specs.declared.reserve.Reserve.{Reserve}
+use Rattle.kv_store.specs.Batches.{HadNoRoom}
+use Rattle.kv_store.specs.TreeStore.{pages_of}
+use Rattle.journal_store.specs.Stores.{base_of}
 use Rattle.journal_store.proofs.Records.{refused_memory}
 use Rattle.journal_store.proofs.stores.JournalStore.checkpoint.Goals as goal
 
@@ -19,8 +23,8 @@ pub returns-then-is_empty-clause-room : goal.returns-then-is_empty-clause-room
 returns-then-is_empty-clause-room g c sound full = record {
   changes = c.args.batch.now;
   all = λ es in_order. ap (λ (ws : List Changes). applied c.args.batch.now (applied_all ws es)) (sym (c.is_empty.ensures.0 c.if-is_empty.true));
-  none = c.commit_joined.ensures.room sound full;
+  none = subst (λ (r : Reserve). HadNoRoom r c.args.batch.now (base_of c.args.self.now).records (pages_of c.args.self.now.store)) c.reserve_with-reserve.ensures (c.commit_joined.ensures.room sound full);
 }
 
 pub returns-clause-room : goal.returns-clause-room
-returns-clause-room g c sound full = record { changes = c.in-Ok.joined; all = c.in-Ok.ensures; none = c.commit_joined-2.ensures.room sound full }
+returns-clause-room g c sound full = record { changes = c.in-Ok.joined; all = c.in-Ok.ensures; none = subst (λ (r : Reserve). HadNoRoom r c.in-Ok.joined (base_of c.args.self.now).records (pages_of c.args.self.now.store)) c.reserve_with-reserve.ensures (c.commit_joined-2.ensures.room sound full) }

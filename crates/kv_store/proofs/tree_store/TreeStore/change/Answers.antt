@@ -29,7 +29,7 @@ returns-in-Ok g c =
     } in
     record {
       kind = c.in-Ok.ensures.kind;
-      commits = all_committed g.met.D.Device.only_now g.met.D.Device.content_left old new _ c.requires.works c.in-Ok.ensures.history (omega arith) (omega arith) c.forget.ensures c.args.batch.now c.requires.works
+      commits = all_committed g.met.D.Device.only_now g.met.D.Device.content_left old new _ c.requires.works c.in-Ok.ensures.history (omega arith) (omega arith) c.forget.ensures c.args.reserve c.args.batch.now c.requires.works
           (λ sound. c.in-Ok.ensures.batch (contents_of old.pages.below) (sound.works c.requires.works));
       batch = λ worked contents holds. c.in-Ok.ensures.batch contents holds;
       counts = record { fulls = refl; failures = refl };
@@ -59,11 +59,11 @@ returns-in-Err g c =
       kind = subst (λ (p : ReadOnlyPages g.row.D.Denot g.D.Device). is_journaled p.below ≡ is_journaled old.pages.below) pages c.in-Err.ensures.kind;
       commits = none_committed g.met.D.Device.only_now g.met.D.Device.content_left old new after c.requires.works
           (subst (λ (p : ReadOnlyPages g.row.D.Denot g.D.Device). KeepsHistory (device_below old.pages.below) (device_below p.below)) pages c.in-Err.ensures.history)
-          c.count.ensures.fulls c.count.ensures.failures (λ map. subst (λ (k : TreeCursor). KeepsPlace map k) (sym c.count.ensures.cursor) (c.forget.ensures map)) c.args.batch.now fault (counted_as fault mid old new refl refl refl c.count.ensures.counted)
+          c.count.ensures.fulls c.count.ensures.failures (λ map. subst (λ (k : TreeCursor). KeepsPlace map k) (sym c.count.ensures.cursor) (c.forget.ensures map)) c.args.reserve c.args.batch.now fault (counted_as fault mid old new refl refl refl c.count.ensures.counted)
           (λ is. c.in-Err.ensures.number (ap (λ (f : StoreFault). Err f) is))
-          (λ sound. subst (λ (p : ReadOnlyPages g.row.D.Denot g.D.Device). CommitsBatch c.args.batch.now (Err fault) (contents_of old.pages.below) after old.pages.below p.below) pages
+          (λ sound. subst (λ (p : ReadOnlyPages g.row.D.Denot g.D.Device). CommitsBatch c.args.reserve c.args.batch.now (Err fault) (contents_of old.pages.below) after old.pages.below p.below) pages
           (c.in-Err.ensures.batch (contents_of old.pages.below) (sound.works c.requires.works)));
-      batch = λ worked contents holds. subst (λ (p : ReadOnlyPages g.row.D.Denot g.D.Device). CommitsBatch c.args.batch.now (Err fault) contents (changed_in (spelling_of c.args.format) c.args.batch.now contents) old.pages.below p.below) pages (c.in-Err.ensures.batch contents holds);
+      batch = λ worked contents holds. subst (λ (p : ReadOnlyPages g.row.D.Denot g.D.Device). CommitsBatch c.args.reserve c.args.batch.now (Err fault) contents (changed_in (spelling_of c.args.format) c.args.batch.now contents) old.pages.below p.below) pages (c.in-Err.ensures.batch contents holds);
       counts = alone_counts fault mid old new refl refl c.count.ensures.alone;
       rises = λ sound differs. tt;
       history = subst (λ (p : ReadOnlyPages g.row.D.Denot g.D.Device). KeepsHistory (device_below old.pages.below) (device_below p.below)) pages c.in-Err.ensures.history;

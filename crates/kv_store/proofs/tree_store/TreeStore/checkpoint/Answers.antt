@@ -35,7 +35,7 @@ returns g c =
       anew = is.anew refl;
       numbered = λ worked contents holds. subst (λ (s : Spelling). LeavesNumbered c.change.result contents (changed_in s batch contents) old.pages.below new.pages.below)
           (ap spelling_of c.format-durable.ensures ∙ holds.spelled) (is.numbered contents holds);
-      batch = λ worked contents holds. subst (λ (s : Spelling). CommitsBatch batch c.change.result contents (changed_in s batch contents) old.pages.below new.pages.below)
+      batch = λ worked contents holds. subst (λ (s : Spelling). CommitsBatch c.args.reserve batch c.change.result contents (changed_in s batch contents) old.pages.below new.pages.below)
           (ap spelling_of c.format-durable.ensures ∙ holds.spelled) (is.batch worked contents holds);
       history = is.history;
       still = λ had. absurd (false≢true (sym c.if-self.false ∙ had));

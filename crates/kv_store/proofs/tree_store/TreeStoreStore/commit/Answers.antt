@@ -6,6 +6,7 @@ use Rattle.page_roots.specs.Formats.{spelling_of}
 use Rattle.store.specs.Records.{Changes, applied}
 use Rattle.store.specs.Store.{Contents, Commits, stored}
 use Rattle.store.specs.Contents.{changed_in, changed_by_batch}
+use Rattle.kv_store.specs.declared.reserve.Reserve.TheVariants.{Kept}
 use Rattle.kv_store.specs.Contents.{contents_of}
 use Rattle.kv_store.specs.ContentLaws.{same_parts}
 use Rattle.kv_store.specs.Batches.{CommitsBatch}
@@ -32,7 +33,7 @@ returns-then-is_empty g c =
     record {
       commits = commit_nothing g.met.D.Device.only_now g.met.D.Device.content_left old _ (ap (λ (cs : Changes). changed_by_batch cs (contents_of old.pages.below)) none) c.if-self.false;
       empty = λ is worked. (refl, refl);
-      batch = λ worked contents holds. nothing_committed g.met.D.Device.only_now c.args.batch.now contents (changed_by_batch c.args.batch.now contents) old.pages.below (same_parts (changed_by_batch c.args.batch.now contents) contents refl (ap (λ (cs : Changes). applied cs contents.records) none)) holds;
+      batch = λ worked contents holds. nothing_committed g.met.D.Device.only_now Kept c.args.batch.now contents (changed_by_batch c.args.batch.now contents) old.pages.below (same_parts (changed_by_batch c.args.batch.now contents) contents refl (ap (λ (cs : Changes). applied cs contents.records) none)) holds;
       still = λ had. absurd (false≢true (sym c.if-self.false ∙ had));
       counts = record { fulls = refl; failures = refl };
       rises = λ sound differs. absurd (differs (sym (ap (λ (cs : Changes). applied cs (contents_of old.pages.below).records) none)));
@@ -48,7 +49,7 @@ returns g c =
     record {
       commits = subst (λ (f : Format). Commits c.change.result (changed_in (spelling_of f) batch (stored (store_state old))) (store_state old) (store_state new)) c.format-format.ensures is.commits;
       empty = λ none worked. absurd (false≢true (sym c.if-is_empty.false ∙ c.is_empty.ensures.1 none));
-      batch = λ worked contents holds. subst (λ (s : Spelling). CommitsBatch batch c.change.result contents (changed_in s batch contents) old.pages.below new.pages.below)
+      batch = λ worked contents holds. subst (λ (s : Spelling). CommitsBatch Kept batch c.change.result contents (changed_in s batch contents) old.pages.below new.pages.below)
           (ap spelling_of c.format-format.ensures ∙ holds.spelled) (is.batch worked contents holds);
       still = λ had. absurd (false≢true (sym c.if-self.false ∙ had));
       counts = is.counts;

@@ -4,6 +4,7 @@ use Rattle.storage_sizes.specs.declared.spelling.Spelling.{Spelling}
 use Rattle.storage_sizes.specs.declared.spelling.Spelling.TheVariants.{First, Second}
 use Rattle.store.specs.Store.{Contents, Commits, stored}
 use Rattle.store.specs.Contents.{changed_in}
+use Rattle.kv_store.specs.declared.reserve.Reserve.TheVariants.{Open}
 use Rattle.kv_store.specs.Batches.{CommitsBatch}
 use Rattle.kv_store.specs.TreeStore.{store_state}
 use Rattle.kv_store.proofs.Committing.{commit_closed}
@@ -28,7 +29,7 @@ returns g c =
     let second = c.respelled-format.ensures.spelled in
     record {
       commits = subst (λ (s : Spelling). Commits c.change.result (changed_in s batch (stored (store_state old))) (store_state old) (store_state new)) second is.commits;
-      batch = λ worked contents holds. subst (λ (s : Spelling). CommitsBatch batch c.change.result contents (changed_in s batch contents) old.pages.below new.pages.below) second (is.batch worked contents holds);
+      batch = λ worked contents holds. subst (λ (s : Spelling). CommitsBatch Open batch c.change.result contents (changed_in s batch contents) old.pages.below new.pages.below) second (is.batch worked contents holds);
       still = λ had. absurd (false≢true (sym c.if-self.false ∙ had));
       counts = is.counts;
       rises = λ sound was. is.rises sound (λ same. let bad : First ≡ Second = sym was ∙ (ap (λ (x : Contents). x.spelling) same ∙ second) in cc);
