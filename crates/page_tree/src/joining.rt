@@ -67,8 +67,8 @@ fn take_cell(
     Ok(Some(beside(left, right)))
 }
 
-/// How many free pages a join leaves alone where so many changes are still to be made. A change takes one for its leaf, so that
-/// changes that find room without joins find it also with them.
+/// How many free pages a join leaves alone where so many changes are still to be made: each takes one for its leaf, where it
+/// splits none. So joins take no page that these changes need.
 pub(crate) fn pages_to_spare(changes: usize) -> u32 {
     RESERVED_PAGES + changes.min(MAX_PAGES as usize) as u32
 }
