@@ -39,7 +39,7 @@ use Rattle.table_rows.specs.Ranged.{records_of}
 use Rattle.table_rows.specs.Visits.{AnswerAfter}
 use Rattle.table_rows.specs.Walked.{WalksFront, Walks}
 use Rattle.executor.specs.declared.one_table.OneTable.{OneTable}
-use Rattle.executor.specs.Selected.{FitQuery, answer_from, source_of, AnswersFront, CountsNoRows, GathersRows, ReadsAs}
+use Rattle.executor.specs.Selected.{FitQuery, source_of, AnswersFront, CountsNoRows, GathersRows, ReadsAs}
 
 -- ---- a row
 

@@ -10,6 +10,7 @@ pub mod Each
 pub mod Joins
 pub mod KeyOrder
 pub mod Keeping
+pub mod Kept
 pub mod Looking
 pub mod Narrowed
 pub mod Numbered

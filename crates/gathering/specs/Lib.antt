@@ -7,6 +7,7 @@ pub mod RowOrder
 pub mod Found
 pub mod Fits
 pub mod Reads
+pub mod Kept
 pub mod Combining
 pub mod Done
 pub mod Narrowed
