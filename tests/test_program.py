@@ -552,6 +552,37 @@ class Program(unittest.TestCase):
                 os.remove(new + '.partial')
         self.assertEqual(self.copied(path, new, 4096), (0, 'ok COPY\n', ''))
 
+    @staticmethod
+    def is_begun(path):
+        """Whether something was written to a copy: a new file is of zeros."""
+        if not os.path.exists(path):
+            return False
+        with open(path, 'rb') as file:
+            return any(file.read(1024))
+
+    def test_how_far_a_copy_is(self):
+        """A copy that takes long tells that on standard error, and goes on where it cannot."""
+        path, new = self.path('db'), self.path('new')
+        make_database(path, pages=8192)
+        script = ['open r root\nr: CREATE TABLE big (k BIGINT PRIMARY KEY, v TEXT)\n']
+        for first in range(0, 20_000, 4000):
+            rows = [f"r: INSERT INTO big VALUES ({k}, '{'o' * 1000}')\n" for k in range(first, first + 4000)]
+            script += ['r: BEGIN\n', *rows, 'r: COMMIT\n']
+        self.assertEqual(run('run', path, self.write('script', ''.join(script)))[0], 0)
+        records = self.records(path)
+        with open('/dev/full', 'wb') as full:
+            for messages, told in [(subprocess.PIPE, b'guarddb: copied 16 MiB\n'), (full, None)]:
+                words = [PROGRAM, 'copy', path, new, '--pages', '8192']
+                copy = subprocess.Popen(words, stdout=subprocess.PIPE, stderr=messages)
+                while not self.is_begun(new + '.partial') and copy.poll() is None:
+                    time.sleep(0.001)
+                copy.send_signal(signal.SIGSTOP)
+                time.sleep(2.5)
+                copy.send_signal(signal.SIGCONT)
+                self.assertEqual((*copy.communicate(), copy.returncode), (b'ok COPY\n', told, 0))
+                self.assertEqual(self.records(new), records)
+                os.remove(new)
+
     def test_what_the_system_refuses(self):
         path, script = self.path('db'), self.write('script', 'open r root\n')
         make_database(path)

@@ -26,7 +26,7 @@ pub(crate) fn check_strays<M: Map>(
 {
     no_stray_is_left();
     let ids = ids_of(alloc, tables)?;
-    check_records(alloc, map, &[], &StrayTest::new(&ids))
+    check_records(map, &[], &StrayTest::new(&ids))
 }
 
 // The numbers of the tables. The only error is that an allocation failed.

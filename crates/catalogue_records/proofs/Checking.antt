@@ -1,10 +1,12 @@
 -- Records that are checked one after the other.
-use Rattle.std.proofs.Common.{◌≡◌, ℕ, List, [], ◌∷◌, ◌++◌, map, refl, ap, sym, ◌∙◌, subst, inl, inr, append_assoc, Ok, Err, Bool, true}
+use Rattle.std.proofs.Common.{◌≡◌, ℕ, List, [], ◌∷◌, ◌++◌, map, refl, ap, sym, ◌∙◌, subst, inl, inr, append_assoc, Ok, Err, Bool, true, false, IsTrue, ◌↔◌}
 use Rattle.std.proofs.lemmas.List.{append-nil}
 use Rattle.store.specs.declared.fault.Fault.{Fault}
 use Rattle.store.specs.declared.fault.Fault.TheVariants.{Memory, Device, Damaged}
-use Rattle.store.specs.Records.{Record, Records, entries_where, has_prefix}
-use Rattle.store.specs.Walks.{Walk, left, walk_between}
+use Rattle.store.specs.Records.{Record, Records, IsOrdered, entries_where, has_prefix, is_from}
+use Rattle.store.specs.Steps.{AheadWithin, Takes}
+use Rattle.store.specs.Walks.{span}
+use Rattle.store.proofs.Changes.{ordered_entries_where}
 use Rattle.store.proofs.Walking.{span_of_prefix}
 use Rattle.sql_types.specs.Row.{Row}
 use Rattle.sql_ast.specs.Fits.{FitsTable}
@@ -14,33 +16,75 @@ use Rattle.abstract_database.specs.Whole.{Each}
 use Rattle.row_codec.specs.Rows.{row_prefix, row_key}
 use Rattle.stored_database.specs.Spelling.{row_record}
 use Rattle.stored_database.proofs.Lists.{first_of_each, rest_of_each, of_map}
-use Rattle.catalogue_records.specs.Checks.{GoesPast, Tests, AllPass, ChecksRecords, IsRowRecord}
+use Rattle.catalogue_records.specs.Checks.{GoesPast, FailsAt, Tests, AllPass, ChecksRecords, IsRowRecord}
 use Rattle.catalogue_records.specs.Walks.{AreHeld}
 use Rattle.catalogue_records.proofs.Loading.{each_none, each_append}
 
--- the records so far pass, and the others are left to the walk
-pub record AreChecked (Passes : Record → Type 0) (records : Records) (prefix : List ℕ) (walk : Walk) : Type 0 where
+-- ---- a step
+
+-- the first record is found, and is as it is to be, or not
+pub passed : (Passes : Record → Type 0) (found : Record → Type 0) (ahead : Records → Type 0) (within : Bool) (records : Records) (entry : Record) → within ≡ true
+    → Takes found ahead within records → ((e : Record) → found e → entry ≡ e) → Passes entry → GoesPast Passes ahead records
+passed Passes found ahead true records entry is takes same passes =
+    record { entry = takes.0; later = takes.1; first = takes.2; passes = subst Passes (same takes.0 takes.3) passes; is_ahead = takes.4 }
+passed Passes found ahead false records entry is takes same passes = absurd cc
+
+pub failed : (Passes : Record → Type 0) (found : Record → Type 0) (ahead : Records → Type 0) (within : Bool) (records : Records) (entry : Record) → within ≡ true
+    → Takes found ahead within records → ((e : Record) → found e → entry ≡ e) → (Passes entry → ⊥) → FailsAt Passes records
+failed Passes found ahead true records entry is takes same fails =
+    record { entry = takes.0; later = takes.1; first = takes.2; fails = λ passes. fails (subst Passes (sym (same takes.0 takes.3)) passes) }
+failed Passes found ahead false records entry is takes same fails = absurd cc
+
+pub not_passed : (P : Type 0) (b : Bool) → b ≡ false → (IsTrue b ↔ P) → P → ⊥
+not_passed P b is iff p = none (sym is ∙ iff.1 p)
+  where
+    none : false ≡ true → ⊥
+    none h = cc
+
+-- none has the prefix
+pub none_within : (found : Record → Type 0) (ahead : Records → Type 0) (within : Bool) (records : Records) → within ≡ false → Takes found ahead within records → records ≡ []
+none_within found ahead true records is takes = absurd cc
+none_within found ahead false records is takes = takes
+
+-- ---- the walk
+
+-- the records so far pass, and the others with the prefix are ahead
+pub record AreChecked (Passes : Record → Type 0) (ahead : Records → Type 0) (records : Records) (prefix : List ℕ) : Type 0 where
   pub past : Records
-  pub held : entries_where (has_prefix prefix) records ≡ past ++ left walk records
+  pub later : Records
+  pub held : entries_where (has_prefix prefix) records ≡ past ++ later
   pub pass : Each Passes past
+  pub is_ahead : AheadWithin prefix ahead later
 
-pub nothing_checked : (Passes : Record → Type 0) (records : Records) (prefix : List ℕ) (walk : Walk) → walk ≡ walk_between prefix prefix → AreChecked Passes records prefix walk
-nothing_checked Passes records prefix walk start =
-    subst (λ (w : Walk). AreChecked Passes records prefix w) (sym start) (record { past = []; held = sym (span_of_prefix prefix records); pass = each_none Passes })
-
-pub one_checked : (Passes : Record → Type 0) (records : Records) (prefix : List ℕ) (old new : Walk) → AreChecked Passes records prefix old → GoesPast Passes old new records
-    → AreChecked Passes records prefix new
-one_checked Passes records prefix old new so_far next = record {
-  past = so_far.past ++ next.entry ∷ [];
-  held = so_far.held ∙ ap (λ (zs : Records). so_far.past ++ zs) next.is_left ∙ sym (append_assoc so_far.past (next.entry ∷ []) (left new records));
-  pass = each_append Passes so_far.past next.entry so_far.pass next.passes;
+pub nothing_checked : (Passes : Record → Type 0) (ahead : Records → Type 0) (records : Records) (prefix : List ℕ) → IsOrdered records → ahead (entries_where (is_from prefix) records)
+    → AreChecked Passes ahead records prefix
+nothing_checked Passes ahead records prefix o start = record {
+  past = [];
+  later = span prefix prefix records;
+  held = sym (span_of_prefix prefix records);
+  pass = each_none Passes;
+  is_ahead = (entries_where (is_from prefix) records, refl, ordered_entries_where (is_from prefix) records o, start);
 }
 
-pub goes_past : (Passes : Record → Type 0) (found : Bool) (old new : Walk) (records : Records) → found ≡ true → Tests Passes (Ok found) old new records → GoesPast Passes old new records
-goes_past Passes found old new records is tested = subst (λ (b : Bool). Tests Passes (Ok b) old new records) is tested
+pub one_checked : (Passes : Record → Type 0) (old new : Records → Type 0) (records : Records) (prefix : List ℕ) (so_far : AreChecked Passes old records prefix)
+    → GoesPast Passes (AheadWithin prefix new) so_far.later → AreChecked Passes new records prefix
+one_checked Passes old new records prefix so_far next = record {
+  past = so_far.past ++ next.entry ∷ [];
+  later = next.later;
+  held = so_far.held ∙ ap (λ (zs : Records). so_far.past ++ zs) next.first ∙ sym (append_assoc so_far.past (next.entry ∷ []) next.later);
+  pass = each_append Passes so_far.past next.entry so_far.pass next.passes;
+  is_ahead = next.is_ahead;
+}
 
-pub all_checked : (Passes : Record → Type 0) (records : Records) (prefix : List ℕ) (walk : Walk) → AreChecked Passes records prefix walk → left walk records ≡ [] → AllPass Passes records prefix
-all_checked Passes records prefix walk so_far none =
+pub goes_past : (Passes : Record → Type 0) (ahead : Records → Type 0) (found : Bool) (records : Records) → found ≡ true → Tests Passes ahead (Ok found) records → GoesPast Passes ahead records
+goes_past Passes ahead found records is tested = subst (λ (b : Bool). Tests Passes ahead (Ok b) records) is tested
+
+pub none_left : (Passes : Record → Type 0) (ahead : Records → Type 0) (found : Bool) (records : Records) → found ≡ false → Tests Passes ahead (Ok found) records → records ≡ []
+none_left Passes ahead found records is tested = subst (λ (b : Bool). Tests Passes ahead (Ok b) records) is tested
+
+pub all_checked : (Passes : Record → Type 0) (ahead : Records → Type 0) (records : Records) (prefix : List ℕ) (so_far : AreChecked Passes ahead records prefix) → so_far.later ≡ []
+    → AllPass Passes records prefix
+all_checked Passes ahead records prefix so_far none =
     subst (Each Passes) (sym (so_far.held ∙ ap (λ (zs : Records). so_far.past ++ zs) none ∙ append-nil so_far.past)) so_far.pass
 
 -- a record in the middle is one of them
@@ -48,13 +92,13 @@ among_middle : (front rest : Records) (e : Record) → Among e (front ++ e ∷ r
 among_middle [] rest e = inl refl
 among_middle (f ∷ front) rest e = inr (among_middle front rest e)
 
-pub fault_checks : (Passes : Record → Type 0) (records : Records) (prefix : List ℕ) (old new : Walk) (fault : Fault) → AreChecked Passes records prefix old
-    → Tests Passes (Err fault) old new records → ChecksRecords Passes records prefix (Err fault)
-fault_checks Passes records prefix old new Memory so_far tested = tt
-fault_checks Passes records prefix old new Device so_far tested = tt
-fault_checks Passes records prefix old new Damaged so_far tested = λ all.
-    let held = so_far.held ∙ ap (λ (zs : Records). so_far.past ++ zs) tested.is_left in
-    tested.fails (all tested.entry (subst (Among tested.entry) (sym held) (among_middle so_far.past tested.rest tested.entry)))
+pub fault_checks : (Passes : Record → Type 0) (old new : Records → Type 0) (records : Records) (prefix : List ℕ) (fault : Fault) (so_far : AreChecked Passes old records prefix)
+    → Tests Passes (AheadWithin prefix new) (Err fault) so_far.later → ChecksRecords Passes records prefix (Err fault)
+fault_checks Passes old new records prefix Memory so_far tested = tt
+fault_checks Passes old new records prefix Device so_far tested = tt
+fault_checks Passes old new records prefix Damaged so_far tested = λ all.
+    let held = so_far.held ∙ ap (λ (zs : Records). so_far.past ++ zs) tested.first in
+    tested.fails (all tested.entry (subst (Among tested.entry) (sym held) (among_middle so_far.past tested.later tested.entry)))
 
 -- ---- rows
 

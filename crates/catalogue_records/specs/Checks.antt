@@ -3,7 +3,6 @@ use Rattle.std.specs.Prelude.{◌≡◌, ℕ, Bool, true, false, List, ◌∷◌
 use Rattle.store.specs.declared.fault.Fault.{Fault}
 use Rattle.store.specs.declared.fault.Fault.TheVariants.{Memory, Device, Damaged}
 use Rattle.store.specs.Records.{Record, Records, entries_where, has_prefix}
-use Rattle.store.specs.Walks.{Walk, left}
 use Rattle.sql_types.specs.Row.{Row}
 use Rattle.sql_ast.specs.Fits.{FitsTable}
 use Rattle.sql_ast.specs.Layout.{Layout}
@@ -12,26 +11,28 @@ use Rattle.stored_database.specs.Spelling.{row_record}
 use Rattle.stored_database.specs.Records.{is_stray, is_stray_row}
 use Rattle.catalogue_records.specs.Decoding.{IsSpelled}
 
--- the first record that is left is as it is to be, and the walk goes on after it
-pub record GoesPast (Passes : Record → Type 0) (old new : Walk) (records : Records) : Type 0 where
+-- the first of these records is as it is to be, and the others are ahead then
+pub record GoesPast (Passes : Record → Type 0) (ahead : Records → Type 0) (records : Records) : Type 0 where
   pub entry : Record
-  pub is_left : left old records ≡ entry ∷ left new records
+  pub later : Records
+  pub first : records ≡ entry ∷ later
   pub passes : Passes entry
+  pub is_ahead : ahead later
 
--- the first record that is left is not
-pub record FailsAt (Passes : Record → Type 0) (walk : Walk) (records : Records) : Type 0 where
+-- the first of these records is not
+pub record FailsAt (Passes : Record → Type 0) (records : Records) : Type 0 where
   pub entry : Record
-  pub rest : Records
-  pub is_left : left walk records ≡ entry ∷ rest
+  pub later : Records
+  pub first : records ≡ entry ∷ later
   pub fails : Passes entry → ⊥
 
--- a step of a check
-abbrev pub Tests : (Record → Type 0) → Result Bool Fault → Walk → Walk → Records → Type 0
-Tests Passes (Ok false) old new records = left old records ≡ []
-Tests Passes (Ok true) old new records = GoesPast Passes old new records
-Tests Passes (Err Memory) old new records = Unit {0}
-Tests Passes (Err Device) old new records = Unit {0}
-Tests Passes (Err Damaged) old new records = FailsAt Passes old records
+-- a step of a check of these records
+abbrev pub Tests : (Record → Type 0) → (Records → Type 0) → Result Bool Fault → Records → Type 0
+Tests Passes ahead (Ok false) records = records ≡ []
+Tests Passes ahead (Ok true) records = GoesPast Passes ahead records
+Tests Passes ahead (Err Memory) records = Unit {0}
+Tests Passes ahead (Err Device) records = Unit {0}
+Tests Passes ahead (Err Damaged) records = FailsAt Passes records
 
 -- each record with the prefix is as it is to be
 abbrev pub AllPass : (Record → Type 0) → Records → List ℕ → Type 0

@@ -14,7 +14,7 @@ use crate::bytes::after;
 use crate::check::RecordTest;
 use row_codec::view;
 use sql_ast::columns::Columns;
-use store::Entry;
+use store::EntryRef;
 
 /// The test of the records of the rows of one table.
 #[derive(Drop)]
@@ -49,18 +49,18 @@ impl<'a> RecordTest for RowTest<'a> {
 
     ghost Passes = { λ test. IsRowRecord test.id test.columns.now };
 
-    fn passes(&self, entry: &Entry) -> bool {
-        is_row(self.prefix, self.columns, entry)
+    fn passes(&self, entry: &EntryRef<'_>) -> bool {
+        is_row(self.prefix, self.columns, entry.key, entry.value)
     }
 }
 
-// Whether a record is that of a row which a table of these columns may hold.
-fn is_row(prefix: &[u8], columns: &Columns, entry: &Entry) -> bool
+// Whether the record of this key and value is that of a row which a table of these columns may hold.
+fn is_row(prefix: &[u8], columns: &Columns, key: &[u8], value: &[u8]) -> bool
     ensures { (id : ℕ) → prefix.now ≡ row_prefix id
-        → (IsTrue result ↔ IsRowRecord id columns.now entry.now) }
+        → (IsTrue result ↔ IsRowRecord id columns.now (key.now, value.now)) }
 {
-    match after(prefix, entry.key()) {
-        Some(key) => view(columns, key, entry.value()).is_some(),
+    match after(prefix, key) {
+        Some(rest) => view(columns, rest, value).is_some(),
         None => false,
     }
 }

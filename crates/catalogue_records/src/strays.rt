@@ -11,7 +11,7 @@ ghost use Rattle.catalogue_records.specs.Checks.{AllPass, IsNoStray, IsNoStrayRo
 
 use crate::check::RecordTest;
 use byteorder::{BigEndian, ByteOrder};
-use store::Entry;
+use store::EntryRef;
 
 /// The test that a record is of a kind, and, where it is a descriptor or a policy, of a table that
 /// there is. A row passes, whatever its table.
@@ -35,8 +35,8 @@ impl<'a> RecordTest for StrayTest<'a> {
 
     ghost Passes = { λ test. IsNoStray test.ids.now };
 
-    fn passes(&self, entry: &Entry) -> bool {
-        !is_stray(self.ids, entry.key())
+    fn passes(&self, entry: &EntryRef<'_>) -> bool {
+        !is_stray(self.ids, entry.key)
     }
 }
 
@@ -62,8 +62,8 @@ impl<'a> RecordTest for StrayRowTest<'a> {
 
     ghost Passes = { λ test. IsNoStrayRow test.ids.now };
 
-    fn passes(&self, entry: &Entry) -> bool {
-        !is_stray_row(self.ids, entry.key())
+    fn passes(&self, entry: &EntryRef<'_>) -> bool {
+        !is_stray_row(self.ids, entry.key)
     }
 }
 

@@ -11,6 +11,7 @@ ghost use Rattle.copying.specs.Copying.{Copies, Finishes, HasCopyCause, HasOutsi
 use crate::fault::RecordCopyFault;
 use crate::mark::MARK;
 use crate::taking::take_records;
+use crate::watch::Watch;
 use std::alloc::Global;
 use store::{Batch, Fault, Map, Store};
 
@@ -48,15 +49,17 @@ fn finish<S: Store>(target: &mut S, batch: Batch) -> Result<(), RecordCopyFault>
 /// database are all. They are committed in the order of their keys, some at a time, and the mark goes with the last.
 ///
 /// So a stop at any moment leaves records with the mark, which stand for no database, or all records and no mark.
-/// After a fault the target works as before and has the mark still, unless its device failed.
+/// After a fault the target works as before and has the mark still, unless its device failed. After each commit but the last
+/// it is told how far the copy is.
 ///
 /// `Read`: the source is the cause, or `Memory`: an allocation failed, in the copy too. `Damaged`: a record of the source
 /// is of no size that a store takes. `Write`: the target is the cause: no room is left in it, an allocation
 /// failed, or its device failed. `Number` never comes in a store that has had fewer than 2^63 commits.
-pub fn copy_records<M: Map, S: Store>(
+pub fn copy_records<M: Map, S: Store, W: Watch>(
     alloc: Global,
     source: &mut M,
     target: &mut S,
+    watch: &mut W,
 ) -> Result<(), RecordCopyFault>
     ensures preserved { M.preserved source.old source.new }
     ensures reads { OnlyReads (M.state source.old) (M.state source.new) }
@@ -73,12 +76,14 @@ pub fn copy_records<M: Map, S: Store>(
         → (M.state source.new).has_failed ≡ (M.state source.old).has_failed }
 {
     let mut place = first_place(source)?;
+    let mut bytes = 0;
     for _ in 0..MOST_COMMITS {
         let mut batch = Batch::new(alloc);
-        if !take_records(source, &mut place, &mut batch)? {
+        if !take_records(source, &mut place, &mut batch, &mut bytes)? {
             return finish(target, batch);
         }
         target.commit(&batch)?;
+        watch.tell(bytes);
     }
     Err(RecordCopyFault::Read(Fault::Memory))
 }

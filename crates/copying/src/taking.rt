@@ -12,7 +12,7 @@ const BATCH_RECORDS: usize = 1 << 18;
 
 // The bytes of keys and values of one commit: once there are so many, no record is added. Each commit is synced twice, so few
 // are made; and however many records there are, no more memory is taken than for those of one.
-const BATCH_BYTES: usize = 1 << 24;
+const BATCH_BYTES: u64 = 1 << 24;
 
 // Puts a record into a batch. Damaged: it is of no size that a store takes.
 fn put_record(batch: &mut Batch, entry: &EntryRef<'_>) -> Result<(), Fault>
@@ -31,12 +31,12 @@ fn put_record(batch: &mut Batch, entry: &EntryRef<'_>) -> Result<(), Fault>
     Ok(())
 }
 
-// Takes the first record ahead of a place into a batch, and its bytes from the room that is left. False: none is ahead.
+// Takes the first record ahead of a place into a batch, and adds its bytes to those that were taken. False: none is ahead.
 fn take_record<M: Map>(
     source: &mut M,
     place: &mut M::Place,
     batch: &mut Batch,
-    room: &mut usize,
+    bytes: &mut u64,
 ) -> Result<bool, Fault>
     ensures preserved { M.preserved source.old source.new }
     ensures read { HasRead result (M.state source.old) (M.state source.new) }
@@ -51,18 +51,20 @@ fn take_record<M: Map>(
         return Ok(false);
     }
     let found = source.entry(place);
-    *room = room
-        .saturating_sub(found.key.len())
-        .saturating_sub(found.value.len());
+    *bytes = bytes
+        .saturating_add(found.key.len() as u64)
+        .saturating_add(found.value.len() as u64);
     put_record(batch, &found)?;
     Ok(true)
 }
 
-/// Takes records ahead of a place into a batch, up to those of one commit. False: none is left ahead.
+/// Takes records ahead of a place into a batch, up to those of one commit, and adds their bytes to those that were taken. False:
+/// none is left ahead.
 pub(crate) fn take_records<M: Map>(
     source: &mut M,
     place: &mut M::Place,
     batch: &mut Batch,
+    bytes: &mut u64,
 ) -> Result<bool, Fault>
     ensures preserved { M.preserved source.old source.new }
     ensures read { HasRead result (M.state source.old) (M.state source.new) }
@@ -71,12 +73,12 @@ pub(crate) fn take_records<M: Map>(
     ensures damaged { (M.state source.old).sound → (records : Records) → M.ahead source.old place.old records
         → IfErr result (λ fault. fault ≡ Fault.Damaged → HasOutsized records) }
 {
-    let mut room = BATCH_BYTES;
+    let most = bytes.saturating_add(BATCH_BYTES);
     for _ in 0..BATCH_RECORDS {
-        if room == 0 {
+        if *bytes >= most {
             return Ok(true);
         }
-        if !take_record(source, place, batch, &mut room)? {
+        if !take_record(source, place, batch, bytes)? {
             return Ok(false);
         }
     }

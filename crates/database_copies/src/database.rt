@@ -9,7 +9,7 @@ ghost use Rattle.database_copies.specs.Databases.{CopiesDatabase, CopiesStore, H
 use crate::fault::DatabaseCopyFault;
 use crate::source::read_source;
 use crate::under::copy_under;
-use device_copies::copied_records_stand;
+use device_copies::{Watch, copied_records_stand};
 use device_store::DeviceStore;
 use journal_store::JournalDevice;
 use sector_device::Device;
@@ -27,10 +27,13 @@ use store::Store;
 /// `Source`: no database is on the source, or its device failed. `WrongSize`: the device of the copy has another size;
 /// nothing was written. `Full`: no room is left on it; it names how many pages a copy wants at least. `Device`: it failed.
 /// `Memory`: an allocation failed.
-pub fn copy_database<D: JournalDevice, E: Device>(
+///
+/// The watch is told now and then how far a large copy is.
+pub fn copy_database<D: JournalDevice, E: Device, W: Watch>(
     alloc: Global,
     source: D,
     target: E,
+    watch: &mut W,
 ) -> (D, E, Result<(), DatabaseCopyFault>)
     ensures history { DeviceHistory (D.state source) (D.state result.0) }
     ensures unwritten { (D.state source).faithful → KeepsContent (D.state source) (D.state result.0) }
@@ -44,15 +47,16 @@ pub fn copy_database<D: JournalDevice, E: Device>(
             return (source, target, Err(fault));
         }
     };
-    let (target, copied) = copy_store(alloc, &mut store, target);
+    let (target, copied) = copy_store(alloc, &mut store, target, watch);
     (store.into_device(), target, copied)
 }
 
 // Copies the database that the contents of a store stand for to a device.
-fn copy_store<S: Store, E: Device>(
+fn copy_store<S: Store, E: Device, W: Watch>(
     alloc: Global,
     store: &mut S,
     target: E,
+    watch: &mut W,
 ) -> (E, Result<(), DatabaseCopyFault>)
     ensures preserved { S.preserved store.old store.new }
     ensures history { KeepsHistory (S.state store.old) (S.state store.new) }
@@ -68,7 +72,7 @@ fn copy_store<S: Store, E: Device>(
             return (target, Err(fault));
         }
     };
-    let (target, copied) = copy_under(alloc, store, lists.as_slice(), target);
+    let (target, copied) = copy_under(alloc, store, lists.as_slice(), target, watch);
     (target, told(copied))
 }
 

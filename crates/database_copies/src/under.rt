@@ -6,18 +6,19 @@ ghost use Rattle.transactions.specs.Views.{applied_all};
 ghost use Rattle.copying.specs.Copying.{HasOutsized, behind_mark};
 ghost use Rattle.device_copies.specs.Copies.{CopiesTo, HasSourceCause};
 
-use device_copies::{DeviceCopyFault, copy_to_device};
+use device_copies::{DeviceCopyFault, Watch, copy_to_device};
 use sector_device::Device;
 use std::alloc::Global;
 use store::{Batch, Map};
 use transactions::View;
 
 /// Copies the records of a map under lists of changes to a device, as `copy_to_device` does. The map is only read.
-pub(crate) fn copy_under<M: Map, E: Device>(
+pub(crate) fn copy_under<M: Map, E: Device, W: Watch>(
     alloc: Global,
     map: &mut M,
     lists: &[Batch],
     target: E,
+    watch: &mut W,
 ) -> (E, Result<(), DeviceCopyFault>)
     ensures preserved { M.preserved map.old map.new }
     ensures history { KeepsHistory (M.state map.old) (M.state map.new) }
@@ -28,7 +29,7 @@ pub(crate) fn copy_under<M: Map, E: Device>(
         → HasOutsized (behind_mark (applied_all lists.now (M.state map.old).map))) }
 {
     let mut view = View::new(alloc, map, lists);
-    let copied = copy_to_device(alloc, &mut view, target);
+    let copied = copy_to_device(alloc, &mut view, target, watch);
     view.into_map();
     copied
 }

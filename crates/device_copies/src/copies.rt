@@ -8,7 +8,7 @@ ghost use Rattle.device_copies.specs.Copies.{CopiesTo, HasSourceCause, told_of};
 use crate::fault::DeviceCopyFault;
 use crate::marked::marked_store;
 use crate::wanted::no_room_fault;
-use copying::copy_records;
+use copying::{Watch, copy_records};
 use kv_store::{Fault, Map, StoreFault, sound_images};
 use sector_device::Device;
 use std::alloc::Global;
@@ -25,10 +25,13 @@ use storage_sizes::SECTORS_PER_PAGE;
 /// database has. `WrongSize`: the device has another size; nothing was written. `Full`: a commit found no room on the
 /// device; it names how many pages a copy wants at least: those of leaves that are full, and never fewer than one more than
 /// the device has. The records are read once more for it. `Device`: the device failed. `Memory`: an allocation failed.
-pub fn copy_to_device<M: Map, D: Device>(
+///
+/// The watch is told how far a large copy is, as `copy_records` does.
+pub fn copy_to_device<M: Map, D: Device, W: Watch>(
     alloc: Global,
     source: &mut M,
     target: D,
+    watch: &mut W,
 ) -> (D, Result<(), DeviceCopyFault>)
     ensures preserved { M.preserved source.old source.new }
     ensures reads { OnlyReads (M.state source.old) (M.state source.new) }
@@ -43,7 +46,7 @@ pub fn copy_to_device<M: Map, D: Device>(
         Ok(store) => store,
         Err((target, fault)) => return (target, Err(fault)),
     };
-    let copied = copy_records(alloc, source, &mut store);
+    let copied = copy_records(alloc, source, &mut store, watch);
     sound_images(&store);
     let no_room = no_room_fault(source, pages, copied);
     (store.into_device(), told(copied, no_room))

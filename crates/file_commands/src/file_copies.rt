@@ -1,13 +1,17 @@
 //! A copy of the database in a file, in a new file.
 
 ghost use Rattle.std.specs.Prelude.{◌≡◌, ◌≢◌, ◌≤◌, IfOk, string_bytes};
+ghost use Rattle.sector_device.specs.Device.{KeepsHistory};
+ghost use Rattle.cow_pages.specs.Held.{KeepsContent};
+ghost use Rattle.database_copies.specs.Databases.{CopiesDatabase};
 ghost use Rattle.file_commands.specs.CopyFaults.{of_partial};
 ghost use Rattle.file_commands.specs.Copying.{CopiesBeside, CopiesFile, Renames, partial_path};
 
 use crate::copy_fault::FileCopyFault;
 use crate::fault::CommandFault;
 use cow_pages::page_count;
-use database_copies::copy_database;
+use database_copies::{DatabaseCopyFault, Watch, copy_database};
+use journal_store::JournalDevice;
 use sector_device::{Device, FileFault};
 use std::alloc::{AllocError, Global};
 use storage_sizes::{MAX_PAGES, SECTORS_PER_PAGE};
@@ -23,7 +27,7 @@ const PARTIAL: &str = ".partial";
 /// The copy is made in a file of its own, which has the name of the target with `.partial` after it.
 /// It gets its name once it is whole, and replaces nothing. So at no moment is there anything at
 /// `target` but the whole copy. After an error nothing is left of it, as far as the system removes
-/// it.
+/// it. What the system has for it is told how far a large copy is.
 ///
 /// `New` with `WrongSize`: the number of pages is not from 64 to 65,536; no file is opened. `File`:
 /// what `read_file` refuses of the file. `New`: `Exists`, where there is something of the name
@@ -110,7 +114,7 @@ fn copy_as<Y: System>(
         Ok(blank) => blank,
         Err(fault) => return (device, Err(partial_fault(fault))),
     };
-    let (left, copy, copied) = copy_database(alloc, device, blank);
+    let (left, copy, copied) = copy_watched(alloc, device, blank, system.watch_copy());
     match copied {
         Ok(()) => (left, rename_copy(system, partial, target, copy)),
         Err(fault) => {
@@ -118,6 +122,22 @@ fn copy_as<Y: System>(
             (left, Err(FileCopyFault::from(fault)))
         }
     }
+}
+
+// Copies the database on a device to another device, while a watch is told how far that is.
+fn copy_watched<D: JournalDevice, W: Watch + Drop>(
+    alloc: Global,
+    device: D,
+    blank: D,
+    watch: W,
+) -> (D, D, Result<(), DatabaseCopyFault>)
+    ensures history { KeepsHistory (D.state device) (D.state result.0) }
+    ensures unwritten { (D.state device).faithful → KeepsContent (D.state device) (D.state result.0) }
+    ensures copies { (D.state device).faithful
+        → CopiesDatabase (D.state device) (D.state result.0) D.state result.2 blank result.1 }
+{
+    let mut watch = watch;
+    copy_database(alloc, device, blank, &mut watch)
 }
 
 // Why nothing was made under the name that a copy has until it is whole.

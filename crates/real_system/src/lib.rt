@@ -8,7 +8,9 @@ mod private_socket;
 mod real;
 mod socket;
 mod streams;
+mod watching;
 
 pub use listening::PlaceListener;
 pub use real::RealSystem;
 pub use streams::{NULL_DEVICE, SystemStream};
+pub use watching::CopyWatch;

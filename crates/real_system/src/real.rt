@@ -5,6 +5,7 @@ use crate::listening::PlaceListener;
 use crate::new_files::{is_there, make_file, rename_new};
 use crate::socket::{FileId, file_at, remove_made};
 use crate::streams::StandardStreams;
+use crate::watching::CopyWatch;
 use connections::system_listener::SystemListener;
 use sector_device::{FileDevice, FileFault, Guarded, SystemCause, SystemFile};
 use std::alloc::Global;
@@ -59,10 +60,16 @@ impl<
 
     type Listener = SystemListener<'r, R, PlaceListener>;
 
+    type Watch = CopyWatch<'r, R>;
+
     ghost state = { λ s. unsaid s.failures };
 
     fn failures(&self) -> u64 {
         self.failures
+    }
+
+    fn watch_copy(&self) -> CopyWatch<'r, R> {
+        CopyWatch::begin(self.rt)
     }
 
     fn read_text(&mut self, _alloc: Global, path: &str) -> Result<Vec<u8>, TextFault> {

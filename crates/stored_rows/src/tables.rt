@@ -50,7 +50,7 @@ fn check_table<M: Map>(alloc: Global, map: &mut M, table: &TableDefinition) -> R
     let mut prefix = Vec::new(alloc);
     push_row_prefix(&mut prefix, table.id())?;
     let test = RowTest::new(table.id(), prefix.as_slice(), table.columns());
-    check_records(alloc, map, prefix.as_slice(), &test)
+    check_records(map, prefix.as_slice(), &test)
 }
 
 /// Whether each record of a row is of one of these tables. Memory: an allocation failed. Device: the
@@ -67,7 +67,7 @@ pub(crate) fn check_strays<M: Map>(
         result }
 {
     let ids = table_ids(alloc, tables)?;
-    check_records(alloc, map, &[ROW], &StrayRowTest::new(ids.as_slice()))
+    check_records(map, &[ROW], &StrayRowTest::new(ids.as_slice()))
 }
 
 // The numbers of the tables.

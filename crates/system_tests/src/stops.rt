@@ -18,9 +18,9 @@
 //!   writes, and each of its calls fails in turn, without effect and with it. What that leaves is opened by each choice of
 //!   sectors, a part of these openings is stopped once more, and each comes to the records of the second spelling under the next
 //!   number.
-//! - Copies: the database of such a device, and that at the end of a script, is copied to a new device, and this is stopped
-//!   after each count of sector writes. What that leaves is opened by each choice of sectors: it is no database or the whole
-//!   one, and this alone once the copy is answered.
+//! - Copies: the database of such a device is copied to a new device, and this is stopped after each count of sector writes; so
+//!   is that at the end of a script, where a part of the stops is tried. What a stop leaves is opened by each choice of sectors:
+//!   it is no database or the whole one, and this alone once the copy is answered. What was copied stays as it was.
 //! - Bad frames, given whole and byte by byte, are answered by 08P01 for session 0, and nothing after them is.
 //!
 //! A line tells each disagreement. A part of the trials is the same in each run.
@@ -84,8 +84,9 @@ const FAILING: [(&str, usize); 4] = [
     ("forty_commits", 8),
 ];
 
-/// The script whose database is copied at its end.
-const COPIED: &str = "forty_commits";
+/// The script whose database is copied at its end, and of how many stops of the copy one is tried where a part is: no multiple of
+/// the sectors of a page.
+const COPIED: (&str, usize) = ("forty_commits", 7);
 
 /// How many pages the server keeps where calls fail.
 const CACHES: [usize; 2] = [1, CACHE_PAGES];
@@ -117,7 +118,7 @@ fn try_all(
     stop_scripts(rt, alloc, &mut parts, sums)?;
     fail_scripts(rt, alloc, &parts, sums)?;
     hinder_migrations(rt, alloc, all, sums)?;
-    copy_last(rt, alloc, COPIED, sums)?;
+    copy_last(rt, alloc, &parts, sums)?;
     send_frames(rt, alloc, sums)
 }
 
@@ -182,42 +183,39 @@ fn hinder(
     hinder_migration(alloc, &migration, &mut Parts::new(all), &mut tried)?;
     sums.add(rt, name, &tried)?;
     tried.print_migration(rt, name)?;
-    copy(
-        rt,
-        alloc,
-        name,
-        &Image::of_bytes(alloc, image.bytes.as_slice())?,
-        sums,
-    )
+    let image = Image::of_bytes(alloc, image.bytes.as_slice())?;
+    copy(rt, alloc, name, &image, 1, sums)
 }
 
 /// Stops copies of the database at the end of a script.
 fn copy_last(
     rt: &HostRuntime,
     alloc: Global,
-    name: &str,
+    parts: &Parts,
     sums: &mut Tallies,
 ) -> Result<(), TrialFault> {
+    let (name, part) = COPIED;
     let script = read_script(rt, alloc, name)?;
     let events = script.events.as_slice();
     let mut server = open_new(alloc, CACHE_PAGES)?;
     run_first(&mut server, events, events.len());
-    copy(rt, alloc, name, &Image::of(alloc, server.end())?, sums)
+    let image = Image::of(alloc, server.end())?;
+    copy(rt, alloc, name, &image, parts.step(part) as u64, sums)
 }
 
-/// Stops copies of the database that a device holds, and adds and prints what was tried.
+/// Stops copies of the database that a device holds after each count of writes, or one of `every` of them, and adds what was
+/// tried.
 fn copy(
     rt: &HostRuntime,
     alloc: Global,
     name: &str,
     source: &Image,
+    every: u64,
     sums: &mut Tallies,
 ) -> Result<(), TrialFault> {
     let mut tried = Tallies::new(alloc);
-    stop_copies(alloc, source, &mut tried.copies)?;
+    stop_copies(alloc, source, every, &mut tried.copies)?;
     sums.add(rt, name, &tried)?;
-    print!(rt; "{name}: ")?;
-    tried.copies.print_stops(rt, "stops of a copy")?;
     Ok(())
 }
 

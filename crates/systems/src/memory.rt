@@ -11,6 +11,7 @@ use crate::fault::{OpenPathFault, TextFault};
 use crate::listener::MemListener;
 use crate::place::ListenPlace;
 use crate::system::System;
+use copying::Unwatched;
 use sector_device::{FileFault, Guarded, HistoryDevice, SystemCause};
 use std::alloc::Global;
 use std::time::Duration;
@@ -64,10 +65,16 @@ impl System for MemSystem<Guarded<HistoryDevice>> {
 
     type Listener = MemListener;
 
+    type Watch = Unwatched;
+
     ghost state = { λ s. memory_state s.entries.items s.port s.listener s.failures };
 
     fn failures(&self) -> u64 {
         self.failures
+    }
+
+    fn watch_copy(&self) -> Unwatched {
+        Unwatched
     }
 
     fn read_text(&mut self, alloc: Global, path: &str) -> Result<Vec<u8>, TextFault> {

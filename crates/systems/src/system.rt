@@ -8,6 +8,7 @@ use crate::access::Access;
 use crate::fault::{OpenPathFault, TextFault};
 use crate::place::ListenPlace;
 use connections::listen::Listen;
+use copying::Watch;
 use journal_store::JournalDevice;
 use sector_device::{Device, FileFault, SystemCause};
 use std::alloc::Global;
@@ -25,12 +26,18 @@ pub trait System {
     /// What the place of a server names.
     type Listener: Listen + Drop;
 
+    /// What is told how far a copy is.
+    type Watch: Watch + Drop;
+
     /// What the system is at one moment.
     ghost state: { Self → SystemState Self.Device Self.Listener };
 
     /// How often a call has failed, up to `u64::MAX`.
     fn failures(&self) -> u64
         ensures { result ≡ (state self.now).failures };
+
+    /// What is told how far a copy is that begins now. It is no part of the system, which stays as it is, whatever is told.
+    fn watch_copy(&self) -> Self::Watch;
 
     /// Reads the bytes of a text.
     ///

@@ -1,4 +1,4 @@
-//! Copies of databases, of which the device that the copy is made on is stopped after each count of sector writes.
+//! Copies of databases, of which the device that the copy is made on is stopped after counts of sector writes.
 
 use crate::stops::fault::TrialFault;
 use crate::stops::first_stops::MAX_WRITES;
@@ -8,25 +8,37 @@ use crate::stops::restarts::check_restarts;
 use crate::stops::servers::{CACHE_PAGES, OpeningOutcome, end_and_scan, open_device, try_opening};
 use crate::stops::tally::Tally;
 use crate::stores::SMALL_PAGES;
-use database_copies::{DatabaseCopyFault, copy_database};
+use database_copies::{DatabaseCopyFault, Unwatched, copy_database};
 use device_store::OpenFault;
 use opening::OpeningFault;
 use sector_device::{Guarded, MemDevice};
 use std::alloc::Global;
 
-/// Copies the database that a device holds to a new device, which stops after each count of sector writes. Whatever its
-/// unsynced sectors are then, it holds nothing or the whole database, and that alone once the copy was answered.
-pub fn stop_copies(alloc: Global, source: &Image, tally: &mut Tally) -> Result<(), TrialFault> {
-    match stop_each(alloc, source, tally) {
+/// Copies the database that a device holds to a new device, which stops after each count of sector writes, or one of `every`
+/// of them. Whatever its unsynced sectors are then, it holds nothing or the whole database, and that alone once the copy was
+/// answered. The device that is copied has the content that it had.
+pub fn stop_copies(
+    alloc: Global,
+    source: &Image,
+    every: u64,
+    tally: &mut Tally,
+) -> Result<(), TrialFault> {
+    match stop_each(alloc, source, every, tally) {
         Ok(()) => Ok(()),
         Err(fault) => tally.disagree(TrialPlace::after(0), fault),
     }
 }
 
-/// Stops a copy after each count of sector writes, until it is answered.
-fn stop_each(alloc: Global, source: &Image, tally: &mut Tally) -> Result<(), TrialFault> {
+/// Stops a copy after counts of sector writes, until it is answered.
+fn stop_each(
+    alloc: Global,
+    source: &Image,
+    every: u64,
+    tally: &mut Tally,
+) -> Result<(), TrialFault> {
     let (_, records) = end_and_scan(alloc, open_device(alloc, source.running(alloc)?)?)?;
-    for writes in 0..MAX_WRITES {
+    for stop in 0..MAX_WRITES {
+        let writes = stop.saturating_mul(every);
         if is_copied_before(alloc, source, records.as_slice(), writes, tally)? {
             return Ok(());
         }
@@ -43,7 +55,7 @@ fn is_copied_before(
     writes: u64,
     tally: &mut Tally,
 ) -> Result<bool, TrialFault> {
-    let (left, is_copied) = stopped(alloc, source.running(alloc)?, writes)?;
+    let (left, is_copied) = stopped(alloc, source, writes)?;
     let place = TrialPlace {
         stop: Some(writes),
         ..TrialPlace::after(0)
@@ -55,11 +67,16 @@ fn is_copied_before(
     Ok(is_copied)
 }
 
-/// What the device of a copy holds that is stopped after so many writes, and whether the database was copied before.
-fn stopped(alloc: Global, source: MemDevice, writes: u64) -> Result<(Image, bool), TrialFault> {
+/// What the device of a copy holds that is stopped after so many writes, and whether the database was copied before. What was
+/// copied has the content that it had.
+fn stopped(alloc: Global, source: &Image, writes: u64) -> Result<(Image, bool), TrialFault> {
+    let device = Guarded::new(source.running(alloc)?);
     let target = MemDevice::new(alloc, SMALL_PAGES)?;
     target.stop_after(writes);
-    let (_, target, copied) = copy_database(alloc, Guarded::new(source), target);
+    let (device, target, copied) = copy_database(alloc, device, target, &mut Unwatched);
+    if !Image::of(alloc, device.into_device())?.has_content_of(source) {
+        return Err(TrialFault::AnotherContent);
+    }
     let is_copied = match copied {
         Ok(()) => true,
         Err(DatabaseCopyFault::Device) => false,

@@ -50,7 +50,7 @@ pub enum TrialFault {
     EarlyFailure,
     /// An event after the call that failed is answered.
     LaterAnswer,
-    /// An opening hands the device back with another content.
+    /// An opening or a copy hands a device back with another content.
     AnotherContent,
     /// What an opening found is lost by a stop.
     Lost,

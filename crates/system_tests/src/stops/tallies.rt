@@ -79,7 +79,10 @@ impl Tallies {
         self.second_stops.print_stops(rt, "second stops")?;
         self.failures.print_calls(rt, "failing calls")?;
         self.openings.print_calls(rt, "failing calls of openings")?;
-        self.copies.print_stops(rt, "stops of copies")?;
+        println!(rt;
+            "stops of copies: {} disagreements",
+            self.copies.disagreements
+        )?;
         let (tried, disagreements) = (self.frames.tried, self.frames.disagreements);
         println!(rt; "bad frames: {tried}, {disagreements} disagreements")
     }

@@ -1,0 +1,15 @@
+//! Who watches a copy.
+
+/// Who is told how far a copy is. It has no part of what is copied, nor of where: so whatever it does, the copy is the same.
+pub trait Watch {
+    /// Tells that so many bytes of keys and values are copied, and the copy goes on.
+    fn tell(&mut self, bytes: u64);
+}
+
+/// Nobody is told.
+#[derive(Clone, Copy, Debug, Drop)]
+pub struct Unwatched;
+
+impl Watch for Unwatched {
+    fn tell(&mut self, _bytes: u64) {}
+}
