@@ -100,7 +100,7 @@ ADVICE = {
     '42804': 'No type converts to another: write texts in single quotes, numbers and booleans without.',
     '42P01': SPELLING,
     '42P07': 'Use another name, or DROP TABLE first.',
-    '53100': 'Delete rows, a few at a time.',
+    '53100': 'Delete rows, or copy the database to a larger file: guarddb copy FILE NEW --pages N.',
     '53200': 'Try again, or ask for fewer rows.',
     '53300': r'\close ends a session.',
     '54000': 'docs/sql.md lists the limits.',
