@@ -4,7 +4,7 @@ use Rattle.std.proofs.Math.ListN.{set, length-set}
 use Rattle.std.proofs.lemmas.Bool.{cases_eq}
 use Rattle.std.proofs.lemmas.List.{get_or-set_same, get_or-set_other, ext_get_or}
 use Rattle.cow_pages.specs.Held.{part_of}
-use Rattle.cow_pages.specs.declared.page_map.Span.{Span}
+use Rattle.cow_pages.specs.declared.spans.Span.{Span}
 use Rattle.cow_pages.specs.PageMap.{AreChangedParts, IsOutside, DiffersWithin, EndsWith, IsUsedBelow}
 use Rattle.cow_pages.proofs.Parts.{parts_same, part_entry}
 

@@ -3,7 +3,7 @@ use Rattle.std.specs.Prelude.{◌<◌, ◌≡◌, ◌≢◌, ◌≤◌, ◌+◌,
 use Rattle.page_roots.specs.Root.{RootFields}
 use Rattle.page_roots.specs.Reach.{IsSound, InReach, is_reached}
 use Rattle.cow_pages.specs.Held.{part_of}
-use Rattle.cow_pages.specs.declared.page_map.Span.{Span}
+use Rattle.cow_pages.specs.declared.spans.Span.{Span}
 use Rattle.page_allocator.specs.TakenPages.{TakenPages, AreReached}
 
 -- the maps of the durable and of the working root, and the pages reserved for map pages of the working root, 0 for none

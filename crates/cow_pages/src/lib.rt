@@ -13,6 +13,7 @@ mod over_device;
 mod page_map;
 mod preserved;
 mod root_switch;
+mod spans;
 
 pub use cow::{CowPages, DEFAULT_CACHE_PAGES, MAX_CACHE_PAGES};
 pub use dirty_pages::MAX_DIRTY_PAGES;

@@ -10,7 +10,8 @@ ghost use Rattle.page_allocator.specs.TakenPages.{IsTaken, AreReached};
 ghost use Rattle.cow_pages.specs.PageMap.{IsIdle, EndsWith};
 ghost use Rattle.cow_pages.specs.Opening.{IsRootFound, IsNamedFor};
 
-use crate::page_map::{PageMap, Span};
+use crate::page_map::PageMap;
+use crate::spans::Span;
 use page_allocator::PageAllocator;
 use page_roots::{
     ENTRIES_PER_MAP_PAGE, MAX_MAP_PAGES, Root, choose, has_magic, is_sound_reach, read_map_page,

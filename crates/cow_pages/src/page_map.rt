@@ -6,6 +6,7 @@ ghost use Rattle.cow_pages.specs.Held.{part_of};
 ghost use Rattle.cow_pages.specs.Used.{named, grown};
 
 use crate::open::MAX_ENTRIES;
+use crate::spans::Span;
 use page_allocator::{Full, PageAllocator};
 use page_roots::{ENTRIES_PER_MAP_PAGE, Format, MAX_MAP_PAGES, Root};
 use std::mem::swap;
@@ -21,38 +22,6 @@ pub enum CommitFault {
     NoFirstPage,
     /// The device failed, in this call or an earlier one.
     Device,
-}
-
-// Entries of a map: from one on, those before another.
-#[derive(Clone, Copy, Drop)]
-pub(crate) struct Span {
-    from: u32,
-    to: u32,
-}
-
-impl Span {
-    ghost use Rattle.cow_pages.specs.PageMap.{IsOutside};
-
-    // No entry.
-    pub(crate) fn none() -> Span
-        ensures { (l : ℕ) → IsOutside result l }
-    {
-        Span {
-            from: MAX_ENTRIES as u32,
-            to: 0,
-        }
-    }
-
-    // These entries and one more.
-    fn including(self, entry: u32) -> Span
-        requires { entry < 65536 }
-        ensures { (l : ℕ) → IsOutside result l → IsOutside self l × (l ≢ entry) }
-    {
-        Span {
-            from: self.from.min(entry),
-            to: self.to.max(entry + 1),
-        }
-    }
 }
 
 // One for an entry that names a page, and nothing for 0.
