@@ -6,7 +6,5 @@ pub mod description;
 pub mod json;
 pub mod role;
 pub mod section;
-#[cfg(test)]
-mod tests;
 pub mod text;
 mod words;

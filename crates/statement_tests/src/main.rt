@@ -1,9 +1,11 @@
-//! Tests of statements: what texts stand for (`texts`), and what statements over rows answer (`rows`).
+//! Tests of statements: what texts stand for (`texts`), what statements over rows answer (`rows`), and how sections of a
+//! description are laid out (`layouts`).
 //!
 //! A line `part NAME` of standard input begins one of these parts, whose lines follow; what each of them means is said at the head
 //! of the part.
 #![tactic(auto)]
 
+mod layouts;
 mod rows;
 mod texts;
 
@@ -15,6 +17,7 @@ use std::io::{BufWriter, Input, Write};
 /// What the lines are about.
 #[derive(Clone, Copy)]
 enum StatementPart {
+    Layouts,
     Texts,
     Rows,
 }
@@ -55,6 +58,7 @@ impl StatementTests {
     fn follow<W: Write>(&mut self, alloc: Global, line: &str, out: &mut W) -> Result<()> {
         match (line.strip_prefix("part "), self.part) {
             (Some(name), _) => self.begin(name),
+            (None, StatementPart::Layouts) => follow_layout(alloc, line, out),
             (None, StatementPart::Texts) => follow_text(alloc, line, out),
             (None, StatementPart::Rows) => self.database.run_line(alloc, line, out),
         }
@@ -63,12 +67,21 @@ impl StatementTests {
     /// Begins the part of this name.
     fn begin(&mut self, name: &str) -> Result<()> {
         self.part = match name {
+            "layouts" => StatementPart::Layouts,
             "texts" => StatementPart::Texts,
             "rows" => StatementPart::Rows,
             _ => bail!("there is no such part"),
         };
         Ok(())
     }
+}
+
+/// Writes the layout that a line names.
+fn follow_layout<W: Write>(alloc: Global, line: &str, out: &mut W) -> Result<()> {
+    let mut told = String::new(alloc);
+    layouts::follow(alloc, line, &mut told)?;
+    out.write_all(told.as_bytes())?;
+    Ok(())
 }
 
 /// Writes what the text of a line stands for.
