@@ -6,13 +6,18 @@ use Rattle.sql_ast.specs.declared.scope.ColumnIndex.{ColumnIndex}
 use Rattle.sql_ast.specs.Term.{Term, literal, column, current_user, session_user, comparison, operation, minus, conjunction, disjunction, negation, null_test, not_null_test, member_test}
 use Rattle.expressions.specs.Types.{TypedTerm}
 use Rattle.abstract_database.specs.Expressions.{columns_in}
-use Rattle.abstract_database.specs.Needs.{has_any, columns_read, columns_of_query, terms_of_query}
+use Rattle.abstract_database.specs.Needs.{has_any, columns_read, columns_of_query, terms_of_list, terms_of_query}
 use Rattle.abstract_database.specs.Queries.{BoundList, each_column, each_value, their_count, BoundKey, BoundQuery}
 use Rattle.sql_ast.specs.Layout.{Layout}
 use Rattle.gathering.specs.declared.query.TypedSortKey.{TypedSortKey}
-use Rattle.gathering.specs.Queries.{key_of}
+use Rattle.gathering.specs.declared.query.OutputList.{OutputList}
+use Rattle.gathering.specs.declared.query.OutputList.TheVariants.{Rows, Count}
+use Rattle.gathering.specs.declared.query.Query.{Query}
+use Rattle.gathering.specs.declared.query.RowList.TheVariants.{Columns, Values}
+use Rattle.gathering.specs.Queries.{bound_of, key_of, list_of}
+use Rattle.gathering.specs.Reads.{list_reads, names, reads}
 use Rattle.catalogue.specs.Grants.{has_bit}
-use Rattle.planner.specs.Reading.{names, lacks, is_each_column}
+use Rattle.planner.specs.Reading.{lacks, is_each_column}
 use Rattle.planner.specs.Rights.{covers}
 use Rattle.planner.proofs.MaskBits.{no_bit}
 
@@ -103,10 +108,7 @@ then_so a b e = sym (ap (λ x. x || b) e)
 
 -- ---- queries
 
-pub through_keys : (kind : ColumnIndex → Bool) (keys : List TypedSortKey) → list_any (λ (key : TypedSortKey). names kind key.value.term) keys ≡ list_any (names kind) (map (λ (key : TypedSortKey). key.value.term) keys)
-through_keys kind keys = any_through (λ (key : TypedSortKey). key.value.term) kind keys
-
-pub keys_by_value : (keys : List TypedSortKey) → map (λ (key : TypedSortKey). key.value.term) keys ≡ map (λ (key : BoundKey). key.term) (map key_of keys)
+keys_by_value : (keys : List TypedSortKey) → map (λ (key : TypedSortKey). key.value.term) keys ≡ map (λ (key : BoundKey). key.term) (map key_of keys)
 keys_by_value [] = refl
 keys_by_value (key ∷ keys) = ap (λ l. key.value.term ∷ l) (keys_by_value keys)
 
@@ -124,3 +126,20 @@ module _ (q : BoundQuery) (number : ℕ) (layout : Layout) where
     go each_column e k = cc
     go (each_value terms) e k = rw e refl
     go their_count e k = rw e refl
+
+-- what the program reads of a query is what its expressions name
+module _ (kind : ColumnIndex → Bool) where
+  list_named : (l : OutputList) → is_each_column (list_of l) ≡ false → list_reads l kind ≡ list_any (names kind) (terms_of_list (list_of l))
+  list_named (Rows (Columns widths)) e = cc
+  list_named (Rows (Values values)) e = any_through (λ (u : TypedTerm). u.term) kind values
+  list_named Count e = refl
+
+  pub query_named : (q : Query) → is_each_column (list_of q.list) ≡ false → reads q kind ≡ list_any (names kind) (terms_of_query (bound_of q))
+  query_named q e =
+      let list = terms_of_list (list_of q.list) in
+      let keys = map (λ (key : BoundKey). key.term) (map key_of q.keys) in
+      let behind = list_any (λ (u : TypedTerm). names kind u.term) q.conditions || list_any (λ (key : TypedSortKey). names kind key.value.term) q.keys in
+      let keys_named = any_through (λ (key : TypedSortKey). key.value.term) kind q.keys ∙ ap (list_any (names kind)) (keys_by_value q.keys) in
+      ap (λ b. b || behind) (list_named q.list e)
+      ∙ ap (λ b. list_any (names kind) list || b) (either kind q.conditions keys _ _ refl keys_named)
+      ∙ sym (list_any-append (names kind) list (map (λ (u : TypedTerm). u.term) q.conditions ++ keys))

@@ -1,78 +1,34 @@
 //! The columns that bound expressions read.
 
-ghost use Rattle.std.specs.Prelude.{◌≡◌, ◌++◌, map, option_to_list};
+ghost use Rattle.std.specs.Prelude.{◌≡◌, option_to_list};
 ghost use Rattle.std.specs.List.{list_any, list_all};
-ghost use Rattle.sql_ast.specs.Term.{term_of};
-ghost use Rattle.abstract_database.specs.Needs.{has_any, columns_read, columns_of_query, terms_of_list, terms_of_query};
+ghost use Rattle.abstract_database.specs.Needs.{has_any, columns_read, columns_of_query};
 ghost use Rattle.catalogue.specs.Grants.{has_bit};
-ghost use Rattle.gathering.specs.Queries.{terms, list_of, bound_of};
+ghost use Rattle.gathering.specs.Queries.{list_of, bound_of};
+ghost use Rattle.gathering.specs.Reads.{names};
 ghost use Rattle.planner.specs.Changed.{where_of, expressions_in};
-ghost use Rattle.planner.specs.Reading.{names, lacks as is_lacked, is_each_column};
+ghost use Rattle.planner.specs.Reading.{lacks, is_each_column};
 ghost use Rattle.planner.specs.Rights.{covers as covers_column};
 
 use crate::masks::{covers, covers_first, is_whole};
 use expressions::types::Typed;
-use gathering::query::{OutputList, Query, RowList, TypedSortKey};
+use gathering::query::{OutputList, Query, RowList};
+use gathering::reads::{ColumnKind, any_names, names, reads};
 use sql_ast::columns::Columns;
-use sql_ast::expression::Expression;
 use sql_ast::scope::ColumnIndex;
 
-/// Whether an expression names a column of the table of this number that a mask does not cover.
-fn lacks(tree: &Expression<ColumnIndex>, number: usize, mask: u32) -> bool
-    ensures { result ≡ names (is_lacked (has_bit mask) number) (term_of tree.now) }
-{
-    match tree {
-        Expression::Literal(_) | Expression::CurrentUser | Expression::SessionUser => false,
-        Expression::Column(column) => column.table == number && !covers(mask, column.column),
-        Expression::Compare(_, left, right)
-        | Expression::Arithmetic(_, left, right)
-        | Expression::And(left, right)
-        | Expression::Or(left, right) => lacks(left, number, mask) || lacks(right, number, mask),
-        Expression::Negate(operand)
-        | Expression::Not(operand)
-        | Expression::IsNull(operand)
-        | Expression::IsNotNull(operand)
-        | Expression::MemberOf(operand) => lacks(operand, number, mask),
-    }
+/// The columns of the table of this number that a mask does not cover.
+#[derive(Drop)]
+struct Uncovered {
+    number: usize,
+    mask: u32,
 }
 
-fn any_lacks(values: &[Typed], number: usize, mask: u32) -> bool
-    ensures { result ≡ list_any (λ u. names (is_lacked (has_bit mask) number) u.term) values.now }
-{
-    values.iter().any(|value| lacks(value.tree(), number, mask))
-}
+impl ColumnKind for Uncovered {
+    ghost has = { λ kind. lacks (has_bit kind.mask) kind.number };
 
-fn any_key_lacks(keys: &[TypedSortKey], number: usize, mask: u32) -> bool
-    ensures { result
-        ≡ list_any (λ key. names (is_lacked (has_bit mask) number) key.value.term) keys.now }
-{
-    keys.iter().any(|key| lacks(key.value.tree(), number, mask))
-}
-
-/// Whether a query names a column of the table of this number that a mask does not cover.
-fn query_lacks(query: &Query, number: usize, mask: u32) -> bool
-    ensures { result ≡ list_any (names (is_lacked (has_bit mask) number))
-        (terms_of_query (bound_of query.now)) }
-{
-    any_lacks(listed(&query.list), number, mask) || rest_lacks(query, number, mask)
-}
-
-/// The same of its conditions and its sort keys.
-fn rest_lacks(query: &Query, number: usize, mask: u32) -> bool
-    ensures { result ≡ list_any (names (is_lacked (has_bit mask) number))
-        (terms query.now.conditions ++ map (λ key. key.value.term) query.now.keys) }
-{
-    any_lacks(query.conditions.as_slice(), number, mask)
-        || any_key_lacks(query.keys.as_slice(), number, mask)
-}
-
-/// The expressions of a list.
-fn listed(list: &OutputList) -> &[Typed]
-    ensures { terms result.now ≡ terms_of_list (list_of list.now) }
-{
-    match list {
-        OutputList::Rows(RowList::Values(values)) => values.as_slice(),
-        OutputList::Rows(RowList::Columns(_)) | OutputList::Count => &[],
+    fn has(&self, column: ColumnIndex) -> bool {
+        column.table == self.number && !covers(self.mask, column.column)
     }
 }
 
@@ -97,23 +53,24 @@ pub(crate) fn covers_query(mask: u32, query: &Query, number: usize, layout: &Col
     if is_asterisk(&query.list) {
         return covers_first(mask, layout.len());
     }
-    !query_lacks(query, number, mask)
+    !reads(query, &Uncovered { number, mask })
 }
 
 /// Whether new values and a condition name a column of their table that a mask does not cover.
 fn changes_lack(values: &[Typed], condition: &Option<Typed>, mask: u32) -> bool
-    ensures { result ≡ list_any (names (is_lacked (has_bit mask) 0))
+    ensures { result ≡ list_any (names (lacks (has_bit mask) 0))
         (expressions_in values.now condition.now) }
 {
-    any_lacks(values, 0, mask) || condition_lacks(condition, mask)
+    let uncovered = Uncovered { number: 0, mask };
+    any_names(values, &uncovered) || condition_names(condition, &uncovered)
 }
 
-fn condition_lacks(condition: &Option<Typed>, mask: u32) -> bool
-    ensures { result ≡ list_any (names (is_lacked (has_bit mask) 0))
+fn condition_names(condition: &Option<Typed>, kind: &Uncovered) -> bool
+    ensures { result ≡ list_any (names (lacks (has_bit kind.now.mask) kind.now.number))
         (option_to_list (where_of condition.now)) }
 {
     match condition {
-        Some(condition) => lacks(condition.tree(), 0, mask),
+        Some(condition) => names(condition.tree(), kind),
         None => false,
     }
 }
