@@ -1,8 +1,7 @@
 -- Events that were answered, and others after them.
-use Rattle.std.proofs.Common.{◌≡◌, ◌∙◌, ◌<◌, ◌≤◌, ◌+◌, ℕ, List, [], ◌∷◌, ◌++◌, length, take, drop, get_or, true, Result, Ok, Err, OnOk, OnErr, refl, sym, ap, subst, append_assoc, length-append, arith}
+use Rattle.std.proofs.Common.{◌≡◌, ◌∙◌, ◌<◌, ◌≤◌, ◌+◌, ℕ, List, [], ◌∷◌, ◌++◌, length, take, drop, get_or, Result, Ok, Err, OnOk, OnErr, refl, sym, ap, subst, append_assoc, length-append, arith}
 use Rattle.std.proofs.lemmas.List.{append-nil, take-append-drop, take_all, take_more}
 use Rattle.std.proofs.KnownBytes.{Appends-nil, Appends-trans}
-use Rattle.std.specs.Result.{is_ok}
 use Rattle.std.specs.Io.KnownBytes.{Appends}
 use Rattle.sql_types.specs.declared.answer.Answer.{Answer}
 use Rattle.sql_types.specs.declared.event.Event.{Event}
@@ -14,6 +13,7 @@ use Rattle.server.proofs.Running.{runs_none, runs_more, runs_joined}
 use Rattle.script_runs.specs.declared.sink.Sink.{Ghosts}
 use Rattle.wire.specs.AnswerFrames.{answer_frames}
 use Rattle.wire.specs.AnswerText.{answer_text}
+use Rattle.wire.specs.Counts.{Rose, CountsFailure}
 use Rattle.script_runs.specs.Telling.{session_of, Told, Tells, Breaks}
 use Rattle.script_runs.proofs.Told.{each_none, each_joined, each_one}
 use Rattle.connections.specs.Answers.{frames_of, all_frames, AnswersAll, AnswersSome}
@@ -25,14 +25,20 @@ frames_joined (e ∷ es) fs [] others same = absurd (omega (arith, same))
 frames_joined (e ∷ es) fs (a ∷ answers) others same =
     ap (λ (bytes : List ℕ). frames_of e a ++ bytes) (frames_joined es fs answers others (omega (arith, same))) ∙ sym (append_assoc (frames_of e a) (all_frames es answers) (all_frames fs others))
 
-pub at_ok : {T E : Type 0} (r : Result T E) (P : Type 0) → is_ok r ≡ true → OnOk r P → P
-at_ok (Ok x) P is p = p
-at_ok (Err e) P is p = cc
-
 -- what holds in any case holds at an error
 pub at_error : {T E : Type 0} (r : Result T E) (P : Type 0) → P → OnErr r P
 at_error (Ok x) P p = tt
 at_error (Err e) P p = p
+
+-- what holds at Ok by two facts that do
+pub on_ok_both : {T E : Type 0} (r : Result T E) (P Q R : Type 0) → (P → Q → R) → OnOk r P → OnOk r Q → OnOk r R
+on_ok_both (Ok x) P Q R both p q = both p q
+on_ok_both (Err e) P Q R both p q = tt
+
+-- what holds at Err by a fact that does, and by what a failure raises
+pub on_err_counted : {T E : Type 0} (r : Result T E) (a b : ℕ) (P R : Type 0) → (P → Rose a b → R) → OnErr r P → CountsFailure r a b → OnErr r R
+on_err_counted (Ok x) a b P R then p counts = tt
+on_err_counted (Err e) a b P R then p counts = then p counts
 
 -- nothing is taken back where nothing is done
 pub history_kept : (s : StoreState) → KeepsHistory s s

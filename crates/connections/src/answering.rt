@@ -1,9 +1,7 @@
 //! Events, answered in their order, each answer told once its event is carried out. The answers go out together.
 
 ghost use Rattle.std.specs.Prelude.{OnOk, OnErr};
-ghost use Rattle.sql_types.specs.declared.answer.Answer.{Answer as TheAnswer};
 ghost use Rattle.store.specs.Store.{KeepsHistory};
-ghost use Rattle.script_runs.specs.Telling.{Told, Tells, Breaks};
 ghost use Rattle.connections.specs.Answers.{AnswersAll, AnswersSome};
 ghost use Rattle.connections.specs.Connection.{AnswersBadFrame, BreaksBadFrame};
 
@@ -39,22 +37,7 @@ pub fn answer_events<S: Store, X: Decide, K: TakesFrames>(
     for index in 0..last {
         answer_event(server, &events[index], sink)?;
     }
-    answer_last(server, &events[last], sink)
-}
-
-// Answers an event, and lets its answer go out, with all that were told before it.
-fn answer_last<S: Store, X: Decide, K: TakesFrames>(
-    server: &mut Server<S, X>,
-    event: &Event,
-    sink: &mut K,
-) -> io::Result<()>
-    ensures history { KeepsHistory (S.state server.old.store) (S.state server.new.store) }
-    ensures told { OnOk result ((t : Told) × Tells X.Reads S.state K.Sink server.old sink.old
-        event.now t server.new sink.new) }
-    ensures finished { OnOk result (K.finished sink.new) }
-    ensures broken { OnErr result ((answer : TheAnswer) × Breaks X.Reads S.state K.Sink server.old
-        sink.old event.now answer server.new sink.new) }
-{
+    let event = &events[last];
     let answer = server.step(event);
     sink.tell_last(server.store(), session_of(event), &answer)
 }

@@ -1,29 +1,52 @@
 -- Events whose answers were told, and one more.
 use Rattle.std.proofs.Common.{◌≡◌, ℕ, List, [], ◌∷◌, ◌++◌, Result, Ok, Err, OnOk, OnErr, refl, ap, subst}
+use Rattle.std.specs.Io.KnownBytes.{Appends}
 use Rattle.sql_types.specs.declared.answer.Answer.{Answer}
 use Rattle.sql_types.specs.declared.event.Event.{Event}
-use Rattle.store.specs.Store.{StoreState}
+use Rattle.store.specs.Store.{StoreState, KeepsHistory}
 use Rattle.abstract_database.specs.Runs.{ReadingRelation}
 use Rattle.server.specs.declared.server.Server.{Server}
-use Rattle.wire.specs.Counts.{Rose, CountsFailure}
+use Rattle.server.specs.Runs.{Steps}
+use Rattle.wire.specs.Counts.{CountsFailure}
 use Rattle.script_runs.specs.declared.sink.Sink.{Ghosts}
-use Rattle.script_runs.specs.Telling.{Told, answers_of, Tells, Breaks, TellsAll, TellsEach, TellsSome}
+use Rattle.script_runs.specs.Telling.{session_of, Told, answers_of, Tells, Breaks, TellsAll, TellsEach, TellsSome}
 
 answers_joined : (told more : List Told) → answers_of (told ++ more) ≡ answers_of told ++ answers_of more
 answers_joined [] more = refl
 answers_joined (t ∷ told) more = ap (λ (answers : List Answer). t.answer ∷ answers) (answers_joined told more)
 
--- what holds at Ok by two facts that do
-pub on_ok_both : {T E : Type 0} (r : Result T E) (P Q R : Type 0) → (P → Q → R) → OnOk r P → OnOk r Q → OnOk r R
-on_ok_both (Ok x) P Q R both p q = both p q
-on_ok_both (Err e) P Q R both p q = tt
-
--- what holds at Err by a fact that does, and by what a failure raises
-pub on_err_counted : {T E : Type 0} (r : Result T E) (a b : ℕ) (P R : Type 0) → (P → Rose a b → R) → OnErr r P → CountsFailure r a b → OnErr r R
-on_err_counted (Ok x) a b P R then p counts = tt
-on_err_counted (Err e) a b P R then p counts = then p counts
-
 module _ {S X K : Type 0} (Reads : ReadingRelation) (state : S → StoreState) (k : Ghosts K) where
+  -- an event was carried out, and then its answer told
+  module _ (old new : Server S X) (before after : K) (e : Event) (answer : Answer) (store : S) (session : ℕ) (step : Steps Reads state old e answer new) (history : KeepsHistory (state old.store) (state new.store))
+      (is_store : store ≡ new.store) (is_session : session ≡ session_of e) where
+    pub told_then : {T E : Type 0} (result : Result T E) → OnOk result (k.tells before (state store) session answer after) → OnOk result (Appends (k.held before) (k.held after) (k.spelled session answer))
+        → OnOk result ((t : Told) × Tells Reads state k old before e t new after)
+    told_then (Ok x) told taken = (
+      record { answer = answer; moment = (state new.store).time.moment },
+      record {
+        step = step;
+        history = history;
+        moment = refl;
+        told = subst (λ (n : ℕ). k.tells before (state new.store) n answer after) is_session (subst (λ (s : S). k.tells before (state s) session answer after) is_store told);
+        taken = subst (λ (n : ℕ). Appends (k.held before) (k.held after) (k.spelled n answer)) is_session taken;
+      },
+    )
+    told_then (Err x) told taken = tt
+
+    -- or its telling failed
+    pub broken_then : {T E : Type 0} (result : Result T E) → OnErr result (k.breaks before (state store) session answer after) → CountsFailure result (k.failures before) (k.failures after)
+        → OnErr result ((given : Answer) × Breaks Reads state k old before e given new after)
+    broken_then (Ok x) broken counts = tt
+    broken_then (Err x) broken counts = (
+      answer,
+      record {
+        step = step;
+        history = history;
+        broken = subst (λ (n : ℕ). k.breaks before (state new.store) n answer after) is_session (subst (λ (s : S). k.breaks before (state s) session answer after) is_store broken);
+        cause = counts;
+      },
+    )
+
   -- events that were told, and others after them
   told_joined : (old mid new : Server S X) (before between after : K) (es fs : List Event) (told more : List Told)
       → TellsAll Reads state k old before es told mid between → TellsAll Reads state k mid between fs more new after → TellsAll Reads state k old before (es ++ fs) (told ++ more) new after

@@ -2,7 +2,7 @@ use Rattle.std.proofs.Common.{List, ℕ, subst}
 use Rattle.std.specs.Io.KnownBytes.{Appends}
 use Rattle.sql_types.specs.declared.answer.Answer.TheVariants.{Refused}
 use Rattle.sql_types.specs.declared.state.SqlState.TheVariants.{ProtocolViolation}
-use Rattle.script_runs.proofs.Told.{on_ok_both, on_err_counted}
+use Rattle.connections.proofs.Answered.{on_ok_both, on_err_counted}
 use Rattle.connections.proofs.answering.answer_bad_frame.Goals as goal
 
 pub returns-clause-told : goal.returns-clause-told

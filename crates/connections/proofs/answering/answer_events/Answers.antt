@@ -1,6 +1,7 @@
 use Rattle.std.proofs.Common.{ℕ, List, take, subst, arith}
 use Rattle.std.specs.Io.KnownBytes.{Appends}
 use Rattle.script_runs.specs.Telling.{session_of}
+use Rattle.script_runs.proofs.Told.{told_then, broken_then}
 use Rattle.store.proofs.Reading.{history_joined}
 use Rattle.connections.specs.Answers.{AnswersSome}
 use Rattle.connections.proofs.Answered.{at_error, history_kept, events_to, none_answered, answered_more, begun_with, answered_to_end, broken_at_end, all_of_none}
@@ -38,10 +39,14 @@ loop-index-preserved g c =
 
 pub returns-clause-ok : goal.returns-clause-ok
 returns-clause-ok g c =
-    answered_to_end g.X.Decide.Reads g.S.Map.state g.K.Sink c.answer_last.result c.args.server.now c.loop-index.server c.answer_last.new.server c.args.events.now c.loop-index.index c.in-Some.last c.index-events-last.result
-    c.args.sink.now c.loop-index.sink c.answer_last.new.sink c.loop-index.invariant.history.sound (omega (arith, c.in-Some.ensures)) (omega arith) c.index-events-last.is g.met.K.TakesFrames.takes_frames c.loop-index.invariant.answered c.answer_last.ensures.told
+    answered_to_end g.X.Decide.Reads g.S.Map.state g.K.Sink c.tell_last.result c.args.server.now c.loop-index.server c.step-answer.new.self c.args.events.now c.loop-index.index c.in-Some.last c.index-events-last.result
+    c.args.sink.now c.loop-index.sink c.tell_last.new.self c.loop-index.invariant.history.sound (omega (arith, c.in-Some.ensures)) (omega arith) c.index-events-last.is g.met.K.TakesFrames.takes_frames c.loop-index.invariant.answered
+    (told_then g.X.Decide.Reads g.S.Map.state g.K.Sink c.loop-index.server c.step-answer.new.self c.loop-index.sink c.tell_last.new.self c.index-events-last.result c.step-answer.result _ _
+    c.step-answer.ensures.steps c.step-answer.ensures.history c.store.ensures c.session_of.ensures c.tell_last.result c.tell_last.ensures.told c.tell_last.ensures.taken)
 
 pub returns-clause-err : goal.returns-clause-err
 returns-clause-err g c =
-    broken_at_end g.X.Decide.Reads g.S.Map.state g.K.Sink c.answer_last.result c.args.server.now c.loop-index.server c.answer_last.new.server c.args.events.now c.loop-index.index c.in-Some.last c.index-events-last.result
-    c.args.sink.now c.loop-index.sink c.answer_last.new.sink c.loop-index.invariant.history.sound (omega (arith, c.in-Some.ensures)) (omega arith) c.index-events-last.is c.loop-index.invariant.answered c.answer_last.ensures.broken
+    broken_at_end g.X.Decide.Reads g.S.Map.state g.K.Sink c.tell_last.result c.args.server.now c.loop-index.server c.step-answer.new.self c.args.events.now c.loop-index.index c.in-Some.last c.index-events-last.result
+    c.args.sink.now c.loop-index.sink c.tell_last.new.self c.loop-index.invariant.history.sound (omega (arith, c.in-Some.ensures)) (omega arith) c.index-events-last.is c.loop-index.invariant.answered
+    (broken_then g.X.Decide.Reads g.S.Map.state g.K.Sink c.loop-index.server c.step-answer.new.self c.loop-index.sink c.tell_last.new.self c.index-events-last.result c.step-answer.result _ _
+    c.step-answer.ensures.steps c.step-answer.ensures.history c.store.ensures c.session_of.ensures c.tell_last.result c.tell_last.ensures.broken c.tell_last.ensures.counts)

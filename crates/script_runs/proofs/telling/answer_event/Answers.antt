@@ -1,45 +1,12 @@
-use Rattle.std.proofs.Common.{ℕ, refl, subst}
-use Rattle.std.specs.Io.KnownBytes.{Appends}
-use Rattle.script_runs.proofs.Told.{on_ok_both, on_err_counted}
+use Rattle.script_runs.proofs.Told.{told_then, broken_then}
 use Rattle.script_runs.proofs.telling.answer_event.Goals as goal
 
 pub returns-clause-told : goal.returns-clause-told
 returns-clause-told g c =
-    let state = g.S.Map.state in
-    let k = g.K.Sink in
-    let answer = c.step-answer.result in
-    let before = c.args.sink.now in
-    let after = c.tell.new.self in
-    on_ok_both c.tell.result _ _ _
-    (λ told taken. (
-      record { answer = answer; moment = (state c.step-answer.new.self.store).time.moment },
-      record {
-        step = c.step-answer.ensures.steps;
-        history = c.step-answer.ensures.history;
-        moment = refl;
-        told = subst (λ (session : ℕ). k.tells before (state c.step-answer.new.self.store) session answer after) c.session_of.ensures
-            (subst (λ store. k.tells before (state store) c.session_of.result answer after) c.store.ensures told);
-        taken = subst (λ (session : ℕ). Appends (k.held before) (k.held after) (k.spelled session answer)) c.session_of.ensures taken;
-      },
-    ))
-    c.tell.ensures.told c.tell.ensures.taken
+    told_then g.X.Decide.Reads g.S.Map.state g.K.Sink c.args.server.now c.step-answer.new.self c.args.sink.now c.tell.new.self c.args.event.now c.step-answer.result _ _
+    c.step-answer.ensures.steps c.step-answer.ensures.history c.store.ensures c.session_of.ensures c.tell.result c.tell.ensures.told c.tell.ensures.taken
 
 pub returns-clause-broken : goal.returns-clause-broken
 returns-clause-broken g c =
-    let state = g.S.Map.state in
-    let k = g.K.Sink in
-    let answer = c.step-answer.result in
-    let before = c.args.sink.now in
-    let after = c.tell.new.self in
-    on_err_counted c.tell.result (k.failures before) (k.failures after) _ _
-    (λ broken cause. (
-      answer,
-      record {
-        step = c.step-answer.ensures.steps;
-        history = c.step-answer.ensures.history;
-        broken = subst (λ (session : ℕ). k.breaks before (state c.step-answer.new.self.store) session answer after) c.session_of.ensures
-            (subst (λ store. k.breaks before (state store) c.session_of.result answer after) c.store.ensures broken);
-        cause = cause;
-      },
-    ))
-    c.tell.ensures.broken c.tell.ensures.counts
+    broken_then g.X.Decide.Reads g.S.Map.state g.K.Sink c.args.server.now c.step-answer.new.self c.args.sink.now c.tell.new.self c.args.event.now c.step-answer.result _ _
+    c.step-answer.ensures.steps c.step-answer.ensures.history c.store.ensures c.session_of.ensures c.tell.result c.tell.ensures.broken c.tell.ensures.counts
