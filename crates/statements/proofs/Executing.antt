@@ -1,5 +1,5 @@
 -- Each kind of statement, carried out as it is meant, as the statement that it is.
-use Rattle.std.proofs.Common.{◌≡◌, refl, sym, subst, Result}
+use Rattle.std.proofs.Common.{◌≡◌, refl, sym, subst, Result, IfErr}
 use Rattle.std.specs.Prelude.{◌++◌, option_to_list}
 use Rattle.std.specs.List.{AllByRecursion}
 use Rattle.sql_ast.specs.declared.statement.DatabaseStatement.{DatabaseStatement}
@@ -20,7 +20,8 @@ use Rattle.sql_ast.specs.Read.{IsReadCreateTable, IsReadCreatePolicy, IsReadGran
 use Rattle.expr_parser.specs.Written.{IsAsWritten}
 use Rattle.expressions.specs.Meaning.{UserNames}
 use Rattle.store.specs.Records.{IsOrdered}
-use Rattle.store.specs.Store.{StoreState}
+use Rattle.store.specs.Stop.{FailsForMemory, ReadsMap}
+use Rattle.store.specs.Store.{StoreState, OnlyReads}
 use Rattle.store.specs.declared.stop.Stop.{Stop}
 use Rattle.abstract_database.specs.Lists.{TheName}
 use Rattle.abstract_database.specs.Database.{Database}
@@ -33,6 +34,7 @@ use Rattle.row_statements.specs.Users.{seen_users}
 use Rattle.catalogue.specs.declared.effect.Effect.{Effect}
 use Rattle.catalogue.specs.Executed.{Executes, Defines}
 use Rattle.server.specs.Executed.{MayExecute, users_named}
+use Rattle.statements.proofs.Unread.{nothing_read}
 
 module _ (s : StoreState) (d : Definitions) (role login : TheName) where
   -- a statement comes to this over the map's records, as is meant
@@ -44,33 +46,46 @@ module _ (s : StoreState) (d : Definitions) (role login : TheName) where
   defined_role : (db : Database) → Shows s.map d db → IsRoleOf db.roles role → IsRoleOf d.roles role
   defined_role db shown is = subst (λ (x : Database). IsRoleOf x.roles role) shown.is is
 
-  module _ (result : Result Effect Stop) (all : DefiningStatement) where
-    -- a statement that asks for the current role alone
-    pub by_current : (x : DefiningStatement) → all ≡ x → (s.sound → IsOrdered s.map) → Defines (IsCurrent role) (λ db users. meaning.define db users x) d result →
-        IsExecuted result (on_database.Defining all)
-    by_current x is ordered h = subst (λ (y : DefiningStatement). IsExecuted result (on_database.Defining y)) (sym is) (λ sound db shown may. h s.map db (seen_users db.memberships role login) (ordered sound) shown refl)
+  -- a statement that reads no record, and fails for memory alone
+  module _ (Kept : Type 0) (kept : Kept) (reads : OnlyReads s s) (ordered : s.sound → IsOrdered s.map) (result : Result Effect Stop) (memory : IfErr result FailsForMemory) (all : DefiningStatement) where
+    -- what is promised of it
+    abbrev IsCarriedOut : Type 0
+    IsCarriedOut = record {
+      preserved : Kept;
+      read : ReadsMap result s s;
+      executes : IsExecuted result (on_database.Defining all);
+    }
 
-    -- a statement that asks for the login role, too
-    pub by_both : (x : DefiningStatement) → all ≡ x → (s.sound → IsOrdered s.map) → Defines (AreUsers role login) (λ db users. meaning.define db users x) d result →
-        IsExecuted result (on_database.Defining all)
-    by_both x is ordered h = subst (λ (y : DefiningStatement). IsExecuted result (on_database.Defining y)) (sym is) (λ sound db shown may. h s.map db (seen_users db.memberships role login) (ordered sound) shown (record { current = refl; session = refl }))
+    carried_out : (x : DefiningStatement) → all ≡ x → IsExecuted result (on_database.Defining x) → IsCarriedOut
+    carried_out x is executes = record {
+      preserved = kept;
+      read = nothing_read result s memory reads;
+      executes = subst (λ (y : DefiningStatement). IsExecuted result (on_database.Defining y)) (sym is) executes;
+    }
 
-    pub create_table : (x : CreateTable) → all ≡ (defining.CreateTable x) → (s.sound → IsOrdered s.map) → (IsReadCreateTable x → IsRoleOf d.roles role → Defines (IsCurrent role) (λ db users. meaning.create_table db users x) d result) →
-        IsExecuted result (on_database.Defining all)
-    create_table x is ordered h = subst (λ (y : DefiningStatement). IsExecuted result (on_database.Defining y)) (sym is) (λ sound db shown may. h may.read (defined_role db shown may.roles.current) s.map db (seen_users db.memberships role login) (ordered sound) shown refl)
+    -- it asks for the current role alone
+    pub by_current : (x : DefiningStatement) → all ≡ x → Defines (IsCurrent role) (λ db users. meaning.define db users x) d result → IsCarriedOut
+    by_current x is h = carried_out x is (λ sound db shown may. h s.map db (seen_users db.memberships role login) (ordered sound) shown refl)
 
-    pub create_policy : (x : CreatePolicy) → all ≡ (defining.CreatePolicy x) → (s.sound → IsOrdered s.map) → (IsReadCreatePolicy x → AllByRecursion IsAsWritten (option_to_list x.using ++ option_to_list x.check) → Defines (IsCurrent role) (λ db users. meaning.create_policy db users x) d result) →
-        IsExecuted result (on_database.Defining all)
-    create_policy x is ordered h = subst (λ (y : DefiningStatement). IsExecuted result (on_database.Defining y)) (sym is) (λ sound db shown may. h may.read may.written s.map db (seen_users db.memberships role login) (ordered sound) shown refl)
+    -- it asks for the login role, too
+    pub by_both : (x : DefiningStatement) → all ≡ x → Defines (AreUsers role login) (λ db users. meaning.define db users x) d result → IsCarriedOut
+    by_both x is h = carried_out x is (λ sound db shown may. h s.map db (seen_users db.memberships role login) (ordered sound) shown (record { current = refl; session = refl }))
 
-    pub grant : (x : Grant) → all ≡ (defining.Grant x) → (s.sound → IsOrdered s.map) → (IsReadGrant x → Defines (IsCurrent role) (λ db users. meaning.grant db users x) d result) →
-        IsExecuted result (on_database.Defining all)
-    grant x is ordered h = subst (λ (y : DefiningStatement). IsExecuted result (on_database.Defining y)) (sym is) (λ sound db shown may. h may.read s.map db (seen_users db.memberships role login) (ordered sound) shown refl)
+    pub create_table : (x : CreateTable) → all ≡ (defining.CreateTable x)
+        → (IsReadCreateTable x → IsRoleOf d.roles role → Defines (IsCurrent role) (λ db users. meaning.create_table db users x) d result) → IsCarriedOut
+    create_table x is h = carried_out (defining.CreateTable x) is (λ sound db shown may. h may.read (defined_role db shown may.roles.current) s.map db (seen_users db.memberships role login) (ordered sound) shown refl)
 
-    pub drop_table : (x : DropTable) → all ≡ (defining.DropTable x) →
-        (s.sound → (db : Database) (users : UserNames) → Shows s.map d db → IsCurrent role users → Executes s.map d result (meaning.drop_table db users x)) →
-        IsExecuted result (on_database.Defining all)
-    drop_table x is h = subst (λ (y : DefiningStatement). IsExecuted result (on_database.Defining y)) (sym is) (λ sound db shown may. h sound db (seen_users db.memberships role login) shown refl)
+    pub create_policy : (x : CreatePolicy) → all ≡ (defining.CreatePolicy x)
+        → (IsReadCreatePolicy x → AllByRecursion IsAsWritten (option_to_list x.using ++ option_to_list x.check) → Defines (IsCurrent role) (λ db users. meaning.create_policy db users x) d result) → IsCarriedOut
+    create_policy x is h = carried_out (defining.CreatePolicy x) is (λ sound db shown may. h may.read may.written s.map db (seen_users db.memberships role login) (ordered sound) shown refl)
+
+    pub grant : (x : Grant) → all ≡ (defining.Grant x) → (IsReadGrant x → Defines (IsCurrent role) (λ db users. meaning.grant db users x) d result) → IsCarriedOut
+    grant x is h = carried_out (defining.Grant x) is (λ sound db shown may. h may.read s.map db (seen_users db.memberships role login) (ordered sound) shown refl)
+
+  pub drop_table : (result : Result Effect Stop) (all : DefiningStatement) (x : DropTable) → all ≡ (defining.DropTable x) →
+      (s.sound → (db : Database) (users : UserNames) → Shows s.map d db → IsCurrent role users → Executes s.map d result (meaning.drop_table db users x)) →
+      IsExecuted result (on_database.Defining all)
+  drop_table result all x is h = subst (λ (y : DefiningStatement). IsExecuted result (on_database.Defining y)) (sym is) (λ sound db shown may. h sound db (seen_users db.memberships role login) shown refl)
 
   module _ (result : Result Effect Stop) (all : RowStatement) where
     pub insert : (x : Insert) → all ≡ (over_rows.Insert x) →
