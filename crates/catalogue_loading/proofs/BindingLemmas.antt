@@ -48,9 +48,9 @@ module _ (scope : List Table) (policies : List Policy) where
   one_unbound p rest bound so_far fails all = fails (subst (Each (HasConditions scope)) so_far.same all p (into_right (policies_in bound) (p ∷ rest) p (inl refl)))
 
 -- the policies that were loaded for a table are the policies of it
-pub policies_held : (records : Records) (id i : ℕ) (name n : TheName) (prefix : List ℕ) (policies : List Policy) → i ≡ id → n ≡ name → prefix ≡ policy_prefix id
+pub policies_held : (records : Records) (id i : ℕ) (name n : TheName) (prefix : List ℕ) (policies : List Policy) → i ≡ id → n ≡ name → prefix ≡ policy_prefix i
     → AreHeld (IsPolicyAlone n) (policy_record i) records prefix policies → AreHeld (IsPolicyAlone name) (policy_record id) records (policy_prefix id) policies
 policies_held records id i name n prefix policies same_id same_name begins held =
-    subst (λ (xs : List ℕ). AreHeld (IsPolicyAlone name) (policy_record id) records xs policies) begins
-    (subst (λ (m : TheName). AreHeld (IsPolicyAlone m) (policy_record id) records prefix policies) same_name
-    (subst (λ (j : ℕ). AreHeld (IsPolicyAlone n) (policy_record j) records prefix policies) same_id held))
+    subst (λ (j : ℕ). AreHeld (IsPolicyAlone name) (policy_record j) records (policy_prefix j) policies) same_id
+    (subst (λ (m : TheName). AreHeld (IsPolicyAlone m) (policy_record i) records (policy_prefix i) policies) same_name
+    (subst (λ (xs : List ℕ). AreHeld (IsPolicyAlone n) (policy_record i) records xs policies) begins held))

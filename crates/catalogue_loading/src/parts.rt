@@ -1,7 +1,6 @@
 //! What a table has beside its own record: its privilege descriptors and its policies.
 
-ghost use Rattle.std.specs.Prelude.{◌≡◌, ◌∷◌, IfOk};
-ghost use Rattle.byteorder.specs.Endian.{big_bytes};
+ghost use Rattle.std.specs.Prelude.{IfOk};
 ghost use Rattle.store.specs.Store.{StoreState};
 ghost use Rattle.store.specs.Readers.{HasRead};
 ghost use Rattle.abstract_database.specs.Whole.{Each};
@@ -12,7 +11,6 @@ ghost use Rattle.catalogue_records.specs.Walks.{LoadsItems};
 ghost use Rattle.catalogue_loading.specs.Found.{FindsAs};
 ghost use Rattle.catalogue_loading.specs.Held.{AreHeldPolicies, BindsPolicies};
 
-use byteorder::{BigEndian, ByteOrder};
 use catalogue::policy::{CataloguePolicy, bind_policy};
 use catalogue_records::{DescriptorReader, PolicyReader, load_items};
 use sql_ast::columns::Columns;
@@ -23,11 +21,6 @@ use sql_types::name::Name;
 use std::alloc::{AllocError, Global};
 use store::{Fault, Map};
 use stored_database::one_list_of_policies;
-
-/// The byte with which the key of a privilege descriptor's record begins.
-const DESCRIPTOR: u8 = 4;
-/// The byte with which the key of a policy's record begins.
-const POLICY: u8 = 5;
 
 /// The privilege descriptors for the table of this number and this name. Memory: an allocation
 /// failed. Device: the map answered it. Damaged: one of their records spells none.
@@ -43,9 +36,8 @@ pub(crate) fn read_descriptors<M: Map>(
         → LoadsItems (IsStoredDescriptor table.now) (descriptor_record id) (M.state map.old).map
         (descriptor_prefix id) result }
 {
-    let prefix = key_prefix(DESCRIPTOR, id);
-    let reader = DescriptorReader::new(id, &prefix, table);
-    load_items(alloc, map, &prefix, &reader)
+    let reader = DescriptorReader::new(id, table);
+    load_items(alloc, map, &reader.prefix(), &reader)
 }
 
 /// The policies of the table of this number, this name and these columns, bound to the columns.
@@ -65,9 +57,8 @@ pub(crate) fn read_policies<M: Map>(
     ensures bound { IfOk result (Each (IsBoundPolicy (scope_of table.now columns.now))) }
 {
     one_list_of_policies();
-    let prefix = key_prefix(POLICY, id);
-    let reader = PolicyReader::new(id, &prefix, table);
-    let policies = match load_items(alloc, map, &prefix, &reader) {
+    let reader = PolicyReader::new(id, table);
+    let policies = match load_items(alloc, map, &reader.prefix(), &reader) {
         Ok(policies) => policies,
         Err(fault) => return Err(fault),
     };
@@ -96,13 +87,4 @@ fn bind_policies(
         }
     }
     Ok(Some(bound))
-}
-
-// What the keys of the records of this kind begin with for the table of this number.
-fn key_prefix(kind: u8, id: u32) -> [u8; 5]
-    ensures { result ≡ kind ∷ big_bytes 4 id }
-{
-    let mut prefix = [kind; 5];
-    BigEndian::write_u32(&mut prefix[1..], id);
-    prefix
 }

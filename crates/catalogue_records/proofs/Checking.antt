@@ -129,7 +129,5 @@ rows_pass id layout records rows held e among =
     (found.0, record { valid = held.valid found.0 found.1; spelled = found.2 })
 
 -- a key without the prefix is no row's
-pub no_row : (id : ℕ) (layout : Layout) (prefix key : List ℕ) (entry : Record) → prefix ≡ row_prefix id → key ≡ entry.0 → ((rest : List ℕ) → key ≡ prefix ++ rest → ⊥)
-    → IsRowRecord id layout entry → ⊥
-no_row id layout prefix key entry begins key_is none row =
-    none (row_key layout row.0) (key_is ∙ sym (ap (λ (e : Record). e.0) row.1.spelled) ∙ ap (λ (zs : List ℕ). zs ++ row_key layout row.0) (sym begins))
+pub no_row : (id : ℕ) (layout : Layout) (entry : Record) → ((rest : List ℕ) → entry.0 ≡ row_prefix id ++ rest → ⊥) → IsRowRecord id layout entry → ⊥
+no_row id layout entry none row = none (row_key layout row.0) (sym (ap (λ (e : Record). e.0) row.1.spelled))

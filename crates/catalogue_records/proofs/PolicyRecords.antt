@@ -20,8 +20,8 @@ use Rattle.catalogue_records.specs.Clauses.{IsStoredClauseIfAny, AreStoredClause
 use Rattle.catalogue_records.specs.Decoding.{IsSpelled, Decodes, IsFront, IsOnlyFront}
 
 -- a policy's key begins with the prefix
-pub key_of : (id : ℕ) (prefix : List ℕ) (entry : Record) (p : Policy) → prefix ≡ policy_prefix id → policy_record id p ≡ entry → entry.0 ≡ prefix ++ p.name
-key_of id prefix entry p begins is = sym (ap (λ (e : Record). e.0) is) ∙ ap (λ (zs : List ℕ). zs ++ p.name) (sym begins)
+pub key_of : (id : ℕ) (entry : Record) (p : Policy) → policy_record id p ≡ entry → entry.0 ≡ policy_prefix id ++ p.name
+key_of id entry p is = sym (ap (λ (e : Record). e.0) is)
 
 -- and its value is not longer than a record's may be
 pub not_long : (id : ℕ) (table : TheName) (entry : Record) (p : Policy) → IsSpelled (IsPolicyAlone table) (policy_record id) entry p → length entry.1 ≤ 1200
@@ -46,12 +46,12 @@ policy_with table name kind command roles using check =
     record { table = table; name = name; kind = kind; command = command; roles = roles; using = using; check = check }
 
 -- the policy of the parts that were read
-pub policy_whole : (id : ℕ) (prefix name_bytes rest after : List ℕ) (entry : Record) (table copy name : TheName) (kind : PolicyKind) (command : PolicyCommand) (roles : PolicyRoles)
-    (using check : Option PolicyClause) → prefix ≡ policy_prefix id → entry.0 ≡ prefix ++ name_bytes → length entry.1 ≤ 1200 → entry.1 ≡ kind_number kind ∷ command_number command ∷ rest
+pub policy_whole : (id : ℕ) (name_bytes rest after : List ℕ) (entry : Record) (table copy name : TheName) (kind : PolicyKind) (command : PolicyCommand) (roles : PolicyRoles)
+    (using check : Option PolicyClause) → entry.0 ≡ policy_prefix id ++ name_bytes → length entry.1 ≤ 1200 → entry.1 ≡ kind_number kind ∷ command_number command ∷ rest
     → IsSpelled IsUtf8Name (λ (n : List ℕ). n) name_bytes name → copy ≡ table → IsFront AreStoredRoles roles_bytes rest roles after
     → IsSpelled AreStoredClauses clauses_bytes after (using, check)
     → IsSpelled (IsPolicyAlone table) (policy_record id) entry (policy_with copy name kind command roles using check)
-policy_whole id prefix name_bytes rest after entry table copy name kind command roles using check begins key few value named same front clauses = record { valid = valid; spelled = spelled }
+policy_whole id name_bytes rest after entry table copy name kind command roles using check key few value named same front clauses = record { valid = valid; spelled = spelled }
   where
     p : Policy
     p = policy_with copy name kind command roles using check
@@ -65,7 +65,7 @@ policy_whole id prefix name_bytes rest after entry table copy name kind command 
         ∙ sym value
 
     keys : policy_prefix id ++ name ≡ entry.0
-    keys = ap (λ (zs : List ℕ). zs ++ name) (sym begins) ∙ ap (λ (zs : List ℕ). prefix ++ zs) named.spelled ∙ sym key
+    keys = ap (λ (zs : List ℕ). policy_prefix id ++ zs) named.spelled ∙ sym key
 
     spelled : policy_record id p ≡ entry
     spelled = pairs keys values

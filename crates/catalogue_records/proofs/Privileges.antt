@@ -77,48 +77,47 @@ no_grantee bytes Damaged not_public none = no_role where
 -- ---- descriptors
 
 -- what stands after the prefix in the key of a descriptor's record
-pub after_number : (id : ℕ) (prefix rest : List ℕ) (entry : Record) (d : Descriptor) → prefix ≡ descriptor_prefix id → entry.0 ≡ prefix ++ rest → descriptor_record id d ≡ entry
+after_number : (id : ℕ) (rest : List ℕ) (entry : Record) (d : Descriptor) → entry.0 ≡ descriptor_prefix id ++ rest → descriptor_record id d ≡ entry
     → rest ≡ action_number d.action ∷ place_byte d.column ∷ parties_bytes (d.grantor, d.grantee)
-after_number id prefix rest entry d begins key is =
+after_number id rest entry d key is =
     append_cancel_left (descriptor_prefix id) rest (action_number d.action ∷ place_byte d.column ∷ parties_bytes (d.grantor, d.grantee))
-    (ap (λ (zs : List ℕ). zs ++ rest) (sym begins) ∙ sym key ∙ sym (ap (λ (e : Record). e.0) is))
+    (sym key ∙ sym (ap (λ (e : Record). e.0) is))
 
 -- a descriptor's key begins with the prefix
-pub key_of : (id : ℕ) (prefix : List ℕ) (entry : Record) (d : Descriptor) → prefix ≡ descriptor_prefix id → descriptor_record id d ≡ entry
-    → entry.0 ≡ prefix ++ (action_number d.action ∷ place_byte d.column ∷ parties_bytes (d.grantor, d.grantee))
-key_of id prefix entry d begins is =
-    sym (ap (λ (e : Record). e.0) is) ∙ ap (λ (zs : List ℕ). zs ++ (action_number d.action ∷ place_byte d.column ∷ parties_bytes (d.grantor, d.grantee))) (sym begins)
+pub key_of : (id : ℕ) (entry : Record) (d : Descriptor) → descriptor_record id d ≡ entry
+    → entry.0 ≡ descriptor_prefix id ++ (action_number d.action ∷ place_byte d.column ∷ parties_bytes (d.grantor, d.grantee))
+key_of id entry d is = sym (ap (λ (e : Record). e.0) is)
 
 -- what stands after the action: the place, and then who granted and to whom
-pub after_action : (table : TheName) (id : ℕ) (prefix rest : List ℕ) (number : ℕ) (placed : List ℕ) (entry : Record) (d : Descriptor) → prefix ≡ descriptor_prefix id
-    → entry.0 ≡ prefix ++ rest → rest ≡ number ∷ placed → IsSpelled (IsStoredDescriptor table) (descriptor_record id) entry d → placed ≡ place_byte d.column ∷ parties_bytes (d.grantor, d.grantee)
-after_action table id prefix rest number placed entry d begins key parts is = tails (sym parts ∙ after_number id prefix rest entry d begins key is.spelled) where
+after_action : (table : TheName) (id : ℕ) (rest : List ℕ) (number : ℕ) (placed : List ℕ) (entry : Record) (d : Descriptor)
+    → entry.0 ≡ descriptor_prefix id ++ rest → rest ≡ number ∷ placed → IsSpelled (IsStoredDescriptor table) (descriptor_record id) entry d → placed ≡ place_byte d.column ∷ parties_bytes (d.grantor, d.grantee)
+after_action table id rest number placed entry d key parts is = tails (sym parts ∙ after_number id rest entry d key is.spelled) where
   tails : {xs : List ℕ} {n : ℕ} → number ∷ placed ≡ n ∷ xs → placed ≡ xs
   tails h = cc
 
-pub no_column : (table : TheName) (id : ℕ) (prefix rest : List ℕ) (number place : ℕ) (placed parties : List ℕ) (entry : Record) (fault : Fault) → prefix ≡ descriptor_prefix id
-    → entry.0 ≡ prefix ++ rest → rest ≡ number ∷ placed → placed ≡ place ∷ parties → Decodes IsStoredColumn place_byte place (Err fault)
+pub no_column : (table : TheName) (id : ℕ) (rest : List ℕ) (number place : ℕ) (placed parties : List ℕ) (entry : Record) (fault : Fault)
+    → entry.0 ≡ descriptor_prefix id ++ rest → rest ≡ number ∷ placed → placed ≡ place ∷ parties → Decodes IsStoredColumn place_byte place (Err fault)
     → Decodes (IsStoredDescriptor table) (descriptor_record id) entry (Err fault)
-no_column table id prefix rest number place placed parties entry Memory begins key parts placed_is none = tt
-no_column table id prefix rest number place placed parties entry Device begins key parts placed_is none = none
-no_column table id prefix rest number place placed parties entry Damaged begins key parts placed_is none = λ d is.
+no_column table id rest number place placed parties entry Memory key parts placed_is none = tt
+no_column table id rest number place placed parties entry Device key parts placed_is none = none
+no_column table id rest number place placed parties entry Damaged key parts placed_is none = λ d is.
     none d.column (record {
       valid = is.valid.column;
-      spelled = heads (sym (after_action table id prefix rest number placed entry d begins key parts is) ∙ placed_is);
+      spelled = heads (sym (after_action table id rest number placed entry d key parts is) ∙ placed_is);
     })
   where
     heads : {n : ℕ} {xs : List ℕ} → n ∷ xs ≡ place ∷ parties → n ≡ place
     heads h = cc
 
-pub no_parties : (table : TheName) (id : ℕ) (prefix rest : List ℕ) (number place : ℕ) (placed parties : List ℕ) (entry : Record) (fault : Fault) → prefix ≡ descriptor_prefix id
-    → entry.0 ≡ prefix ++ rest → rest ≡ number ∷ placed → placed ≡ place ∷ parties → Decodes AreParties parties_bytes parties (Err fault)
+pub no_parties : (table : TheName) (id : ℕ) (rest : List ℕ) (number place : ℕ) (placed parties : List ℕ) (entry : Record) (fault : Fault)
+    → entry.0 ≡ descriptor_prefix id ++ rest → rest ≡ number ∷ placed → placed ≡ place ∷ parties → Decodes AreParties parties_bytes parties (Err fault)
     → Decodes (IsStoredDescriptor table) (descriptor_record id) entry (Err fault)
-no_parties table id prefix rest number place placed parties entry Memory begins key parts whole none = tt
-no_parties table id prefix rest number place placed parties entry Device begins key parts whole none = none
-no_parties table id prefix rest number place placed parties entry Damaged begins key parts whole none = λ d is.
+no_parties table id rest number place placed parties entry Memory key parts whole none = tt
+no_parties table id rest number place placed parties entry Device key parts whole none = none
+no_parties table id rest number place placed parties entry Damaged key parts whole none = λ d is.
     none (d.grantor, d.grantee) (record {
       valid = record { grantor = is.valid.grantor; grantee = is.valid.grantee };
-      spelled = tails (sym (after_action table id prefix rest number placed entry d begins key parts is) ∙ whole);
+      spelled = tails (sym (after_action table id rest number placed entry d key parts is) ∙ whole);
     })
   where
     tails : {n : ℕ} {xs : List ℕ} → n ∷ xs ≡ place ∷ parties → xs ≡ parties

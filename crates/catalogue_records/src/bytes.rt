@@ -7,7 +7,7 @@ ghost use Rattle.sql_types.specs.Name.{IsUtf8Name};
 ghost use Rattle.stored_database.specs.Spelling.{bit, ended};
 ghost use Rattle.catalogue_records.specs.Decoding.{Decodes, DecodesFront};
 
-use row_codec::key_cell_at;
+use row_codec::{key_cell_at, table_prefix};
 use sql_ast::columns::ColumnType;
 use sql_types::name::Name;
 use sql_types::value::ValueRef;
@@ -89,4 +89,14 @@ pub fn after<'a>(prefix: &[u8], bytes: &'a [u8]) -> Option<&'a [u8]>
     }
     let (_, rest) = bytes.split_at(prefix.len());
     Some(rest)
+}
+
+/// The bytes after the byte of a kind and the number of a table, or `None` where a key does not begin
+/// with them.
+pub fn after_table(kind: u8, id: u32, key: &[u8]) -> Option<&[u8]>
+    ensures { MatchOption result
+        ((rest : List ℕ) → key.now ≡ kind ∷ big_bytes 4 id ++ rest → ⊥)
+        (λ rest. key.now ≡ kind ∷ big_bytes 4 id ++ rest.now) }
+{
+    after(&table_prefix(kind, id), key)
 }

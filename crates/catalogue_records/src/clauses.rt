@@ -9,9 +9,9 @@ ghost use Rattle.stored_database.specs.Spelling.{clause_bytes};
 ghost use Rattle.catalogue_records.specs.Clauses.{AreStoredClauses, IsStoredClauseIfAny, SpansText, clauses_bytes, text_of};
 ghost use Rattle.catalogue_records.specs.Decoding.{Decodes, DecodesFront};
 
-use byteorder::{BigEndian, ByteOrder};
 use expr_parser::laws::one_answer;
 use expr_parser::whole::parse_expr;
+use row_codec::counted_bytes_at;
 use sql_ast::policy::PolicyClause;
 use sql_lexer::laws::one_lexing;
 use sql_lexer::lexer::tokens;
@@ -22,19 +22,6 @@ use sql_types::text::Text;
 use std::alloc::Global;
 use store::Fault;
 use stored_database::one_condition;
-
-// The length that the first two bytes spell, and the bytes after them.
-fn length_at(bytes: &[u8]) -> Option<(usize, &[u8])>
-    ensures found { IfSome result (λ r. bytes.now ≡ big_bytes 2 r.0 ++ r.1.now) }
-    ensures only { (n : ℕ) (rest : List ℕ) → n < 2 ^ 16 → bytes.now ≡ big_bytes 2 n ++ rest
-        → MatchOption result ⊥ (λ r. (r.0 ≡ n) × (r.1.now ≡ rest)) }
-    ensures short { IfSome result (λ r. r.0 < 2 ^ 16) }
-{
-    if bytes.len() < 2 {
-        return None;
-    }
-    Some((BigEndian::read_u16(bytes) as usize, &bytes[2..]))
-}
 
 // These bytes as a text, or `None` where they are not UTF-8.
 fn utf8_of(bytes: &[u8]) -> Option<&str>
@@ -56,11 +43,7 @@ fn counted_text_at(bytes: &[u8]) -> Option<(&str, &[u8])>
         → bytes.now ≡ big_bytes 2 (length text) ++ text ++ rest
         → MatchOption result ⊥ (λ r. (r.0.now ≡ text) × (r.1.now ≡ rest)) }
 {
-    let (length, rest) = length_at(bytes)?;
-    if rest.len() < length {
-        return None;
-    }
-    let (front, rest) = rest.split_at(length);
+    let (front, rest) = counted_bytes_at(bytes)?;
     let text = utf8_of(front)?;
     Some((text, rest))
 }

@@ -1,6 +1,6 @@
 //! Privilege descriptors from their records.
 
-ghost use Rattle.std.specs.Prelude.{◌≡◌, ◌∷◌, [], ◌++◌, ℕ, MatchOption};
+ghost use Rattle.std.specs.Prelude.{◌≡◌, ◌∷◌, [], ◌++◌, MatchOption};
 ghost use Rattle.sql_ast.specs.declared.privilege.Action.{Action};
 ghost use Rattle.sql_ast.specs.Read.{IsReadGrantee};
 ghost use Rattle.abstract_database.specs.Database.{action_number};
@@ -9,13 +9,17 @@ ghost use Rattle.stored_database.specs.Spelling.{descriptor_prefix, descriptor_r
 ghost use Rattle.catalogue_records.specs.Decoding.{Decodes, DecodesFront};
 ghost use Rattle.catalogue_records.specs.Parties.{AreParties, IsStoredColumn, grantee_bytes, grantor_bytes, parties_bytes};
 
-use crate::bytes::{after, name_at, only_bit};
+use crate::bytes::{after, after_table, name_at, only_bit};
 use crate::walk::ItemReader;
+use row_codec::table_prefix;
 use sql_ast::privilege::{Action, Descriptor, Grantee, Grantor};
 use sql_types::name::Name;
 use sql_types::try_copy::TryCopy;
 use std::alloc::Global;
 use store::{Entry, Fault};
+
+/// The byte with which the key of a descriptor's record begins.
+const DESCRIPTOR: u8 = 4;
 
 /// The place of the last column that a table may have.
 const LAST_PLACE: u8 = 16;
@@ -25,22 +29,24 @@ const LAST_PLACE: u8 = 16;
 pub struct DescriptorReader<'a> {
     /// The number of the table.
     pub id: u32,
-    /// What the keys of the records of its descriptors begin with.
-    pub prefix: &'a [u8],
     /// The name of the table.
     pub table: &'a Name,
-    ghost begins: { prefix.now ≡ descriptor_prefix id },
 }
 
 impl<'a> DescriptorReader<'a> {
-    /// The reader for the table of this number and this name, whose descriptors' keys begin with
-    /// this prefix.
-    pub fn new(id: u32, prefix: &'a [u8], table: &'a Name) -> DescriptorReader<'a>
-        requires { prefix.now ≡ descriptor_prefix id }
+    /// The reader for the table of this number and this name.
+    pub fn new(id: u32, table: &'a Name) -> DescriptorReader<'a>
         ensures id { result.id ≡ id }
         ensures table { result.table.now ≡ table.now }
     {
-        DescriptorReader { id, prefix, table }
+        DescriptorReader { id, table }
+    }
+
+    /// What the keys of these records begin with.
+    pub fn prefix(&self) -> [u8; 5]
+        ensures { result ≡ descriptor_prefix self.now.id }
+    {
+        table_prefix(DESCRIPTOR, self.id)
     }
 }
 
@@ -55,7 +61,7 @@ impl<'a> ItemReader for DescriptorReader<'a> {
     ghost spell = { λ reader. descriptor_record reader.id };
 
     fn read(&self, alloc: Global, entry: &Entry) -> Result<Descriptor, Fault> {
-        decode_descriptor(alloc, self.prefix, self.table, entry)
+        decode_descriptor(alloc, self.id, self.table, entry)
     }
 }
 
@@ -133,14 +139,13 @@ fn decode_parties(alloc: Global, bytes: &[u8]) -> Result<(Grantor, Grantee), Fau
 
 fn decode_descriptor(
     alloc: Global,
-    prefix: &[u8],
+    id: u32,
     table: &Name,
     entry: &Entry,
 ) -> Result<Descriptor, Fault>
-    ensures { (id : ℕ) → prefix.now ≡ descriptor_prefix id
-        → Decodes (IsStoredDescriptor table.now) (descriptor_record id) entry.now result }
+    ensures { Decodes (IsStoredDescriptor table.now) (descriptor_record id) entry.now result }
 {
-    let Some(rest) = after(prefix, entry.key()) else {
+    let Some(rest) = after_table(DESCRIPTOR, id, entry.key()) else {
         return Err(Fault::Damaged);
     };
     let Some((number, placed)) = rest.split_first() else {

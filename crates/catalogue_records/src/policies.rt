@@ -8,38 +8,44 @@ ghost use Rattle.stored_database.specs.Spelling.{command_number, kind_number, po
 ghost use Rattle.catalogue_records.specs.Clauses.{IsPolicyAlone};
 ghost use Rattle.catalogue_records.specs.Decoding.{Decodes, DecodesFront};
 
-use crate::bytes::{after, decode_name};
+use crate::bytes::{after_table, decode_name};
 use crate::clauses::decode_clauses;
 use crate::descriptors::action_of;
 use crate::parts::{EndedName, parts_at};
 use crate::walk::ItemReader;
+use row_codec::table_prefix;
 use sql_ast::policy::{Policy, PolicyCommand, PolicyKind, PolicyRoles};
 use sql_types::name::Name;
 use sql_types::try_copy::TryCopy;
 use std::alloc::Global;
 use store::{Entry, Fault, MAX_VALUE_LENGTH};
 
+/// The byte with which the key of a policy's record begins.
+const POLICY: u8 = 5;
+
 /// The reader of the records of the policies of one table.
 #[derive(Drop)]
 pub struct PolicyReader<'a> {
     /// The number of the table.
     pub id: u32,
-    /// What the keys of the records of its policies begin with.
-    pub prefix: &'a [u8],
     /// The name of the table.
     pub table: &'a Name,
-    ghost begins: { prefix.now ≡ policy_prefix id },
 }
 
 impl<'a> PolicyReader<'a> {
-    /// The reader for the table of this number and this name, whose policies' keys begin with this
-    /// prefix.
-    pub fn new(id: u32, prefix: &'a [u8], table: &'a Name) -> PolicyReader<'a>
-        requires { prefix.now ≡ policy_prefix id }
+    /// The reader for the table of this number and this name.
+    pub fn new(id: u32, table: &'a Name) -> PolicyReader<'a>
         ensures id { result.id ≡ id }
         ensures table { result.table.now ≡ table.now }
     {
-        PolicyReader { id, prefix, table }
+        PolicyReader { id, table }
+    }
+
+    /// What the keys of these records begin with.
+    pub fn prefix(&self) -> [u8; 5]
+        ensures { result ≡ policy_prefix self.now.id }
+    {
+        table_prefix(POLICY, self.id)
     }
 }
 
@@ -54,7 +60,7 @@ impl<'a> ItemReader for PolicyReader<'a> {
     ghost spell = { λ reader. policy_record reader.id };
 
     fn read(&self, alloc: Global, entry: &Entry) -> Result<Policy, Fault> {
-        decode_policy(alloc, self.prefix, self.table, entry)
+        decode_policy(alloc, self.id, self.table, entry)
     }
 }
 
@@ -116,11 +122,10 @@ fn roles_at(alloc: Global, bytes: &[u8]) -> Result<(PolicyRoles, &[u8]), Fault>
     }
 }
 
-fn decode_policy(alloc: Global, prefix: &[u8], table: &Name, entry: &Entry) -> Result<Policy, Fault>
-    ensures { (id : ℕ) → prefix.now ≡ policy_prefix id
-        → Decodes (IsPolicyAlone table.now) (policy_record id) entry.now result }
+fn decode_policy(alloc: Global, id: u32, table: &Name, entry: &Entry) -> Result<Policy, Fault>
+    ensures { Decodes (IsPolicyAlone table.now) (policy_record id) entry.now result }
 {
-    let Some(name) = after(prefix, entry.key()) else {
+    let Some(name) = after_table(POLICY, id, entry.key()) else {
         return Err(Fault::Damaged);
     };
     if entry.value().len() > MAX_VALUE_LENGTH {

@@ -10,37 +10,38 @@ ghost use Rattle.stored_database.specs.Spelling.{row_record};
 ghost use Rattle.catalogue_records.specs.Checks.{AllPass, IsRowRecord};
 ghost use Rattle.catalogue_records.specs.Walks.{AreHeld};
 
-use crate::bytes::after;
+use crate::bytes::after_table;
 use crate::check::RecordTest;
-use row_codec::view;
+use row_codec::{table_prefix, view};
 use sql_ast::columns::Columns;
 use store::EntryRef;
+
+/// The byte with which the keys of all rows begin.
+const ROW: u8 = 6;
 
 /// The test of the records of the rows of one table.
 #[derive(Drop)]
 pub struct RowTest<'a> {
     /// The number of the table.
     pub id: u32,
-    /// What the keys of the records of its rows begin with.
-    pub prefix: &'a [u8],
     /// The columns of the table and its key.
     pub columns: &'a Columns,
-    ghost begins: { prefix.now ≡ row_prefix id },
 }
 
 impl<'a> RowTest<'a> {
-    /// The test for the table of this number and these columns, whose rows' keys begin with this
-    /// prefix.
-    pub fn new(id: u32, prefix: &'a [u8], columns: &'a Columns) -> RowTest<'a>
-        requires { prefix.now ≡ row_prefix id }
+    /// The test for the table of this number and these columns.
+    pub fn new(id: u32, columns: &'a Columns) -> RowTest<'a>
         ensures id { result.id ≡ id }
         ensures columns { result.columns.now ≡ columns.now }
     {
-        RowTest {
-            id,
-            prefix,
-            columns,
-        }
+        RowTest { id, columns }
+    }
+
+    /// What the keys of these records begin with.
+    pub fn prefix(&self) -> [u8; 5]
+        ensures { result ≡ row_prefix self.now.id }
+    {
+        table_prefix(ROW, self.id)
     }
 }
 
@@ -50,16 +51,16 @@ impl<'a> RecordTest for RowTest<'a> {
     ghost Passes = { λ test. IsRowRecord test.id test.columns.now };
 
     fn passes(&self, entry: &EntryRef<'_>) -> bool {
-        is_row(self.prefix, self.columns, entry.key, entry.value)
+        is_row(self.id, self.columns, entry.key, entry.value)
     }
 }
 
-// Whether the record of this key and value is that of a row which a table of these columns may hold.
-fn is_row(prefix: &[u8], columns: &Columns, key: &[u8], value: &[u8]) -> bool
-    ensures { (id : ℕ) → prefix.now ≡ row_prefix id
-        → (IsTrue result ↔ IsRowRecord id columns.now (key.now, value.now)) }
+// Whether the record of this key and value is that of a row which the table of this number and these
+// columns may hold.
+fn is_row(id: u32, columns: &Columns, key: &[u8], value: &[u8]) -> bool
+    ensures { IsTrue result ↔ IsRowRecord id columns.now (key.now, value.now) }
 {
-    match after(prefix, key) {
+    match after_table(ROW, id, key) {
         Some(rest) => view(columns, rest, value).is_some(),
         None => false,
     }

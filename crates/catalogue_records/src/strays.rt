@@ -10,8 +10,8 @@ ghost use Rattle.stored_database.specs.Spelling.{rows_prefix};
 ghost use Rattle.catalogue_records.specs.Checks.{AllPass, IsNoStray, IsNoStrayRow};
 
 use crate::check::RecordTest;
-use byteorder::{BigEndian, ByteOrder};
-use store::EntryRef;
+use row_codec::table_prefix;
+use store::{EntryRef, begins_with};
 
 /// The test that a record is of a kind, and, where it is a descriptor or a policy, of a table that
 /// there is. A row passes, whatever its table.
@@ -128,19 +128,7 @@ fn is_key_of(key: &[u8], id: u32) -> bool
 fn is_of_table(kind: u8, id: u32, key: &[u8]) -> bool
     ensures { result ≡ has_prefix (kind ∷ big_bytes 4 id) key.now }
 {
-    let mut number = [0; 4];
-    BigEndian::write_u32(&mut number, id);
-    match key.split_first() {
-        Some((first, rest)) => kind == *first && begins_with(rest, &number),
-        None => false,
-    }
-}
-
-// Whether bytes begin with others.
-fn begins_with(bytes: &[u8], front: &[u8]) -> bool
-    ensures { result ≡ has_prefix front.now bytes.now }
-{
-    bytes.starts_with(front)
+    begins_with(key, &table_prefix(kind, id))
 }
 
 /// Where no record is a stray, the records have none.

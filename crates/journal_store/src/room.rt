@@ -4,11 +4,9 @@ ghost use Rattle.journal_store.specs.Room.{changes_in, reserve_for, AreEnough, H
 
 use crate::stores::JournalStore;
 use kv_store::Reserve;
+use page_roots::ENTRIES_PER_MAP_PAGE;
 use sector_device::{Device, SECTORS_PER_PAGE};
 use store::Batch;
-
-// The pages whose entries one map page has.
-const PAGES_PER_MAP_PAGE: u32 = 1_024;
 
 // Whether a commit to the pages of what waits and a batch keeps the reserve. What waits may take it by itself.
 pub(crate) fn reserve_with(batch: &Batch) -> Reserve
@@ -56,7 +54,7 @@ fn most_changes(pages: u32, free: u32) -> Option<u32>
         return None;
     }
     let levels = (pages - free).ilog2();
-    let maps = pages / PAGES_PER_MAP_PAGE + 1;
+    let maps = pages / ENTRIES_PER_MAP_PAGE as u32 + 1;
     if free < maps {
         return None;
     }

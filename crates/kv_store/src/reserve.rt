@@ -6,10 +6,8 @@ ghost use Rattle.kv_store.specs.declared.reserve.Reserve.TheVariants.{Kept};
 ghost use Rattle.kv_store.specs.Reserve.{IsReserve, Spares, TakesReserve};
 
 use cow_pages::CowPages;
+use page_roots::ENTRIES_PER_MAP_PAGE;
 use sector_device::Device;
-
-// The pages whose entries one map page has.
-const PAGES_PER_MAP_PAGE: u32 = 1_024;
 
 /// Whether a commit may take the reserve: pages that stay free on a device that puts have filled, so that it can be emptied.
 #[derive(Clone, Copy, Debug, PartialEq, Eq)]
@@ -25,7 +23,7 @@ fn reserve_of(pages: u32) -> u32
     requires { 0 < pages }
     ensures { IsReserve pages result }
 {
-    pages.ilog2() + pages / PAGES_PER_MAP_PAGE + 1
+    pages.ilog2() + pages / ENTRIES_PER_MAP_PAGE as u32 + 1
 }
 
 // Whether a commit may take so many pages more of a device of so many, of which so many were free before it.

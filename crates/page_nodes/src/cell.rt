@@ -6,7 +6,7 @@ ghost use Rattle.page_nodes.specs.Scratch.{min_cells};
 
 use byteorder::{BigEndian, ByteOrder};
 use std::alloc::AllocError;
-use storage_sizes::{MAX_KEY_LENGTH, MAX_VALUE_LENGTH};
+use storage_sizes::{MAX_KEY_LENGTH, MAX_VALUE_LENGTH, comes_before};
 
 /// The two kinds of nodes.
 #[derive(Clone, Copy, Debug, Drop, PartialEq, Eq)]
@@ -62,7 +62,7 @@ pub struct CellView<'a> {
 pub fn is_less(a: &[u8], b: &[u8]) -> bool
     ensures { result ≡ is_below a.now b.now }
 {
-    a.cmp(b).is_lt()
+    comes_before(a, b)
 }
 
 /// The number that the two bytes at an index spell.

@@ -1,19 +1,20 @@
 -- What is ahead of a walk.
-use Rattle.std.proofs.Common.{◌≡◌, ⊎_elim, ℕ, ◌<◌, true, false, Option, Some, None, List, [], ◌∷◌, ◌++◌, length, drop, ◌-◌, refl, sym, ap, ◌∙◌, subst, arith, append_assoc, length-append}
+use Rattle.std.proofs.Common.{◌≡◌, ⊎_elim, ℕ, ◌<◌, true, false, Option, Some, None, List, [], ◌∷◌, ◌++◌, length, take, drop, ◌+◌, ◌-◌, refl, sym, ap, ◌∙◌, subst, arith, append_assoc, length-append, length-drop}
 use Rattle.std.proofs.lemmas.Bool.{cases_Bool, false≢true, true_from_ne_false}
 use Rattle.page_nodes.specs.declared.cell.NodeKind.TheVariants.{Leaf}
 use Rattle.page_nodes.specs.Map.{is_below, Entry, AllAbove, IsRising, first_at, low_entries, rest_entries}
 use Rattle.page_nodes.proofs.Order.{one_way, lt_le}
-use Rattle.page_nodes.proofs.Scan.{low_rest, one_cell}
+use Rattle.page_nodes.proofs.Cells.{ahead_more, cell_long, part_ahead}
+use Rattle.page_nodes.proofs.Scan.{low_rest}
 use Rattle.page_tree.proofs.Bounds.{irreflexive}
 use Rattle.page_tree.proofs.After.{up, down}
-use Rattle.page_nodes.specs.Node.{IsCellAt}
+use Rattle.page_nodes.specs.Node.{two_bytes, cell_bytes, IsCellAt}
 use Rattle.page_tree.proofs.Kept.{head_left}
 use Rattle.page_tree.specs.Search.{IsFound, key_of, value_of}
 use Rattle.page_tree.specs.Kept.{KeepsPlace}
-use Rattle.page_tree.specs.Ahead.{AreInLeaf, IsFoundAt, IsStepped}
+use Rattle.page_tree.specs.Ahead.{AreInLeaf, IsFoundAt, IsStepped, part_of}
 use Rattle.page_tree.specs.declared.cursor.TreeCursor.{TreeCursor}
-use Rattle.page_tree.specs.declared.leaf.CellStart.{CellStart}
+use Rattle.page_tree.specs.declared.leaf.CellParts.{CellParts}
 use Rattle.page_tree.specs.declared.tree_walk.TreeWalk.{TreeWalk}
 
 -- where there is a first entry from a key on, it is the first of those from the key on
@@ -123,35 +124,61 @@ module _ (map : List Entry) (from : List ℕ) (walk : TreeWalk) (rising : IsRisi
         let behind = rest_behind (low_entries from map) later e (subst (λ (es : List Entry). IsRising es) whole rising) in
         sym (ap (λ (k : List ℕ). rest_entries k map) (next none) ∙ (ap (λ (es : List Entry). rest_entries (e.0 ++ (0 ∷ [])) es) whole ∙ behind))
 
-  pub first_found : (entries : List Entry) → entries ≡ rest_entries from map → IsFound (first_at from map) true (key_of walk.cursor) (value_of walk.cursor) → walk.begin ≡ None → IsStepped map true walk entries
-  first_found entries is found begin =
+  pub first_found : (entries : List Entry) → entries ≡ rest_entries from map → IsFound (first_at from map) true (key_of walk.cursor) (value_of walk.cursor) → walk.found ≡ None → IsStepped map true walk entries
+  first_found entries is found found_is =
       let first = found_pair (first_at from map) (key_of walk.cursor) (value_of walk.cursor) found in
       let rest = rest_first from map e first in (
         e,
         rest.0,
         is ∙ rest.1,
-        subst (λ (o : Option CellStart). IsFoundAt o walk.cursor e) (sym begin) (refl, refl),
+        subst (λ (o : Option CellParts). IsFoundAt o walk.cursor e) (sym found_is) (refl, refl),
         record { in_leaf = in_leaf rest.0 first rest.1; at_key = at_key rest.0 first rest.1 },
       )
 
+-- where a cell ends
+pub cell_end : (bytes : List ℕ) (at : ℕ) (key payload : List ℕ) (end : ℕ) → IsCellAt Leaf bytes at key payload end → end ≡ at + 4 + length key + length payload
+cell_end bytes at key payload end cell =
+    let long = ap (λ (xs : List ℕ). length xs) cell.spelled in
+    omega (arith, long, length-drop at bytes, length-append (cell_bytes Leaf (key, payload)) (drop end bytes), length-drop end bytes, cell_long Leaf (key, payload), cell.order, cell.inside)
+
+-- its key and its value, which are at its end
+cell_parts : (bytes : List ℕ) (at : ℕ) (key payload : List ℕ) (end : ℕ) → end ≡ at + 4 + length key + length payload → IsCellAt Leaf bytes at key payload end
+    → (part_of bytes (end - length payload - length key) (end - length payload) ≡ key) × (part_of bytes (end - length payload) end ≡ payload)
+unfolding cell_bytes
+cell_parts bytes at key payload end is cell =
+    let after = drop end bytes in
+    let all : drop at bytes ≡ two_bytes (length key) ++ (two_bytes (length payload) ++ ((key ++ payload) ++ after)) = cell.spelled in
+    let two : drop (at + 2) bytes ≡ two_bytes (length payload) ++ ((key ++ payload) ++ after) = ahead_more at 2 bytes (two_bytes (length key)) (two_bytes (length payload) ++ ((key ++ payload) ++ after)) refl all in
+    let four : drop (at + 2 + 2) bytes ≡ (key ++ payload) ++ after = ahead_more (at + 2) 2 bytes (two_bytes (length payload)) ((key ++ payload) ++ after) refl two in
+    let here : drop (at + 2 + 2) bytes ≡ key ++ (payload ++ after) = four ∙ append_assoc key payload after in
+    let behind : drop (at + 2 + 2 + length key) bytes ≡ payload ++ after = ahead_more (at + 2 + 2) (length key) bytes key (payload ++ after) refl here in
+    let key_at : end - length payload - length key ≡ at + 2 + 2 = omega (arith, is) in
+    let value_at : end - length payload ≡ at + 2 + 2 + length key = omega (arith, is) in
+    let key_long : (end - length payload) - (end - length payload - length key) ≡ length key = omega (arith, is) in
+    let payload_long : end - (end - length payload) ≡ length payload = omega (arith, is) in (
+      ap (λ (n : ℕ). take n (drop (end - length payload - length key) bytes)) key_long ∙ (ap (λ (n : ℕ). take (length key) (drop n bytes)) key_at ∙ part_ahead (at + 2 + 2) (length key) bytes key (payload ++ after) refl here),
+      ap (λ (n : ℕ). take n (drop (end - length payload) bytes)) payload_long ∙ (ap (λ (n : ℕ). take (length payload) (drop n bytes)) value_at ∙ part_ahead (at + 2 + 2 + length key) (length payload) bytes payload after refl behind),
+    )
+
 -- the next cell of a leaf is found
-pub next_found : (map : List Entry) (before walk : TreeWalk) (entries : List Entry) (key payload : List ℕ) (end : ℕ) (b : CellStart) → IsRising map → AreInLeaf map before entries → 0 < before.cursor.leaf.left
+pub next_found : (map : List Entry) (before walk : TreeWalk) (entries : List Entry) (key payload : List ℕ) (end : ℕ) (b : CellParts) → IsRising map → AreInLeaf map before entries → 0 < before.cursor.leaf.left
     → IsCellAt Leaf before.cursor.leaf.page before.cursor.leaf.at key payload end
-    → walk.begin ≡ Some b → b.at ≡ before.cursor.leaf.at → walk.cursor.leaf.page ≡ before.cursor.leaf.page → walk.cursor.leaf.at ≡ end → walk.cursor.leaf.left ≡ before.cursor.leaf.left - 1
+    → walk.found ≡ Some b → b.key_at ≡ end - length payload - length key → b.value_at ≡ end - length payload → b.end ≡ end
+    → walk.cursor.leaf.page ≡ before.cursor.leaf.page → walk.cursor.leaf.at ≡ end → walk.cursor.leaf.left ≡ before.cursor.leaf.left - 1
     → (walk.cursor.leaf.left ≡ 0 → walk.next.items ≡ key ++ (0 ∷ [])) → IsStepped map true walk entries
-next_found map before walk entries key payload end b rising p some view begin at page goes count next =
+next_found map before walk entries key payload end b rising p some view found key_at value_at ends page goes count next =
     let h = head_left p.cells before.cursor key payload end p.left some view in
     let later = h.cs ++ p.behind in
     let entries_are : entries ≡ h.c ∷ later = p.entries_are ∙ ap (λ (xs : List Entry). xs ++ p.behind) h.cells_are in
     let whole : map ≡ p.front ++ (h.c ∷ later) = p.map_is ∙ ap (λ (es : List Entry). p.front ++ es) entries_are in
-    let here : IsCellAt Leaf walk.cursor.leaf.page b.at key payload end = subst (λ (bytes : List ℕ). IsCellAt Leaf bytes b.at key payload end) (sym page) (subst (λ (n : ℕ). IsCellAt Leaf before.cursor.leaf.page n key payload end) (sym at) view) in
-    let cell : IsCellAt Leaf walk.cursor.leaf.page b.at h.c.0 h.c.1 end =
-    subst (λ (k : List ℕ). IsCellAt Leaf walk.cursor.leaf.page b.at k h.c.1 end) h.key_is (subst (λ (v : List ℕ). IsCellAt Leaf walk.cursor.leaf.page b.at key v end) h.payload_is here) in
+    let parts = cell_parts before.cursor.leaf.page before.cursor.leaf.at key payload end (cell_end before.cursor.leaf.page before.cursor.leaf.at key payload end view) view in
+    let key_there : part_of walk.cursor.leaf.page b.key_at b.value_at ≡ h.c.0 = rw (page, key_at, value_at) (parts.0 ∙ h.key_is) in
+    let value_there : part_of walk.cursor.leaf.page b.value_at b.end ≡ h.c.1 = rw (page, value_at, ends) (parts.1 ∙ h.payload_is) in
     let long = ap (λ (xs : List Entry). length xs) h.cells_are in (
       h.c,
       later,
       entries_are,
-      subst (λ (o : Option CellStart). IsFoundAt o walk.cursor h.c) (sym begin) (end, cell),
+      subst (λ (o : Option CellParts). IsFoundAt o walk.cursor h.c) (sym found) (key_there, value_there),
       record {
         in_leaf = λ more. record {
           front = p.front ++ (h.c ∷ []);
@@ -167,13 +194,6 @@ next_found map before walk entries key payload end b rising p some view begin at
             sym (ap (λ (k : List ℕ). rest_entries k map) from ∙ (ap (λ (es : List Entry). rest_entries (h.c.0 ++ (0 ∷ [])) es) whole ∙ behind));
       },
     )
-
--- a cell that is spelled at an index is the one that is read there
-pub cell_read : (bytes : List ℕ) (at : ℕ) (entry : Entry) (end : ℕ) (key payload : List ℕ) (other : ℕ) → IsCellAt Leaf bytes at entry.0 entry.1 end → IsCellAt Leaf bytes at key payload other
-    → (key ≡ entry.0) × (payload ≡ entry.1)
-cell_read bytes at entry end key payload other is read =
-    let one = one_cell Leaf (key, payload) entry (drop other bytes) (drop end bytes) read.key_size read.payload_size is.key_size is.payload_size (sym read.spelled ∙ is.spelled) in
-    (one.key, one.payload)
 
 -- a cursor that keeps a place in each map keeps no leaf
 pub none_left : (cursor : TreeCursor) → KeepsPlace [] cursor → 0 < cursor.leaf.left → ⊥

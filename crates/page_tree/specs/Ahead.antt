@@ -1,16 +1,14 @@
 -- What a walk over a map has ahead, and what it has found.
-use Rattle.std.specs.Prelude.{◌≡◌, ◌<◌, ℕ, Bool, true, false, Option, Some, None, Result, List, [], ◌∷◌, ◌++◌}
+use Rattle.std.specs.Prelude.{◌≡◌, ◌<◌, ◌-◌, ℕ, Bool, true, false, Option, Some, None, Result, List, [], ◌∷◌, ◌++◌, take, drop}
 use Rattle.pages.specs.declared.array.PageFault.{PageFault}
 use Rattle.pages.specs.declared.array.Pages.{Ghosts}
-use Rattle.page_nodes.specs.declared.cell.NodeKind.TheVariants.{Leaf}
 use Rattle.page_nodes.specs.Map.{Entry, rest_entries}
-use Rattle.page_nodes.specs.Node.{IsCellAt}
 use Rattle.page_tree.specs.Forest.{Represents}
 use Rattle.page_tree.specs.Search.{key_of, value_of}
 use Rattle.page_tree.specs.Kept.{AreLeft}
 use Rattle.page_tree.specs.Calls.{Gives}
 use Rattle.page_tree.specs.declared.cursor.TreeCursor.{TreeCursor}
-use Rattle.page_tree.specs.declared.leaf.CellStart.{CellStart}
+use Rattle.page_tree.specs.declared.leaf.CellParts.{CellParts}
 use Rattle.page_tree.specs.declared.tree_walk.TreeWalk.{TreeWalk}
 
 -- these entries of a map are the cells that are left of the walk's leaf, and those behind them
@@ -27,14 +25,18 @@ pub record HasAhead (map : List Entry) (walk : TreeWalk) (entries : List Entry) 
   pub in_leaf : 0 < walk.cursor.leaf.left → AreInLeaf map walk entries
   pub at_key : walk.cursor.leaf.left ≡ 0 → entries ≡ rest_entries walk.next.items map
 
--- an entry was found: the first one in a leaf, which the cursor has, or at a cell of the leaf
-abbrev pub IsFoundAt : Option CellStart → TreeCursor → Entry → Type 0
+-- the bytes of a page from one index up to another
+abbrev pub part_of : List ℕ → ℕ → ℕ → List ℕ
+part_of page at end = take (end - at) (drop at page)
+
+-- an entry was found: the first one in a leaf, which the cursor has, or a cell of the leaf
+abbrev pub IsFoundAt : Option CellParts → TreeCursor → Entry → Type 0
 IsFoundAt None cursor entry = (key_of cursor ≡ entry.0) × (value_of cursor ≡ entry.1)
-IsFoundAt (Some begin) cursor entry = (end : ℕ) × IsCellAt Leaf cursor.leaf.page begin.at entry.0 entry.1 end
+IsFoundAt (Some cell) cursor entry = (part_of cursor.leaf.page cell.key_at cell.value_at ≡ entry.0) × (part_of cursor.leaf.page cell.value_at cell.end ≡ entry.1)
 
 -- a walk has found this entry
 abbrev pub IsFoundBy : TreeWalk → Entry → Type 0
-IsFoundBy walk entry = IsFoundAt walk.begin walk.cursor entry
+IsFoundBy walk entry = IsFoundAt walk.found walk.cursor entry
 
 -- a walk went on over these entries of a map: it found the first of them, and the others are ahead; or there was none
 abbrev pub IsStepped : List Entry → Bool → TreeWalk → List Entry → Type 0

@@ -21,6 +21,17 @@ pub(crate) struct CellStart {
     ghost within: { at ≤ page_size },
 }
 
+/// Where the key of a cell of a leaf begins, where its value does, at the end of the key, and where the value ends.
+#[derive(Clone, Copy, Drop)]
+pub(crate) struct CellParts {
+    pub(crate) key_at: usize,
+    pub(crate) value_at: usize,
+    pub(crate) end: usize,
+    ghost key_ends: { key_at ≤ value_at },
+    ghost value_ends: { value_at ≤ end },
+    ghost within: { end ≤ page_size },
+}
+
 impl KeptLeaf {
     // No leaf.
     pub(crate) fn none() -> Self

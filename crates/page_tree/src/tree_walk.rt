@@ -8,7 +8,7 @@ ghost use Rattle.page_tree.specs.Ahead.{HasAhead, IsFoundAt, IsFoundBy, GoesOn, 
 
 use crate::counting::is_within;
 use crate::cursor::{TreeCursor, first_from};
-use crate::leaf::CellStart;
+use crate::leaf::{CellParts, CellStart};
 use page_nodes::{NodeKind, cell_at};
 use pages::{PageFault, Pages};
 use std::alloc::{AllocError, Global};
@@ -19,8 +19,8 @@ use std::alloc::{AllocError, Global};
 pub struct TreeWalk {
     // The leaf, and the first entry that was found in it.
     cursor: TreeCursor,
-    // Where the cell of the entry that was found last begins, if it is a later one.
-    begin: Option<CellStart>,
+    // Where the entry that was found last is in the leaf, if it is a later one.
+    found: Option<CellParts>,
     // The key from which on the walk goes on where no cell of the leaf is left.
     next: Vec<u8>,
 }
@@ -55,18 +55,19 @@ fn last_cell(cursor: &TreeCursor) -> Option<CellStart>
     Some(CellStart { at })
 }
 
-// The key and the value of the entry that was found last: the first one in a leaf, or at a cell of it.
-fn found_entry(cursor: &TreeCursor, begin: Option<CellStart>) -> (&[u8], &[u8])
-    ensures { (entry : Entry) → IsFoundAt begin cursor.now entry
+// The key and the value of the entry that was found last: the first one in a leaf, or a cell of it.
+fn found_entry(cursor: &TreeCursor, found: Option<CellParts>) -> (&[u8], &[u8])
+    ensures { (entry : Entry) → IsFoundAt found cursor.now entry
         → (result.0.now ≡ entry.0) × (result.1.now ≡ entry.1) }
 {
-    let Some(begin) = begin else {
+    let Some(cell) = found else {
         return (cursor.key(), cursor.value());
     };
-    match cell_at(&cursor.leaf.page, NodeKind::Leaf, begin.at) {
-        Some(cell) => (cell.key, cell.payload),
-        None => (b"", b""),
-    }
+    let page = &cursor.leaf.page;
+    (
+        &page[cell.key_at..cell.value_at],
+        &page[cell.value_at..cell.end],
+    )
 }
 
 impl TreeWalk {
@@ -78,7 +79,7 @@ impl TreeWalk {
     {
         Ok(TreeWalk {
             cursor: TreeCursor::new(alloc),
-            begin: None,
+            found: None,
             next: Vec::from_slice(alloc, key)?,
         })
     }
@@ -88,7 +89,7 @@ impl TreeWalk {
         ensures { (entry : Entry) → IsFoundBy self.now entry
             → (result.0.now ≡ entry.0) × (result.1.now ≡ entry.1) }
     {
-        found_entry(&self.cursor, self.begin)
+        found_entry(&self.cursor, self.found)
     }
 
     // Goes on to the first of the cells of the leaf that are left. False: none is, and the walk goes
@@ -106,13 +107,19 @@ impl TreeWalk {
         let begin = leaf.at;
         let left = leaf.left - 1;
         let Some(cell) = cell_at(&leaf.page, NodeKind::Leaf, begin) else {
-            let (key, _) = found_entry(&self.cursor, self.begin);
+            let (key, _) = found_entry(&self.cursor, self.found);
             go_behind(&mut self.next, 0, key)?;
             return Ok(false);
         };
         let end = cell.end;
+        let value_at = end - cell.payload.len();
+        let key_at = value_at - cell.key.len();
         go_behind(&mut self.next, left, cell.key)?;
-        self.begin = Some(CellStart { at: begin });
+        self.found = Some(CellParts {
+            key_at,
+            value_at,
+            end,
+        });
         self.cursor.leaf.at = end;
         self.cursor.leaf.left = left;
         Ok(true)
@@ -125,7 +132,7 @@ impl TreeWalk {
             → HasAhead map self.old entries
             → IfOk result (λ passed. IsPassed map stop.now passed self.new entries) }
     {
-        if self.begin.is_some() || self.cursor.leaf.left == 0 {
+        if self.found.is_some() || self.cursor.leaf.left == 0 {
             return Ok(0);
         }
         let Some(last) = last_cell(&self.cursor) else {
@@ -159,7 +166,7 @@ pub fn step<P: Pages>(pages: &mut P, walk: &mut TreeWalk) -> Result<bool, PageFa
     if walk.step_in_leaf()? {
         return Ok(true);
     }
-    walk.begin = None;
+    walk.found = None;
     if !first_from(pages, &walk.next, &mut walk.cursor)? {
         return Ok(false);
     }

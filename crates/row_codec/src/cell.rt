@@ -126,11 +126,28 @@ fn length_at(bytes: &[u8]) -> Option<(usize, &[u8])>
     ensures found { IfSome result (λ r. bytes.now ≡ big_bytes 2 r.0 ++ r.1.now) }
     ensures only { (n : ℕ) (rest : List ℕ) → n < 2 ^ 16 → bytes.now ≡ big_bytes 2 n ++ rest
         → MatchOption result ⊥ (λ r. (r.0 ≡ n) × (r.1.now ≡ rest)) }
+    ensures short { IfSome result (λ r. r.0 < 2 ^ 16) }
 {
     if bytes.len() < 2 {
         return None;
     }
     Some((BigEndian::read_u16(bytes) as usize, &bytes[2..]))
+}
+
+/// The bytes that stand behind their length, a number of two bytes, at the front of these bytes, and
+/// the bytes after them. `None` where no such bytes stand there.
+pub fn counted_bytes_at(bytes: &[u8]) -> Option<(&[u8], &[u8])>
+    ensures found { IfSome result (λ r. (length r.0.now < 2 ^ 16)
+        × (bytes.now ≡ big_bytes 2 (length r.0.now) ++ r.0.now ++ r.1.now)) }
+    ensures only { (counted rest : List ℕ) → length counted < 2 ^ 16
+        → bytes.now ≡ big_bytes 2 (length counted) ++ counted ++ rest
+        → MatchOption result ⊥ (λ r. (r.0.now ≡ counted) × (r.1.now ≡ rest)) }
+{
+    let (length, rest) = length_at(bytes)?;
+    if rest.len() < length {
+        return None;
+    }
+    Some(rest.split_at(length))
 }
 
 fn zero_at(bytes: &[u8]) -> Option<usize>
@@ -196,11 +213,7 @@ fn text_at(bytes: &[u8]) -> Option<(&str, &[u8])>
         → bytes.now ≡ big_bytes 2 (length text) ++ text ++ rest
         → MatchOption result ⊥ (λ r. (r.0.now ≡ text) × (r.1.now ≡ rest)) }
 {
-    let (length, rest) = length_at(bytes)?;
-    if rest.len() < length {
-        return None;
-    }
-    let (front, rest) = rest.split_at(length);
+    let (front, rest) = counted_bytes_at(bytes)?;
     let text = text_of(front)?;
     Some((text, rest))
 }

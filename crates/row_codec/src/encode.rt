@@ -1,6 +1,6 @@
 //! A row's key and its other columns, written as bytes.
 
-ghost use Rattle.std.specs.Prelude.{◌≡◌, ◌≤◌, ◌++◌, nat_eq, OnOk, OnErr};
+ghost use Rattle.std.specs.Prelude.{◌≡◌, ◌≤◌, ◌∷◌, ◌++◌, nat_eq, OnOk, OnErr};
 ghost use Rattle.std.specs.List.{list_any};
 ghost use Rattle.byteorder.specs.Endian.{big_bytes};
 ghost use Rattle.sql_ast.specs.Rows.{record_size};
@@ -15,6 +15,9 @@ use sql_types::value::Value;
 use std::alloc::AllocError;
 use storage_sizes::MAX_VALUE_LENGTH;
 
+/// The byte with which the keys of all rows begin.
+const ROW: u8 = 6;
+
 // Whether a column is one of the key's.
 pub(crate) fn is_in_key(key: &[usize], index: usize) -> bool
     ensures { result ≡ list_any (nat_eq index) key.now }
@@ -27,15 +30,23 @@ pub(crate) fn is_in_key(key: &[usize], index: usize) -> bool
     false
 }
 
+/// What the keys of the records of a kind begin with that belong to one table: the byte of the kind,
+/// and the table's id in four bytes.
+pub fn table_prefix(kind: u8, table: u32) -> [u8; 5]
+    ensures { result ≡ kind ∷ big_bytes 4 table }
+{
+    let mut prefix = [kind; 5];
+    BigEndian::write_u32(&mut prefix[1..], table);
+    prefix
+}
+
 /// Appends what the keys of a table's rows begin with in the store: a byte for rows, and the
 /// table's id in four bytes. Where memory is refused, `out` stays as it is.
 pub fn push_row_prefix(out: &mut Vec<u8>, table: u32) -> Result<(), AllocError>
     ensures ok { OnOk result (out.new.items ≡ out.old.items ++ row_prefix table) }
     ensures err { OnErr result (out.new.items ≡ out.old.items) }
 {
-    let mut bytes = [6; 5];
-    BigEndian::write_u32(&mut bytes[1..], table);
-    out.extend_from_slice(&bytes)
+    out.extend_from_slice(&table_prefix(ROW, table))
 }
 
 /// Appends the key of a row. Where memory is refused, `out` stays as it is.

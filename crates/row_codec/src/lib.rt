@@ -7,7 +7,7 @@ mod encode;
 mod laws;
 mod row;
 
-pub use cell::{key_cell_at, push_key_cell, push_value_cell, value_cell_at};
-pub use encode::{encode_key, encode_row, push_row_prefix};
+pub use cell::{counted_bytes_at, key_cell_at, push_key_cell, push_value_cell, value_cell_at};
+pub use encode::{encode_key, encode_row, push_row_prefix, table_prefix};
 pub use laws::{key_order, one_row, prefixes, sizes};
 pub use row::{RowRef, view};

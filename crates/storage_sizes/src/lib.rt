@@ -1,8 +1,11 @@
-//! What all layers of the storage agree on: sizes, each with its unit, and how records are spelled.
+//! What all layers of the storage agree on: sizes, each with its unit, how records are spelled, and the
+//! order of their keys.
 #![tactic(auto)]
 
+mod key_order;
 mod spelling;
 
+pub use key_order::{comes_before, is_same_key};
 pub use spelling::Spelling;
 
 /// The bytes of a sector, which a device writes whole or not at all.

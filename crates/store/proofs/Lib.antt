@@ -7,8 +7,6 @@ pub mod InMemory
 pub mod Walking
 pub mod InOrder
 pub mod Turns
-pub mod Comparing
-pub mod Numbers
 pub mod InPieces
 pub mod InPlaces
 pub mod Held

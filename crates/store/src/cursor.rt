@@ -4,10 +4,11 @@ ghost use Rattle.std.specs.Ordering.{is_lt};
 ghost use Rattle.store.specs.Records.{Records, entries_where, has_prefix, is_from, key_cmp};
 ghost use Rattle.store.specs.Walks.{Walk, Advances, is_within, span, walk_between};
 
-use crate::order::{begins_with, comes_before};
+use crate::prefix::begins_with;
 use crate::{Entry, Map, StoreFault};
 use std::alloc::{AllocError, Global};
 use std::marker::Model;
+use storage_sizes::comes_before;
 
 /// Where a walk goes on, where it stops, and the entry that it found last. A step takes memory
 /// only for a key or a value that is longer than all before it.

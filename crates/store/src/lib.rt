@@ -13,9 +13,9 @@ mod items;
 mod laws;
 mod map;
 mod memory;
-mod order;
 mod piece;
 mod pieces;
+mod prefix;
 mod stop;
 mod store;
 
@@ -34,9 +34,9 @@ pub use laws::{
 };
 pub use map::{Map, causes_join, reads_join};
 pub use memory::MemStore;
-pub use order::{begins_with, comes_before, is_same_key};
 pub use piece::Piece;
 pub use pieces::Place;
+pub use prefix::begins_with;
 pub use stop::Stop;
-pub use storage_sizes::{MAX_KEY_LENGTH, MAX_VALUE_LENGTH, Spelling};
+pub use storage_sizes::{MAX_KEY_LENGTH, MAX_VALUE_LENGTH, Spelling, comes_before, is_same_key};
 pub use store::Store;

@@ -8,10 +8,10 @@ ghost use Rattle.store.specs.Pieces.{ends_before, ends_within, IsInnerPlace, put
 
 use crate::Change;
 use crate::cursor::is_within;
-use crate::order::{comes_before, is_same_key};
 use sql_types::try_copy::TryCopy;
 use std::alloc::{AllocError, Global};
 use std::marker::Model;
+use storage_sizes::{comes_before, is_same_key};
 
 /// A run of changes in the order of their keys, as a batch keeps them. Contracts see it as its
 /// changes.

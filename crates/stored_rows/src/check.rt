@@ -27,7 +27,7 @@ pub fn check_rows<M: Map>(alloc: Global, map: &mut M, catalogue: &Catalogue) -> 
 {
     one_catalogue();
     let tables = catalogue.tables();
-    match check_tables(alloc, map, tables) {
+    match check_tables(map, tables) {
         Ok(()) => check_strays(alloc, map, tables),
         Err(fault) => Err(fault),
     }

@@ -11,7 +11,6 @@ ghost use Rattle.stored_rows.specs.Checks.{ChecksTables};
 
 use catalogue::table::TableDefinition;
 use catalogue_records::{RowTest, StrayRowTest, check_records};
-use row_codec::push_row_prefix;
 use std::alloc::{AllocError, Global};
 use store::{Fault, Map};
 
@@ -20,18 +19,14 @@ const ROW: u8 = 6;
 
 /// Whether each record of a row of these tables is that of a row which its table may hold. Memory:
 /// an allocation failed. Device: the map answered it. Damaged: one of the records is not.
-pub(crate) fn check_tables<M: Map>(
-    alloc: Global,
-    map: &mut M,
-    tables: &[TableDefinition],
-) -> Result<(), Fault>
+pub(crate) fn check_tables<M: Map>(map: &mut M, tables: &[TableDefinition]) -> Result<(), Fault>
     ensures preserved { M.preserved map.old map.new }
     ensures read { HasRead result (M.state map.old) (M.state map.new) }
     ensures checked { (M.state map.old).sound
         → ChecksTables result (M.state map.old).map tables.now }
 {
     for table in tables {
-        match check_table(alloc, map, table) {
+        match check_table(map, table) {
             Ok(()) => {}
             Err(fault) => return Err(fault),
         }
@@ -40,17 +35,15 @@ pub(crate) fn check_tables<M: Map>(
 }
 
 // Whether each record of a row of this table is that of a row which the table may hold.
-fn check_table<M: Map>(alloc: Global, map: &mut M, table: &TableDefinition) -> Result<(), Fault>
+fn check_table<M: Map>(map: &mut M, table: &TableDefinition) -> Result<(), Fault>
     ensures preserved { M.preserved map.old map.new }
     ensures read { HasRead result (M.state map.old) (M.state map.new) }
     ensures checked { (M.state map.old).sound
         → ChecksRecords (IsRowRecord table.now.id table.now.definition.layout)
         (M.state map.old).map (row_prefix table.now.id) result }
 {
-    let mut prefix = Vec::new(alloc);
-    push_row_prefix(&mut prefix, table.id())?;
-    let test = RowTest::new(table.id(), prefix.as_slice(), table.columns());
-    check_records(map, prefix.as_slice(), &test)
+    let test = RowTest::new(table.id(), table.columns());
+    check_records(map, &test.prefix(), &test)
 }
 
 /// Whether each record of a row is of one of these tables. Memory: an allocation failed. Device: the

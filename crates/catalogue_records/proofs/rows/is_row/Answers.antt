@@ -1,4 +1,4 @@
-use Rattle.std.proofs.Common.{◌≡◌, true, false, refl}
+use Rattle.std.proofs.Common.{◌≡◌, true, false}
 use Rattle.catalogue_records.proofs.Checking.{no_row}
 use Rattle.catalogue_records.proofs.rows.is_row.Goals as goal
 
@@ -6,7 +6,7 @@ not_true : false ≡ true → ⊥
 not_true h = cc
 
 pub returns-in-None : goal.returns-in-None
-returns-in-None c id begins = (
+returns-in-None c = (
   λ is. absurd (not_true is),
-  λ row. absurd (no_row id c.args.columns.now c.args.prefix.now c.args.key.now (c.args.key.now, c.args.value.now) begins refl c.in-None.ensures row),
+  λ row. absurd (no_row c.args.id c.args.columns.now (c.args.key.now, c.args.value.now) c.in-None.ensures row),
 )

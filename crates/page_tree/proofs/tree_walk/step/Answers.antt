@@ -34,7 +34,7 @@ returns-clause-found g c sound map represents entries ahead =
     let at_key : entries ≡ rest_entries c.step_in_leaf.new.self.next.items map = subst (λ (b : Bool). IsSteppedInLeaf map b c.step_in_leaf.new.self entries) c.if-branch.false is in
     let key = c.deref.result.now in
     let cursor = c.first_from.new.cursor in
-    let walk : TreeWalk = record { cursor = cursor; begin = None; next = c.go_behind.new.next } in
+    let walk : TreeWalk = record { cursor = cursor; found = None; next = c.go_behind.new.next } in
     first_found map key walk rising (c.in_ok-first_from.ensures.place sound map represents)
     (λ none. c.in_ok-go_behind.ensures none ∙ ap (λ (k : List ℕ). k ++ (0 ∷ [])) c.key.ensures)
     entries (at_key ∙ ap (λ (k : List ℕ). rest_entries k map) (sym c.deref.ensures.value))

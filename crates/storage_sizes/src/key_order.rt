@@ -1,13 +1,13 @@
-//! The order of keys.
+//! The order of keys, which is that of their bytes.
 ghost use Rattle.std.specs.Prelude.{◌≡◌, ◌≤◌, ◌+◌, length, min, take, drop};
-ghost use Rattle.std.specs.Ordering.{is_lt};
+ghost use Rattle.std.specs.Cmp.Lexicographic.{slice_cmp};
+ghost use Rattle.std.specs.Ordering.{is_lt, nat_cmp};
 ghost use Rattle.std.specs.Str.{bytes_eq};
 ghost use Rattle.std.specs.Slice.Scan.{big_endian, differ, HoldsNowhere, Settles};
-ghost use Rattle.store.specs.Records.{key_cmp, has_prefix};
 
 /// Whether a key comes before another in the order of their bytes.
 pub fn comes_before(key: &[u8], other: &[u8]) -> bool
-    ensures { result ≡ is_lt (key_cmp key.now other.now) }
+    ensures { result ≡ is_lt (slice_cmp nat_cmp key.now other.now) }
 {
     let shared = key.len().min(other.len());
     if shared < 8 {
@@ -24,7 +24,7 @@ pub fn comes_before(key: &[u8], other: &[u8]) -> bool
 fn comes_before_from(key: &[u8], other: &[u8], from: usize) -> bool
     requires inside { from ≤ min (length key.now) (length other.now) }
     requires same { HoldsNowhere (differ key.now other.now) 0 from }
-    ensures { result ≡ is_lt (key_cmp key.now other.now) }
+    ensures { result ≡ is_lt (slice_cmp nat_cmp key.now other.now) }
 {
     let shared = key.len().min(other.len());
     for at in from..shared {
@@ -98,19 +98,4 @@ fn number_at(bytes: &[u8], at: usize) -> u64
         bytes[at + 6],
         bytes[at + 7],
     ])
-}
-
-/// Whether a key begins with this prefix.
-pub fn begins_with(key: &[u8], prefix: &[u8]) -> bool
-    ensures { result ≡ has_prefix prefix.now key.now }
-{
-    if key.len() < prefix.len() {
-        return false;
-    }
-    for at in 0..prefix.len() {
-        if key[at] != prefix[at] {
-            return false;
-        }
-    }
-    true
 }

@@ -15,12 +15,11 @@ use Rattle.std.proofs.lemmas.Cmp.{ranked}
 use Rattle.std.specs.Prelude.{not}
 use Rattle.std.specs.Str.{bytes_eq}
 use Rattle.std.specs.Cmp.{nat_cmp_is}
-use Rattle.std.specs.Cmp.Lexicographic.{bytes_decides}
+use Rattle.std.specs.Cmp.Lexicographic.{bytes_decides, slice_cmp}
 use Rattle.std.specs.declared.cmp.Ordering.{Ordering}
 use Rattle.std.specs.declared.cmp.Ordering.TheVariants.{Less, Equal, Greater}
 use Rattle.std.specs.Ordering.{is_lt, nat_cmp, ordering_then, MatchOrdering}
 use Rattle.std.specs.Slice.Scan.{HoldsNowhere, differ, big_endian, Settles}
-use Rattle.store.specs.Records.{key_cmp}
 
 abbrev Bytes : List ℕ → Type 0
 Bytes xs = (k : ℕ) → Fits w8 (get_or xs k 0)
@@ -48,12 +47,12 @@ no_difference : (x y : ℕ) → x ≡ y → not (nat_eq x y) ≡ false
 no_difference x y e = elim (eqb_tells x y) [ inl is ↦ ap not is.0 | inr is ↦ absurd (is.1 e) ]
 
 -- the same bytes before an index decide nothing
-pub order_past : (i : ℕ) (xs ys : List ℕ) → i ≤ length xs → i ≤ length ys → Alike xs ys i → key_cmp xs ys ≡ key_cmp (drop i xs) (drop i ys)
+pub order_past : (i : ℕ) (xs ys : List ℕ) → i ≤ length xs → i ≤ length ys → Alike xs ys i → slice_cmp nat_cmp xs ys ≡ slice_cmp nat_cmp (drop i xs) (drop i ys)
 order_past zero xs ys a b h = refl
 order_past (suc i) [] ys a b h = absurd (omega arith)
 order_past (suc i) (x ∷ xs) [] a b h = absurd (omega arith)
 order_past (suc i) (x ∷ xs) (y ∷ ys) a b h =
-    ap (λ (r : Ordering). ordering_then r (key_cmp xs ys)) (level (eqb-true x y (alike x y (h 0 (omega arith) (omega arith)))))
+    ap (λ (r : Ordering). ordering_then r (slice_cmp nat_cmp xs ys)) (level (eqb-true x y (alike x y (h 0 (omega arith) (omega arith)))))
     ∙ order_past i xs ys (omega arith) (omega arith) (λ k l g. h (suc k) (omega arith) (omega arith))
 
 pub equal_past : (i : ℕ) (xs ys : List ℕ) → i ≤ length xs → i ≤ length ys → Alike xs ys i → bytes_eq xs ys ≡ bytes_eq (drop i xs) (drop i ys)
@@ -68,15 +67,15 @@ equal_past (suc i) (x ∷ xs) (y ∷ ys) a b h =
 pub differ_by_number : (xs ys : List ℕ) (n x y : ℕ) → Settles xs ys n x y → (x ≡ y → ⊥) → bytes_eq xs ys ≡ false
 differ_by_number xs ys n x y t f = by (bytes_eq xs ys) refl
   where
-    self : (l : List ℕ) → key_cmp l l ≡ Equal
+    self : (l : List ℕ) → slice_cmp nat_cmp l l ≡ Equal
     self [] = refl
-    self (z ∷ l) = ap (λ (r : Ordering). ordering_then r (key_cmp l l)) (level {x = z} {y = z} refl) ∙ self l
+    self (z ∷ l) = ap (λ (r : Ordering). ordering_then r (slice_cmp nat_cmp l l)) (level {x = z} {y = z} refl) ∙ self l
 
     same_number : nat_cmp x y ≡ Equal → x ≡ y
     same_number is = subst (λ (r : Ordering). MatchOrdering r (x < y) (x ≡ y) (y < x)) is (ranked x y _ refl)
 
     never : xs ≡ ys → ⊥
-    never e = f (same_number (sym (t.apart f) ∙ ap (key_cmp xs) (sym e) ∙ self xs))
+    never e = f (same_number (sym (t.apart f) ∙ ap (slice_cmp nat_cmp xs) (sym e) ∙ self xs))
 
     by : (b : Bool) → bytes_eq xs ys ≡ b → b ≡ false
     by false is = refl
@@ -102,15 +101,15 @@ spells (suc n) a (u ∷ us) (v ∷ vs) p q g h = by (spells n (a * 256 + u) us v
     by rest Less e l =
         let under : u < v = l in
         let t = rises n (a * 256 + u) (a * 256 + v) us vs (omega arith) (omega arith) (λ k. g (suc k)) (omega arith) in
-        record { apart = λ _. ap (λ r. ordering_then r (key_cmp us vs)) e ∙ sym (below t); alike = λ s. absurd (omega arith) }
+        record { apart = λ _. ap (λ r. ordering_then r (slice_cmp nat_cmp us vs)) e ∙ sym (below t); alike = λ s. absurd (omega arith) }
     by rest Greater e l =
         let over : v < u = l in
         let t = rises n (a * 256 + v) (a * 256 + u) vs us (omega arith) (omega arith) (λ k. h (suc k)) (omega arith) in
-        record { apart = λ _. ap (λ r. ordering_then r (key_cmp us vs)) e ∙ sym (above t); alike = λ s. absurd (omega arith) }
+        record { apart = λ _. ap (λ r. ordering_then r (slice_cmp nat_cmp us vs)) e ∙ sym (above t); alike = λ s. absurd (omega arith) }
     by rest Equal e l =
         let level : u ≡ v = l in
         let t = subst (λ z. Settles us vs n (big_endian (a * 256 + u) (take n us)) (big_endian (a * 256 + z) (take n vs))) level rest in
-        record { apart = λ f. ap (λ r. ordering_then r (key_cmp us vs)) e ∙ t.apart f; alike = λ s. both level (t.alike s) }
+        record { apart = λ f. ap (λ r. ordering_then r (slice_cmp nat_cmp us vs)) e ∙ t.apart f; alike = λ s. both level (t.alike s) }
       where
         both : u ≡ v → Alike us vs n → Alike (u ∷ us) (v ∷ vs) (suc n)
         both level t zero l m = no_difference u v level

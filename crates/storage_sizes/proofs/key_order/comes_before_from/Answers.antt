@@ -1,8 +1,8 @@
 use Rattle.std.proofs.Common.{arith, ap, sym, ◌∙◌}
 use Rattle.std.specs.Ordering.{is_lt}
-use Rattle.store.proofs.Comparing.{one_ends}
-use Rattle.store.proofs.Numbers.{order_past}
-use Rattle.store.proofs.order.comes_before_from.Goals as goal
+use Rattle.storage_sizes.proofs.Comparing.{one_ends}
+use Rattle.storage_sizes.proofs.Numbers.{order_past}
+use Rattle.storage_sizes.proofs.key_order.comes_before_from.Goals as goal
 
 pub loop-at-init : goal.loop-at-init
 loop-at-init c = order_past c.args.from c.args.key.now c.args.other.now (omega (arith, c.requires.inside)) (omega (arith, c.requires.inside)) c.requires.same

@@ -1,6 +1,6 @@
 use Rattle.std.proofs.Common.{arith, sym}
-use Rattle.store.proofs.Numbers.{differ_by_number, fewer}
-use Rattle.store.proofs.order.is_same_key.Goals as goal
+use Rattle.storage_sizes.proofs.Numbers.{differ_by_number, fewer}
+use Rattle.storage_sizes.proofs.key_order.is_same_key.Goals as goal
 
 -- numbers that differ are of keys that differ
 pub returns-then-x-y : goal.returns-then-x-y

@@ -1,23 +1,23 @@
 -- Keys that are compared byte by byte.
-use Rattle.std.proofs.Common.{◌≡◌, ℕ, ◌+◌, ◌-◌, ◌<◌, ◌≤◌, min, inl, inr, Bool, true, false, nat_eq, nat_lt, ◌&&◌, List, [], ◌∷◌, refl, sym, ap, ◌∙◌, arith, length, drop}
+use Rattle.std.proofs.Common.{◌≡◌, ℕ, ◌+◌, ◌-◌, ◌≤◌, min, inl, inr, false, nat_lt, List, [], ◌∷◌, refl, sym, ap, ◌∙◌, arith, length, drop}
 use Rattle.std.proofs.lemmas.Bool.{lt-ltb, le-ltb, cases_lt}
 use Rattle.std.proofs.lemmas.List.{length-drop, nil_from_length}
-use Rattle.std.specs.Ordering.{is_lt}
-use Rattle.store.specs.Records.{key_cmp, has_prefix}
+use Rattle.std.specs.Cmp.Lexicographic.{slice_cmp}
+use Rattle.std.specs.Ordering.{is_lt, nat_cmp}
 
 nothing_left : (xs : List ℕ) (n : ℕ) → length xs ≤ n → drop n xs ≡ []
 nothing_left xs n all = nil_from_length (drop n xs) (let e = length-drop n xs in omega (arith, e, all))
 
-shorter : (ys : List ℕ) (n : ℕ) → is_lt (key_cmp [] ys) ≡ nat_lt n (n + length ys)
+shorter : (ys : List ℕ) (n : ℕ) → is_lt (slice_cmp nat_cmp [] ys) ≡ nat_lt n (n + length ys)
 shorter [] n = sym (le-ltb n (n + 0) (omega arith))
 shorter (y ∷ ys) n = sym (lt-ltb n (n + length (y ∷ ys)) (omega arith))
 
-longer : (xs : List ℕ) → is_lt (key_cmp xs []) ≡ false
+longer : (xs : List ℕ) → is_lt (slice_cmp nat_cmp xs []) ≡ false
 longer [] = refl
 longer (x ∷ xs) = refl
 
 -- where one of the keys ends, the shorter comes first
-pub one_ends : (a b : List ℕ) (n : ℕ) → n ≤ length a → n ≤ length b → min (length a) (length b) ≤ n → is_lt (key_cmp (drop n a) (drop n b)) ≡ nat_lt (length a) (length b)
+pub one_ends : (a b : List ℕ) (n : ℕ) → n ≤ length a → n ≤ length b → min (length a) (length b) ≤ n → is_lt (slice_cmp nat_cmp (drop n a) (drop n b)) ≡ nat_lt (length a) (length b)
 one_ends a b n inside within end = elim (cases_lt (length a) (length b)) [
   | inl lt ↦
       let is : n ≡ length a = omega (arith, end, inside, lt) in
@@ -27,13 +27,3 @@ one_ends a b n inside within end = elim (cases_lt (length a) (length b)) [
   where
     whole : length (drop n b) ≡ length b - n → n + length (drop n b) ≡ length b
     whole e = omega (arith, e, within)
-
--- a prefix is not longer
-pub prefix_longer : (p k : List ℕ) → length k < length p → has_prefix p k ≡ false
-prefix_longer [] k longer = absurd (omega (arith, longer))
-prefix_longer (x ∷ p) [] longer = refl
-prefix_longer (x ∷ p) (y ∷ k) longer = rw (prefix_longer p k (omega (arith, longer))) (never (nat_eq x y))
-  where
-    never : (t : Bool) → (t && false) ≡ false
-    never true = refl
-    never false = refl

@@ -1,6 +1,6 @@
 use Rattle.std.proofs.Common.{ℕ, ◌+◌, arith}
-use Rattle.store.proofs.Numbers.{word, fewer, up_to_lem, at_once}
-use Rattle.store.proofs.order.first_numbers.Goals as goal
+use Rattle.storage_sizes.proofs.Numbers.{word, fewer, up_to_lem, at_once}
+use Rattle.storage_sizes.proofs.key_order.first_numbers.Goals as goal
 
 pub returns-then-x-y : goal.returns-then-x-y
 returns-then-x-y c =

@@ -1,5 +1,5 @@
 use Rattle.std.proofs.Common.{◌≡◌, drop, bytes_eq}
-use Rattle.store.proofs.order.is_same_from.Given as goal
+use Rattle.storage_sizes.proofs.key_order.is_same_from.Given as goal
 
 -- the keys are the same if what is left of them is
 abbrev pub invariant-loop-at : goal.invariant-loop-at

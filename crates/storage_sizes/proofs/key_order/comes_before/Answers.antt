@@ -1,7 +1,7 @@
 use Rattle.std.proofs.Common.{arith, ap, sym, ◌∙◌}
 use Rattle.std.specs.Ordering.{is_lt}
-use Rattle.store.proofs.Numbers.{fewer, less_by_number}
-use Rattle.store.proofs.order.comes_before.Goals as goal
+use Rattle.storage_sizes.proofs.Numbers.{fewer, less_by_number}
+use Rattle.storage_sizes.proofs.key_order.comes_before.Goals as goal
 
 -- numbers that differ are in the order of the keys
 pub returns-then-x-y : goal.returns-then-x-y

@@ -1,6 +1,6 @@
 use Rattle.std.proofs.Common.{◌≡◌, drop}
 use Rattle.store.specs.Records.{has_prefix}
-use Rattle.store.proofs.order.begins_with.Given as goal
+use Rattle.store.proofs.prefix.begins_with.Given as goal
 
 -- the key begins with the prefix if what is left of it begins with what is left of the prefix
 abbrev pub invariant-loop-at : goal.invariant-loop-at
