@@ -119,7 +119,7 @@ fn journal_command<'a>(alloc: Global) -> Result<Command<'a>, AllocError>
 fn command<'a>(alloc: Global, name: &'a str) -> Command<'a>
     ensures { IsCommand (new_app name.entry.now) result }
 {
-    Command::new(alloc, name).override_usage(USAGE)
+    Command::new(alloc, name).override_usage(usage())
 }
 
 /// A word that belongs to no option, which messages call `value`.
@@ -148,4 +148,9 @@ fn flag<'a>(alloc: Global, id: &'a str) -> Arg<'a>
     ensures { IsArg (flag_rule id.entry.now) result }
 {
     Arg::new(alloc, id).long(id).action(ArgAction::SetTrue)
+}
+
+/// The text that messages of a mistake show. No contract speaks of it, so no goal has to hold it.
+fn usage() -> &'static str {
+    USAGE
 }
