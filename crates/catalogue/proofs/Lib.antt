@@ -13,3 +13,4 @@ pub mod Regranting
 pub mod Setting
 pub mod PartsAfter
 pub mod NameLemmas
+pub mod Grantees

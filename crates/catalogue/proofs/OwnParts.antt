@@ -12,11 +12,13 @@ use Rattle.catalogue.specs.declared.table.TableParts.{TableParts}
 use Rattle.catalogue.specs.Policies.{policies_in}
 use Rattle.catalogue.specs.Tables.{definition_of, HasOrderedParts}
 
-first_of : (a b : Bool) → (a && b) ≡ true → a ≡ true
+-- both of two tests
+
+pub first_of : (a b : Bool) → (a && b) ≡ true → a ≡ true
 first_of true b e = refl
 first_of false b e = e
 
-second_of : (a b : Bool) → (a && b) ≡ true → b ≡ true
+pub second_of : (a b : Bool) → (a && b) ≡ true → b ≡ true
 second_of true b e = e
 second_of false b e = cc
 

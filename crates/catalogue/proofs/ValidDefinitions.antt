@@ -28,7 +28,7 @@ not_itself a b h is = no (sym (itself b) ∙ ap (λ (n : TheName). name_cmp n b)
   no e = cc
 
 -- tables that rise by name have names of their own
-one_of_name : (ts : List TableDefinition) → Rising definition_cmp ts → (t u : TableDefinition) → Among t ts → Among u ts → t.definition.name ≡ u.definition.name → t ≡ u
+pub one_of_name : (ts : List TableDefinition) → Rising definition_cmp ts → (t u : TableDefinition) → Among t ts → Among u ts → t.definition.name ≡ u.definition.name → t ≡ u
 one_of_name [] r t u a b e = absurd a
 one_of_name (x ∷ xs) r t u (inl is) (inl it) e = sym is ∙ it
 one_of_name (x ∷ xs) r t u (inl is) (inr later) e = absurd (not_itself x.definition.name u.definition.name (r.0 u later) (ap (λ (v : TableDefinition). v.definition.name) is ∙ e))

@@ -1,9 +1,10 @@
 //! The definitions of a database.
 
 ghost use Rattle.std.specs.Prelude.{◌≡◌, ◌↔◌, [], IsTrue, IfOk, find};
-ghost use Rattle.std.specs.List.{list_any};
+ghost use Rattle.std.specs.List.{list_all, list_any};
 ghost use Rattle.std.specs.Option.{option_copied};
-ghost use Rattle.abstract_database.specs.Database.{is_role_named};
+ghost use Rattle.abstract_database.specs.Database.{has_role, is_role_named};
+ghost use Rattle.abstract_database.specs.Privileges.{role_of};
 ghost use Rattle.abstract_database.specs.Roles.{is_superuser as is_superuser_of};
 ghost use Rattle.stored_database.specs.Definitions.{database_of};
 ghost use Rattle.catalogue.specs.Catalogues.{definitions_of, lists, AreInOrder};
@@ -12,6 +13,7 @@ ghost use Rattle.catalogue.specs.Lookups.{is_definition_named, is_membership_of}
 use crate::order::{compare_names, compare_with, roles_rise, tables_rise};
 use crate::table::TableDefinition;
 use role_membership::{Memberships, memberships_rise};
+use sql_ast::privilege::Grantee;
 use sql_ast::role::{Membership, Role};
 use sql_types::items::Items;
 use sql_types::name::Name;
@@ -161,6 +163,23 @@ impl Catalogue {
         ensures { result ≡ list_any (is_role_named name.now) self.now.roles }
     {
         self.role(name).is_some()
+    }
+
+    /// Whether each grantee is PUBLIC or a role.
+    pub fn knows_grantees(&self, grantees: &[Grantee]) -> bool
+        ensures { result ≡ list_all (λ grantee.
+            list_all (has_role (database_of self.now)) (role_of grantee)) grantees.now }
+    {
+        grantees.iter().all(|grantee| self.knows_grantee(grantee))
+    }
+
+    fn knows_grantee(&self, grantee: &Grantee) -> bool
+        ensures { result ≡ list_all (has_role (database_of self.now)) (role_of grantee.now) }
+    {
+        match grantee {
+            Grantee::Public => true,
+            Grantee::Role(name) => self.has_role(name),
+        }
     }
 
     /// Whether the role of a name is a superuser; no role inherits it (PostgreSQL manual, "Role

@@ -1,14 +1,26 @@
-//! Numbers of tables that are free.
+//! The numbers of tables, and those that are free.
 
-ghost use Rattle.std.specs.Prelude.{◌≡◌, ◌<◌, length, IsSome, MatchOption};
+ghost use Rattle.std.specs.Prelude.{◌≡◌, ◌<◌, length, IfOk, IsSome, MatchOption};
 ghost use Rattle.abstract_database.specs.Whole.{max_tables};
 ghost use Rattle.stored_database.specs.Definitions.{ids_of};
 ghost use Rattle.catalogue.specs.Numbers.{IsLeastFree, AreAllTaken, MarkTaken};
 
 use crate::table::TableDefinition;
+use std::alloc::{AllocError, Global};
 
 // The numbers from 0 to 1,024: a table has one of them, and none has 0.
 const IDS: usize = 1025;
+
+/// The numbers of tables. The only error is that an allocation failed.
+pub fn table_ids(alloc: Global, tables: &[TableDefinition]) -> Result<Vec<u32>, AllocError>
+    ensures { IfOk result (λ ids. ids.items ≡ ids_of tables.now) }
+{
+    let mut ids = Vec::new(alloc);
+    for table in tables {
+        ids.push(table.id())?;
+    }
+    Ok(ids)
+}
 
 /// The least number from 1 to 1,024 that no table has, or `None` where each is taken: where there
 /// are fewer tables, one is free. The tables are looked at once.

@@ -46,7 +46,7 @@ pub fn policies_rise(policies: &[CataloguePolicy]) -> bool
 }
 
 /// The order of two names, by their bytes.
-pub(crate) fn compare_names(left: &Name, right: &Name) -> Ordering
+pub fn compare_names(left: &Name, right: &Name) -> Ordering
     ensures { result ≡ name_cmp left.now right.now }
 {
     left.as_str().cmp(right.as_str())
@@ -82,7 +82,7 @@ pub(crate) fn compare_descriptors(left: &Descriptor, right: &Descriptor) -> Orde
 }
 
 /// The number of an action.
-pub(crate) fn action_number(action: Action) -> u8
+pub fn action_number(action: Action) -> u8
     ensures { result ≡ number_of action }
 {
     match action {
@@ -94,7 +94,7 @@ pub(crate) fn action_number(action: Action) -> u8
 }
 
 /// The name of a role that granted: the system has the empty one.
-fn grantor_name(grantor: &Grantor) -> &str
+pub fn grantor_name(grantor: &Grantor) -> &str
     ensures { result.now ≡ name_of_grantor grantor.now }
 {
     match grantor {
@@ -104,7 +104,7 @@ fn grantor_name(grantor: &Grantor) -> &str
 }
 
 /// The name of a role that is granted to: PUBLIC has the empty one, and no role has it.
-pub(crate) fn grantee_name(grantee: &Grantee) -> &str
+pub fn grantee_name(grantee: &Grantee) -> &str
     ensures name { result.now ≡ name_of_grantee grantee.now }
     ensures named { IsNamed grantee.now }
 {

@@ -12,17 +12,7 @@ use Rattle.abstract_database.proofs.ElementLemmas.{any_found, any_holds, index_o
 use Rattle.abstract_database.proofs.ChainLemmas.{found_role, role_found}
 use Rattle.grant_graph.proofs.Whole.{all_holds, all_found}
 use Rattle.catalogue_checks.specs.Checks.{is_role_of, is_of_roles, closes_circle}
-
-first_of : (a b : Bool) → (a && b) ≡ true → a ≡ true
-first_of true b e = refl
-first_of false b e = e
-
-second_of : (a b : Bool) → (a && b) ≡ true → b ≡ true
-second_of true b e = e
-second_of false b e = cc
-
-both_of : (a b : Bool) → a ≡ true → b ≡ true → (a && b) ≡ true
-both_of a b e f = ap (λ c. c && b) e ∙ f
+use Rattle.catalogue.proofs.OwnParts.{first_of, second_of, both_of}
 
 not_both : (b : Bool) → b ≡ true → b ≡ false → ⊥
 not_both true e f = cc

@@ -11,17 +11,7 @@ use Rattle.stored_database.specs.Definitions.{TableDefinition, ids_of}
 use Rattle.catalogue.specs.Numbers.{is_taken, MarkTaken}
 use Rattle.catalogue_checks.specs.Parts.{HasNumber, AreNumbered}
 use Rattle.catalogue_checks.proofs.Lists.{each_more, not_each}
-
-first_of : (a b : Bool) → (a && b) ≡ true → a ≡ true
-first_of true b e = refl
-first_of false b e = e
-
-second_of : (a b : Bool) → (a && b) ≡ true → b ≡ true
-second_of true b e = e
-second_of false b e = cc
-
-both_of : (a b : Bool) → a ≡ true → b ≡ true → (a && b) ≡ true
-both_of a b e f = ap (λ c. c && b) e ∙ f
+use Rattle.catalogue.proofs.OwnParts.{first_of, second_of, both_of}
 
 neither : (a b : Bool) → not (a || b) ≡ true → (not a ≡ true) × (b ≡ false)
 neither true b e = cc

@@ -23,17 +23,7 @@ use Rattle.stored_database.proofs.Lists.{into_map, of_map}
 use Rattle.grant_graph.proofs.Whole.{all_holds, all_found}
 use Rattle.catalogue_checks.specs.Checks.{is_grantor_of, is_grantee_of, is_to, is_owners_own, is_on_column_of, is_given, is_granted, is_owners_for}
 use Rattle.catalogue_checks.specs.Parts.{IsGranted, HasGranted}
-
-first_of : (a b : Bool) → (a && b) ≡ true → a ≡ true
-first_of true b e = refl
-first_of false b e = e
-
-second_of : (a b : Bool) → (a && b) ≡ true → b ≡ true
-second_of true b e = e
-second_of false b e = cc
-
-both_of : (a b : Bool) → a ≡ true → b ≡ true → (a && b) ≡ true
-both_of a b e f = ap (λ c. c && b) e ∙ f
+use Rattle.catalogue.proofs.OwnParts.{first_of, second_of, both_of}
 
 grantor_of : (all : List Role) (g : Grantor) → is_grantor_of all g ≡ true → IsGrantorOf all g
 grantor_of all grantor.System e = tt

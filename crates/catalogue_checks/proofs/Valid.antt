@@ -7,8 +7,7 @@ use Rattle.sql_ast.specs.declared.privilege.Descriptor.{Descriptor}
 use Rattle.sql_ast.specs.declared.policy.Policy.{Policy}
 use Rattle.sql_ast.specs.declared.policy.PolicyClause.{PolicyClause}
 use Rattle.sql_ast.specs.Read.{IsReadClause}
-use Rattle.store.proofs.Changes.{itself}
-use Rattle.abstract_database.specs.Lists.{TheName, Among, Rising, name_cmp}
+use Rattle.abstract_database.specs.Lists.{TheName, Among, Rising}
 use Rattle.abstract_database.specs.Database.{TableOf, Table}
 use Rattle.abstract_database.specs.Privileges.{all_actions, owner_descriptors, owner_descriptor}
 use Rattle.abstract_database.specs.Whole.{Each, OneOf, IsInOrder, IsWholeRole, IsWholeMembership, IsWholeTable, IsWholeDescriptor, IsDescriptorOf, HasOwnerDescriptors, IsWholePolicy, IsPolicyOf, clauses_of, max_tables}
@@ -18,23 +17,10 @@ use Rattle.stored_database.specs.Items.{AreStored}
 use Rattle.stored_database.specs.Valid.{AreValid}
 use Rattle.stored_database.proofs.Lists.{into_map, of_map, into_flat_map, of_flat_map, of_append}
 use Rattle.stored_database.proofs.TableParts.{tables_in_order}
-use Rattle.catalogue.proofs.ValidDefinitions.{parts_in_order, have_conditions}
+use Rattle.catalogue.proofs.ValidDefinitions.{parts_in_order, have_conditions, one_of_name}
 use Rattle.catalogue_checks.specs.Parts.{AreNumbered, IsGranted, HasWholePrivileges, HasUtf8, IsPolicy, IsWholeDefinition}
 use Rattle.catalogue_checks.proofs.Clauses.{TokensAreReadable, clause_read_if_any}
 use Rattle.catalogue_checks.proofs.Supports.{supported_by_more, supported_within}
-
-not_itself : (a b : TheName) → name_cmp a b ≡ Less → a ≡ b → ⊥
-not_itself a b h is = no (sym (itself b) ∙ ap (λ (n : TheName). name_cmp n b) (sym is) ∙ h) where
-  no : Equal ≡ Less → ⊥
-  no e = cc
-
--- tables that rise by name have names of their own
-one_of_name : (ts : List TableDefinition) → Rising definition_cmp ts → (t u : TableDefinition) → Among t ts → Among u ts → t.definition.name ≡ u.definition.name → t ≡ u
-one_of_name [] r t u a b e = absurd a
-one_of_name (x ∷ xs) r t u (inl is) (inl it) e = sym is ∙ it
-one_of_name (x ∷ xs) r t u (inl is) (inr later) e = absurd (not_itself x.definition.name u.definition.name (r.0 u later) (ap (λ (v : TableDefinition). v.definition.name) is ∙ e))
-one_of_name (x ∷ xs) r t u (inr later) (inl it) e = absurd (not_itself x.definition.name t.definition.name (r.0 t later) (ap (λ (v : TableDefinition). v.definition.name) it ∙ sym e))
-one_of_name (x ∷ xs) r t u (inr one) (inr other) e = one_of_name xs r.1 t u one other e
 
 -- each descriptor of an owner is for his table
 for_table : (name owner : TheName) (d : Descriptor) → Among d (owner_descriptors name owner) → d.table ≡ name

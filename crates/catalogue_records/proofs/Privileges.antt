@@ -1,5 +1,5 @@
 -- What the records of privilege descriptors spell.
-use Rattle.std.proofs.Common.{◌≡◌, ℕ, List, [], ◌∷◌, ◌++◌, refl, ap, sym, ◌∙◌, Err, arith}
+use Rattle.std.proofs.Common.{◌≡◌, ◌⊎◌, ℕ, inl, inr, subst, List, [], ◌∷◌, ◌++◌, refl, ap, sym, ◌∙◌, Err, arith}
 use Rattle.std.proofs.lemmas.List.{append_cancel_left}
 use Rattle.sql_types.specs.Name.{IsUtf8Name}
 use Rattle.sql_ast.specs.declared.privilege.Grantor.{Grantor}
@@ -26,53 +26,74 @@ not_zero (b ∷ bs) rest other is h = (no_zero_of (b ∷ bs) is).0 b_is where
   b_is : b ≡ 0
   b_is = cc
 
--- ---- grantors
+-- ---- parties: a role by its name, or the one that has none
+
+module _ {P : Type 0} (unnamed : P) (role : TheName → P) (spell : P → List ℕ) (IsStored : P → Type 0)
+    (is : (p : P) → (p ≡ unnamed) ⊎ ((name : TheName) × (p ≡ role name)))
+    (zero_byte : spell unnamed ≡ 0 ∷ []) (of_name : (name : TheName) → spell (role name) ≡ ended name) (stored : (name : TheName) → IsStored (role name) → IsUtf8Name name) where
+  -- a zero byte is how the one without a name is spelled
+  unnamed_only : (bytes rest : List ℕ) → bytes ≡ 0 ∷ rest → IsOnlyFront IsStored spell bytes unnamed rest
+  unnamed_only bytes rest zero p other front = go (is p) where
+    same : 0 ∷ rest ≡ 0 ∷ other → rest ≡ other
+    same h = cc
+
+    go : (p ≡ unnamed) ⊎ ((name : TheName) × (p ≡ role name)) → (unnamed ≡ p) × (rest ≡ other)
+    go (inl e) = (sym e, same (sym zero ∙ front.spelled ∙ ap (λ (q : P). spell q ++ other) e ∙ ap (λ (bs : List ℕ). bs ++ other) zero_byte))
+    go (inr (name, e)) = absurd (not_zero name rest other (stored name (subst IsStored e front.valid))
+        (sym zero ∙ front.spelled ∙ ap (λ (q : P). spell q ++ other) e ∙ ap (λ (bs : List ℕ). bs ++ other) (of_name name)))
+
+  -- behind another one stands the name of a role
+  role_only : (bytes name rest : List ℕ) → ((other : List ℕ) → bytes ≡ 0 ∷ other → ⊥) → IsOnlyFront IsUtf8Name ended bytes name rest → IsOnlyFront IsStored spell bytes (role name) rest
+  role_only bytes name rest not_zero only p other front = go (is p) where
+    go : (p ≡ unnamed) ⊎ ((other_name : TheName) × (p ≡ role other_name)) → (role name ≡ p) × (rest ≡ other)
+    go (inl e) = absurd (not_zero other (front.spelled ∙ ap (λ (q : P). spell q ++ other) e ∙ ap (λ (bs : List ℕ). bs ++ other) zero_byte))
+    go (inr (other_name, e)) =
+        let same = only other_name other (record {
+          valid = stored other_name (subst IsStored e front.valid);
+          spelled = front.spelled ∙ ap (λ (q : P). spell q ++ other) e ∙ ap (λ (bs : List ℕ). bs ++ other) (of_name other_name);
+        }) in
+        (ap role same.0 ∙ sym e, same.1)
+
+  no_party : (bytes : List ℕ) (fault : Fault) → ((other : List ℕ) → bytes ≡ 0 ∷ other → ⊥) → DecodesFront IsUtf8Name ended bytes (Err fault) → DecodesFront IsStored spell bytes (Err fault)
+  no_party bytes Memory not_zero none = tt
+  no_party bytes Device not_zero none = none
+  no_party bytes Damaged not_zero none = λ p rest front. go p rest front (is p) where
+    go : (p : P) (rest : List ℕ) → IsFront IsStored spell bytes p rest → (p ≡ unnamed) ⊎ ((name : TheName) × (p ≡ role name)) → ⊥
+    go p rest front (inl e) = not_zero rest (front.spelled ∙ ap (λ (q : P). spell q ++ rest) e ∙ ap (λ (bs : List ℕ). bs ++ rest) zero_byte)
+    go p rest front (inr (name, e)) = none name rest (record {
+      valid = stored name (subst IsStored e front.valid);
+      spelled = front.spelled ∙ ap (λ (q : P). spell q ++ rest) e ∙ ap (λ (bs : List ℕ). bs ++ rest) (of_name name);
+    })
+
+grantor_is : (g : Grantor) → (g ≡ grantor.System) ⊎ ((name : TheName) × (g ≡ grantor.Role name))
+grantor_is grantor.System = inl refl
+grantor_is (grantor.Role name) = inr (name, refl)
+
+grantee_is : (g : Grantee) → (g ≡ grantee.Public) ⊎ ((name : TheName) × (g ≡ grantee.Role name))
+grantee_is grantee.Public = inl refl
+grantee_is (grantee.Role name) = inr (name, refl)
 
 pub system_only : (bytes rest : List ℕ) → bytes ≡ 0 ∷ rest → IsOnlyFront IsStoredGrantor grantor_bytes bytes grantor.System rest
-system_only bytes rest is grantor.System other front = (refl, same (sym is ∙ front.spelled)) where
-  same : 0 ∷ rest ≡ 0 ∷ other → rest ≡ other
-  same h = cc
-system_only bytes rest is (grantor.Role name) other front = absurd (not_zero name rest other front.valid (sym is ∙ front.spelled))
+system_only = unnamed_only grantor.System (λ n. grantor.Role n) grantor_bytes IsStoredGrantor grantor_is refl (λ n. refl) (λ n h. h)
 
 pub role_grants : (bytes name rest : List ℕ) → ((other : List ℕ) → bytes ≡ 0 ∷ other → ⊥) → IsOnlyFront IsUtf8Name ended bytes name rest
     → IsOnlyFront IsStoredGrantor grantor_bytes bytes (grantor.Role name) rest
-role_grants bytes name rest not_system only grantor.System other front = absurd (not_system other front.spelled)
-role_grants bytes name rest not_system only (grantor.Role other_name) other front =
-    let same = only other_name other (record { valid = front.valid; spelled = front.spelled }) in
-    (ap (λ (n : List ℕ). grantor.Role n) same.0, same.1)
+role_grants = role_only grantor.System (λ n. grantor.Role n) grantor_bytes IsStoredGrantor grantor_is refl (λ n. refl) (λ n h. h)
 
 pub no_grantor : (bytes : List ℕ) (fault : Fault) → ((other : List ℕ) → bytes ≡ 0 ∷ other → ⊥) → DecodesFront IsUtf8Name ended bytes (Err fault)
     → DecodesFront IsStoredGrantor grantor_bytes bytes (Err fault)
-no_grantor bytes Memory not_system none = tt
-no_grantor bytes Device not_system none = none
-no_grantor bytes Damaged not_system none = no_role where
-  no_role : (g : Grantor) (rest : List ℕ) → IsFront IsStoredGrantor grantor_bytes bytes g rest → ⊥
-  no_role grantor.System rest front = not_system rest front.spelled
-  no_role (grantor.Role name) rest front = none name rest (record { valid = front.valid; spelled = front.spelled })
-
--- ---- grantees
+no_grantor = no_party grantor.System (λ n. grantor.Role n) grantor_bytes IsStoredGrantor grantor_is refl (λ n. refl) (λ n h. h)
 
 pub public_only : (bytes rest : List ℕ) → bytes ≡ 0 ∷ rest → IsOnlyFront IsReadGrantee grantee_bytes bytes grantee.Public rest
-public_only bytes rest is grantee.Public other front = (refl, same (sym is ∙ front.spelled)) where
-  same : 0 ∷ rest ≡ 0 ∷ other → rest ≡ other
-  same h = cc
-public_only bytes rest is (grantee.Role name) other front = absurd (not_zero name rest other front.valid (sym is ∙ front.spelled))
+public_only = unnamed_only grantee.Public (λ n. grantee.Role n) grantee_bytes IsReadGrantee grantee_is refl (λ n. refl) (λ n h. h)
 
 pub role_is_granted : (bytes name rest : List ℕ) → ((other : List ℕ) → bytes ≡ 0 ∷ other → ⊥) → IsOnlyFront IsUtf8Name ended bytes name rest
     → IsOnlyFront IsReadGrantee grantee_bytes bytes (grantee.Role name) rest
-role_is_granted bytes name rest not_public only grantee.Public other front = absurd (not_public other front.spelled)
-role_is_granted bytes name rest not_public only (grantee.Role other_name) other front =
-    let same = only other_name other (record { valid = front.valid; spelled = front.spelled }) in
-    (ap (λ (n : List ℕ). grantee.Role n) same.0, same.1)
+role_is_granted = role_only grantee.Public (λ n. grantee.Role n) grantee_bytes IsReadGrantee grantee_is refl (λ n. refl) (λ n h. h)
 
 pub no_grantee : (bytes : List ℕ) (fault : Fault) → ((other : List ℕ) → bytes ≡ 0 ∷ other → ⊥) → DecodesFront IsUtf8Name ended bytes (Err fault)
     → DecodesFront IsReadGrantee grantee_bytes bytes (Err fault)
-no_grantee bytes Memory not_public none = tt
-no_grantee bytes Device not_public none = none
-no_grantee bytes Damaged not_public none = no_role where
-  no_role : (g : Grantee) (rest : List ℕ) → IsFront IsReadGrantee grantee_bytes bytes g rest → ⊥
-  no_role grantee.Public rest front = not_public rest front.spelled
-  no_role (grantee.Role name) rest front = none name rest (record { valid = front.valid; spelled = front.spelled })
+no_grantee = no_party grantee.Public (λ n. grantee.Role n) grantee_bytes IsReadGrantee grantee_is refl (λ n. refl) (λ n h. h)
 
 -- ---- descriptors
 

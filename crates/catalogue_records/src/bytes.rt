@@ -66,6 +66,17 @@ pub fn bit_of(byte: u8) -> Option<bool>
     }
 }
 
+/// The two bytes with which the bytes begin, and the bytes after them.
+pub fn two_bytes_at(bytes: &[u8]) -> Option<(u8, u8, &[u8])>
+    ensures { MatchOption result
+        ((first second : ℕ) (rest : List ℕ) → bytes.now ≡ first ∷ second ∷ rest → ⊥)
+        (λ r. bytes.now ≡ r.0 ∷ r.1 ∷ r.2.now) }
+{
+    let (first, rest) = bytes.split_first()?;
+    let (second, rest) = rest.split_first()?;
+    Some((*first, *second, rest))
+}
+
 /// The bit that is all there is, or `None` where that is no bit.
 pub fn only_bit(bytes: &[u8]) -> Option<bool>
     ensures { MatchOption result

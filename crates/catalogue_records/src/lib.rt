@@ -21,6 +21,6 @@ pub use memberships::MembershipReader;
 pub use policies::PolicyReader;
 pub use roles::RoleReader;
 pub use rows::{RowTest, rows_of_records};
-pub use strays::{StrayRowTest, StrayTest, no_stray_is_left, no_stray_row_is_left};
+pub use strays::{StrayTest, Strays, no_stray_is_left, no_stray_row_is_left};
 pub use tables::{TableReader, TableRecord};
 pub use walk::{ItemReader, load_items};

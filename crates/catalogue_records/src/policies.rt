@@ -8,7 +8,7 @@ ghost use Rattle.stored_database.specs.Spelling.{command_number, kind_number, po
 ghost use Rattle.catalogue_records.specs.Clauses.{IsPolicyAlone};
 ghost use Rattle.catalogue_records.specs.Decoding.{Decodes, DecodesFront};
 
-use crate::bytes::{after_table, decode_name};
+use crate::bytes::{after_table, decode_name, two_bytes_at};
 use crate::clauses::decode_clauses;
 use crate::descriptors::action_of;
 use crate::parts::{EndedName, parts_at};
@@ -99,11 +99,8 @@ fn kind_at(bytes: &[u8]) -> Option<(PolicyKind, PolicyCommand, &[u8])>
         → bytes.now ≡ kind_number kind ∷ command_number command ∷ rest → ⊥)
         (λ r. bytes.now ≡ kind_number r.0 ∷ command_number r.1 ∷ r.2.now) }
 {
-    let (kind, rest) = bytes.split_first()?;
-    let (command, rest) = rest.split_first()?;
-    let kind = kind_of(*kind)?;
-    let command = command_of(*command)?;
-    Some((kind, command, rest))
+    let (kind, command, rest) = two_bytes_at(bytes)?;
+    Some((kind_of(kind)?, command_of(command)?, rest))
 }
 
 // The roles that stand after their number, or PUBLIC where that is 0.

@@ -13,57 +13,35 @@ use crate::check::RecordTest;
 use row_codec::table_prefix;
 use store::{EntryRef, begins_with};
 
-/// The test that a record is of a kind, and, where it is a descriptor or a policy, of a table that
-/// there is. A row passes, whatever its table.
-#[derive(Drop)]
-pub struct StrayTest<'a> {
-    /// The numbers of the tables.
-    pub ids: &'a [u32],
+/// Which strays are looked for.
+#[derive(Clone, Copy)]
+pub enum Strays {
+    /// Records of no kind, and descriptors and policies of a table that there is not. A row passes,
+    /// whatever its table.
+    OfDefinitions,
+    /// Rows of a table that there is not. A record of another kind passes, and so does one of no kind.
+    OfRows,
 }
 
-impl<'a> StrayTest<'a> {
-    /// The test where these are the numbers of the tables.
-    pub fn new(ids: &'a [u32]) -> StrayTest<'a>
-        ensures { result.ids.now ≡ ids.now }
-    {
-        StrayTest { ids }
-    }
+/// The test that a record is no stray.
+#[derive(Drop)]
+pub struct StrayTest<'a> {
+    /// Which strays are looked for.
+    pub strays: Strays,
+    /// The numbers of the tables.
+    pub ids: &'a [u32],
 }
 
 impl<'a> RecordTest for StrayTest<'a> {
-    ghost use Rattle.catalogue_records.specs.Checks.{IsNoStray};
+    ghost use Rattle.catalogue_records.specs.Strays.{IsNone};
 
-    ghost Passes = { λ test. IsNoStray test.ids.now };
-
-    fn passes(&self, entry: &EntryRef<'_>) -> bool {
-        !is_stray(self.ids, entry.key)
-    }
-}
-
-/// The test that the record of a row is that of a row of a table that there is. A record of another
-/// kind passes, and so does one of no kind.
-#[derive(Drop)]
-pub struct StrayRowTest<'a> {
-    /// The numbers of the tables.
-    pub ids: &'a [u32],
-}
-
-impl<'a> StrayRowTest<'a> {
-    /// The test where these are the numbers of the tables.
-    pub fn new(ids: &'a [u32]) -> StrayRowTest<'a>
-        ensures { result.ids.now ≡ ids.now }
-    {
-        StrayRowTest { ids }
-    }
-}
-
-impl<'a> RecordTest for StrayRowTest<'a> {
-    ghost use Rattle.catalogue_records.specs.Checks.{IsNoStrayRow};
-
-    ghost Passes = { λ test. IsNoStrayRow test.ids.now };
+    ghost Passes = { λ test. IsNone test.strays test.ids.now };
 
     fn passes(&self, entry: &EntryRef<'_>) -> bool {
-        !is_stray_row(self.ids, entry.key)
+        match self.strays {
+            Strays::OfDefinitions => !is_stray(self.ids, entry.key),
+            Strays::OfRows => !is_stray_row(self.ids, entry.key),
+        }
     }
 }
 

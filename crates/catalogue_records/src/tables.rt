@@ -8,7 +8,7 @@ ghost use Rattle.stored_database.specs.Spelling.{bit, column_bytes, flag, layout
 ghost use Rattle.catalogue_records.specs.Decoding.{Decodes, DecodesFront};
 ghost use Rattle.catalogue_records.specs.Parts.{HasName, IsStoredLayout, IsTableAlone, key_bytes};
 
-use crate::bytes::{bit_of, decode_name, name_at};
+use crate::bytes::{bit_of, decode_name, name_at, two_bytes_at};
 use crate::parts::{RecordPart, parts_at};
 use crate::walk::ItemReader;
 use byteorder::{BigEndian, ByteOrder};
@@ -120,11 +120,8 @@ fn column_kind_at(bytes: &[u8]) -> Option<(ColumnType, bool, &[u8])>
         → bytes.now ≡ type_number kind ∷ bit not_null ∷ rest → ⊥)
         (λ r. bytes.now ≡ type_number r.0 ∷ bit r.1 ∷ r.2.now) }
 {
-    let (number, rest) = bytes.split_first()?;
-    let (not_null, rest) = rest.split_first()?;
-    let column_type = type_of(*number)?;
-    let not_null = bit_of(*not_null)?;
-    Some((column_type, not_null, rest))
+    let (number, not_null, rest) = two_bytes_at(bytes)?;
+    Some((type_of(number)?, bit_of(not_null)?, rest))
 }
 
 fn column_at(alloc: Global, bytes: &[u8]) -> Result<(Column, &[u8]), Fault>

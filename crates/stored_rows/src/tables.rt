@@ -1,6 +1,6 @@
 //! The checks of the rows of each table, and of the rows of no table.
 
-ghost use Rattle.std.specs.Prelude.{◌≡◌, IfOk};
+ghost use Rattle.std.specs.Prelude.{◌≡◌};
 ghost use Rattle.store.specs.Readers.{HasRead};
 ghost use Rattle.store.specs.Store.{StoreState};
 ghost use Rattle.row_codec.specs.Rows.{row_prefix};
@@ -9,9 +9,10 @@ ghost use Rattle.stored_database.specs.Spelling.{rows_prefix};
 ghost use Rattle.catalogue_records.specs.Checks.{ChecksRecords, IsNoStrayRow, IsRowRecord};
 ghost use Rattle.stored_rows.specs.Checks.{ChecksTables};
 
+use catalogue::numbers::table_ids;
 use catalogue::table::TableDefinition;
-use catalogue_records::{RowTest, StrayRowTest, check_records};
-use std::alloc::{AllocError, Global};
+use catalogue_records::{RowTest, StrayTest, Strays, check_records};
+use std::alloc::Global;
 use store::{Fault, Map};
 
 /// The byte with which the keys of all rows begin.
@@ -60,16 +61,9 @@ pub(crate) fn check_strays<M: Map>(
         result }
 {
     let ids = table_ids(alloc, tables)?;
-    check_records(map, &[ROW], &StrayRowTest::new(ids.as_slice()))
-}
-
-// The numbers of the tables.
-fn table_ids(alloc: Global, tables: &[TableDefinition]) -> Result<Vec<u32>, AllocError>
-    ensures { IfOk result (λ ids. ids.items ≡ ids_of tables.now) }
-{
-    let mut ids = Vec::new(alloc);
-    for table in tables {
-        ids.push(table.id())?;
-    }
-    Ok(ids)
+    let test = StrayTest {
+        strays: Strays::OfRows,
+        ids: ids.as_slice(),
+    };
+    check_records(map, &[ROW], &test)
 }

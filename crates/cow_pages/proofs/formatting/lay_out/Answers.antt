@@ -7,7 +7,34 @@ use Rattle.cow_pages.proofs.Answered.{on_ok_also, on_err_also}
 use Rattle.cow_pages.proofs.Bytes.{page_is, same_page}
 use Rattle.cow_pages.proofs.Writing.{other_page}
 use Rattle.cow_pages.proofs.Making.{LaysOut, nothing_yet, page_laid, even_laid}
+use Rattle.cow_pages.proofs.formatting.lay_out.Given.{Over}
+use Rattle.cow_pages.proofs.formatting.lay_out.Goals.{After-write, After-write_page, After-write_page-2}
 use Rattle.cow_pages.proofs.formatting.lay_out.Goals as goal
+
+-- the first page is written
+one_laid : (g : Over) (c : After-write_page g) → (g.D.Device.state c.args.device.now).faithful → LaysOut (g.D.Device.state c.args.device.now) (g.D.Device.state c.write_page.new.device)
+one_laid g c first =
+    let old = g.D.Device.state c.args.device.now in
+    let room : 2 ≤ old.sectors = omega (arith, c.requires.room) in
+    page_laid old old (g.D.Device.state c.write_page.new.device) room (nothing_yet old room (g.met.D.Device.only_now c.args.device.now first)) c.write_page.ensures.history 1 (omega arith) (omega arith)
+    (c.write_page.ensures.any_moment first) (c.write_page.ensures.alone first)
+
+-- and its map page
+two_laid : (g : Over) (c : After-write_page-2 g) → (g.D.Device.state c.args.device.now).faithful → LaysOut (g.D.Device.state c.args.device.now) (g.D.Device.state c.write_page.new.device)
+    → LaysOut (g.D.Device.state c.args.device.now) (g.D.Device.state c.write_page-2.new.device)
+two_laid g c first one =
+    let old = g.D.Device.state c.args.device.now in
+    let second = c.write_page.ensures.history.faithful first in
+    page_laid old (g.D.Device.state c.write_page.new.device) (g.D.Device.state c.write_page-2.new.device) (omega (arith, c.requires.room)) one c.write_page-2.ensures.history 2 (omega arith) (omega arith)
+    (c.write_page-2.ensures.any_moment second) (c.write_page-2.ensures.alone second)
+
+-- and the even root sector
+three_laid : (g : Over) (c : After-write g) → (g.D.Device.state c.args.device.now).faithful → LaysOut (g.D.Device.state c.args.device.now) (g.D.Device.state c.write_page-2.new.device)
+    → LaysOut (g.D.Device.state c.args.device.now) (g.D.Device.state c.write.new.self)
+three_laid g c first two =
+    let old = g.D.Device.state c.args.device.now in
+    even_laid old (g.D.Device.state c.write_page-2.new.device) (g.D.Device.state c.write.new.self) (omega (arith, c.requires.room)) two c.write.ensures.history c.empty_sector.result c.empty_sector.ensures.zero
+    (c.write.ensures.writes (c.write_page-2.ensures.history.faithful (c.write_page.ensures.history.faithful first)))
 
 pub returns-clause-written : goal.returns-clause-written
 returns-clause-written g c first =
@@ -34,100 +61,43 @@ returns-clause-cause g c =
     on_err_also c.write.result c.write.ensures.cause (failed_later _ _ (g.D.Device.state c.write.new.self) two c.write.ensures.history)
 
 pub returns-in_err-write_page-clause-any_moment : goal.returns-in_err-write_page-clause-any_moment
-returns-in_err-write_page-clause-any_moment g c first =
-    let state = g.D.Device.state in
-    let room : 2 ≤ (state c.args.device.now).sectors = omega (arith, c.requires.room) in
-    let one : LaysOut (state c.args.device.now) (state c.write_page.new.device) = page_laid _ _ (state c.write_page.new.device) room (nothing_yet _ room (g.met.D.Device.only_now c.args.device.now first)) c.write_page.ensures.history 1 (omega arith) (omega arith)
-    (c.write_page.ensures.any_moment first) (c.write_page.ensures.alone first) in
-    one.leaves
+returns-in_err-write_page-clause-any_moment g c first = (one_laid g (goal.at.returns-in_err-write_page-clause-any_moment g c).After-write_page first).leaves
 
 pub returns-in_err-write_page-clause-blank : goal.returns-in_err-write_page-clause-blank
-returns-in_err-write_page-clause-blank g c first =
-    let state = g.D.Device.state in
-    let room : 2 ≤ (state c.args.device.now).sectors = omega (arith, c.requires.room) in
-    let one : LaysOut (state c.args.device.now) (state c.write_page.new.device) = page_laid _ _ (state c.write_page.new.device) room (nothing_yet _ room (g.met.D.Device.only_now c.args.device.now first)) c.write_page.ensures.history 1 (omega arith) (omega arith)
-    (c.write_page.ensures.any_moment first) (c.write_page.ensures.alone first) in
-    one.blank
+returns-in_err-write_page-clause-blank g c first = (one_laid g (goal.at.returns-in_err-write_page-clause-blank g c).After-write_page first).blank
 
 pub returns-in_err-write_page-clause-alone : goal.returns-in_err-write_page-clause-alone
-returns-in_err-write_page-clause-alone g c first =
-    let state = g.D.Device.state in
-    let room : 2 ≤ (state c.args.device.now).sectors = omega (arith, c.requires.room) in
-    let one : LaysOut (state c.args.device.now) (state c.write_page.new.device) = page_laid _ _ (state c.write_page.new.device) room (nothing_yet _ room (g.met.D.Device.only_now c.args.device.now first)) c.write_page.ensures.history 1 (omega arith) (omega arith)
-    (c.write_page.ensures.any_moment first) (c.write_page.ensures.alone first) in
-    one.alone
+returns-in_err-write_page-clause-alone g c first = (one_laid g (goal.at.returns-in_err-write_page-clause-alone g c).After-write_page first).alone
 
 pub returns-in_err-write_page-2-clause-any_moment : goal.returns-in_err-write_page-2-clause-any_moment
 returns-in_err-write_page-2-clause-any_moment g c first =
-    let state = g.D.Device.state in
-    let room : 2 ≤ (state c.args.device.now).sectors = omega (arith, c.requires.room) in
-    let one : LaysOut (state c.args.device.now) (state c.write_page.new.device) = page_laid _ _ (state c.write_page.new.device) room (nothing_yet _ room (g.met.D.Device.only_now c.args.device.now first)) c.write_page.ensures.history 1 (omega arith) (omega arith)
-    (c.write_page.ensures.any_moment first) (c.write_page.ensures.alone first) in
-    let second = c.write_page.ensures.history.faithful first in
-    let two : LaysOut (state c.args.device.now) (state c.write_page-2.new.device) = page_laid _ _ (state c.write_page-2.new.device) room one c.write_page-2.ensures.history 2 (omega arith) (omega arith)
-    (c.write_page-2.ensures.any_moment second) (c.write_page-2.ensures.alone second) in
-    two.leaves
+    let at = goal.at.returns-in_err-write_page-2-clause-any_moment g c in
+    (two_laid g at.After-write_page-2 first (one_laid g at.After-write_page first)).leaves
 
 pub returns-in_err-write_page-2-clause-blank : goal.returns-in_err-write_page-2-clause-blank
 returns-in_err-write_page-2-clause-blank g c first =
-    let state = g.D.Device.state in
-    let room : 2 ≤ (state c.args.device.now).sectors = omega (arith, c.requires.room) in
-    let one : LaysOut (state c.args.device.now) (state c.write_page.new.device) = page_laid _ _ (state c.write_page.new.device) room (nothing_yet _ room (g.met.D.Device.only_now c.args.device.now first)) c.write_page.ensures.history 1 (omega arith) (omega arith)
-    (c.write_page.ensures.any_moment first) (c.write_page.ensures.alone first) in
-    let second = c.write_page.ensures.history.faithful first in
-    let two : LaysOut (state c.args.device.now) (state c.write_page-2.new.device) = page_laid _ _ (state c.write_page-2.new.device) room one c.write_page-2.ensures.history 2 (omega arith) (omega arith)
-    (c.write_page-2.ensures.any_moment second) (c.write_page-2.ensures.alone second) in
-    two.blank
+    let at = goal.at.returns-in_err-write_page-2-clause-blank g c in
+    (two_laid g at.After-write_page-2 first (one_laid g at.After-write_page first)).blank
 
 pub returns-in_err-write_page-2-clause-alone : goal.returns-in_err-write_page-2-clause-alone
 returns-in_err-write_page-2-clause-alone g c first =
-    let state = g.D.Device.state in
-    let room : 2 ≤ (state c.args.device.now).sectors = omega (arith, c.requires.room) in
-    let one : LaysOut (state c.args.device.now) (state c.write_page.new.device) = page_laid _ _ (state c.write_page.new.device) room (nothing_yet _ room (g.met.D.Device.only_now c.args.device.now first)) c.write_page.ensures.history 1 (omega arith) (omega arith)
-    (c.write_page.ensures.any_moment first) (c.write_page.ensures.alone first) in
-    let second = c.write_page.ensures.history.faithful first in
-    let two : LaysOut (state c.args.device.now) (state c.write_page-2.new.device) = page_laid _ _ (state c.write_page-2.new.device) room one c.write_page-2.ensures.history 2 (omega arith) (omega arith)
-    (c.write_page-2.ensures.any_moment second) (c.write_page-2.ensures.alone second) in
-    two.alone
+    let at = goal.at.returns-in_err-write_page-2-clause-alone g c in
+    (two_laid g at.After-write_page-2 first (one_laid g at.After-write_page first)).alone
 
 pub returns-clause-any_moment : goal.returns-clause-any_moment
 returns-clause-any_moment g c first =
-    let state = g.D.Device.state in
-    let room : 2 ≤ (state c.args.device.now).sectors = omega (arith, c.requires.room) in
-    let one : LaysOut (state c.args.device.now) (state c.write_page.new.device) = page_laid _ _ (state c.write_page.new.device) room (nothing_yet _ room (g.met.D.Device.only_now c.args.device.now first)) c.write_page.ensures.history 1 (omega arith) (omega arith)
-    (c.write_page.ensures.any_moment first) (c.write_page.ensures.alone first) in
-    let second = c.write_page.ensures.history.faithful first in
-    let two : LaysOut (state c.args.device.now) (state c.write_page-2.new.device) = page_laid _ _ (state c.write_page-2.new.device) room one c.write_page-2.ensures.history 2 (omega arith) (omega arith)
-    (c.write_page-2.ensures.any_moment second) (c.write_page-2.ensures.alone second) in
-    let three : LaysOut (state c.args.device.now) (state c.write.new.self) = even_laid _ _ (state c.write.new.self) room two c.write.ensures.history c.empty_sector.result c.empty_sector.ensures.zero
-    (c.write.ensures.writes (c.write_page-2.ensures.history.faithful second)) in
-    three.leaves
+    let at = goal.at.returns-clause-any_moment g c in
+    (three_laid g at.After-write first (two_laid g at.After-write_page-2 first (one_laid g at.After-write_page first))).leaves
 
 pub returns-clause-blank : goal.returns-clause-blank
 returns-clause-blank g c first =
-    let state = g.D.Device.state in
-    let room : 2 ≤ (state c.args.device.now).sectors = omega (arith, c.requires.room) in
-    let one : LaysOut (state c.args.device.now) (state c.write_page.new.device) = page_laid _ _ (state c.write_page.new.device) room (nothing_yet _ room (g.met.D.Device.only_now c.args.device.now first)) c.write_page.ensures.history 1 (omega arith) (omega arith)
-    (c.write_page.ensures.any_moment first) (c.write_page.ensures.alone first) in
-    let second = c.write_page.ensures.history.faithful first in
-    let two : LaysOut (state c.args.device.now) (state c.write_page-2.new.device) = page_laid _ _ (state c.write_page-2.new.device) room one c.write_page-2.ensures.history 2 (omega arith) (omega arith)
-    (c.write_page-2.ensures.any_moment second) (c.write_page-2.ensures.alone second) in
-    let three : LaysOut (state c.args.device.now) (state c.write.new.self) = even_laid _ _ (state c.write.new.self) room two c.write.ensures.history c.empty_sector.result c.empty_sector.ensures.zero
-    (c.write.ensures.writes (c.write_page-2.ensures.history.faithful second)) in
-    three.blank
+    let at = goal.at.returns-clause-blank g c in
+    (three_laid g at.After-write first (two_laid g at.After-write_page-2 first (one_laid g at.After-write_page first))).blank
 
 pub returns-clause-alone : goal.returns-clause-alone
 returns-clause-alone g c first =
-    let state = g.D.Device.state in
-    let room : 2 ≤ (state c.args.device.now).sectors = omega (arith, c.requires.room) in
-    let one : LaysOut (state c.args.device.now) (state c.write_page.new.device) = page_laid _ _ (state c.write_page.new.device) room (nothing_yet _ room (g.met.D.Device.only_now c.args.device.now first)) c.write_page.ensures.history 1 (omega arith) (omega arith)
-    (c.write_page.ensures.any_moment first) (c.write_page.ensures.alone first) in
-    let second = c.write_page.ensures.history.faithful first in
-    let two : LaysOut (state c.args.device.now) (state c.write_page-2.new.device) = page_laid _ _ (state c.write_page-2.new.device) room one c.write_page-2.ensures.history 2 (omega arith) (omega arith)
-    (c.write_page-2.ensures.any_moment second) (c.write_page-2.ensures.alone second) in
-    let three : LaysOut (state c.args.device.now) (state c.write.new.self) = even_laid _ _ (state c.write.new.self) room two c.write.ensures.history c.empty_sector.result c.empty_sector.ensures.zero
-    (c.write.ensures.writes (c.write_page-2.ensures.history.faithful second)) in
-    three.alone
+    let at = goal.at.returns-clause-alone g c in
+    (three_laid g at.After-write first (two_laid g at.After-write_page-2 first (one_laid g at.After-write_page first))).alone
 
 pub returns-in_err-write_page-2-clause-history : goal.returns-in_err-write_page-2-clause-history
 returns-in_err-write_page-2-clause-history g c =

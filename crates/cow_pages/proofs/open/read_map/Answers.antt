@@ -9,38 +9,47 @@ use Rattle.cow_pages.proofs.Parts.{map_whole, padded_same, padded_spelled}
 use Rattle.cow_pages.proofs.Sound.{sound_same, fault_unsound, none_sound, sound_or_damaged}
 use Rattle.cow_pages.proofs.Reading.{reads_none}
 use Rattle.cow_pages.proofs.Loading.{device_given, memory_given, given_back, named_after}
+use Rattle.cow_pages.proofs.open.read_map.Given.{Over}
+use Rattle.cow_pages.proofs.open.read_map.Goals.{In_ok-is_sound_reach, In_ok-resize}
 use Rattle.cow_pages.proofs.open.read_map.Goals as goal
+
+-- the reach that was tested is that of the image
+tested : (g : Over) (c : In_ok-is_sound_reach g) → (g.D.Device.state c.args.device.now).faithful
+    → is_sound c.args.root.now.pages c.args.root.now.maps (map_in (g.D.Device.state c.args.device.now).content c.args.root.now.maps) ≡ c.in_ok-is_sound_reach.field-0
+tested g c first =
+    let d = g.D.Device.state c.args.device.now in
+    let root = c.args.root.now in
+    let items = c.in_ok-entries.entries.items in
+    let whole : map_in d.content root.maps ≡ items = map_whole (bytes_of_page d.content) root.maps items (c.in_ok-entries.ensures.spelled first) c.in_ok-entries.ensures.count in
+    let exact : c.in_ok-is_sound_reach.field-0 ≡ is_sound root.pages root.maps items = rw (c.pages-2.ensures, c.maps-maps.ensures.maps, c.deref.ensures.value) at c.in_ok-is_sound_reach.ensures.exact in
+    ap (λ (es : List ℕ). is_sound root.pages root.maps es) whole ∙ sym exact
+
+-- zeros stand behind the entries that were read
+behind_zeros : (g : Over) (c : In_ok-resize g) → c.resize.new.self.items ≡ c.in_ok-entries.entries.items ++ replicate (65536 - c.in_ok-entries.entries.len) 0
+behind_zeros g c =
+    let items = c.in_ok-entries.entries.items in
+    let few : length items ≤ 65536 = omega (arith, c.in_ok-entries.ensures.count, c.maps-maps.ensures.most, ap (λ (l : List ℕ). length l) c.maps-maps.ensures.maps) in
+    c.in_ok-resize.ensures.items ∙ ap (λ (l : List ℕ). l ++ replicate (65536 - c.in_ok-entries.entries.len) 0) (take_all 65536 items few)
 
 pub returns-then-not-branch-clause-fault : goal.returns-then-not-branch-clause-fault
 returns-then-not-branch-clause-fault g c first =
-    let d = g.D.Device.state c.args.device.now in
-    let root = c.args.root.now in
-    let whole : map_in d.content root.maps ≡ c.in_ok-entries.entries.items = map_whole (bytes_of_page d.content) root.maps c.in_ok-entries.entries.items (c.in_ok-entries.ensures.spelled first) c.in_ok-entries.ensures.count in
-    let exact : c.in_ok-is_sound_reach.field-0 ≡ is_sound root.pages root.maps c.in_ok-entries.entries.items = rw (c.pages-2.ensures, c.maps-maps.ensures.maps, c.deref.ensures.value) at c.in_ok-is_sound_reach.ensures.exact in
-    fault_unsound d.content root (ap (λ (es : List ℕ). is_sound root.pages root.maps es) whole ∙ sym exact ∙ c.if-not-branch.true)
+    fault_unsound (g.D.Device.state c.args.device.now).content c.args.root.now (tested g (goal.at.returns-then-not-branch-clause-fault g c).In_ok-is_sound_reach first ∙ c.if-not-branch.true)
 
 pub returns-clause-sound : goal.returns-clause-sound
 returns-clause-sound g c =
     let root = c.args.root.now in
     let items = c.in_ok-entries.entries.items in
-    let count = c.in_ok-entries.ensures.count in
-    let most = c.maps-maps.ensures.most in
-    let same = c.maps-maps.ensures.maps in
-    let few : length items ≤ 65536 = omega (arith, count, most, ap (λ (l : List ℕ). length l) same) in
-    let grown : c.resize.new.self.items ≡ items ++ replicate (65536 - c.in_ok-entries.entries.len) 0 = c.in_ok-resize.ensures.items ∙ ap (λ (l : List ℕ). l ++ replicate (65536 - c.in_ok-entries.entries.len) 0) (take_all 65536 items few) in
+    let padded = behind_zeros g (goal.at.returns-clause-sound g c).In_ok-resize in
     let sound : IsSound root.pages root.maps items = rw (c.pages-2.ensures, c.maps-maps.ensures.maps, c.deref.ensures.value) at (c.in_ok-is_sound_reach.ensures.sound.0 c.if-not-branch.false) in
-    subst (λ (es : List ℕ). IsSound root.pages root.maps es) (sym grown) (sound_same root.pages root.maps items _ (λ l. padded_same items (65536 - c.in_ok-entries.entries.len) l) sound)
+    subst (λ (es : List ℕ). IsSound root.pages root.maps es) (sym padded) (sound_same root.pages root.maps items _ (λ l. padded_same items (65536 - c.in_ok-entries.entries.len) l) sound)
 
 pub returns-clause-ended : goal.returns-clause-ended
 returns-clause-ended g c =
     let root = c.args.root.now in
     let items = c.in_ok-entries.entries.items in
     let count = c.in_ok-entries.ensures.count in
-    let most = c.maps-maps.ensures.most in
-    let same = c.maps-maps.ensures.maps in
-    let few : length items ≤ 65536 = omega (arith, count, most, ap (λ (l : List ℕ). length l) same) in
-    let grown : c.resize.new.self.items ≡ items ++ replicate (65536 - c.in_ok-entries.entries.len) 0 = c.in_ok-resize.ensures.items ∙ ap (λ (l : List ℕ). l ++ replicate (65536 - c.in_ok-entries.entries.len) 0) (take_all 65536 items few) in
-    subst (λ (es : List ℕ). EndsWith root.maps es) (sym grown)
+    let padded = behind_zeros g (goal.at.returns-clause-ended g c).In_ok-resize in
+    subst (λ (es : List ℕ). EndsWith root.maps es) (sym padded)
     (λ l past. padded_same items (65536 - c.in_ok-entries.entries.len) l ∙ get_or_past items l 0 (omega (arith, past, count)))
 
 pub returns-clause-spelled : goal.returns-clause-spelled
@@ -49,20 +58,13 @@ returns-clause-spelled g c first =
     let root = c.args.root.now in
     let items = c.in_ok-entries.entries.items in
     let count = c.in_ok-entries.ensures.count in
-    let most = c.maps-maps.ensures.most in
-    let same = c.maps-maps.ensures.maps in
-    let few : length items ≤ 65536 = omega (arith, count, most, ap (λ (l : List ℕ). length l) same) in
-    let grown : c.resize.new.self.items ≡ items ++ replicate (65536 - c.in_ok-entries.entries.len) 0 = c.in_ok-resize.ensures.items ∙ ap (λ (l : List ℕ). l ++ replicate (65536 - c.in_ok-entries.entries.len) 0) (take_all 65536 items few) in
-    subst (λ (es : List ℕ). AreSpelled (bytes_of_page d.content) root.maps es) (sym grown)
+    let padded = behind_zeros g (goal.at.returns-clause-spelled g c).In_ok-resize in
+    subst (λ (es : List ℕ). AreSpelled (bytes_of_page d.content) root.maps es) (sym padded)
     (padded_spelled (bytes_of_page d.content) root.maps items (65536 - c.in_ok-entries.entries.len) count (c.in_ok-entries.ensures.spelled first))
 
 pub returns-clause-none : goal.returns-clause-none
 returns-clause-none g c first =
-    let d = g.D.Device.state c.args.device.now in
-    let root = c.args.root.now in
-    let whole : map_in d.content root.maps ≡ c.in_ok-entries.entries.items = map_whole (bytes_of_page d.content) root.maps c.in_ok-entries.entries.items (c.in_ok-entries.ensures.spelled first) c.in_ok-entries.ensures.count in
-    let exact : c.in_ok-is_sound_reach.field-0 ≡ is_sound root.pages root.maps c.in_ok-entries.entries.items = rw (c.pages-2.ensures, c.maps-maps.ensures.maps, c.deref.ensures.value) at c.in_ok-is_sound_reach.ensures.exact in
-    none_sound d.content root (ap (λ (es : List ℕ). is_sound root.pages root.maps es) whole ∙ sym exact ∙ c.if-not-branch.false)
+    none_sound (g.D.Device.state c.args.device.now).content c.args.root.now (tested g (goal.at.returns-clause-none g c).In_ok-is_sound_reach first ∙ c.if-not-branch.false)
 
 pub returns-in_err-entries-clause-fault : goal.returns-in_err-entries-clause-fault
 returns-in_err-entries-clause-fault g c first =

@@ -1,5 +1,8 @@
 use Rattle.std.proofs.Common.{◌≡◌, ℕ, List, inl, inr, refl, sym, ap, ◌∙◌}
-use Rattle.sector_device.specs.Timeline.{weakened}
+use Rattle.sector_device.specs.Device.{timeline}
+use Rattle.sector_device.specs.Timeline.{LeavesOnly, weakened}
+use Rattle.cow_pages.specs.Commit.{IsEither}
+use Rattle.cow_pages.specs.Cow.{IsOpen, durable_array, working_array}
 use Rattle.cow_pages.specs.Image.{array_of}
 use Rattle.cow_pages.specs.Dirty.{overlaid_array}
 use Rattle.cow_pages.specs.DirtyPages.{dirty_bytes}
@@ -9,6 +12,8 @@ use Rattle.cow_pages.proofs.Changing.{can_commit, recoverable_was, either_was}
 use Rattle.cow_pages.proofs.Overlaid.{nothing_dirty}
 use Rattle.std.proofs.lemmas.Result.{err_from_is_err_and}
 use Rattle.cow_pages.proofs.Preserving.{commit_refused}
+use Rattle.cow_pages.proofs.cow.CowPages.commit_anew.Given.{Over}
+use Rattle.cow_pages.proofs.cow.CowPages.commit_anew.Goals.{After-write_changes-written}
 use Rattle.cow_pages.proofs.cow.CowPages.commit_anew.Goals as goal
 
 pub returns-in_err-next-clause-any_moment : goal.returns-in_err-next-clause-any_moment
@@ -26,15 +31,19 @@ returns-in_err-next-clause-outcome g c =
       has_not_failed = c.if-self.false;
     }) c.in_err-next.ensures.outcome
 
-pub returns-in-Ok-clause-any_moment : goal.returns-in-Ok-clause-any_moment
-returns-in-Ok-clause-any_moment g c was =
+-- the way over the device leaves what was durable or what was worked on
+leaves_either : (g : Over) (c : After-write_changes-written g) → IsOpen c.args.self.now
+    → LeavesOnly (IsEither c.args.self.now.map.root.pages c.args.self.now.map.root.format c.args.self.now.map.root.number c.args.format (durable_array c.args.self.now) (working_array c.args.self.now))
+    (timeline (g.D.Device.state c.args.self.now.device)) (timeline (g.D.Device.state c.write_changes-written.new.device))
+leaves_either g c was =
     let s = c.args.self.now in
-    let m = s.map in
-    let p = c.prepare.new.self in
-    let d = g.D.Device.state s.device in
     let is = c.prepare.ensures.preserved in
-    either_was m p is d (g.D.Device.state c.write_changes-written.new.device) (dirty_bytes s.dirty) c.in_ok-next.next.format c.args.format c.in_ok-next.ensures.format
-    (c.in-Ok.ensures.writes (can_commit m p is d c.in_ok-next.next was.faithful was.settled c.in_ok-next.ensures.outcome)).any_moment
+    let d = g.D.Device.state s.device in
+    either_was s.map c.prepare.new.self is d (g.D.Device.state c.write_changes-written.new.device) (dirty_bytes s.dirty) c.in_ok-next.next.format c.args.format c.in_ok-next.ensures.format
+    (c.write_changes-written.ensures.writes (can_commit s.map c.prepare.new.self is d c.in_ok-next.next was.faithful was.settled c.in_ok-next.ensures.outcome)).any_moment
+
+pub returns-in-Ok-clause-any_moment : goal.returns-in-Ok-clause-any_moment
+returns-in-Ok-clause-any_moment g c was = leaves_either g (goal.at.returns-in-Ok-clause-any_moment g c).After-write_changes-written was
 
 pub returns-in-Ok-clause-outcome : goal.returns-in-Ok-clause-outcome
 returns-in-Ok-clause-outcome g c =
@@ -73,14 +82,7 @@ returns-in-Ok-clause-outcome g c =
     }
 
 pub returns-in-Err-clause-any_moment : goal.returns-in-Err-clause-any_moment
-returns-in-Err-clause-any_moment g c was =
-    let s = c.args.self.now in
-    let m = s.map in
-    let p = c.prepare.new.self in
-    let d = g.D.Device.state s.device in
-    let is = c.prepare.ensures.preserved in
-    either_was m p is d (g.D.Device.state c.write_changes-written.new.device) (dirty_bytes s.dirty) c.in_ok-next.next.format c.args.format c.in_ok-next.ensures.format
-    (c.in-Err.ensures.writes (can_commit m p is d c.in_ok-next.next was.faithful was.settled c.in_ok-next.ensures.outcome)).any_moment
+returns-in-Err-clause-any_moment g c was = leaves_either g (goal.at.returns-in-Err-clause-any_moment g c).After-write_changes-written was
 
 pub returns-in-Err-clause-outcome : goal.returns-in-Err-clause-outcome
 returns-in-Err-clause-outcome g c =
