@@ -8,7 +8,13 @@ use Rattle.cow_pages.proofs.Bytes.{same_page}
 use Rattle.cow_pages.specs.Formatting.{first_root}
 use Rattle.cow_pages.proofs.Formatted.{formatted, size_is, even_empty}
 use Rattle.cow_pages.proofs.Making.{alone_joined, leaves_none, leaves_first}
+use Rattle.cow_pages.proofs.formatting.format.Given.{Over}
+use Rattle.cow_pages.proofs.formatting.format.Goals.{After-new}
 use Rattle.cow_pages.proofs.formatting.format.Goals as goal
+
+-- the root that is written names the pages of the device
+first_made : (g : Over) (c : After-new g) → c.new.result ≡ first_root ((g.D.Device.state c.args.device.now).sectors / 8) c.args.format
+first_made g c = c.new.ensures ∙ ap (λ (n : ℕ). first_root (n / 8) c.args.format) c.sectors-pages.ensures
 
 pub returns-clause-means : goal.returns-clause-means
 returns-clause-means g c first =
@@ -17,8 +23,7 @@ returns-clause-means g c first =
     let mid = state c.lay_out.new.device in
     let e = state c.finish.new.device in
     let second = c.lay_out.ensures.history.faithful first in
-    let pages : c.sectors-pages.result / 8 ≡ d.sectors / 8 = ap (λ (n : ℕ). n / 8) c.sectors-pages.ensures in
-    let made : c.new.result ≡ first_root (d.sectors / 8) c.args.format = c.new.ensures ∙ ap (λ (n : ℕ). first_root n c.args.format) pages in
+    let made = first_made g (goal.at.returns-clause-means g c).After-new in
     let size = size_is d.sectors c.requires.size in
     let laid = c.in_ok-lay_out.ensures.written first in
     on_ok_both c.finish.result (c.finish.ensures.synced second) (c.finish.ensures.root second)
@@ -30,13 +35,11 @@ returns-clause-means g c first =
 pub returns-clause-bytes : goal.returns-clause-bytes
 returns-clause-bytes g c first =
     let state = g.D.Device.state in
-    let d = state c.args.device.now in
     let mid = state c.lay_out.new.device in
     let e = state c.finish.new.device in
     let second = c.lay_out.ensures.history.faithful first in
     let laid = c.in_ok-lay_out.ensures.written first in
-    let pages : c.sectors-pages.result / 8 ≡ d.sectors / 8 = ap (λ (n : ℕ). n / 8) c.sectors-pages.ensures in
-    let made : c.new.result ≡ first_root (d.sectors / 8) c.args.format = c.new.ensures ∙ ap (λ (n : ℕ). first_root n c.args.format) pages in
+    let made = first_made g (goal.at.returns-clause-bytes g c).After-new in
     let alone : (s : ℕ) → s ≢ 1 → e.content s ≡ mid.content s = λ s other. (c.finish.ensures.alone second s other).content in
     on_ok_also c.finish.result (c.finish.ensures.spelled second)
     (λ odd. record {
@@ -57,8 +60,7 @@ returns-clause-any_moment g c first blank =
     let mid = state c.lay_out.new.device in
     let e = state c.finish.new.device in
     let second = c.lay_out.ensures.history.faithful first in
-    let pages : c.sectors-pages.result / 8 ≡ d.sectors / 8 = ap (λ (n : ℕ). n / 8) c.sectors-pages.ensures in
-    let made : c.new.result ≡ first_root (d.sectors / 8) c.args.format = c.new.ensures ∙ ap (λ (n : ℕ). first_root n c.args.format) pages in
+    let made = first_made g (goal.at.returns-clause-any_moment g c).After-new in
     let laid = c.in_ok-lay_out.ensures.written first in
     leaves_first d.sectors c.args.format 1023 c.args.first.now c.new.result mid c.requires.size c.lay_out.ensures.history.sectors made (c.lay_out.ensures.blank first blank)
     (even_empty mid.content laid.even) laid.page laid.entries
