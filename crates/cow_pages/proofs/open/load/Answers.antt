@@ -10,17 +10,36 @@ use Rattle.cow_pages.specs.ReadingLaws.{reads_joined}
 use Rattle.cow_pages.specs.PreservedLaws.{failed_later}
 use Rattle.cow_pages.proofs.Reading.{reads_none, synced_along}
 use Rattle.cow_pages.proofs.Loading.{device_given, memory_given, named_device, named_for, named_after, given_back, named_same, first_of_image, first_of_root, spelled_same, settled_found}
+use Rattle.cow_pages.proofs.open.load.Given.{Over}
+use Rattle.cow_pages.proofs.open.load.Goals.{In-Some, In_ok-root}
 use Rattle.cow_pages.proofs.open.load.Goals as goal
+
+-- where the size is one that a database may have, the first fault is one of the root sectors
+of_sectors : (g : Over) (c : In-Some g) → first_fault (g.D.Device.state c.args.device.now).sectors (g.D.Device.state c.args.device.now).content ≡ fault_of_image c.in-Some.pages (g.D.Device.state c.args.device.now).content
+of_sectors g c =
+    let d = g.D.Device.state c.args.device.now in
+    let size = c.in-Some.ensures.some in
+    let sectors : c.sectors.result ≡ d.sectors = c.sectors.ensures in
+    subst (λ (n : ℕ). first_fault n d.content ≡ fault_of_image c.in-Some.pages d.content) sectors (first_of_image c.sectors.result c.in-Some.pages d.content size.0 size.1)
+
+-- and where these give a root, one of its map, which is read after them
+of_root : (g : Over) (c : In_ok-root g) → first_fault (g.D.Device.state c.args.device.now).sectors (g.D.Device.state c.args.device.now).content ≡ fault_of_image c.in-Some.pages (g.D.Device.state c.args.device.now).content
+    → (g.D.Device.state c.args.device.now).faithful
+    → first_fault (g.D.Device.state c.args.device.now).sectors (g.D.Device.state c.args.device.now).content ≡ fault_of_root c.in_ok-root.root.pages (g.D.Device.state c.read_roots.new.device).content (Some c.in_ok-root.root)
+of_root g c whole first =
+    let d = g.D.Device.state c.args.device.now in
+    let mid = g.D.Device.state c.read_roots.new.device in
+    let root = c.in_ok-root.root in
+    let same : mid.content ≡ d.content = fun_ext (c.read_roots.ensures.reads first).content in
+    let part = first_of_root c.in-Some.pages d.content c.read_roots.new.even c.read_roots.new.odd root (sym (c.in_ok-read_roots.ensures.even first)) (sym (c.in_ok-read_roots.ensures.odd first)) c.in_ok-root.ensures.found in
+    whole ∙ part ∙ sym (ap (λ (image : Image). fault_of_root root.pages image (Some root)) same)
 
 pub returns-in_err-root-clause-fault : goal.returns-in_err-root-clause-fault
 returns-in_err-root-clause-fault g c first =
     let d = g.D.Device.state c.args.device.now in
     let is = c.in_err-root.ensures.found d.content (sym (c.in_ok-read_roots.ensures.even first)) (sym (c.in_ok-read_roots.ensures.odd first)) in
-    let size = c.in-Some.ensures.some in
-    let sectors : c.sectors.result ≡ d.sectors = c.sectors.ensures in
-    let whole : first_fault d.sectors d.content ≡ fault_of_image c.in-Some.pages d.content = subst (λ (n : ℕ). first_fault n d.content ≡ fault_of_image c.in-Some.pages d.content) sectors (first_of_image c.sectors.result c.in-Some.pages d.content size.0 size.1) in
     given_back c.from_residual-in_err-root.result c.in_err-root.field-0.0 (first_fault d.sectors d.content)
-    (err_from_is_err_and c.from_residual-in_err-root.result c.from_residual-in_err-root.ensures.1) (named_for c.in_err-root.field-0.0 (first_fault d.sectors d.content) (λ memory. c.in_err-root.ensures.memory (ap Err memory)) (whole ∙ is))
+    (err_from_is_err_and c.from_residual-in_err-root.result c.from_residual-in_err-root.ensures.1) (named_for c.in_err-root.field-0.0 (first_fault d.sectors d.content) (λ memory. c.in_err-root.ensures.memory (ap Err memory)) (of_sectors g (goal.at.returns-in_err-root-clause-fault g c).In-Some ∙ is))
 
 pub returns-in_err-root-clause-cause : goal.returns-in_err-root-clause-cause
 returns-in_err-root-clause-cause g c is =
@@ -37,27 +56,17 @@ returns-in_err-durable-clause-fault g c first =
     let mid = g.D.Device.state c.read_roots.new.device in
     let root = c.in_ok-root.root in
     let named = c.in_err-durable.ensures.fault (c.read_roots.ensures.history.faithful first) in
-    let same : mid.content ≡ d.content = fun_ext (c.read_roots.ensures.reads first).content in
-    let size = c.in-Some.ensures.some in
-    let sectors : c.sectors.result ≡ d.sectors = c.sectors.ensures in
-    let whole : first_fault d.sectors d.content ≡ fault_of_image c.in-Some.pages d.content = subst (λ (n : ℕ). first_fault n d.content ≡ fault_of_image c.in-Some.pages d.content) sectors (first_of_image c.sectors.result c.in-Some.pages d.content size.0 size.1) in
-    let part = first_of_root c.in-Some.pages d.content c.read_roots.new.even c.read_roots.new.odd root (sym (c.in_ok-read_roots.ensures.even first)) (sym (c.in_ok-read_roots.ensures.odd first)) c.in_ok-root.ensures.found in
+    let at = goal.at.returns-in_err-durable-clause-fault g c in
     given_back c.from_residual-in_err-durable.result c.in_err-durable.field-0.0 (first_fault d.sectors d.content)
     (err_from_is_err_and c.from_residual-in_err-durable.result c.from_residual-in_err-durable.ensures.1)
     (named_same c.in_err-durable.field-0.0 (first_fault d.sectors d.content) (fault_of_root root.pages mid.content (Some root))
-    (whole ∙ part ∙ sym (ap (λ (image : Image). fault_of_root root.pages image (Some root)) same)) named)
+    (of_root g at.In_ok-root (of_sectors g at.In-Some) first) named)
 
 pub returns-in_err-arrange-clause-fault : goal.returns-in_err-arrange-clause-fault
 returns-in_err-arrange-clause-fault g c first =
     let d = g.D.Device.state c.args.device.now in
-    let mid = g.D.Device.state c.read_roots.new.device in
-    let root = c.in_ok-root.root in
-    let same : mid.content ≡ d.content = fun_ext (c.read_roots.ensures.reads first).content in
-    let size = c.in-Some.ensures.some in
-    let sectors : c.sectors.result ≡ d.sectors = c.sectors.ensures in
-    let whole : first_fault d.sectors d.content ≡ fault_of_image c.in-Some.pages d.content = subst (λ (n : ℕ). first_fault n d.content ≡ fault_of_image c.in-Some.pages d.content) sectors (first_of_image c.sectors.result c.in-Some.pages d.content size.0 size.1) in
-    let part = first_of_root c.in-Some.pages d.content c.read_roots.new.even c.read_roots.new.odd root (sym (c.in_ok-read_roots.ensures.even first)) (sym (c.in_ok-read_roots.ensures.odd first)) c.in_ok-root.ensures.found in
-    let none = whole ∙ part ∙ sym (ap (λ (image : Image). fault_of_root root.pages image (Some root)) same) ∙ c.in_ok-durable.ensures.none (c.read_roots.ensures.history.faithful first) in
+    let at = goal.at.returns-in_err-arrange-clause-fault g c in
+    let none = of_root g at.In_ok-root (of_sectors g at.In-Some) first ∙ c.in_ok-durable.ensures.none (c.read_roots.ensures.history.faithful first) in
     let r = c.from_residual-in_err-arrange.result in
     let p = err_from_is_err_and r c.from_residual-in_err-arrange.ensures.1 in
     given_back r p.0 (first_fault d.sectors d.content) (p.0, p.1, refl) (named_after p.0 (first_fault d.sectors d.content) (inr p.2) (inl none))
@@ -72,7 +81,6 @@ returns-clause-reads g c first =
 
 pub returns-clause-settled : goal.returns-clause-settled
 returns-clause-settled g c first =
-    let d = g.D.Device.state c.args.device.now in
     let e = g.D.Device.state c.read_map.new.device in
     let mid = g.D.Device.state c.read_roots.new.device in
     let root = c.in_ok-root.root in
@@ -91,15 +99,8 @@ returns-clause-settled g c first =
 
 pub returns-clause-none : goal.returns-clause-none
 returns-clause-none g c first =
-    let d = g.D.Device.state c.args.device.now in
-    let mid = g.D.Device.state c.read_roots.new.device in
-    let root = c.in_ok-root.root in
-    let same : mid.content ≡ d.content = fun_ext (c.read_roots.ensures.reads first).content in
-    let size = c.in-Some.ensures.some in
-    let sectors : c.sectors.result ≡ d.sectors = c.sectors.ensures in
-    let whole : first_fault d.sectors d.content ≡ fault_of_image c.in-Some.pages d.content = subst (λ (n : ℕ). first_fault n d.content ≡ fault_of_image c.in-Some.pages d.content) sectors (first_of_image c.sectors.result c.in-Some.pages d.content size.0 size.1) in
-    let part = first_of_root c.in-Some.pages d.content c.read_roots.new.even c.read_roots.new.odd root (sym (c.in_ok-read_roots.ensures.even first)) (sym (c.in_ok-read_roots.ensures.odd first)) c.in_ok-root.ensures.found in
-    whole ∙ part ∙ sym (ap (λ (image : Image). fault_of_root root.pages image (Some root)) same) ∙ c.in_ok-durable.ensures.none (c.read_roots.ensures.history.faithful first)
+    let at = goal.at.returns-clause-none g c in
+    of_root g at.In_ok-root (of_sectors g at.In-Some) first ∙ c.in_ok-durable.ensures.none (c.read_roots.ensures.history.faithful first)
 
 pub returns-in_default-clause-reads : goal.returns-in_default-clause-reads
 returns-in_default-clause-reads g c first = reads_none _ (g.met.D.Device.only_now c.args.device.now first)

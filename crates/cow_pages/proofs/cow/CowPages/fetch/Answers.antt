@@ -1,6 +1,7 @@
 use Rattle.std.proofs.Common.{◌≡◌, ℕ, Bool, true, false, List, [], Option, Some, None, IsSome, unwrap_or, get_or, refl, sym, ap, ◌∙◌, inl, inr, arith}
 use Rattle.std.proofs.lemmas.List.{get_or_default}
 use Rattle.page_cache.specs.Held.{bytes_in}
+use Rattle.cow_pages.specs.Cached.{AgreesWith}
 use Rattle.cow_pages.specs.Dirty.{overlaid_page}
 use Rattle.cow_pages.specs.DirtyPages.{dirty_bytes}
 use Rattle.cow_pages.specs.PreservedLaws.{preserved_same}
@@ -11,6 +12,8 @@ use Rattle.cow_pages.proofs.Overlaid.{none_dirty, page_dirty, page_unless, overl
 use Rattle.cow_pages.proofs.Writing.{page_there}
 use Rattle.cow_pages.proofs.Bytes.{page_is}
 use Rattle.cow_pages.proofs.Cached.{same_agrees, read_agrees, read_there, put_agrees}
+use Rattle.cow_pages.proofs.cow.CowPages.fetch.Given.{Over}
+use Rattle.cow_pages.proofs.cow.CowPages.fetch.Goals.{After-read_page}
 use Rattle.cow_pages.proofs.cow.CowPages.fetch.Goals as goal
 
 -- a test is not both
@@ -117,8 +120,9 @@ returns-in-Some-find-clause-outcome g c =
 pub returns-in-Some-find-clause-closed : goal.returns-in-Some-find-clause-closed
 returns-in-Some-find-clause-closed g c was = not_failed _ c.if-self.false was
 
-pub invariant_of-self-in-Err-clause-cached : goal.invariant_of-self-in-Err-clause-cached
-invariant_of-self-in-Err-clause-cached g c now =
+-- what is in the cache is what the device holds, also once a page was read
+agrees_still : (g : Over) (c : After-read_page g) → (g.D.Device.state c.read_page.new.device).faithful → AgreesWith c.find-2.new.self (g.D.Device.state c.read_page.new.device).content
+agrees_still g c now =
     let s = c.args.self.now in
     let d = g.D.Device.state s.device in
     let e = g.D.Device.state c.read_page.new.device in
@@ -126,6 +130,9 @@ invariant_of-self-in-Err-clause-cached g c now =
     let reads = reads_alone d e (c.read_page.ensures.alone first) (c.read_page.ensures.any_moment first) in
     let cache = c.find-2.new.self in
     read_agrees d e reads cache (same_agrees s.cache cache d.content (s.cached first) c.find-2.ensures.kept)
+
+pub invariant_of-self-in-Err-clause-cached : goal.invariant_of-self-in-Err-clause-cached
+invariant_of-self-in-Err-clause-cached g c now = agrees_still g (goal.at.invariant_of-self-in-Err-clause-cached g c).After-read_page now
 
 pub returns-in-Ok-clause-closed : goal.returns-in-Ok-clause-closed
 returns-in-Ok-clause-closed g c was = not_failed _ c.if-self.false was
@@ -138,13 +145,11 @@ returns-in-Err-clause-closed g c was = not_failed _ c.if-self.false was
 
 pub invariant_of-self-in-Ok-clause-cached : goal.invariant_of-self-in-Ok-clause-cached
 invariant_of-self-in-Ok-clause-cached g c now =
-    let s = c.args.self.now in
-    let d = g.D.Device.state s.device in
-    let e = g.D.Device.state c.read_page.new.device in
     let first = c.read_page.ensures.history.was_faithful now in
+    let d = g.D.Device.state c.args.self.now.device in
+    let e = g.D.Device.state c.read_page.new.device in
     let reads = reads_alone d e (c.read_page.ensures.alone first) (c.read_page.ensures.any_moment first) in
-    let cache = c.find-2.new.self in
-    put_agrees cache c.put.new.self e.content (read_agrees d e reads cache (same_agrees s.cache cache d.content (s.cached first) c.find-2.ensures.kept))
+    put_agrees c.find-2.new.self c.put.new.self e.content (agrees_still g (goal.at.invariant_of-self-in-Ok-clause-cached g c).After-read_page now)
     c.page-physical.result c.read_page.new.bytes (read_there d e reads c.page-physical.result ∙ page_is d.content c.page-physical.result ∙ sym (c.in-Ok.ensures.page first)) c.put.ensures.here c.put.ensures.others
 
 pub returns-in-Ok-clause-preserved : goal.returns-in-Ok-clause-preserved
