@@ -1,15 +1,16 @@
 //! Strays: records of no kind, and of a table that there is not.
 
-ghost use Rattle.std.specs.Prelude.{◌≡◌, IfOk};
+ghost use Rattle.std.specs.Prelude.{◌≡◌};
 ghost use Rattle.store.specs.Store.{StoreState};
 ghost use Rattle.store.specs.Readers.{HasRead};
 ghost use Rattle.stored_database.specs.Definitions.{ids_of};
 ghost use Rattle.catalogue_loading.specs.Found.{Finds};
 ghost use Rattle.catalogue_loading.specs.Held.{HasNoStray};
 
+use catalogue::numbers::table_ids;
 use catalogue::table::TableDefinition;
-use catalogue_records::{StrayTest, check_records, no_stray_is_left};
-use std::alloc::{AllocError, Global};
+use catalogue_records::{StrayTest, Strays, check_records, no_stray_is_left};
+use std::alloc::Global;
 use store::{Fault, Map};
 
 /// Reads all records, and finds no stray where these are the tables. Memory: an allocation failed.
@@ -25,17 +26,10 @@ pub(crate) fn check_strays<M: Map>(
         → Finds (λ _. HasNoStray (ids_of tables.now) (M.state map.old).map) result }
 {
     no_stray_is_left();
-    let ids = ids_of(alloc, tables)?;
-    check_records(map, &[], &StrayTest::new(&ids))
-}
-
-// The numbers of the tables. The only error is that an allocation failed.
-fn ids_of(alloc: Global, tables: &[TableDefinition]) -> Result<Vec<u32>, AllocError>
-    ensures { IfOk result (λ ids. ids.items ≡ ids_of tables.now) }
-{
-    let mut ids = Vec::new(alloc);
-    for table in tables {
-        ids.push(table.id())?;
-    }
-    Ok(ids)
+    let ids = table_ids(alloc, tables)?;
+    let test = StrayTest {
+        strays: Strays::OfDefinitions,
+        ids: &ids,
+    };
+    check_records(map, &[], &test)
 }

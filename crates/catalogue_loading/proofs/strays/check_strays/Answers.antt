@@ -8,6 +8,6 @@ use Rattle.catalogue_loading.proofs.strays.check_strays.Goals as goal
 pub returns-clause-found : goal.returns-clause-found
 returns-clause-found g c = λ s.
     let records = (g.M.Map.state c.args.map.now).map in
-    let ids : c.new.result.ids.now ≡ ids_of c.args.tables.now = c.new.ensures ∙ c.deref.ensures.value ∙ c.in_ok-ids.ensures in
+    let ids : c.deref.result.now ≡ ids_of c.args.tables.now = c.deref.ensures.value ∙ c.in_ok-ids.ensures in
     subst (λ (ns : List ℕ). Finds (λ (x : Unit {0}). HasNoStray ns records) c.check_records.result) ids
-    (strays_found c.new.result.ids.now records c.check_records.result (c.check_records.ensures.checked s))
+    (strays_found c.deref.result.now records c.check_records.result (c.check_records.ensures.checked s))

@@ -1,6 +1,0 @@
-use Rattle.std.specs.Prelude.{◌≡◌, take}
-use Rattle.stored_database.specs.Definitions.{ids_of}
-use Rattle.catalogue_loading.proofs.strays.ids_of.Given as goal
-
-abbrev pub invariant-loop-table : goal.invariant-loop-table
-invariant-loop-table l = l.ids.items ≡ ids_of (take l.table-index l.tables)
