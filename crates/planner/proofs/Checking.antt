@@ -7,11 +7,12 @@ use Rattle.sql_types.specs.declared.state.SqlState.TheVariants.{UndefinedTable}
 use Rattle.sql_ast.specs.declared.statement.TableReference.{TableReference}
 use Rattle.expressions.specs.Stages.{◌>>=◌, each}
 use Rattle.abstract_database.specs.Lists.{TheName, Among, found_or}
-use Rattle.abstract_database.specs.Database.{Table, is_table_named}
+use Rattle.abstract_database.specs.Database.{Table, Database, is_table_named}
 use Rattle.abstract_database.specs.Checks.{find_definition}
 use Rattle.abstract_database.proofs.CheckLemmas.{find_passes}
 use Rattle.abstract_database.proofs.ListLemmas.{bytes_same}
 use Rattle.stored_database.specs.Definitions.{TableDefinition, Definitions, table_with, tables_with, database_with}
+use Rattle.stored_database.specs.Valid.{Describes}
 use Rattle.catalogue.specs.Lookups.{is_definition_named}
 use Rattle.planner.specs.Tables.{table_in, tables_for, definitions_in}
 
@@ -73,3 +74,7 @@ pub own_table : (d : Definitions) (name : TheName) (t : TableDefinition) → tab
 own_table d name t found =
     let own : t.definition.name ≡ name = bytes_same t.definition.name name (find_passes (is_definition_named name) d.tables t (found_inside (find (is_definition_named name) d.tables) t found)) in
     subst (λ n. table_in d n ≡ Ok t) (sym own) found
+
+-- a table that the definitions do not have is in none of their databases
+pub missing : (d : Definitions) (db : Database) (name : TheName) (code : SqlState) → Describes d db → table_in d name ≡ Err code → find_definition db name ≡ Err code
+missing d db name code h e = ap (λ x. find_definition x name) h.is ∙ definition_found d h.rows name h.each_table ∙ ap (λ a. a >>= λ t. Ok t.definition) e

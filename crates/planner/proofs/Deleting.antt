@@ -19,15 +19,16 @@ use Rattle.abstract_database.specs.Expressions.{own_scope}
 use Rattle.abstract_database.specs.Needs.{has_any, columns_read, needs_of_delete}
 use Rattle.sql_ast.specs.Scope.{Table as ScopeTable}
 use Rattle.abstract_database.specs.Changes.{CheckedDelete}
-use Rattle.abstract_database.specs.Checks.{has_needed, condition_parts, checked_delete}
+use Rattle.abstract_database.specs.Checks.{find_definition, has_needed, condition_parts, checked_delete}
 use Rattle.stored_database.specs.Definitions.{TableDefinition, Definitions, database_with}
 use Rattle.stored_database.specs.Valid.{AreValid, Describes}
 use Rattle.planner.specs.declared.rights.Rights.{Rights}
 use Rattle.planner.specs.Changed.{Terms, where_parts, bound_changes}
 use Rattle.planner.specs.Rights.{AreRightsOf, meets}
 use Rattle.planner.specs.Tables.{table_in}
-use Rattle.planner.specs.Deleted.{allowed_delete, delete_from, planned_delete}
-use Rattle.planner.proofs.Checking.{definition_found, own_table}
+use Rattle.planner.specs.NamedTable.{IsMissing}
+use Rattle.planner.specs.Deleted.{allowed_delete, delete_from, planned_delete, IsDeleteRefusal}
+use Rattle.planner.proofs.Checking.{definition_found, missing, own_table}
 use Rattle.planner.proofs.Needing.{delete_alike}
 use Rattle.planner.proofs.Steps.{same_after, two_wanted}
 
@@ -67,6 +68,10 @@ module _ (d : Definitions) (role : TheName) (r : Rights) (s : Delete) (rights : 
 
   pub deletes : (db : Database) (users : UserNames) → Describes d db → users.current ≡ role → checked_delete db users s ≡ planned_delete d r s
   deletes db users h is = ap (λ x. checked_delete x users s) h.is ∙ delete_same h.rows users h.valid is h.each_table
+
+pub no_table : (d : Definitions) (role : TheName) (s : Delete) (x : Refusal) → IsMissing d s.table x → IsDeleteRefusal d role s x
+no_table d role s x (inl e) = inl e
+no_table d role s x (inr e) = inr (λ db users h is. let none : find_definition db s.table ≡ Err x.0 = missing d db s.table x.0 h e in rw none)
 
 -- ---- the stages over the table that was found
 

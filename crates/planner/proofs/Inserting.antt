@@ -22,8 +22,8 @@ use Rattle.abstract_database.specs.Lists.{TheName, has_double}
 use Rattle.abstract_database.specs.Database.{TableOf, Database}
 use Rattle.abstract_database.specs.Changes.{CheckedInsert}
 use Rattle.abstract_database.specs.Needs.{needs_of_insert}
-use Rattle.abstract_database.specs.Checks.{has_needed, found_column, counts_fit, row_width, target_columns, insert_parts, checked_insert}
-use Rattle.abstract_database.proofs.ResultLemmas.{ok_inside, length_each}
+use Rattle.abstract_database.specs.Checks.{find_definition, has_needed, found_column, counts_fit, row_width, target_columns, insert_parts, checked_insert}
+use Rattle.abstract_database.proofs.ResultLemmas.{ok_inside, bind_ok, require_ok, length_each}
 use Rattle.stored_database.specs.Definitions.{TableDefinition, Definitions, database_with}
 use Rattle.stored_database.specs.Valid.{AreValid, Describes}
 use Rattle.planner.specs.declared.rights.Rights.{Rights}
@@ -33,10 +33,12 @@ use Rattle.planner.specs.Tables.{table_in}
 use Rattle.abstract_database.specs.Statements.{inserts as inserts_rows, checked_over_rows}
 use Rattle.sql_ast.specs.declared.statement.RowStatement.TheVariants as over_rows
 use Rattle.planner.specs.Plans.{IsRefusalOf}
+use Rattle.planner.specs.NamedTable.{IsMissing}
+use Rattle.planner.specs.Columns.{insert_columns}
 use Rattle.planner.specs.Inserted.{AreAsLong, bound_rows, insert_from, allowed_insert, planned_insert, IsInsertRefusal}
-use Rattle.planner.proofs.Checking.{definition_found, own_table}
+use Rattle.planner.proofs.Checking.{definition_found, missing, own_table}
 use Rattle.planner.proofs.Needing.{columns_or_one_alike}
-use Rattle.planner.proofs.Steps.{same_after, one_wanted}
+use Rattle.planner.proofs.Steps.{in_one, same_after, one_wanted}
 
 -- ---- how long the rows are
 
@@ -54,11 +56,17 @@ by_list layout names (row ∷ rows) columns fit e =
     let here = and_parts (counts_fit layout (Some names) row) (list_all (counts_fit layout (Some names)) rows) fit in
     (eqb-true (length row) (length names) here.0 ∙ sym e, by_list layout names rows columns here.1 e)
 
-pub as_long : (layout : Layout) (s : Insert) (columns : List ℕ) → HaveOneLength s.rows → list_all (counts_fit layout s.columns) s.rows ≡ true → target_columns layout s ≡ Ok columns → AreAsLong columns s.rows
+as_long : (layout : Layout) (s : Insert) (columns : List ℕ) → HaveOneLength s.rows → list_all (counts_fit layout s.columns) s.rows ≡ true → target_columns layout s ≡ Ok columns → AreAsLong columns s.rows
 as_long layout s columns one fit e = go s.columns refl where
   go : (list : Option (List TheName)) → s.columns ≡ list → AreAsLong columns s.rows
   go None same = by_first s.rows columns one (ok_inside (range_with_len 0 (row_width s.rows)) columns (rw same at e))
   go (Some names) same = by_list layout names s.rows columns (rw same at fit) (length_each (found_column layout) names columns (rw same at e))
+
+columns_as_long : (layout : Layout) (s : Insert) (columns : List ℕ) → HaveOneLength s.rows → insert_columns layout s ≡ Ok columns → AreAsLong columns s.rows
+columns_as_long layout s columns one e =
+    let once = bind_ok (require (not (has_double (unwrap_or s.columns []))) DuplicateColumn) (λ once. require (list_all (counts_fit layout s.columns) s.rows) SyntaxError >>= λ counted. target_columns layout s) columns e in
+    let fit = bind_ok (require (list_all (counts_fit layout s.columns) s.rows) SyntaxError) (λ counted. target_columns layout s) columns once.2 in
+    as_long layout s columns one (require_ok (list_all (counts_fit layout s.columns) s.rows) SyntaxError fit.0 fit.1) fit.2
 
 -- ---- INSERT
 
@@ -90,9 +98,12 @@ module _ (d : Definitions) (role : TheName) (r : Rights) (s : Insert) (rights : 
     from_table : (a : Result TableDefinition SqlState) → table_in d s.table ≡ a → ((a >>= λ t. Ok t.definition) >>= staged) ≡ (a >>= insert_from r s)
     from_table (Err code) e = refl
     from_table (Ok t) e =
-        ap (λ x. require (not (has_double (unwrap_or s.columns []))) DuplicateColumn >>= λ once. require (list_all (counts_fit t.definition.layout s.columns) s.rows) SyntaxError >>= λ counted. x)
-        (same_after (target_columns t.definition.layout s) (λ columns. with_columns t.definition columns) (λ columns. bound_rows [] t.definition.layout columns s.rows >>= λ terms. allowed_insert r s t columns terms)
-        (from_columns t (own_table d s.table t e)))
+        ap (λ x. require (not (has_double (unwrap_or s.columns []))) DuplicateColumn >>= λ once. x)
+        (in_one (require (list_all (counts_fit t.definition.layout s.columns) s.rows) SyntaxError) (λ counted. target_columns t.definition.layout s) (λ columns. with_columns t.definition columns))
+        ∙ in_one (require (not (has_double (unwrap_or s.columns []))) DuplicateColumn) (λ once. require (list_all (counts_fit t.definition.layout s.columns) s.rows) SyntaxError >>= λ counted. target_columns t.definition.layout s)
+        (λ columns. with_columns t.definition columns)
+        ∙ same_after (insert_columns t.definition.layout s) (λ columns. with_columns t.definition columns) (λ columns. bound_rows [] t.definition.layout columns s.rows >>= λ terms. allowed_insert r s t columns terms)
+        (from_columns t (own_table d s.table t e))
 
     insert_same : length rows ≡ length d.tables → checked_insert (database_with d rows) users s ≡ planned_insert d r s
     insert_same e = ap (λ a. a >>= staged) (definition_found d rows s.table e) ∙ from_table (table_in d s.table) refl
@@ -107,11 +118,15 @@ over_rows_refused d role s x h one = go (h one) where
   go (inl e) = inl e
   go (inr f) = inr (λ db users k is. ap (λ a. a >>= λ c. Ok (inserts_rows c)) (f db users k is))
 
--- what is said of these columns and rows is said of the same
-pub moved : (P : Layout → List ℕ → List (List (Term ColumnName)) → Type 0) (l m : Layout) (cs ds : List ℕ) (rows others : List (List (Term ColumnName))) → l ≡ m → cs ≡ ds → rows ≡ others → P l cs rows → P m ds others
-moved P l m cs ds rows others e f g h = subst (λ x. P x ds others) e (subst (λ x. P l x others) f (subst (λ x. P l cs x) g h))
+pub no_table : (d : Definitions) (role : TheName) (s : Insert) (x : Refusal) → IsMissing d s.table x → IsInsertRefusal d role s x
+no_table d role s x (inl e) = λ one. inl e
+no_table d role s x (inr e) = λ one. inr (λ db users h is. let none : find_definition db s.table ≡ Err x.0 = missing d db s.table x.0 h e in rw none)
 
 -- ---- the stages over the table that was found
+
+-- what is said of these columns and rows is said of the same
+moved : (P : Layout → List ℕ → List (List (Term ColumnName)) → Type 0) (l m : Layout) (cs ds : List ℕ) (rows others : List (List (Term ColumnName))) → l ≡ m → cs ≡ ds → rows ≡ others → P l cs rows → P m ds others
+moved P l m cs ds rows others e f g h = subst (λ x. P x ds others) e (subst (λ x. P l x others) f (subst (λ x. P l cs x) g h))
 
 module _ (r : Rights) (s : Insert) (t : TableDefinition) where
   abbrev the_layout : Layout
@@ -120,42 +135,49 @@ module _ (r : Rights) (s : Insert) (t : TableDefinition) where
   abbrev after_columns : Result (List ℕ) SqlState → Result CheckedInsert SqlState
   after_columns a = a >>= λ columns. bound_rows [] the_layout columns s.rows >>= λ terms. allowed_insert r s t columns terms
 
-  abbrev counted : Bool
-  counted = list_all (counts_fit the_layout s.columns) s.rows
+  -- over this layout, which is the table's
+  module _ (l : Layout) (own : l ≡ the_layout) where
+    pub columns_refused : (x : Refusal) → (x.0 ≡ OutOfMemory) ⊎ (insert_columns l s ≡ Err x.0) → (x.0 ≡ OutOfMemory) ⊎ (insert_from r s t ≡ Err x.0)
+    columns_refused x (inl e) = inl e
+    columns_refused x (inr e) = inr (ap after_columns (ap (λ m. insert_columns m s) (sym own) ∙ e))
 
-  module _ (once : has_double (unwrap_or s.columns []) ≡ false) where
-    named_once : insert_from r s t ≡ (require counted SyntaxError >>= λ fit. after_columns (target_columns the_layout s))
-    named_once = ap (λ b. require (not b) DuplicateColumn >>= λ once. require counted SyntaxError >>= λ fit. after_columns (target_columns the_layout s)) once
+    -- and over these columns and rows, which are those of the list and the statement's
+    module _ (one : HaveOneLength s.rows) (columns : List ℕ) (made : insert_columns l s ≡ Ok columns) (cs : List ℕ) (whole : cs ≡ columns) (rows : List (List (Term ColumnName))) (all : rows ≡ s.rows) where
+      found : insert_columns the_layout s ≡ Ok columns
+      found = ap (λ m. insert_columns m s) (sym own) ∙ made
 
-    pub not_counted : counted ≡ false → insert_from r s t ≡ Err SyntaxError
-    not_counted e = named_once ∙ ap (λ b. require b SyntaxError >>= λ fit. after_columns (target_columns the_layout s)) e
+      abbrev rows_here : Result (List (List (Term ColumnIndex))) SqlState → Type 0
+      rows_here a = AreAsLong cs rows → bound_rows [] l cs rows ≡ a
 
-    module _ (fit : counted ≡ true) where
-      to_columns : insert_from r s t ≡ after_columns (target_columns the_layout s)
-      to_columns = named_once ∙ ap (λ b. require b SyntaxError >>= λ fit. after_columns (target_columns the_layout s)) fit
+      to_rows : (a : Result (List (List (Term ColumnIndex))) SqlState) → rows_here a → insert_from r s t ≡ (a >>= λ terms. allowed_insert r s t columns terms)
+      to_rows a h =
+          let bound = moved (λ m ds others. AreAsLong ds others → bound_rows [] m ds others ≡ a) l the_layout cs columns rows s.rows own whole all h in
+          ap after_columns found ∙ ap (λ x. x >>= λ terms. allowed_insert r s t columns terms) (bound (columns_as_long the_layout s columns one found))
 
-      pub columns_refused : (x : Refusal) → (x.0 ≡ OutOfMemory) ⊎ (target_columns the_layout s ≡ Err x.0) → (x.0 ≡ OutOfMemory) ⊎ (insert_from r s t ≡ Err x.0)
-      columns_refused x (inl e) = inl e
-      columns_refused x (inr e) = inr (to_columns ∙ ap after_columns e)
+      pub rows_refused : (x : Refusal) → (AreAsLong cs rows → (x.0 ≡ OutOfMemory) ⊎ (bound_rows [] l cs rows ≡ Err x.0)) → (x.0 ≡ OutOfMemory) ⊎ (insert_from r s t ≡ Err x.0)
+      rows_refused x h = go (h long) where
+        long : AreAsLong cs rows
+        long = moved (λ m ds others. AreAsLong ds others) the_layout l columns cs s.rows rows (sym own) (sym whole) (sym all) (columns_as_long the_layout s columns one found)
 
-      module _ (columns : List ℕ) (found : target_columns the_layout s ≡ Ok columns) where
-        pub rows_refused : (x : Refusal) → (x.0 ≡ OutOfMemory) ⊎ (bound_rows [] the_layout columns s.rows ≡ Err x.0) → (x.0 ≡ OutOfMemory) ⊎ (insert_from r s t ≡ Err x.0)
-        rows_refused x (inl e) = inl e
-        rows_refused x (inr e) = inr (to_columns ∙ ap after_columns found ∙ ap (λ a. a >>= λ terms. allowed_insert r s t columns terms) e)
+        go : (x.0 ≡ OutOfMemory) ⊎ (bound_rows [] l cs rows ≡ Err x.0) → (x.0 ≡ OutOfMemory) ⊎ (insert_from r s t ≡ Err x.0)
+        go (inl e) = inl e
+        go (inr e) = inr (to_rows (Err x.0) (λ h. e))
 
-        module _ (terms : List (List (Term ColumnIndex))) (bound : bound_rows [] the_layout columns s.rows ≡ Ok terms) where
-          abbrev allowed : Bool → Bool → Result CheckedInsert SqlState
-          allowed so few = require so InsufficientPrivilege >>= λ _. require few ProgramLimitExceeded >>= λ _. Ok (record { table = t.definition; columns = columns; rows = terms })
+      module _ (terms : List (List (Term ColumnIndex))) (bound : AreAsLong cs rows → bound_rows [] l cs rows ≡ Ok terms) (set : List ℕ) (set_whole : set ≡ columns) (may : Bool) (e : may ≡ list_all (meets r t) (needs_of_insert t.definition set)) where
+        abbrev allowed : Bool → Bool → Result CheckedInsert SqlState
+        allowed so few = require so InsufficientPrivilege >>= λ _. require few ProgramLimitExceeded >>= λ _. Ok (record { table = t.definition; columns = columns; rows = terms })
 
-          to_rights : (may : Bool) → may ≡ list_all (meets r t) (needs_of_insert t.definition columns) → insert_from r s t ≡ allowed may (nat_le (length s.rows) 256)
-          to_rights may e =
-              to_columns ∙ ap after_columns found ∙ ap (λ a. a >>= λ terms. allowed_insert r s t columns terms) bound ∙ ap (λ b. allowed b (nat_le (length s.rows) 256)) (sym e)
+        to_rights : (few : Bool) → nat_le (length s.rows) 256 ≡ few → insert_from r s t ≡ allowed may few
+        to_rights few f =
+            to_rows (Ok terms) bound
+            ∙ ap (λ b. allowed b (nat_le (length s.rows) 256)) (sym (e ∙ ap (λ ds. list_all (meets r t) (needs_of_insert t.definition ds)) set_whole))
+            ∙ ap (allowed may) f
 
-          pub not_allowed : (may : Bool) → may ≡ list_all (meets r t) (needs_of_insert t.definition columns) → may ≡ false → insert_from r s t ≡ Err InsufficientPrivilege
-          not_allowed may e nay = to_rights may e ∙ ap (λ b. allowed b (nat_le (length s.rows) 256)) nay
+        pub not_allowed : may ≡ false → insert_from r s t ≡ Err InsufficientPrivilege
+        not_allowed nay = to_rights (nat_le (length s.rows) 256) refl ∙ ap (λ b. allowed b (nat_le (length s.rows) 256)) nay
 
-          pub too_many : (may : Bool) → may ≡ list_all (meets r t) (needs_of_insert t.definition columns) → may ≡ true → 256 < length s.rows → insert_from r s t ≡ Err ProgramLimitExceeded
-          too_many may e so many = to_rights may e ∙ ap (λ b. allowed b (nat_le (length s.rows) 256)) so ∙ ap (allowed true) (lt-leb (length s.rows) 256 many)
+        pub too_many : may ≡ true → 256 < length rows → insert_from r s t ≡ Err ProgramLimitExceeded
+        too_many so many = to_rights false (ap (λ l. nat_le (length l) 256) (sym all) ∙ lt-leb (length rows) 256 many) ∙ ap (λ b. allowed b false) so
 
-          pub passes : (may : Bool) → may ≡ list_all (meets r t) (needs_of_insert t.definition columns) → may ≡ true → length s.rows ≤ 256 → insert_from r s t ≡ Ok (record { table = t.definition; columns = columns; rows = terms })
-          passes may e so few = to_rights may e ∙ ap (λ b. allowed b (nat_le (length s.rows) 256)) so ∙ ap (allowed true) (le-leb (length s.rows) 256 few)
+        pub passes : may ≡ true → length rows ≤ 256 → insert_from r s t ≡ Ok (record { table = t.definition; columns = columns; rows = terms })
+        passes so few = to_rights true (ap (λ l. nat_le (length l) 256) (sym all) ∙ le-leb (length rows) 256 few) ∙ ap (λ b. allowed b true) so

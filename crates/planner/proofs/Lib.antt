@@ -4,6 +4,7 @@ pub mod Typing
 pub mod Finding
 pub mod Checking
 pub mod Named
+pub mod Columns
 pub mod Sourcing
 pub mod MaskBits
 pub mod Meeting

@@ -1,5 +1,5 @@
 -- Steps that may be refused, one after another.
-use Rattle.std.proofs.Common.{◌≡◌, ◌⊎◌, ◌∙◌, inl, inr, Result, Ok, Err, refl, ap}
+use Rattle.std.proofs.Common.{◌≡◌, ◌⊎◌, ◌∙◌, inl, inr, Result, Ok, Err, refl, sym, ap}
 use Rattle.sql_types.specs.declared.state.Refusal.{Refusal}
 use Rattle.sql_types.specs.declared.state.SqlState.{SqlState}
 use Rattle.sql_types.specs.declared.state.SqlState.TheVariants.{OutOfMemory}
@@ -16,6 +16,11 @@ use Rattle.planner.specs.Tables.{table_in}
 pub same_after : {A B : Type 0} (a : Result A SqlState) (f g : A → Result B SqlState) → ((x : A) → f x ≡ g x) → (a >>= f) ≡ (a >>= g)
 same_after (Ok x) f g h = h x
 same_after (Err code) f g h = refl
+
+-- a step behind two others is one behind both
+pub in_one : {A B C : Type 0} (a : Result A SqlState) (f : A → Result B SqlState) (g : B → Result C SqlState) → (a >>= λ x. (f x >>= g)) ≡ ((a >>= f) >>= g)
+in_one (Ok x) f g = refl
+in_one (Err code) f g = refl
 
 -- two steps and a check, of which the one's value is wanted
 pub one_wanted : {A C X : Type 0} (a : Result A SqlState) (c : Result C SqlState) (go : A → Result X SqlState) → (a >>= λ x. c >>= λ z. go x) ≡ ((a >>= λ x. c >>= λ z. Ok x) >>= go)
@@ -37,15 +42,11 @@ two_wanted (Err code) b c go = refl
 -- ---- checks that begin with the table of a name
 
 module _ {C : Type 0} (d : Definitions) (role name : TheName) (checks : Database → UserNames → Result C SqlState) (from : TableDefinition → Result C SqlState)
-    (are : (db : Database) (users : UserNames) → Describes d db → users.current ≡ role → checks db users ≡ (table_in d name >>= from)) where
-  pub refused_at_table : (x : Refusal) → (x.0 ≡ OutOfMemory) ⊎ (table_in d name ≡ Err x.0) → ChecksRefuse d role checks x
-  refused_at_table x (inl e) = inl e
-  refused_at_table x (inr e) = inr (λ db users h is. are db users h is ∙ ap (λ a. a >>= from) e)
+    (are : (db : Database) (users : UserNames) → Describes d db → users.current ≡ role → checks db users ≡ (table_in d name >>= from)) (t : TableDefinition) (found : table_in d name ≡ Ok t) where
+  pub refused_later : (x : Refusal) → (x.0 ≡ OutOfMemory) ⊎ (from t ≡ Err x.0) → ChecksRefuse d role checks x
+  refused_later x (inl e) = inl e
+  refused_later x (inr e) = inr (λ db users h is. are db users h is ∙ ap (λ a. a >>= from) found ∙ e)
 
-  module _ (t : TableDefinition) (found : table_in d name ≡ Ok t) where
-    pub refused_later : (x : Refusal) → (x.0 ≡ OutOfMemory) ⊎ (from t ≡ Err x.0) → ChecksRefuse d role checks x
-    refused_later x (inl e) = inl e
-    refused_later x (inr e) = inr (λ db users h is. are db users h is ∙ ap (λ a. a >>= from) found ∙ e)
-
-    pub given : (c : C) → from t ≡ Ok c → ChecksGive d role checks c
-    given c e db users h is = are db users h is ∙ ap (λ a. a >>= from) found ∙ e
+  -- said of another name of the table
+  pub given : (view : TableDefinition → C) (u : TableDefinition) → u ≡ t → from t ≡ Ok (view t) → ChecksGive d role checks (view u)
+  given view u same e = λ db users h is. are db users h is ∙ ap (λ a. a >>= from) found ∙ e ∙ ap (λ x. Ok (view x)) (sym same)

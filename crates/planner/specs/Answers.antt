@@ -20,7 +20,15 @@ AnswersBy view (Err refusal) meant = (refusal.0 ≡ OutOfMemory) ⊎ (meant ≡ 
 abbrev pub ChecksGive : {C : Type 0} → Definitions → TheName → (Database → UserNames → Result C SqlState) → C → Type 0
 ChecksGive d role checks given = (db : Database) (users : UserNames) → Describes d db → users.current ≡ role → checks db users ≡ Ok given
 
--- memory was refused, or the checks refuse the statement in this way
+-- memory was refused, or the checks refuse in this way
 abbrev pub ChecksRefuse : {C : Type 0} → Definitions → TheName → (Database → UserNames → Result C SqlState) → Refusal → Type 0
 ChecksRefuse d role checks refusal = (refusal.0 ≡ OutOfMemory)
     ⊎ ((db : Database) (users : UserNames) → Describes d db → users.current ≡ role → checks db users ≡ Err refusal.0)
+
+-- the checks of this statement give this
+abbrev pub IsGivenBy : {S C : Type 0} → (Database → UserNames → S → Result C SqlState) → Definitions → TheName → S → C → Type 0
+IsGivenBy checks d role s given = ChecksGive d role (λ db users. checks db users s) given
+
+-- memory was refused, or they refuse it in this way
+abbrev pub IsRefusedBy : {S C : Type 0} → (Database → UserNames → S → Result C SqlState) → Definitions → TheName → S → Refusal → Type 0
+IsRefusedBy checks d role s refusal = ChecksRefuse d role (λ db users. checks db users s) refusal

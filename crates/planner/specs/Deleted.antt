@@ -18,7 +18,7 @@ use Rattle.planner.specs.declared.rights.Rights.{Rights}
 use Rattle.planner.specs.declared.delete.CheckedCondition.{CheckedCondition}
 use Rattle.planner.specs.declared.delete.DeletePlan.{DeletePlan}
 use Rattle.planner.specs.Changed.{where_of, bound_changes}
-use Rattle.planner.specs.Answers.{ChecksGive, ChecksRefuse}
+use Rattle.planner.specs.Answers.{IsGivenBy, IsRefusedBy}
 use Rattle.planner.specs.Rights.{meets}
 use Rattle.planner.specs.Tables.{table_in}
 
@@ -47,10 +47,8 @@ planned_delete d r s = table_in d s.table >>= delete_from r s
 
 -- ---- for each database that has these definitions
 
--- its checks give the plan
 abbrev pub IsDeletePlan : Definitions → TheName → Delete → DeletePlan → Type 0
-IsDeletePlan d current s p = ChecksGive d current (λ db users. checked_delete db users s) (checked_of p)
+IsDeletePlan d current s p = IsGivenBy checked_delete d current s (checked_of p)
 
--- memory was refused, or its checks refuse the statement in this way
 abbrev pub IsDeleteRefusal : Definitions → TheName → Delete → Refusal → Type 0
-IsDeleteRefusal d current s refusal = ChecksRefuse d current (λ db users. checked_delete db users s) refusal
+IsDeleteRefusal d current s refusal = IsRefusedBy checked_delete d current s refusal

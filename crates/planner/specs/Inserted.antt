@@ -1,9 +1,9 @@
 -- What INSERT is checked for, in the definitions of a database.
-use Rattle.std.specs.Prelude.{◌≡◌, ℕ, nat_le, not, List, [], ◌∷◌, take, drop, length, map, flat_map, unwrap_or, Result, Ok}
+use Rattle.std.specs.Prelude.{◌≡◌, ℕ, nat_le, List, [], ◌∷◌, take, drop, length, map, flat_map, Result, Ok}
 use Rattle.std.specs.List.{list_all}
 use Rattle.sql_types.specs.declared.state.Refusal.{Refusal}
 use Rattle.sql_types.specs.declared.state.SqlState.{SqlState}
-use Rattle.sql_types.specs.declared.state.SqlState.TheVariants.{DuplicateColumn, SyntaxError, InsufficientPrivilege, ProgramLimitExceeded}
+use Rattle.sql_types.specs.declared.state.SqlState.TheVariants.{InsufficientPrivilege, ProgramLimitExceeded}
 use Rattle.sql_ast.specs.declared.expression.ColumnName.{ColumnName}
 use Rattle.sql_ast.specs.declared.scope.ColumnIndex.{ColumnIndex}
 use Rattle.sql_ast.specs.declared.statement.Insert.{Insert}
@@ -15,15 +15,16 @@ use Rattle.expressions.specs.Names.{resolved}
 use Rattle.expressions.specs.Parts.{check_expressions}
 use Rattle.expressions.specs.Stages.{◌>>=◌, each, require}
 use Rattle.expressions.specs.Types.{TypedTerm}
-use Rattle.abstract_database.specs.Lists.{TheName, has_double}
+use Rattle.abstract_database.specs.Lists.{TheName}
 use Rattle.abstract_database.specs.Changes.{CheckedInsert}
-use Rattle.abstract_database.specs.Checks.{counts_fit, target_columns, value_parts, checked_insert}
+use Rattle.abstract_database.specs.Checks.{value_parts, checked_insert}
 use Rattle.abstract_database.specs.Needs.{needs_of_insert}
 use Rattle.stored_database.specs.Definitions.{TableDefinition, Definitions}
 use Rattle.planner.specs.declared.rights.Rights.{Rights}
 use Rattle.planner.specs.declared.insert.CheckedRows.{CheckedRows}
 use Rattle.planner.specs.declared.insert.InsertPlan.{InsertPlan}
-use Rattle.planner.specs.Answers.{ChecksGive, ChecksRefuse}
+use Rattle.planner.specs.Columns.{insert_columns}
+use Rattle.planner.specs.Answers.{IsGivenBy, IsRefusedBy}
 use Rattle.planner.specs.Rights.{meets}
 use Rattle.planner.specs.Tables.{table_in}
 
@@ -70,9 +71,7 @@ allowed_insert r s t columns rows = do
 -- the column list and the values of all rows, and then the privileges
 abbrev pub insert_from : Rights → Insert → TableDefinition → Result CheckedInsert SqlState
 insert_from r s t = do
-  once ← require (not (has_double (unwrap_or s.columns []))) DuplicateColumn
-  counted_right ← require (list_all (counts_fit t.definition.layout s.columns) s.rows) SyntaxError
-  columns ← target_columns t.definition.layout s
+  columns ← insert_columns t.definition.layout s
   rows ← bound_rows [] t.definition.layout columns s.rows
   allowed_insert r s t columns rows
 
@@ -81,10 +80,8 @@ planned_insert d r s = table_in d s.table >>= insert_from r s
 
 -- ---- for each database that has these definitions, where the rows of the statement have one length, as those of a text have
 
--- its checks give the plan
 abbrev pub IsInsertPlan : Definitions → TheName → Insert → InsertPlan → Type 0
-IsInsertPlan d current s p = HaveOneLength s.rows → ChecksGive d current (λ db users. checked_insert db users s) (checked_of p)
+IsInsertPlan d current s p = HaveOneLength s.rows → IsGivenBy checked_insert d current s (checked_of p)
 
--- memory was refused, or its checks refuse the statement in this way
 abbrev pub IsInsertRefusal : Definitions → TheName → Insert → Refusal → Type 0
-IsInsertRefusal d current s refusal = HaveOneLength s.rows → ChecksRefuse d current (λ db users. checked_insert db users s) refusal
+IsInsertRefusal d current s refusal = HaveOneLength s.rows → IsRefusedBy checked_insert d current s refusal

@@ -5,6 +5,8 @@ pub mod Rights
 pub mod Reading
 pub mod Tables
 pub mod Sources
+pub mod NamedTable
+pub mod Columns
 pub mod Selected
 pub mod Changed
 pub mod Deleted

@@ -1,7 +1,8 @@
 -- Plans of all statements over rows: what holds of each, and what the definitions of a database say in their place.
-use Rattle.std.specs.Prelude.{true, false}
+use Rattle.std.specs.Prelude.{Bool, true, false, List}
 use Rattle.std.specs.List.{All}
 use Rattle.sql_types.specs.declared.state.Refusal.{Refusal}
+use Rattle.sql_ast.specs.declared.privilege.Action.{Action}
 use Rattle.sql_ast.specs.declared.privilege.Action.TheVariants as action
 use Rattle.sql_ast.specs.declared.statement.Select.{Select}
 use Rattle.sql_ast.specs.declared.statement.Insert.{Insert}
@@ -15,12 +16,13 @@ use Rattle.abstract_database.specs.Queries.{tables_in}
 use Rattle.abstract_database.specs.Statements.{Checked, selects, inserts, updates, deletes, checked_over_rows}
 use Rattle.stored_database.specs.Definitions.{Definitions}
 use Rattle.planner.specs.declared.select.SelectPlan.{SelectPlan}
+use Rattle.planner.specs.declared.sources.Source.{Source}
 use Rattle.planner.specs.declared.insert.InsertPlan.{InsertPlan}
 use Rattle.planner.specs.declared.update.UpdatePlan.{UpdatePlan}
 use Rattle.planner.specs.declared.delete.DeletePlan.{DeletePlan}
 use Rattle.planner.specs.declared.plans.Plan.{Plan}
 use Rattle.planner.specs.declared.plans.Plan.TheVariants as plan
-use Rattle.planner.specs.Answers.{ChecksGive, ChecksRefuse}
+use Rattle.planner.specs.Answers.{IsGivenBy, IsRefusedBy}
 use Rattle.planner.specs.Bound.{HasWidths, HasTypes}
 use Rattle.planner.specs.Rights.{AreItsRoles}
 use Rattle.planner.specs.Sources.{IsGuardedFrom}
@@ -42,24 +44,22 @@ pub record IsCheckedSelect (d : Definitions) (current : TheName) (s : Select) (p
   pub guards : All (IsGuardedFrom d current action.Select true) p.sources
   pub roles : AreItsRoles d current p.roles
 
--- it is what the checks give, over the table of the statement, which has its guard; and the roles are the current role's
-pub record IsCheckedInsert (d : Definitions) (current : TheName) (s : Insert) (p : InsertPlan) : Type 0 where
-  pub plan : IsInsertPlan d current s p
-  pub table : IsTableNamed d s.table p.target.table.now
-  pub guard : IsGuardedFrom d current action.Insert false p.target
-  pub roles : AreItsRoles d current p.roles
+-- one over one table is given so; its table is the one of this name, with its guard from the action, and the roles are those
+-- that the current role is in
+pub record IsChecked (given : Type 0) (d : Definitions) (current name : TheName) (a : Action) (reads : Bool) (target : Source) (names : List TheName) : Type 0 where
+  pub plan : given
+  pub table : IsTableNamed d name target.table.now
+  pub guard : IsGuardedFrom d current a reads target
+  pub roles : AreItsRoles d current names
 
-pub record IsCheckedUpdate (d : Definitions) (current : TheName) (s : Update) (p : UpdatePlan) : Type 0 where
-  pub plan : IsUpdatePlan d current s p
-  pub table : IsTableNamed d s.table p.target.table.now
-  pub guard : IsGuardedFrom d current action.Update p.reads p.target
-  pub roles : AreItsRoles d current p.roles
+abbrev pub IsCheckedInsert : Definitions → TheName → Insert → InsertPlan → Type 0
+IsCheckedInsert d current s p = IsChecked (IsInsertPlan d current s p) d current s.table action.Insert false p.target p.roles
 
-pub record IsCheckedDelete (d : Definitions) (current : TheName) (s : Delete) (p : DeletePlan) : Type 0 where
-  pub plan : IsDeletePlan d current s p
-  pub table : IsTableNamed d s.table p.target.table.now
-  pub guard : IsGuardedFrom d current action.Delete p.reads p.target
-  pub roles : AreItsRoles d current p.roles
+abbrev pub IsCheckedUpdate : Definitions → TheName → Update → UpdatePlan → Type 0
+IsCheckedUpdate d current s p = IsChecked (IsUpdatePlan d current s p) d current s.table action.Update p.reads p.target p.roles
+
+abbrev pub IsCheckedDelete : Definitions → TheName → Delete → DeletePlan → Type 0
+IsCheckedDelete d current s p = IsChecked (IsDeletePlan d current s p) d current s.table action.Delete p.reads p.target p.roles
 
 -- the plan is one of this statement
 abbrev pub IsPlanOf : Definitions → TheName → RowStatement → Plan → Type 0
@@ -86,8 +86,8 @@ checked_of (plan.Delete p) = deletes (checked_delete_of p)
 
 -- the checks of the statement give the plan
 abbrev pub Means : Definitions → TheName → RowStatement → Plan → Type 0
-Means d current s p = HasRowsOfOneLength s → ChecksGive d current (λ db users. checked_over_rows db users s) (checked_of p)
+Means d current s p = HasRowsOfOneLength s → IsGivenBy checked_over_rows d current s (checked_of p)
 
 -- memory was refused, or its checks refuse the statement in this way
 abbrev pub IsRefusalOf : Definitions → TheName → RowStatement → Refusal → Type 0
-IsRefusalOf d current s refusal = HasRowsOfOneLength s → ChecksRefuse d current (λ db users. checked_over_rows db users s) refusal
+IsRefusalOf d current s refusal = HasRowsOfOneLength s → IsRefusedBy checked_over_rows d current s refusal

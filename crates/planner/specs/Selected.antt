@@ -18,7 +18,7 @@ use Rattle.gathering.specs.Queries.{bound_of}
 use Rattle.planner.specs.declared.rights.Rights.{Rights}
 use Rattle.planner.specs.declared.select.CheckedQuery.{CheckedQuery}
 use Rattle.planner.specs.declared.select.SelectPlan.{SelectPlan}
-use Rattle.planner.specs.Answers.{ChecksGive, ChecksRefuse}
+use Rattle.planner.specs.Answers.{IsGivenBy, IsRefusedBy}
 use Rattle.planner.specs.Rights.{meets}
 use Rattle.planner.specs.Tables.{tables_for, definitions_in}
 
@@ -74,10 +74,8 @@ planned_select d r s = do
 
 -- ---- for each database that has these definitions
 
--- its checks give the plan
 abbrev pub IsSelectPlan : Definitions → TheName → Select → SelectPlan → Type 0
-IsSelectPlan d current s p = ChecksGive d current (λ db users. checked_select db users s) (checked_of p)
+IsSelectPlan d current s p = IsGivenBy checked_select d current s (checked_of p)
 
--- memory was refused, or its checks refuse the statement in this way
 abbrev pub IsSelectRefusal : Definitions → TheName → Select → Refusal → Type 0
-IsSelectRefusal d current s refusal = ChecksRefuse d current (λ db users. checked_select db users s) refusal
+IsSelectRefusal d current s refusal = IsRefusedBy checked_select d current s refusal

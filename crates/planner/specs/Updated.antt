@@ -1,22 +1,23 @@
 -- What UPDATE is checked for, in the definitions of a database.
-use Rattle.std.specs.Prelude.{◌++◌, ℕ, not, List, option_to_list, Result, Ok}
+use Rattle.std.specs.Prelude.{◌++◌, ℕ, List, option_to_list, Result, Ok}
 use Rattle.std.specs.List.{list_all}
 use Rattle.sql_types.specs.declared.state.Refusal.{Refusal}
 use Rattle.sql_types.specs.declared.state.SqlState.{SqlState}
-use Rattle.sql_types.specs.declared.state.SqlState.TheVariants.{DuplicateColumn, InsufficientPrivilege}
+use Rattle.sql_types.specs.declared.state.SqlState.TheVariants.{InsufficientPrivilege}
 use Rattle.sql_ast.specs.declared.statement.Update.{Update}
-use Rattle.expressions.specs.Stages.{◌>>=◌, each, require}
-use Rattle.abstract_database.specs.Lists.{TheName, has_double}
+use Rattle.expressions.specs.Stages.{◌>>=◌, require}
+use Rattle.abstract_database.specs.Lists.{TheName}
 use Rattle.abstract_database.specs.Expressions.{own_scope}
 use Rattle.abstract_database.specs.Needs.{has_any, columns_read, needs_of_update}
 use Rattle.abstract_database.specs.Changes.{CheckedUpdate}
-use Rattle.abstract_database.specs.Checks.{found_column, set_names, new_values, checked_update}
+use Rattle.abstract_database.specs.Checks.{set_names, new_values, checked_update}
 use Rattle.stored_database.specs.Definitions.{TableDefinition, Definitions}
 use Rattle.planner.specs.declared.rights.Rights.{Rights}
 use Rattle.planner.specs.declared.update.CheckedChanges.{CheckedChanges}
 use Rattle.planner.specs.declared.update.UpdatePlan.{UpdatePlan}
+use Rattle.planner.specs.Columns.{set_columns}
 use Rattle.planner.specs.Changed.{Terms, values_of, where_of, bound_changes}
-use Rattle.planner.specs.Answers.{ChecksGive, ChecksRefuse}
+use Rattle.planner.specs.Answers.{IsGivenBy, IsRefusedBy}
 use Rattle.planner.specs.Rights.{meets}
 use Rattle.planner.specs.Tables.{table_in}
 
@@ -55,8 +56,7 @@ allowed_update r t columns bound = do
 -- the columns that are set, the names and types of the values and of WHERE, and then the privileges
 abbrev pub update_from : Rights → Update → TableDefinition → Result CheckedUpdate SqlState
 update_from r s t = do
-  once ← require (not (has_double (set_names s))) DuplicateColumn
-  columns ← each (found_column t.definition.layout) (set_names s)
+  columns ← set_columns t.definition.layout (set_names s)
   bound ← bound_changes (own_scope t.definition) t.definition.layout columns (new_values s) s.condition
   allowed_update r t columns bound
 
@@ -65,10 +65,8 @@ planned_update d r s = table_in d s.table >>= update_from r s
 
 -- ---- for each database that has these definitions
 
--- its checks give the plan
 abbrev pub IsUpdatePlan : Definitions → TheName → Update → UpdatePlan → Type 0
-IsUpdatePlan d current s p = ChecksGive d current (λ db users. checked_update db users s) (checked_of p)
+IsUpdatePlan d current s p = IsGivenBy checked_update d current s (checked_of p)
 
--- memory was refused, or its checks refuse the statement in this way
 abbrev pub IsUpdateRefusal : Definitions → TheName → Update → Refusal → Type 0
-IsUpdateRefusal d current s refusal = ChecksRefuse d current (λ db users. checked_update db users s) refusal
+IsUpdateRefusal d current s refusal = IsRefusedBy checked_update d current s refusal

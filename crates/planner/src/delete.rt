@@ -6,10 +6,10 @@ ghost use Rattle.planner.specs.Plans.{IsCheckedDelete};
 ghost use Rattle.planner.specs.Deleted.{checked_in, delete_from, IsDeleteRefusal};
 
 use crate::changes::bind_changes;
+use crate::named_table::NamedTable;
 use crate::reading::changes_read;
 use crate::rights::Rights;
-use crate::sources::{Source, guard};
-use crate::tables::find_table;
+use crate::sources::Source;
 use catalogue::definitions::Catalogue;
 use catalogue::table::TableDefinition;
 use expressions::types::Typed;
@@ -55,24 +55,15 @@ pub fn plan_delete<'c>(
     ensures plan { IfOk result (IsCheckedDelete catalogue.now current.now statement.now) }
     ensures refusal { IfErr result (IsDeleteRefusal catalogue.now current.now statement.now) }
 {
-    let rights = Rights::of(alloc, catalogue, current)?;
-    let table = find_table(catalogue, &statement.table)?;
-    let checked = check_delete(alloc, &rights, table, statement)?;
+    let named = NamedTable::find(alloc, catalogue, current, &statement.table)?;
+    let checked = check_delete(alloc, &named.rights, named.table, statement)?;
     let reads = checked.reads;
-    let target = guard(
-        alloc,
-        catalogue,
-        &rights,
-        current,
-        table,
-        Action::Delete,
-        reads,
-    )?;
+    let guarded = named.guarded(alloc, catalogue, current, Action::Delete, reads)?;
     Ok(DeletePlan {
-        target,
+        target: guarded.source,
         condition: checked.condition,
         reads,
-        roles: rights.into_roles(),
+        roles: guarded.roles,
     })
 }
 

@@ -1,18 +1,17 @@
 //! INSERT, checked (SQL:2016 Foundation, 14.11; PostgreSQL manual, INSERT).
 
-ghost use Rattle.std.specs.Prelude.{IfOk, IfErr, false};
+ghost use Rattle.std.specs.Prelude.{IfOk, IfErr};
 ghost use Rattle.sql_ast.specs.Read.{HaveOneLength};
 ghost use Rattle.planner.specs.Answers.{AnswersBy};
 ghost use Rattle.planner.specs.Plans.{IsCheckedInsert};
 ghost use Rattle.planner.specs.Inserted.{checked_in, insert_from, IsInsertRefusal};
 
+use crate::named_table::NamedTable;
 use crate::rights::Rights;
-use crate::sources::{Source, guard};
-use crate::tables::find_table;
-use crate::targets::{list_names, target_columns};
-use crate::values::{bind_rows, counts_fit};
+use crate::sources::Source;
+use crate::targets::insert_columns;
+use crate::values::bind_rows;
 use catalogue::definitions::Catalogue;
-use catalogue::names::has_double;
 use catalogue::table::TableDefinition;
 use expressions::types::Typed;
 use role_membership::RoleSet;
@@ -63,23 +62,14 @@ pub fn plan_insert<'c>(
     ensures plan { IfOk result (IsCheckedInsert catalogue.now current.now statement.now) }
     ensures refusal { IfErr result (IsInsertRefusal catalogue.now current.now statement.now) }
 {
-    let rights = Rights::of(alloc, catalogue, current)?;
-    let table = find_table(catalogue, &statement.table)?;
-    let checked = check_insert(alloc, &rights, table, statement)?;
-    let target = guard(
-        alloc,
-        catalogue,
-        &rights,
-        current,
-        table,
-        Action::Insert,
-        false,
-    )?;
+    let named = NamedTable::find(alloc, catalogue, current, &statement.table)?;
+    let checked = check_insert(alloc, &named.rights, named.table, statement)?;
+    let guarded = named.guarded(alloc, catalogue, current, Action::Insert, false)?;
     Ok(InsertPlan {
-        target,
+        target: guarded.source,
         columns: checked.columns,
         rows: checked.rows,
-        roles: rights.into_roles(),
+        roles: guarded.roles,
     })
 }
 
@@ -95,14 +85,7 @@ fn check_insert(
 {
     let layout = table.columns();
     let rows = statement.rows.as_slice();
-    let names = list_names(alloc, &statement.columns)?;
-    if has_double(alloc, names.as_slice())? {
-        return Err(Refusal(SqlState::DuplicateColumn));
-    }
-    if !counts_fit(layout, &statement.columns, rows) {
-        return Err(Refusal(SqlState::SyntaxError));
-    }
-    let columns = target_columns(alloc, layout, statement, names.as_slice())?;
+    let columns = insert_columns(alloc, layout, statement)?;
     let values = bind_rows(alloc, layout, columns.as_slice(), rows)?;
     if !rights.may_each(Action::Insert, table, columns.as_slice()) {
         return Err(Refusal(SqlState::InsufficientPrivilege));

@@ -8,6 +8,7 @@ mod delete;
 mod insert;
 pub mod laws;
 mod masks;
+mod named_table;
 mod parts;
 mod plans;
 mod reading;

@@ -105,8 +105,16 @@ pub(crate) fn check_aliases(alloc: Global, references: &[&TableReference]) -> Re
         DuplicateAlias) }
 {
     let names = names_in_scope(alloc, references)?;
-    if has_double(alloc, names.as_slice())? {
-        return Err(Refusal(SqlState::DuplicateAlias));
+    check_names(alloc, names.as_slice(), SqlState::DuplicateAlias)
+}
+
+/// Refuses in this way where two of these names are the same.
+pub(crate) fn check_names(alloc: Global, names: &[&Name], refusal: SqlState) -> Result<(), Refusal>
+    ensures { AnswersUnlessMemory result
+        (require (not (has_double (map (λ n. n.now) names.now))) refusal) }
+{
+    if has_double(alloc, names)? {
+        return Err(Refusal(refusal));
     }
     Ok(())
 }

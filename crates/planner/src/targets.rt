@@ -1,11 +1,13 @@
 //! The columns that INSERT and UPDATE give values to (SQL:2016 Foundation, 14.11 and 14.14).
 
 ghost use Rattle.std.specs.Prelude.{◌≡◌, [], map, unwrap_or, IfOk};
-ghost use Rattle.std.specs.List.{range_with_len};
+ghost use Rattle.std.specs.List.{list_all, range_with_len};
 ghost use Rattle.expressions.specs.Names.{AnswersUnlessMemory};
 ghost use Rattle.expressions.specs.Stages.{each};
-ghost use Rattle.abstract_database.specs.Checks.{found_column, row_width, target_columns};
+ghost use Rattle.abstract_database.specs.Checks.{counts_fit, found_column, row_width, target_columns};
+ghost use Rattle.planner.specs.Columns.{insert_columns, set_columns};
 
+use crate::tables::check_names;
 use sql_ast::columns::Columns;
 use sql_ast::expr::Expr;
 use sql_ast::statement::{Assignment, Insert};
@@ -14,11 +16,45 @@ use sql_types::name::Name;
 use sql_types::state::{Refusal, SqlState};
 use std::alloc::{AllocError, Global};
 
-/// The names of a column list: none where there is no list.
-pub(crate) fn list_names(
+/// The columns of an INSERT: those of its column list, or without a list as many from the left as a
+/// row has values.
+///
+/// `DuplicateColumn` comes where the list names a column twice, and else `SyntaxError` where a row
+/// does not have a value for each column, and else `UndefinedColumn` where no column has a name.
+pub(crate) fn insert_columns(
     alloc: Global,
-    list: &Option<Items<Name>>,
-) -> Result<Vec<&Name>, AllocError>
+    columns: &Columns,
+    statement: &Insert,
+) -> Result<Items<usize>, Refusal>
+    ensures { AnswersUnlessMemory result (insert_columns columns.now statement.now) }
+{
+    let names = list_names(alloc, &statement.columns)?;
+    check_names(alloc, names.as_slice(), SqlState::DuplicateColumn)?;
+    if !counts_fit(columns, &statement.columns, statement.rows.as_slice()) {
+        return Err(Refusal(SqlState::SyntaxError));
+    }
+    target_columns(alloc, columns, statement, names.as_slice())
+}
+
+/// The columns that an UPDATE sets.
+///
+/// `DuplicateColumn` comes where one is set twice, and else `UndefinedColumn` where no column has
+/// one of the names.
+pub(crate) fn set_columns(
+    alloc: Global,
+    columns: &Columns,
+    assignments: &[Assignment],
+) -> Result<Items<usize>, Refusal>
+    ensures { AnswersUnlessMemory result
+        (set_columns columns.now (map (λ a. a.column) assignments.now)) }
+{
+    let names = set_names(alloc, assignments)?;
+    check_names(alloc, names.as_slice(), SqlState::DuplicateColumn)?;
+    find_columns(alloc, columns, names.as_slice())
+}
+
+/// The names of a column list: none where there is no list.
+fn list_names(alloc: Global, list: &Option<Items<Name>>) -> Result<Vec<&Name>, AllocError>
     ensures { IfOk result (λ names. map (λ n. n.now) names.items ≡ unwrap_or list.now []) }
 {
     match list {
@@ -27,8 +63,18 @@ pub(crate) fn list_names(
     }
 }
 
+/// Whether there is a value for each column of the list, or without a list no more than columns.
+fn counts_fit(columns: &Columns, list: &Option<Items<Name>>, rows: &[Items<Expr>]) -> bool
+    ensures { result ≡ list_all (counts_fit columns.now list.now) rows.now }
+{
+    match list {
+        None => rows.iter().all(|row| row.len() <= columns.len()),
+        Some(names) => rows.iter().all(|row| row.len() == names.len()),
+    }
+}
+
 /// The names of the columns that are set.
-pub(crate) fn set_names(alloc: Global, assignments: &[Assignment]) -> Result<Vec<&Name>, AllocError>
+fn set_names(alloc: Global, assignments: &[Assignment]) -> Result<Vec<&Name>, AllocError>
     ensures { IfOk result (λ names.
         map (λ n. n.now) names.items ≡ map (λ a. a.column) assignments.now) }
 {
@@ -40,7 +86,7 @@ pub(crate) fn set_names(alloc: Global, assignments: &[Assignment]) -> Result<Vec
 
 /// The columns of an INSERT: those of its column list, whose names are given, or without a list as
 /// many from the left as a row has values. `UndefinedColumn` comes where no column has a name.
-pub(crate) fn target_columns(
+fn target_columns(
     alloc: Global,
     columns: &Columns,
     statement: &Insert,
@@ -56,11 +102,7 @@ pub(crate) fn target_columns(
 }
 
 /// The columns of these names. `UndefinedColumn` comes where no column has one of them.
-pub(crate) fn find_columns(
-    alloc: Global,
-    columns: &Columns,
-    names: &[&Name],
-) -> Result<Items<usize>, Refusal>
+fn find_columns(alloc: Global, columns: &Columns, names: &[&Name]) -> Result<Items<usize>, Refusal>
     ensures { AnswersUnlessMemory result
         (each (found_column columns.now) (map (λ n. n.now) names.now)) }
 {

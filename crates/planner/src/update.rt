@@ -6,13 +6,12 @@ ghost use Rattle.planner.specs.Plans.{IsCheckedUpdate};
 ghost use Rattle.planner.specs.Updated.{checked_in, update_from, IsUpdateRefusal};
 
 use crate::changes::bind_changes;
+use crate::named_table::NamedTable;
 use crate::reading::changes_read;
 use crate::rights::Rights;
-use crate::sources::{Source, guard};
-use crate::tables::find_table;
-use crate::targets::{find_columns, set_names};
+use crate::sources::Source;
+use crate::targets::set_columns;
 use catalogue::definitions::Catalogue;
-use catalogue::names::has_double;
 use catalogue::table::TableDefinition;
 use expressions::types::Typed;
 use role_membership::RoleSet;
@@ -65,26 +64,17 @@ pub fn plan_update<'c>(
     ensures plan { IfOk result (IsCheckedUpdate catalogue.now current.now statement.now) }
     ensures refusal { IfErr result (IsUpdateRefusal catalogue.now current.now statement.now) }
 {
-    let rights = Rights::of(alloc, catalogue, current)?;
-    let table = find_table(catalogue, &statement.table)?;
-    let checked = check_update(alloc, &rights, table, statement)?;
+    let named = NamedTable::find(alloc, catalogue, current, &statement.table)?;
+    let checked = check_update(alloc, &named.rights, named.table, statement)?;
     let reads = checked.reads;
-    let target = guard(
-        alloc,
-        catalogue,
-        &rights,
-        current,
-        table,
-        Action::Update,
-        reads,
-    )?;
+    let guarded = named.guarded(alloc, catalogue, current, Action::Update, reads)?;
     Ok(UpdatePlan {
-        target,
+        target: guarded.source,
         columns: checked.columns,
         values: checked.values,
         condition: checked.condition,
         reads,
-        roles: rights.into_roles(),
+        roles: guarded.roles,
     })
 }
 
@@ -99,11 +89,7 @@ fn check_update(
         result (update_from rights.now statement.now table.now) }
 {
     let assignments = statement.assignments.as_slice();
-    let names = set_names(alloc, assignments)?;
-    if has_double(alloc, names.as_slice())? {
-        return Err(Refusal(SqlState::DuplicateColumn));
-    }
-    let columns = find_columns(alloc, table.columns(), names.as_slice())?;
+    let columns = set_columns(alloc, table.columns(), assignments)?;
     let set = columns.as_slice();
     let bound = bind_changes(alloc, table, set, assignments, &statement.condition)?;
     let values = bound.values.as_slice();

@@ -1,11 +1,10 @@
 //! The values of INSERT (SQL:2016 Foundation, 14.11).
 
 ghost use Rattle.std.specs.Prelude.{◌≡◌, [], ◌++◌, take, drop, map, flat_map, OnOk, IfOk};
-ghost use Rattle.std.specs.List.{list_all};
 ghost use Rattle.std.specs.Vec.Iter.{into_iter_items};
 ghost use Rattle.sql_ast.specs.Scope.{tables_of};
 ghost use Rattle.expressions.specs.Parts.{part_of};
-ghost use Rattle.abstract_database.specs.Checks.{counts_fit, value_parts};
+ghost use Rattle.abstract_database.specs.Checks.{value_parts};
 ghost use Rattle.planner.specs.Answers.{AnswersBy};
 ghost use Rattle.planner.specs.Inserted.{rows_of, AreAsLong, cut_as, bound_rows};
 
@@ -16,24 +15,9 @@ use sql_ast::columns::Columns;
 use sql_ast::expr::Expr;
 use sql_ast::scope::Scope;
 use sql_types::items::Items;
-use sql_types::name::Name;
 use sql_types::state::Refusal;
 use std::alloc::{AllocError, Global};
 use std::vec::IntoIter;
-
-/// Whether there is a value for each column of the list, or without a list no more than columns.
-pub(crate) fn counts_fit(
-    columns: &Columns,
-    list: &Option<Items<Name>>,
-    rows: &[Items<Expr>],
-) -> bool
-    ensures { result ≡ list_all (counts_fit columns.now list.now) rows.now }
-{
-    match list {
-        None => rows.iter().all(|row| row.len() <= columns.len()),
-        Some(names) => rows.iter().all(|row| row.len() == names.len()),
-    }
-}
 
 /// The values that are given to these columns, row by row: no value may name a column.
 ///
