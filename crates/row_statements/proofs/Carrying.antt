@@ -1,10 +1,8 @@
 -- Statements that change rows, from their plans to the database afterwards.
-use Rattle.std.proofs.Common.{◌≡◌, ◌⊎◌, ℕ, List, map, Option, Some, None, Result, Ok, Err, Bor, refl, ap, sym, subst, inl, inr}
+use Rattle.std.proofs.Common.{◌≡◌, ℕ, List, map, Option, Some, None, Result, Ok, Err, Bor, ap, sym, subst}
 use Rattle.std.specs.Option.{option_copied}
 use Rattle.sql_types.specs.Row.{Row}
 use Rattle.sql_types.specs.declared.state.SqlState.{SqlState}
-use Rattle.sql_types.specs.declared.state.SqlState.TheVariants.{OutOfMemory}
-use Rattle.sql_types.specs.declared.state.Refusal.{Refusal}
 use Rattle.sql_types.specs.declared.answer.Answer.TheVariants as answer
 use Rattle.sql_types.specs.declared.tag.Tag.{Tag}
 use Rattle.sql_types.specs.declared.tag.Tag.TheVariants as tag
@@ -20,11 +18,9 @@ use Rattle.abstract_database.specs.Lists.{TheName}
 use Rattle.abstract_database.specs.Database.{Database}
 use Rattle.abstract_database.specs.Whole.{Each, AreRolesOf}
 use Rattle.abstract_database.specs.Changes.{Changed, CheckedInsert, CheckedUpdate, CheckedDelete, inserted_row, assigned, rows_updated, rows_deleted}
-use Rattle.abstract_database.specs.Checks.{checked_insert, checked_update, checked_delete}
-use Rattle.abstract_database.specs.Statements.{Effect, insert, update, delete, inserted, updated, deleted}
+use Rattle.abstract_database.specs.Statements.{Effect, insert, update, delete}
 use Rattle.stored_database.specs.Definitions.{TableDefinition, Definitions}
 use Rattle.stored_database.specs.Records.{Shows}
-use Rattle.stored_database.specs.Valid.{Describes}
 use Rattle.stored_database.proofs.Wholeness.{shown_described}
 use Rattle.planner.specs.declared.insert.InsertPlan.{InsertPlan}
 use Rattle.planner.specs.declared.update.UpdatePlan.{UpdatePlan}
@@ -32,9 +28,9 @@ use Rattle.planner.specs.declared.delete.DeletePlan.{DeletePlan}
 use Rattle.planner.specs.Fitting.{GivesFittingRow, row_inserted, row_updated}
 use Rattle.planner.specs.Tables.{IsTableNamed}
 use Rattle.planner.specs.Plans.{IsCheckedInsert, IsCheckedUpdate, IsCheckedDelete}
-use Rattle.planner.specs.Inserted.{IsInsertRefusal, checked_of as checked_insert_of}
-use Rattle.planner.specs.Updated.{IsUpdateRefusal, checked_of as checked_update_of}
-use Rattle.planner.specs.Deleted.{IsDeleteRefusal, checked_of as checked_delete_of}
+use Rattle.planner.specs.Inserted.{checked_of as checked_insert_of}
+use Rattle.planner.specs.Updated.{checked_of as checked_update_of}
+use Rattle.planner.specs.Deleted.{checked_of as checked_delete_of}
 use Rattle.planner.proofs.Fitting.{layouts, inserts, updates}
 use Rattle.store.specs.declared.stop.Stop.{Stop}
 use Rattle.table_rows.specs.declared.change.RowChanges.{RowChanges}
@@ -47,10 +43,9 @@ use Rattle.table_rows.specs.Ranged.{LosesNothing}
 use Rattle.table_rows.specs.NewRows.{GiveFittingRows, MakesChanges, inserted as made_rows}
 use Rattle.catalogue.specs.declared.effect.Effect.{Effect as TheEffect}
 use Rattle.catalogue.specs.Executed.{IsMade, Executes}
-use Rattle.store.specs.Stop.{IsStopBy}
 use Rattle.row_statements.specs.Targeted.{IsTargetOf}
 use Rattle.row_statements.proofs.Afterwards.{own_name, of_table}
-use Rattle.row_statements.proofs.Meanings.{refused, whole_refused, of_rows, led, not_led, held_there, makes_here, condition_is, delete_meant, update_meant, insert_meant}
+use Rattle.row_statements.proofs.Meanings.{of_rows, led, not_led, held_there, makes_here, condition_is, delete_meant, update_meant, insert_meant}
 
 -- what is made of the rows of the table is what is meant of them
 pub record Makes (records : Records) (t : Tag) (db : Database) (table : TableDefinition) (r : Result RowChanges Stop) (meant : Result Effect SqlState) : Type 0 where
@@ -85,12 +80,6 @@ delete_makes records d db users s p target condition r shown c is lent lossless 
           (held_there users p.target target is records own.rows own.held) (record { layout = sym is.layout; where_is = condition_is condition p.condition lent }) lossless);
     }
 
-pub delete_refused : (records : Records) (d : Definitions) (db : Database) (users : UserNames) (s : Delete) (refusal : Refusal) (failure : Stop) → Shows records d db → IsStopBy refusal.0 failure → IsDeleteRefusal d users.current s refusal
-    → Executes records d (Err failure) (delete db users s)
-delete_refused records d db users s refusal failure shown is (inl memory) = refused records d failure refusal.0 (delete db users s) is (inl memory)
-delete_refused records d db users s refusal failure shown is (inr e) =
-    refused records d failure refusal.0 (delete db users s) is (inr (whole_refused (deleted db users) refusal.0 (checked_delete db users s) (e db users (shown_described records d db shown) refl)))
-
 -- ---- UPDATE
 
 module _ (users : UserNames) (p : UpdatePlan) (target : Target) (assignments : Assignments) (is : IsTargetOf users p.target target) (columns : assignments.columns.now ≡ p.columns) (values : assignments.values.now ≡ p.values) where
@@ -123,12 +112,6 @@ update_makes records d db users s p target condition assignments r shown roles r
           (updates_there users p target assignments is columns values own.rows (updates d db users s p own.rows h roles read c own.held.fit)) lossless);
     }
 
-pub update_refused : (records : Records) (d : Definitions) (db : Database) (users : UserNames) (s : Update) (refusal : Refusal) (failure : Stop) → Shows records d db → IsStopBy refusal.0 failure → IsUpdateRefusal d users.current s refusal
-    → Executes records d (Err failure) (update db users s)
-update_refused records d db users s refusal failure shown is (inl memory) = refused records d failure refusal.0 (update db users s) is (inl memory)
-update_refused records d db users s refusal failure shown is (inr e) =
-    refused records d failure refusal.0 (update db users s) is (inr (whole_refused (updated db users) refusal.0 (checked_update db users s) (e db users (shown_described records d db shown) refl)))
-
 -- ---- INSERT
 
 module _ (users : UserNames) (p : InsertPlan) (target : Target) (insertion : Insertion) (is : IsTargetOf users p.target target) (columns : insertion.columns.now ≡ p.columns) (rows : insertion.rows.now ≡ p.rows) where
@@ -158,11 +141,3 @@ insert_makes records d db users s p target insertion r shown roles read c is col
           (record { layout = sym is.layout; columns = sym columns; rows = ap (map terms_in) (sym values) })
           (inserts_there users p target insertion is columns values (inserts d db users s p h roles read c)));
     }
-
-pub insert_refused : (records : Records) (d : Definitions) (db : Database) (users : UserNames) (s : Insert) (refusal : Refusal) (failure : Stop) → Shows records d db → IsReadInsert s → IsStopBy refusal.0 failure → IsInsertRefusal d users.current s refusal
-    → Executes records d (Err failure) (insert db users s)
-insert_refused records d db users s refusal failure shown read is e = by_checks (e read.one_length)
-  where
-    by_checks : (refusal.0 ≡ OutOfMemory) ⊎ ((other : Database) (who : UserNames) → Describes d other → who.current ≡ users.current → checked_insert other who s ≡ Err refusal.0) → Executes records d (Err failure) (insert db users s)
-    by_checks (inl memory) = refused records d failure refusal.0 (insert db users s) is (inl memory)
-    by_checks (inr f) = refused records d failure refusal.0 (insert db users s) is (inr (whole_refused (inserted db users) refusal.0 (checked_insert db users s) (f db users (shown_described records d db shown) refl)))

@@ -1,8 +1,10 @@
 -- A statement that answers Damaged found a record of no row where it looks for rows.
 use Rattle.std.proofs.Common.{◌≡◌, ℕ, ◌+◌, List, [], ◌∷◌, map, Option, Some, None, Result, Ok, Err, Bor, refl, sym, subst}
 use Rattle.std.specs.Prelude.{IfErr}
+use Rattle.std.specs.Result.{IsErrAnd}
 use Rattle.std.specs.Option.{option_copied}
 use Rattle.sql_types.specs.Row.{Row}
+use Rattle.sql_types.specs.declared.state.Refusal.{Refusal}
 use Rattle.sql_types.specs.declared.state.SqlState.{SqlState}
 use Rattle.sql_ast.specs.Layout.{Layout}
 use Rattle.sql_ast.specs.declared.statement.Select.{Select}
@@ -31,6 +33,7 @@ use Rattle.store.specs.Stop.{IsStopBy}
 use Rattle.row_statements.specs.Ranges.{range_where, ranges_among, AreRanged}
 use Rattle.row_statements.specs.Damage.{records_among, FindsRowsIn, FindRowsAmong, IsDamagedWhere, IsDamagedAmong}
 use Rattle.row_statements.specs.Targeted.{IsTargetOf, AreTargetsOf}
+use Rattle.row_statements.proofs.Meanings.{handed_on}
 
 -- ---- causes
 
@@ -42,12 +45,15 @@ damaged_by (Err (Failed Memory)) cause more f h = tt
 damaged_by (Err (Failed Device)) cause more f h = tt
 damaged_by (Err (Failed Damaged)) cause more f h = f h
 
--- the refusal of a plan is no damage
-pub refusal_undamaged : (code : SqlState) (failure : Stop) (cause : Type 0) → IsStopBy code failure → IsDamagedFor cause failure
-refusal_undamaged code (Refused c) cause is = tt
-refusal_undamaged code (Failed Memory) cause is = tt
-refusal_undamaged code (Failed Device) cause is = tt
-refusal_undamaged code (Failed Damaged) cause is = absurd is
+stop_undamaged : (code : SqlState) (failure : Stop) (cause : Type 0) → IsStopBy code failure → IsDamagedFor cause failure
+stop_undamaged code (Refused c) cause is = tt
+stop_undamaged code (Failed Memory) cause is = tt
+stop_undamaged code (Failed Device) cause is = tt
+stop_undamaged code (Failed Damaged) cause is = absurd is
+
+-- the refusal of a plan is no damage, however it is handed on
+pub refusal_undamaged : {A : Type 0} (cause : Type 0) (refusal : Refusal) (result : Result A Stop) → IsErrAnd result (λ stop. IsStopBy refusal.0 stop) → IfErr result (IsDamagedFor cause)
+refusal_undamaged cause refusal result is = handed_on refusal (λ r. IfErr r (IsDamagedFor cause)) result is (λ stop h. stop_undamaged refusal.0 stop cause h)
 
 -- ---- what a target finds
 

@@ -31,6 +31,7 @@ use Rattle.abstract_database.specs.Statements.{Effect, effect, counted, insert, 
 use Rattle.stored_database.specs.Definitions.{TableDefinition, Definitions}
 use Rattle.stored_database.specs.Valid.{Describes}
 use Rattle.stored_database.specs.Records.{Shows}
+use Rattle.stored_database.proofs.Wholeness.{shown_described}
 use Rattle.guards.specs.Guards.{row_guard}
 use Rattle.guards.specs.declared.guard.Guard.{Guard as Formulas}
 use Rattle.policy_composer.specs.Guarding.{MeansGuard, existing_of, new_of}
@@ -38,6 +39,7 @@ use Rattle.planner.specs.declared.sources.Source.{Source}
 use Rattle.planner.specs.declared.insert.InsertPlan.{InsertPlan}
 use Rattle.planner.specs.declared.update.UpdatePlan.{UpdatePlan}
 use Rattle.planner.specs.declared.delete.DeletePlan.{DeletePlan}
+use Rattle.planner.specs.Answers.{IsRefusedBy}
 use Rattle.planner.specs.Changed.{where_of}
 use Rattle.planner.specs.Tables.{IsTableNamed}
 use Rattle.planner.specs.Plans.{IsCheckedInsert, IsCheckedUpdate, IsCheckedDelete}
@@ -61,7 +63,7 @@ use Rattle.row_statements.proofs.Afterwards.{shown_after}
 
 -- ---- refusals
 
-pub refused : (records : Records) (d : Definitions) (failure : Stop) (code : SqlState) (meant : Result Effect SqlState) → IsStopBy code failure → (code ≡ OutOfMemory) ⊎ (meant ≡ Err code)
+refused : (records : Records) (d : Definitions) (failure : Stop) (code : SqlState) (meant : Result Effect SqlState) → IsStopBy code failure → (code ≡ OutOfMemory) ⊎ (meant ≡ Err code)
     → Executes records d (Err failure) meant
 refused records d (Refused c) code meant is (inl memory) = absurd (is.1 memory)
 refused records d (Refused c) code meant is (inr e) = e ∙ ap (λ (x : SqlState). let r : Result Effect SqlState = Err x in r) (sym is.0)
@@ -74,9 +76,14 @@ pub handed_on : {A : Type 0} (refusal : Refusal) (Q : Result A Stop → Type 0) 
 handed_on refusal Q (Ok x) is q = absurd is
 handed_on refusal Q (Err stop) is q = q stop is
 
--- a check that refuses the statement refuses it as a whole
-pub whole_refused : {A B : Type 0} (k : A → Result B SqlState) (code : SqlState) (checked : Result A SqlState) → checked ≡ Err code → (checked >>= k) ≡ Err code
-whole_refused k code checked e = ap (λ r. r >>= k) e
+-- checks that refuse a statement refuse it as a whole, however the refusal is handed on
+pub plan_refused : {S C : Type 0} (checks : Database → UserNames → S → Result C SqlState) (go : Database → UserNames → C → Result Effect SqlState) (records : Records) (d : Definitions) (db : Database) (users : UserNames) (s : S) (refusal : Refusal)
+    (result : Result TheEffect Stop) → Shows records d db → IsErrAnd result (λ stop. IsStopBy refusal.0 stop) → IsRefusedBy checks d users.current s refusal → Executes records d result (checks db users s >>= go db users)
+plan_refused checks go records d db users s refusal result shown is by_checks = handed_on refusal (λ r. Executes records d r (checks db users s >>= go db users)) result is (λ stop h. with_stop stop h by_checks)
+  where
+    with_stop : (stop : Stop) → IsStopBy refusal.0 stop → IsRefusedBy checks d users.current s refusal → Executes records d (Err stop) (checks db users s >>= go db users)
+    with_stop stop h (inl memory) = refused records d stop refusal.0 (checks db users s >>= go db users) h (inl memory)
+    with_stop stop h (inr e) = refused records d stop refusal.0 (checks db users s >>= go db users) h (inr (ap (λ r. r >>= go db users) (e db users (shown_described records d db shown) refl)))
 
 -- ---- changes of rows
 

@@ -4,7 +4,6 @@ use Rattle.std.specs.List.{All}
 use Rattle.std.proofs.lemmas.List.Elements.{All-head, All-tail}
 use Rattle.sql_types.specs.Row.{Row}
 use Rattle.sql_types.specs.declared.state.SqlState.{SqlState}
-use Rattle.sql_types.specs.declared.state.Refusal.{Refusal}
 use Rattle.sql_types.specs.declared.answer.Answer.{Answer}
 use Rattle.sql_types.specs.declared.answer.Answer.TheVariants as answer
 use Rattle.sql_ast.specs.declared.privilege.Action.TheVariants as action
@@ -20,7 +19,6 @@ use Rattle.abstract_database.specs.Database.{Database, rows_named}
 use Rattle.abstract_database.specs.Guards.{Guard}
 use Rattle.abstract_database.specs.Queries.{Source as QuerySource, query, tables_in}
 use Rattle.abstract_database.specs.Whole.{Each}
-use Rattle.abstract_database.specs.Checks.{checked_select}
 use Rattle.abstract_database.specs.Statements.{Effect, effect, select, selected, source_of as meant_source}
 use Rattle.abstract_database.proofs.ResultLemmas.{each_from}
 use Rattle.stored_database.specs.Definitions.{TableDefinition, Definitions}
@@ -34,7 +32,7 @@ use Rattle.planner.specs.declared.select.SelectPlan.{SelectPlan}
 use Rattle.planner.specs.Fitting.{AreRowsOf}
 use Rattle.planner.specs.Sources.{IsGuardedFrom}
 use Rattle.planner.specs.Tables.{AreTablesOf, table_in, definitions_in}
-use Rattle.planner.specs.Selected.{IsSelectRefusal, tables_of_plan}
+use Rattle.planner.specs.Selected.{tables_of_plan}
 use Rattle.planner.specs.Plans.{IsCheckedSelect}
 use Rattle.planner.proofs.Checking.{found_inside}
 use Rattle.planner.proofs.Fitting.{products}
@@ -48,13 +46,12 @@ use Rattle.catalogue.specs.declared.effect.Effect.{Effect as TheEffect}
 use Rattle.catalogue.specs.declared.change.SchemaChange.{SchemaChange}
 use Rattle.catalogue.specs.Changes.{definitions_after}
 use Rattle.catalogue.specs.Executed.{IsMade, Executes}
-use Rattle.store.specs.Stop.{IsStopBy}
 use Rattle.row_statements.specs.declared.ranges.RangedSource.{RangedSource}
 use Rattle.row_statements.specs.Ranges.{AreRanged}
 use Rattle.row_statements.specs.Targeted.{AreTargetsOf}
 use Rattle.row_statements.proofs.Ranging.{AreOver, HoldTables, all_found, over, each_found, found_fit, same_answer}
 use Rattle.row_statements.proofs.Afterwards.{own_name, of_table}
-use Rattle.row_statements.proofs.Meanings.{refused, whole_refused, held_there, sees_is}
+use Rattle.row_statements.proofs.Meanings.{held_there, sees_is}
 
 -- ---- the tables
 
@@ -160,9 +157,3 @@ select_failed records d db (Refused code) meant m = m.is ∙ ap (of_query db) m.
 select_failed records d db (Failed Memory) meant m = tt
 select_failed records d db (Failed Device) meant m = tt
 select_failed records d db (Failed Damaged) meant m = m.answers
-
-pub select_refused : (records : Records) (d : Definitions) (db : Database) (users : UserNames) (s : Select) (refusal : Refusal) (failure : Stop) → Shows records d db → IsStopBy refusal.0 failure → IsSelectRefusal d users.current s refusal
-    → Executes records d (Err failure) (select db users s)
-select_refused records d db users s refusal failure shown is (inl memory) = refused records d failure refusal.0 (select db users s) is (inl memory)
-select_refused records d db users s refusal failure shown is (inr e) =
-    refused records d failure refusal.0 (select db users s) is (inr (whole_refused (selected db users) refusal.0 (checked_select db users s) (e db users (shown_described records d db shown) refl)))

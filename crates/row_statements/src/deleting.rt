@@ -13,7 +13,7 @@ ghost use Rattle.row_statements.specs.Damage.{IsDamagedWhere, DeleteFindsDamage}
 ghost use Rattle.row_statements.specs.Users.{seen_users};
 
 use crate::outcome::{counted, users_of};
-use crate::ranges::range_where;
+use crate::ranges::ranged_where;
 use catalogue::definitions::Catalogue;
 use catalogue::effect::Effect;
 use planner::{DeletePlan, plan_delete};
@@ -22,13 +22,13 @@ use sql_types::name::Name;
 use sql_types::tag::Tag;
 use std::alloc::Global;
 use store::{Map, Stop};
-use table_rows::{Target, delete};
+use table_rows::delete;
 
 /// A DELETE of the current role in a session, with the changes of the rows that it deletes.
 ///
 /// It is refused as [`plan_delete`] says, and then as [`delete`] does. Memory that is refused and a
 /// device that fails are faults, and so is a record that is of no row among the keys of
-/// [`range_where`], and no other.
+/// [`crate::range_where`], and no other.
 pub fn delete_rows<M: Map>(
     alloc: Global,
     map: &mut M,
@@ -76,14 +76,8 @@ fn delete_planned<M: Map>(
 {
     let users = users_of(current, session, plan.roles.names());
     let condition = plan.condition.as_ref();
-    let range = range_where(alloc, &plan.target, condition, &users)?;
-    let target = Target {
-        id: plan.target.table.id(),
-        columns: plan.target.table.columns(),
-        guard: &plan.target.guard,
-        users: &users,
-        range: range.as_ref(),
-    };
+    let source = ranged_where(alloc, &plan.target, condition, &users)?;
+    let target = source.target(&users);
     let made = delete(alloc, map, &target, condition)?;
     Ok(counted(Tag::Delete, made))
 }

@@ -13,16 +13,16 @@ ghost use Rattle.store.specs.Stop.{ReadsMap};
 ghost use Rattle.row_statements.specs.Users.{seen_users};
 
 use crate::outcome::{counted, users_of};
+use crate::ranges::RangedSource;
 use catalogue::definitions::Catalogue;
 use catalogue::effect::Effect;
-use key_ranges::KeyRange;
 use planner::{InsertPlan, plan_insert};
 use sql_ast::statement::Insert;
 use sql_types::name::Name;
 use sql_types::tag::Tag;
 use std::alloc::Global;
 use store::{Map, Stop};
-use table_rows::{Insertion, Target, insert};
+use table_rows::{Insertion, insert};
 
 /// An INSERT of the current role in a session, with the changes that put its rows.
 ///
@@ -68,14 +68,11 @@ fn insert_planned<M: Map>(
         (meaning db (seen_users db.memberships current.now session.now) s) }
 {
     let users = users_of(current, session, plan.roles.names());
-    let range: Option<KeyRange> = None;
-    let target = Target {
-        id: plan.target.table.id(),
-        columns: plan.target.table.columns(),
-        guard: &plan.target.guard,
-        users: &users,
-        range: range.as_ref(),
+    let source = RangedSource {
+        source: &plan.target,
+        range: None,
     };
+    let target = source.target(&users);
     let insertion = Insertion {
         columns: plan.columns.as_slice(),
         rows: plan.rows.as_slice(),

@@ -2,6 +2,7 @@
 ghost use Rattle.std.specs.Prelude.{◌≡◌, IfOk, IfSome, map};
 ghost use Rattle.std.specs.Option.{option_copied};
 ghost use Rattle.expressions.specs.Rows.{names_of};
+ghost use Rattle.row_statements.specs.Targeted.{IsRangedTargetOf};
 ghost use Rattle.row_statements.specs.Ranges.{are_sources_quiet, range_left, range_where, ranges_among, AreRanged, IsRangeFor, IsRangeWhere};
 
 use expressions::eval::Users;
@@ -11,6 +12,7 @@ use planner::Source;
 use sql_types::items::Items;
 use std::alloc::{AllocError, Global};
 use std::slice::from_ref;
+use table_rows::Target;
 
 /// A table of a plan, and the range of its keys in which its rows are looked for, or `None` for all
 /// of them.
@@ -20,6 +22,39 @@ pub struct RangedSource<'a> {
     pub source: &'a Source<'a>,
     /// The keys in which its rows are looked for.
     pub range: Option<KeyRange>,
+}
+
+impl<'a> RangedSource<'a> {
+    /// The table with its range for these users, as what carries a statement out takes it.
+    pub(crate) fn target(&'a self, users: &'a Users<'a>) -> Target<'a>
+        ensures { IsRangedTargetOf (names_of users.now) self.now result }
+    {
+        Target {
+            id: self.source.table.id(),
+            columns: self.source.table.columns(),
+            guard: &self.source.guard,
+            users,
+            range: self.range.as_ref(),
+        }
+    }
+}
+
+/// The table of an UPDATE or a DELETE with the range of keys in which its rows are looked for: the
+/// one of [`range_where`].
+pub(crate) fn ranged_where<'a>(
+    alloc: Global,
+    source: &'a Source<'a>,
+    condition: Option<&Typed>,
+    users: &Users<'_>,
+) -> Result<RangedSource<'a>, AllocError>
+    ensures source { IfOk result (λ ranged. ranged.source.now ≡ source.now) }
+    ensures exact { IfOk result (λ ranged. ranged.range
+        ≡ range_where (names_of users.now) source.now (option_copied condition.entry)) }
+    ensures safe { IfOk result (λ ranged.
+        IsRangeWhere (names_of users.now) source.now condition.entry ranged.range) }
+{
+    let range = range_where(alloc, source, condition, users)?;
+    Ok(RangedSource { source, range })
 }
 
 /// The range of keys in which an UPDATE or a DELETE looks for the rows of its table: the one that

@@ -110,13 +110,7 @@ fn targets<'a>(
 {
     let mut targets = Items::new(alloc);
     for table in tables {
-        targets.push(Target {
-            id: table.source.table.id(),
-            columns: table.source.table.columns(),
-            guard: &table.source.guard,
-            users,
-            range: table.range.as_ref(),
-        })?;
+        targets.push(table.target(users))?;
     }
     Ok(targets)
 }

@@ -15,7 +15,7 @@ ghost use Rattle.row_statements.specs.Damage.{IsDamagedWhere, UpdateFindsDamage}
 ghost use Rattle.row_statements.specs.Users.{seen_users};
 
 use crate::outcome::{counted, users_of};
-use crate::ranges::range_where;
+use crate::ranges::ranged_where;
 use catalogue::definitions::Catalogue;
 use catalogue::effect::Effect;
 use planner::{UpdatePlan, plan_update};
@@ -24,13 +24,13 @@ use sql_types::name::Name;
 use sql_types::tag::Tag;
 use std::alloc::Global;
 use store::{Map, Stop};
-use table_rows::{Assignments, Target, update};
+use table_rows::{Assignments, update};
 
 /// An UPDATE of the current role in a session, with the changes of the rows that it sets.
 ///
 /// It is refused as [`plan_update`] says, and then as [`update`] does. Memory that is refused and a
 /// device that fails are faults, and so is a record that is of no row among the keys of
-/// [`range_where`], and no other.
+/// [`crate::range_where`], and no other.
 pub fn update_rows<M: Map>(
     alloc: Global,
     map: &mut M,
@@ -80,14 +80,8 @@ fn update_planned<M: Map>(
 {
     let users = users_of(current, session, plan.roles.names());
     let condition = plan.condition.as_ref();
-    let range = range_where(alloc, &plan.target, condition, &users)?;
-    let target = Target {
-        id: plan.target.table.id(),
-        columns: plan.target.table.columns(),
-        guard: &plan.target.guard,
-        users: &users,
-        range: range.as_ref(),
-    };
+    let source = ranged_where(alloc, &plan.target, condition, &users)?;
+    let target = source.target(&users);
     let assignments = Assignments {
         columns: plan.columns.as_slice(),
         values: plan.values.as_slice(),

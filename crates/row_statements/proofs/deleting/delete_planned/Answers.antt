@@ -13,6 +13,7 @@ use Rattle.row_statements.specs.Ranges.{range_where}
 use Rattle.row_statements.proofs.Ranging.{loses_nothing}
 use Rattle.row_statements.proofs.Damaging.{damaged_where}
 use Rattle.row_statements.proofs.Carrying.{done, failed, delete_makes}
+use Rattle.row_statements.proofs.Targeting.{target_for}
 use Rattle.row_statements.proofs.Acting.{in_database, in_definitions}
 use Rattle.row_statements.proofs.deleting.delete_planned.Goals as goal
 
@@ -22,9 +23,14 @@ returns-in_err-made-clause-executed g c = λ sound d db s shown checked.
     let records = (g.M.Map.state c.args.map.now).map in
     let acts = c.users_of-users.ensures db.memberships (in_database records d db c.args.current.now c.args.plan.now.roles _ shown checked.roles c.names.ensures) in
     let p = c.args.plan.now in
-    let lossless = loses_nothing (names_of c.users_of-users.result) p.target _ c.as_ref-condition.result c.in_ok-range.range (record { id = c.id.ensures; layout = c.columns.ensures; guard = refl; who = refl }) c.as_ref.ensures.value c.in_ok-range.ensures.safe in
-    let makes = delete_makes records d db users s p _ c.as_ref-condition.result (Err c.in_err-made.field-0.0) shown checked
-    (record { id = c.id.ensures; layout = c.columns.ensures; guard = refl; who = acts }) c.as_ref-condition.ensures.value lossless
+    let who = names_of c.users_of-users.result in
+    let r = c.in_ok-source.source in
+    let target = c.target-target.result in
+    let is = c.target-target.ensures in
+    let same = c.in_ok-source.ensures.source in
+    let lossless = loses_nothing who p.target target c.as_ref-condition.result r.range (target_for who who r p.target target is same refl) is.range c.in_ok-source.ensures.safe in
+    let makes = delete_makes records d db users s p target c.as_ref-condition.result (Err c.in_err-made.field-0.0) shown checked
+    (target_for users who r p.target target is same acts) c.as_ref-condition.ensures.value lossless
     (c.in_err-made.ensures.changes sound) in
     ended c.in_err-made.field-0.0 (λ r. Executes records d r (delete db users s)) c.from_residual-in_err-made.result c.from_residual-in_err-made.ensures.1
     (failed tag.Delete records d db p.target.table.now c.in_err-made.field-0.0 (delete db users s) makes)
@@ -35,9 +41,14 @@ returns-clause-executed g c = λ sound d db s shown checked.
     let records = (g.M.Map.state c.args.map.now).map in
     let acts = c.users_of-users.ensures db.memberships (in_database records d db c.args.current.now c.args.plan.now.roles _ shown checked.roles c.names.ensures) in
     let p = c.args.plan.now in
-    let lossless = loses_nothing (names_of c.users_of-users.result) p.target _ c.as_ref-condition.result c.in_ok-range.range (record { id = c.id.ensures; layout = c.columns.ensures; guard = refl; who = refl }) c.as_ref.ensures.value c.in_ok-range.ensures.safe in
-    let makes = delete_makes records d db users s p _ c.as_ref-condition.result (Ok c.in_ok-made.made) shown checked
-    (record { id = c.id.ensures; layout = c.columns.ensures; guard = refl; who = acts }) c.as_ref-condition.ensures.value lossless
+    let who = names_of c.users_of-users.result in
+    let r = c.in_ok-source.source in
+    let target = c.target-target.result in
+    let is = c.target-target.ensures in
+    let same = c.in_ok-source.ensures.source in
+    let lossless = loses_nothing who p.target target c.as_ref-condition.result r.range (target_for who who r p.target target is same refl) is.range c.in_ok-source.ensures.safe in
+    let makes = delete_makes records d db users s p target c.as_ref-condition.result (Ok c.in_ok-made.made) shown checked
+    (target_for users who r p.target target is same acts) c.as_ref-condition.ensures.value lossless
     (c.in_ok-made.ensures.changes sound) in
     done tag.Delete records d db s.table p.target.table.now c.in_ok-made.made c.counted.result (delete db users s) (g.met.M.Map.ordered c.args.map.now sound) shown checked.table makes c.counted.ensures.answer c.counted.ensures.changes c.counted.ensures.definitions
 
@@ -48,6 +59,10 @@ returns-in_err-made-clause-damage g c = λ sound d s checked.
     let acts = c.users_of-users.ensures d.memberships (in_definitions d c.args.current.now c.args.plan.now.roles _ checked.roles c.names.ensures) in
     let p = c.args.plan.now in
     let condition = c.as_ref-condition.result in
-    let exact = c.in_ok-range.ensures.exact ∙ ap (λ who. range_where who p.target (option_copied condition)) acts ∙ ap (range_where users p.target) c.as_ref-condition.ensures.value in
+    let who = names_of c.users_of-users.result in
+    let r = c.in_ok-source.source in
+    let target = c.target-target.result in
+    let is = target_for users who r p.target target c.target-target.ensures c.in_ok-source.ensures.source acts in
+    let exact = c.in_ok-source.ensures.exact ∙ ap (λ who. range_where who p.target (option_copied condition)) acts ∙ ap (range_where users p.target) c.as_ref-condition.ensures.value in
     ended c.in_err-made.field-0.0 (λ r. IfErr r (IsDamagedFor (IsDamagedWhere records users p.target p.condition))) c.from_residual-in_err-made.result c.from_residual-in_err-made.ensures.1
-    (damaged_where p.target _ _ _ c.in_ok-range.range records c.in_err-made.field-0.0 users p.condition c.id.ensures c.columns.ensures c.as_ref.ensures.value exact (c.in_err-made.ensures.damage sound))
+    (damaged_where p.target target.id target.columns.now target.range r.range records c.in_err-made.field-0.0 users p.condition is.id is.layout c.target-target.ensures.range exact (c.in_err-made.ensures.damage sound))

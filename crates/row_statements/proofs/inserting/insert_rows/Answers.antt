@@ -1,8 +1,7 @@
-use Rattle.abstract_database.specs.Statements as meaning
-use Rattle.catalogue.specs.Executed.{Executes}
+use Rattle.abstract_database.specs.Checks.{checked_insert}
+use Rattle.abstract_database.specs.Statements.{inserted}
 use Rattle.row_statements.specs.Users.{seen_users}
-use Rattle.row_statements.proofs.Meanings.{handed_on}
-use Rattle.row_statements.proofs.Carrying.{insert_refused}
+use Rattle.row_statements.proofs.Meanings.{plan_refused}
 use Rattle.row_statements.proofs.inserting.insert_rows.Goals as goal
 
 pub returns-clause-executed : goal.returns-clause-executed
@@ -11,10 +10,5 @@ returns-clause-executed g c = λ sound db shown roles read.
 
 pub returns-in_err-plan-clause-executed : goal.returns-in_err-plan-clause-executed
 returns-in_err-plan-clause-executed g c = λ sound db shown roles read.
-    let users = seen_users db.memberships c.args.current.now c.args.session.now in
-    let records = (g.M.Map.state c.args.map.now).map in
-    let d = c.args.catalogue.now in
-    let s = c.args.statement.now in
-    let refusal = c.in_err-plan.field-0.0 in
-    handed_on refusal (λ r. Executes records d r (meaning.insert db users s)) c.from_residual.result c.from_residual.ensures.1
-    (λ stop is. insert_refused records d db users s refusal stop shown read is c.in_err-plan.ensures.refusal)
+    plan_refused checked_insert inserted (g.M.Map.state c.args.map.now).map c.args.catalogue.now db (seen_users db.memberships c.args.current.now c.args.session.now) c.args.statement.now c.in_err-plan.field-0.0
+    c.from_residual.result shown c.from_residual.ensures.1 (c.in_err-plan.ensures.refusal read.one_length)

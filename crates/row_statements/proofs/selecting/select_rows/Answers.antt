@@ -1,11 +1,8 @@
-use Rattle.std.specs.Prelude.{IfErr}
-use Rattle.abstract_database.specs.Statements as meaning
-use Rattle.catalogue.specs.Executed.{Executes}
-use Rattle.table_rows.specs.Failures.{IsDamagedFor}
+use Rattle.abstract_database.specs.Checks.{checked_select}
+use Rattle.abstract_database.specs.Statements.{selected}
 use Rattle.row_statements.specs.Damage.{SelectFindsDamage}
 use Rattle.row_statements.specs.Users.{seen_users}
-use Rattle.row_statements.proofs.Meanings.{handed_on}
-use Rattle.row_statements.proofs.Querying.{select_refused}
+use Rattle.row_statements.proofs.Meanings.{plan_refused}
 use Rattle.row_statements.proofs.Damaging.{damaged_by, refusal_undamaged}
 use Rattle.row_statements.proofs.Reading.{reads_by}
 use Rattle.row_statements.proofs.selecting.select_rows.Goals as goal
@@ -16,13 +13,8 @@ returns-clause-executed g c = λ sound db shown.
 
 pub returns-in_err-plan-clause-executed : goal.returns-in_err-plan-clause-executed
 returns-in_err-plan-clause-executed g c = λ sound db shown.
-    let users = seen_users db.memberships c.args.current.now c.args.session.now in
-    let records = (g.M.Map.state c.args.map.now).map in
-    let d = c.args.catalogue.now in
-    let s = c.args.statement.now in
-    let refusal = c.in_err-plan.field-0.0 in
-    handed_on refusal (λ r. Executes records d r (meaning.select db users s)) c.from_residual.result c.from_residual.ensures.1
-    (λ stop is. select_refused records d db users s refusal stop shown is c.in_err-plan.ensures.refusal)
+    plan_refused checked_select selected (g.M.Map.state c.args.map.now).map c.args.catalogue.now db (seen_users db.memberships c.args.current.now c.args.session.now) c.args.statement.now c.in_err-plan.field-0.0
+    c.from_residual.result shown c.from_residual.ensures.1 c.in_err-plan.ensures.refusal
 
 pub returns-clause-damage : goal.returns-clause-damage
 returns-clause-damage g c = λ sound.
@@ -31,11 +23,8 @@ returns-clause-damage g c = λ sound.
 
 pub returns-in_err-plan-clause-damage : goal.returns-in_err-plan-clause-damage
 returns-in_err-plan-clause-damage g c = λ sound.
-    let users = seen_users c.args.catalogue.now.memberships c.args.current.now c.args.session.now in
-    let cause = SelectFindsDamage (g.M.Map.state c.args.map.now).map c.args.catalogue.now users c.args.statement.now in
-    let refusal = c.in_err-plan.field-0.0 in
-    handed_on refusal (λ r. IfErr r (IsDamagedFor cause)) c.from_residual.result c.from_residual.ensures.1
-    (λ stop is. refusal_undamaged refusal.0 stop cause is)
+    refusal_undamaged (SelectFindsDamage (g.M.Map.state c.args.map.now).map c.args.catalogue.now (seen_users c.args.catalogue.now.memberships c.args.current.now c.args.session.now) c.args.statement.now)
+    c.in_err-plan.field-0.0 c.from_residual.result c.from_residual.ensures.1
 
 pub returns-clause-reads : goal.returns-clause-reads
 returns-clause-reads g c = λ sound.
