@@ -27,7 +27,7 @@ module _ {A : Type 0} (code : SqlState) (later : Result A SqlState) (names writt
 
 -- whether each row has a value for each column, and then the columns
 module _ (layout : Layout) (s : Insert) where
-  abbrev counted : Bool → Result (List ℕ) SqlState
+  abbrev pub counted : Bool → Result (List ℕ) SqlState
   counted fit = require fit SyntaxError >>= λ u. target_columns layout s
 
   pub columns_counted : (fit : Bool) → list_all (counts_fit layout s.columns) s.rows ≡ fit → counted (list_all (counts_fit layout s.columns) s.rows) ≡ counted fit
