@@ -13,7 +13,7 @@ use Rattle.planner.proofs.insert.plan_insert.Goals as goal
 pub returns-in_err-named-clause-refusal : goal.returns-in_err-named-clause-refusal
 returns-in_err-named-clause-refusal c =
     let m = no_table c.args.catalogue.now c.args.current.now c.args.statement.now c.in_err-named.field-0.0 c.in_err-named.ensures.missing in
-    let e : c.from_residual-in_err-named.result ≡ Err c.in_err-named.field-0.0 = search rules in
+    let e : c.from_residual.result ≡ Err c.in_err-named.field-0.0 = search rules in
     subst (λ r. IfErr r (IsInsertRefusal c.args.catalogue.now c.args.current.now c.args.statement.now)) (sym e) m
 
 pub returns-in_err-checked-clause-refusal : goal.returns-in_err-checked-clause-refusal
