@@ -28,6 +28,7 @@
 mod bytes;
 mod calls;
 mod devices;
+pub mod page_calls;
 mod restarts;
 mod roots;
 mod words;
@@ -87,11 +88,22 @@ fn follow_words(
     out: &mut String,
 ) -> Result<(), AllocError> {
     let mut case = begun(alloc, first)?;
+    do_all(alloc, &mut case, script, words, out)
+}
+
+/// Does what words say, of which the word `script` stands for those that were kept.
+fn do_all(
+    alloc: Global,
+    case: &mut Case,
+    script: &str,
+    words: &str,
+    out: &mut String,
+) -> Result<(), AllocError> {
     for text in words.split(' ') {
         if text == "script" {
-            do_words(alloc, &mut case, script, out)?;
+            do_words(alloc, case, script, out)?;
         } else {
-            do_word(alloc, &mut case, word_of(text), out)?;
+            case.do_word(alloc, word_of(text), out)?;
         }
     }
     Ok(())
@@ -118,23 +130,9 @@ fn do_words(
     out: &mut String,
 ) -> Result<(), AllocError> {
     for text in words.split(' ') {
-        do_word(alloc, case, word_of(text), out)?;
+        case.do_word(alloc, word_of(text), out)?;
     }
     Ok(())
-}
-
-/// Does what a word says, and appends what came of it.
-fn do_word(
-    alloc: Global,
-    case: &mut Case,
-    word: Word<'_>,
-    out: &mut String,
-) -> Result<(), AllocError> {
-    match word.name {
-        "open" => case.open(alloc, out),
-        "close" => Ok(case.close()),
-        _ => case.do_word(alloc, word, out),
-    }
 }
 
 impl Case {
@@ -143,17 +141,17 @@ impl Case {
         let Some(device) = self.device.take() else {
             return out.push_str(" ?");
         };
-        match CowPages::open(alloc, device) {
+        match page_calls::open(alloc, device) {
             Ok(array) => {
-                write!(out, " {}", array.number())?;
+                let number = array.number();
                 self.array = Some(array);
+                write!(out, " {number}")
             }
             Err((device, fault)) => {
-                push_open_fault(out, fault)?;
                 self.device = Some(device);
+                push_open_fault(out, fault)
             }
         }
-        Ok(())
     }
 
     /// Leaves the device of the array.
@@ -163,8 +161,22 @@ impl Case {
         }
     }
 
-    /// Does a word to what stands there, and appends what came of it.
+    /// Does what a word says, and appends what came of it.
     fn do_word(
+        &mut self,
+        alloc: Global,
+        word: Word<'_>,
+        out: &mut String,
+    ) -> Result<(), AllocError> {
+        match word.name {
+            "open" => self.open(alloc, out),
+            "close" => Ok(self.close()),
+            _ => self.do_other_word(alloc, word, out),
+        }
+    }
+
+    /// Does a word to what stands there, and appends what came of it.
+    fn do_other_word(
         &mut self,
         alloc: Global,
         word: Word<'_>,

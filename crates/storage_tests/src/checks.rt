@@ -18,19 +18,24 @@ pub fn check(rt: &HostRuntime, name: &str, out: &mut String) -> Result<(), Alloc
     }
 }
 
-/// Makes the check of this name.
+/// Makes the check of this name, with a file that is removed before and after.
 fn run(rt: &HostRuntime, name: &str) -> Result<()> {
+    let path = "file.test";
+    files::remove(rt, path);
+    let outcome = run_with(rt, name, path);
+    files::remove(rt, path);
+    outcome
+}
+
+/// Makes the check of this name, with a file of this path.
+fn run_with(rt: &HostRuntime, name: &str, path: &str) -> Result<()> {
     match name {
-        "a_file_keeps_commits" => files::a_file_keeps_commits(rt),
-        "sectors_lie_one_after_the_other_in_a_file" =>
-            files::sectors_lie_one_after_the_other_in_a_file(rt),
-        "a_sector_that_is_cut_short_fails" => files::a_sector_that_is_cut_short_fails(rt),
-        "a_file_has_sectors_where_it_is_of_whole_pages" =>
-            files::a_file_has_sectors_where_it_is_of_whole_pages(rt),
-        "a_file_opened_to_be_read_is_not_written" => files::a_file_opened_to_be_read_is_not_written(
-            rt,
-        ),
-        "no_file_is_found_where_there_is_none" => files::no_file_is_found_where_there_is_none(rt),
+        "a_file_keeps_commits" => files::keeps_commits(rt, path),
+        "sectors_lie_one_after_the_other_in_a_file" => files::lie_in_order(rt, path),
+        "a_sector_that_is_cut_short_fails" => files::fails_cut_short(rt, path),
+        "a_file_has_sectors_where_it_is_of_whole_pages" => files::has_whole_pages(rt, path),
+        "a_file_opened_to_be_read_is_not_written" => files::is_only_read(rt, path),
+        "no_file_is_found_where_there_is_none" => files::finds_none(rt),
         _ => run_in_memory(rt.alloc(), name),
     }
 }

@@ -15,7 +15,6 @@
 
 mod answer;
 mod change;
-mod contents;
 mod outcomes;
 
 use crate::images::answer::{ImageAnswer, answer_to, push_line, push_short};

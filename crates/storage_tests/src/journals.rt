@@ -1,7 +1,7 @@
 //! Stops stores with a journal, and makes calls of their devices fail, again and again, and tells how often that was done and how
 //! often something else was found than was to be found.
 //!
-//! A line is a trial by itself; one that begins with `#` is printed as it is. Its first word names the trial, the others make a
+//! A line is a trial by itself; one whose first word is `#` is printed as it is. The first word names the trial, the others make a
 //! script: `put:KEY:VALUE`, `remove:KEY` and `rise:FROM:TO:VALUE` as in the part `stores`, and `commit` behind each batch. `on`
 //! and `off` between two batches turn the journal on and off, in the trials that know of steps. In the
 //! life n of a device, from 0 on, all bytes of values are n more. Each store lies on a device of 64 pages, and is made new with
@@ -38,25 +38,25 @@
 //! which knows of stores what docs/formats.md says of a journal.
 
 mod again;
-mod batches;
-mod choices;
 mod counts;
 mod devices;
 mod failing;
 mod failing_switches;
 mod full;
+mod images;
 mod logged;
 mod openings;
+mod record_lists;
 mod roots;
+mod script;
 mod stops;
-mod switch;
 mod switches;
 mod tally;
+mod trial_stores;
 mod turning;
 mod wanted;
 
-use crate::journals::batches::BatchScript;
-use crate::journals::stops::Stops;
+use crate::journals::script::BatchScript;
 use crate::journals::tally::TrialTally;
 use crate::stores::call::{CallWords, number_in};
 use anyhow::{Result, bail};
@@ -65,52 +65,65 @@ use std::alloc::Global;
 
 /// Makes the trial of a line, and appends what came of it.
 pub fn follow(alloc: Global, tries_all: bool, line: &str, out: &mut String) -> Result<()> {
-    if line.starts_with('#') {
-        writeln!(out, "{line}")?;
-        return Ok(());
-    }
     let (word, rest) = line.split_once(' ').unwrap_or((line, ""));
     let first = CallWords::new(alloc, word);
-    match (first.name, rest.strip_prefix("uncounted ")) {
-        ("", _) => Ok(()),
-        ("full", _) => full::fill(&first, out),
-        (_, Some(words)) => {
-            let script = BatchScript::new(alloc, words)?;
-            let tally = tried(&first, tries_all, &script)?;
-            Ok(tally.push_disagreements(&first, out)?)
+    match first.name {
+        "" => Ok(()),
+        "#" => {
+            out.push_str(line)?;
+            out.push_str("\n")?;
+            Ok(())
         }
-        (_, None) => {
-            let script = BatchScript::new(alloc, rest)?;
-            let tally = tried(&first, tries_all, &script)?;
-            Ok(tally.push(&first, out)?)
-        }
+        "full" => full::fill(&first, out),
+        _ => follow_script(&first, tries_all, rest, out),
     }
 }
 
-/// What came of the trial that a word names, with this script.
-fn tried(first: &CallWords<'_>, tries_all: bool, script: &BatchScript) -> Result<TrialTally> {
+/// Makes the trial that a word names with the script behind it, and appends what came of it.
+fn follow_script(
+    first: &CallWords<'_>,
+    tries_all: bool,
+    rest: &str,
+    out: &mut String,
+) -> Result<()> {
     let cache = number_in(first.first) as usize;
     if cache == 0 || cache > MAX_CACHE_PAGES {
         bail!("no cache has so many pages");
     }
+    let (words, is_counted) = match rest.strip_prefix("uncounted ") {
+        Some(words) => (words, false),
+        None => (rest, true),
+    };
+    let script = BatchScript::new(first.alloc, cache, words)?;
+    let mut tally = TrialTally::new(first.alloc);
+    make_trial(first, tries_all, &script, &mut tally)?;
+    tally.push(first, is_counted, out)?;
+    Ok(())
+}
+
+/// Makes the trial that a word names with a script.
+fn make_trial(
+    first: &CallWords<'_>,
+    tries_all: bool,
+    script: &BatchScript,
+    tally: &mut TrialTally,
+) -> Result<()> {
     match first.name {
         "stops" => {
-            let every = if tries_all { 1 } else { number_in(first.third) };
-            Stops::new(script, cache, number_in(first.second), every).try_all()
+            let every = every_of(tries_all, first.third);
+            stops::stop_commits(script, number_in(first.second), every, tally)
         }
-        "fails" => failing::fail_commits(script, cache),
-        "openings" => openings::fail_openings(script, cache),
-        "counts" => counts::count(script, cache),
-        "switches" => {
-            let every = if tries_all {
-                1
-            } else {
-                number_in(first.second)
-            };
-            switches::stop_switches(script, cache, every)
-        }
-        "failing_switches" => failing_switches::fail_switches(script, cache),
-        "again" => again::step_again(script, cache),
+        "fails" => failing::fail_commits(script, tally),
+        "openings" => openings::fail_openings(script, tally),
+        "counts" => counts::count(script, tally),
+        "switches" => switches::stop_switches(script, every_of(tries_all, first.second), tally),
+        "failing_switches" => failing_switches::fail_switches(script, tally),
+        "again" => again::step_again(script, tally),
         _ => bail!("there is no such trial"),
     }
+}
+
+/// Of how many devices one is followed by stops.
+fn every_of(tries_all: bool, argument: &str) -> u32 {
+    if tries_all { 1 } else { number_in(argument) }
 }

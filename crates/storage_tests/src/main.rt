@@ -10,6 +10,7 @@ mod arrays;
 mod checks;
 mod images;
 mod journals;
+mod sectors;
 mod stores;
 
 use crate::images::AlteredImages;

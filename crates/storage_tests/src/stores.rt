@@ -32,21 +32,22 @@
 mod caches;
 pub mod call;
 mod callee;
-mod devices;
+pub mod devices;
+pub mod map_calls;
 mod records;
-mod table;
+pub mod table;
+mod tree_calls;
 mod trees;
 
-use crate::stores::call::{CallWords, number_in};
+use crate::stores::caches::run_on_cache;
+use crate::stores::call::CallWords;
 use crate::stores::callee::make_calls;
 use crate::stores::devices::run_on_device;
 use crate::stores::records::run_in_memory;
 use crate::stores::trees::MemoryTree;
 use anyhow::{Result, bail};
-use page_cache::PageCache;
 use sector_device::MemDevice;
 use std::alloc::{AllocError, Global};
-use std::fmt::Display;
 use std::mem;
 use store::{Fault, StoreFault};
 
@@ -92,36 +93,43 @@ fn run(alloc: Global, device: MemDevice, line: &str, out: &mut String) -> Result
     let first = CallWords::new(alloc, word);
     match first.name {
         "device" | "journaled" | "turn" | "sector" | "restart" | "pages" | "open" => {
-            return run_on_device(device, &first, calls, out);
+            run_on_device(device, &first, calls, out)
         }
-        "" => {}
-        "#" => writeln!(out, "{line}")?,
-        "faults" => push_faults(out)?,
-        "tree" => make_calls(alloc, &mut MemoryTree::new(alloc), calls, out)?,
-        "memory" => run_in_memory(&first, calls, out)?,
-        "cache" => {
-            let mut cache = PageCache::new(alloc, number_in(first.first) as usize)?;
-            make_calls(alloc, &mut cache, calls, out)?;
+        _ => {
+            run_elsewhere(&first, calls, line, out)?;
+            Ok(device)
         }
+    }
+}
+
+/// Does what a line says that is not about the device, and appends what came of it.
+fn run_elsewhere(first: &CallWords<'_>, calls: &str, line: &str, out: &mut String) -> Result<()> {
+    match first.name {
+        "" => Ok(()),
+        "#" => {
+            out.push_str(line)?;
+            out.push_str("\n")?;
+            Ok(())
+        }
+        "faults" => Ok(push_faults(out)?),
+        "tree" => make_calls(first.alloc, &mut MemoryTree::new(first.alloc), calls, out),
+        "memory" => run_in_memory(first, calls, out),
+        "cache" => run_on_cache(first, calls, out),
         _ => bail!("a line begins with no word"),
     }
-    Ok(device)
 }
 
 /// Appends the text of each fault of a store, and the text of the fault of a read that it is.
 fn push_faults(out: &mut String) -> Result<(), AllocError> {
-    push_text(out, "of a store: ", &StoreFault::Full)?;
-    push_text(out, "of a read: ", &Fault::from(StoreFault::Full))?;
-    push_text(out, "of a store: ", &StoreFault::Memory)?;
-    push_text(out, "of a read: ", &Fault::from(StoreFault::Memory))?;
-    push_text(out, "of a store: ", &StoreFault::Device)?;
-    push_text(out, "of a read: ", &Fault::from(StoreFault::Device))?;
-    push_text(out, "of a store: ", &StoreFault::Number)?;
-    push_text(out, "of a read: ", &Fault::from(StoreFault::Number))?;
-    push_text(out, "of a read: ", &Fault::Damaged)
-}
-
-/// Appends a line of a text, behind these words.
-fn push_text<T: Display>(out: &mut String, words: &str, text: &T) -> Result<(), AllocError> {
-    writeln!(out, "{words}{text}")
+    for fault in [
+        StoreFault::Full,
+        StoreFault::Memory,
+        StoreFault::Device,
+        StoreFault::Number,
+    ] {
+        let read = Fault::from(fault);
+        writeln!(out, "of a store: {fault}")?;
+        writeln!(out, "of a read: {read}")?;
+    }
+    writeln!(out, "of a read: {}", Fault::Damaged)
 }

@@ -2,6 +2,7 @@
 
 use crate::arrays::bytes::{filled, tag_of};
 use crate::arrays::devices::count_or_fail;
+use crate::arrays::page_calls::{commit, commit_anew, free_page, is_used, new_page, read, write};
 use crate::arrays::words::{Word, byte_of};
 use cow_pages::{CommitFault, CowPages, Format};
 use pages::{PageFault, Pages};
@@ -21,11 +22,11 @@ pub fn do_word(
     match word.name {
         "commit" => {
             let format = format_of(pages, word.first);
-            push_commit(out, pages.commit(format))
+            push_commit(out, commit(pages, format))
         }
         "anew" => {
             let format = format_of(pages, word.first);
-            push_commit(out, pages.commit_anew(format))
+            push_commit(out, commit_anew(pages, format))
         }
         "abandon" => Ok(pages.abandon()),
         "number" => write!(out, " {}", pages.number()),
@@ -51,10 +52,10 @@ pub fn do_page_word<P: Pages>(
     out: &mut String,
 ) -> Result<(), AllocError> {
     match word.name {
-        "read" => push_tag(out, read(pages, word.first)),
-        "write" => push_done(out, pages.write(word.first, &filled(byte_of(word.second)))),
-        "new" => push_number(out, pages.new_page(&filled(byte_of(word.first)))),
-        "free" => push_done(out, pages.free_page(word.first)),
+        "read" => push_tag(out, read_tag(pages, word.first)),
+        "write" => push_done(out, write(pages, word.first, byte_of(word.second))),
+        "new" => push_number(out, new_page(pages, &filled(byte_of(word.first)))),
+        "free" => push_done(out, free_page(pages, word.first)),
         "fill" => push_number(out, fill(pages, byte_of(word.first))),
         "all" => push_all(pages, out),
         _ => out.push_str(" ?"),
@@ -62,9 +63,9 @@ pub fn do_page_word<P: Pages>(
 }
 
 /// The tag of a page, if it has one.
-fn read<P: Pages>(pages: &mut P, page: u32) -> Result<Option<u8>, PageFault> {
+fn read_tag<P: Pages>(pages: &mut P, page: u32) -> Result<Option<u8>, PageFault> {
     let mut bytes = [0; PAGE_SIZE];
-    pages.read(page, &mut bytes)?;
+    read(pages, page, &mut bytes)?;
     Ok(tag_of(&bytes))
 }
 
@@ -72,7 +73,7 @@ fn read<P: Pages>(pages: &mut P, page: u32) -> Result<Option<u8>, PageFault> {
 fn fill<P: Pages>(pages: &mut P, tag: u8) -> Result<u32, PageFault> {
     let bytes = filled(tag);
     for count in 0..u32::MAX {
-        match pages.new_page(&bytes) {
+        match new_page(pages, &bytes) {
             Ok(_) => {}
             Err(PageFault::Full) => return Ok(count),
             Err(fault) => return Err(fault),
@@ -84,9 +85,9 @@ fn fill<P: Pages>(pages: &mut P, tag: u8) -> Result<u32, PageFault> {
 /// Appends the pages that are in use, and the tag of each.
 fn push_all<P: Pages>(pages: &mut P, out: &mut String) -> Result<(), AllocError> {
     for page in 0..LOOKED_AT {
-        if pages.is_used(page) {
+        if is_used(pages, page) {
             write!(out, " {page}=")?;
-            push_tag(out, read(pages, page))?;
+            push_tag(out, read_tag(pages, page))?;
         }
     }
     Ok(())

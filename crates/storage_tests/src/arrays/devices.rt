@@ -4,6 +4,7 @@ use crate::arrays::bytes::{filled, push_bytes};
 use crate::arrays::restarts::restart;
 use crate::arrays::roots::root_of;
 use crate::arrays::words::{Word, byte_of};
+use crate::sectors::{content_of, put};
 use cow_pages::{Format, format, page_count};
 use sector_device::{Device, DeviceFault, MemDevice, SECTOR_SIZE};
 use std::alloc::{AllocError, Global};
@@ -71,14 +72,6 @@ fn format_first(device: &mut MemDevice, tag: u8) -> Result<(), DeviceFault> {
     format(device, Format::Two, &filled(tag))
 }
 
-/// Writes a sector, where the device has it.
-fn put(device: &mut MemDevice, sector: u32, bytes: &[u8; SECTOR_SIZE]) -> Result<(), DeviceFault> {
-    if sector >= device.sectors() {
-        return Err(DeviceFault);
-    }
-    device.write(sector, bytes)
-}
-
 /// Writes a root of a number for a device of 64 pages, with the map page 2, to its sector.
 fn put_root(device: &mut MemDevice, number: u32) -> Result<(), DeviceFault> {
     match root_of(number, 64, &[2]) {
@@ -87,22 +80,9 @@ fn put_root(device: &mut MemDevice, number: u32) -> Result<(), DeviceFault> {
     }
 }
 
-/// Reads a sector, where the device has it.
-fn get(
-    device: &mut MemDevice,
-    sector: u32,
-    bytes: &mut [u8; SECTOR_SIZE],
-) -> Result<(), DeviceFault> {
-    if sector >= device.sectors() {
-        return Err(DeviceFault);
-    }
-    device.read(sector, bytes)
-}
-
 /// Changes one byte of a sector.
 fn change_byte(device: &mut MemDevice, word: Word<'_>) -> Result<(), DeviceFault> {
-    let mut bytes = [0; SECTOR_SIZE];
-    get(device, word.first, &mut bytes)?;
+    let mut bytes = content_of(device, word.first)?;
     if let Some(byte) = bytes.get_mut(word.second as usize) {
         *byte = byte_of(word.third);
     }
@@ -111,11 +91,11 @@ fn change_byte(device: &mut MemDevice, word: Word<'_>) -> Result<(), DeviceFault
 
 /// Reads a sector, and appends its bytes.
 fn push_sector(device: &mut MemDevice, sector: u32, out: &mut String) -> Result<(), AllocError> {
-    let mut bytes = [0; SECTOR_SIZE];
-    let answer = get(device, sector, &mut bytes);
-    push_done(out, answer)?;
-    if answer.is_ok() {
-        push_bytes(out, &bytes)?;
+    match content_of(device, sector) {
+        Ok(bytes) => {
+            out.push_str(" .")?;
+            push_bytes(out, &bytes)
+        }
+        Err(_) => out.push_str(" D"),
     }
-    Ok(())
 }

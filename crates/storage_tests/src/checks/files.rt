@@ -1,35 +1,42 @@
 //! Devices over real files.
+use crate::arrays::page_calls::{commit, new_page, open, read};
 use crate::checks::require::require;
+use crate::sectors::content_of;
 use anyhow::{Result, bail};
 use cow_pages::{CowPages, Format, PAGE_SIZE, format};
 use sector_device::{
     Device, DeviceFault, FileDevice, FileFault, SECTOR_SIZE, SystemCause, SystemFile,
 };
 use std::alloc::Global;
-use std::fmt::Debug;
 use std::fs::{self, File, OpenOptions};
 
-// Removes the file of a test, where there is one.
-fn remove(rt: &HostRuntime, path: &str) {
+/// Removes a file, where there is one.
+pub fn remove(rt: &HostRuntime, path: &str) {
     let _ = fs::remove_file(rt, path);
 }
 
-// Writes a sector, where the device has it.
-fn put(device: &mut FileDevice, sector: u32, bytes: &[u8; SECTOR_SIZE]) -> Result<(), DeviceFault> {
-    if sector >= device.sectors() {
-        return Err(DeviceFault);
-    }
-    device.write(sector, bytes)
+/// Makes an array of a page of sevens on a new file, and commits a page of eights. Both are there where the file is opened again.
+pub fn keeps_commits(rt: &HostRuntime, path: &str) -> Result<()> {
+    let mut device = FileDevice::make(rt, path, 64)?;
+    format_64(&mut device)?;
+    commit_on(rt.alloc(), device)?;
+    check_on(rt.alloc(), FileDevice::open(rt, path)?)
 }
 
-// The content of a sector, where the device has it.
-fn content_of<D: Device>(device: &mut D, sector: u32) -> Result<[u8; SECTOR_SIZE], DeviceFault> {
-    let mut bytes = [0; SECTOR_SIZE];
-    if sector >= device.sectors() {
-        return Err(DeviceFault);
+// Commits a second page on a device.
+fn commit_on<D: Device + Drop>(alloc: Global, device: D) -> Result<()> {
+    match open(alloc, device) {
+        Ok(mut pages) => commit_eights(&mut pages),
+        Err(_) => bail!("not opened"),
     }
-    device.read(sector, &mut bytes)?;
-    Ok(bytes)
+}
+
+// Whether a device has both pages.
+fn check_on<D: Device + Drop>(alloc: Global, device: D) -> Result<()> {
+    match open(alloc, device) {
+        Ok(mut pages) => check_pages(&mut pages),
+        Err(_) => bail!("not opened again"),
+    }
 }
 
 // Makes an array of a page of sevens, where the device has 64 pages.
@@ -40,65 +47,48 @@ fn format_64<D: Device>(device: &mut D) -> Result<(), DeviceFault> {
     format(device, Format::Two, &[7; PAGE_SIZE])
 }
 
-// Opens the array on a device.
-fn opened<D: Device + Drop>(alloc: Global, device: D) -> Result<CowPages<D>> {
-    match CowPages::open(alloc, device) {
-        Ok(pages) => Ok(pages),
-        Err(_) => bail!("not opened"),
-    }
-}
-
-// What a call on pages gave.
-fn done<T, F: Debug + Drop>(given: Result<T, F>) -> Result<T> {
-    match given {
-        Ok(value) => Ok(value),
-        Err(fault) => bail!("{fault:?}"),
-    }
-}
-
 // Commits a second page, of eights.
 fn commit_eights<D: Device>(pages: &mut CowPages<D>) -> Result<()> {
-    done(pages.new_page(&[8; PAGE_SIZE]))?;
-    done(pages.commit(Format::Two))?;
-    Ok(())
-}
-
-// Makes an array on a new file, and commits a second page.
-fn commit_in(rt: &HostRuntime, path: &str) -> Result<()> {
-    let mut device = FileDevice::make(rt, path, 64)?;
-    format_64(&mut device)?;
-    commit_eights(&mut opened(rt.alloc(), device)?)
+    require(new_page(pages, &[8; PAGE_SIZE]).is_ok(), "no new page")?;
+    require(commit(pages, Format::Two).is_ok(), "no commit")
 }
 
 // Whether an array has both pages, after one commit.
 fn check_pages<D: Device>(pages: &mut CowPages<D>) -> Result<()> {
-    let mut bytes = [0; PAGE_SIZE];
-    done(pages.read(0, &mut bytes))?;
-    require(bytes == [7; PAGE_SIZE], "another first page")?;
-    done(pages.read(1, &mut bytes))?;
-    require(bytes == [8; PAGE_SIZE], "another second page")?;
+    require(is_full_of(pages, 0, 7), "another first page")?;
+    require(is_full_of(pages, 1, 8), "another second page")?;
     require(pages.number() == 2, "another number")
 }
 
-pub fn a_file_keeps_commits(rt: &HostRuntime) -> Result<()> {
-    let path = "commits.test";
-    remove(rt, path);
-    commit_in(rt, path)?;
-    check_pages(&mut opened(rt.alloc(), FileDevice::open(rt, path)?)?)?;
-    remove(rt, path);
-    Ok(())
+// Whether a page is full of this byte.
+fn is_full_of<D: Device>(pages: &mut CowPages<D>, page: u32, byte: u8) -> bool {
+    let mut bytes = [0; PAGE_SIZE];
+    read(pages, page, &mut bytes).is_ok() && bytes == [byte; PAGE_SIZE]
+}
+
+/// Fills sector 3 of a new file of three pages with eights. No second file is made there, and a device that is opened reads them.
+pub fn lie_in_order(rt: &HostRuntime, path: &str) -> Result<()> {
+    fill_sector_3(&mut FileDevice::make(rt, path, 3)?)?;
+    let bytes = fs::read(rt, path)?;
+    require(has_sector_3(bytes.as_slice()), "other bytes")?;
+    let again = FileDevice::make(rt, path, 3);
+    require(matches!(again, Err(FileFault::Exists)), "made again")?;
+    let content = content_of(&mut FileDevice::open(rt, path)?, 3)?;
+    require(content == [8; SECTOR_SIZE], "another content")
 }
 
 // Fills sector 3 of a device with eights.
-fn fill_sector_3(device: &mut FileDevice) -> Result<()> {
-    put(device, 3, &[8; SECTOR_SIZE])?;
-    device.sync()?;
-    Ok(())
+fn fill_sector_3(device: &mut FileDevice) -> Result<(), DeviceFault> {
+    put(device, 3, 8)?;
+    device.sync()
 }
 
-// Makes a file of three pages, and fills its sector 3 with eights.
-fn write_sector_3(rt: &HostRuntime, path: &str) -> Result<()> {
-    fill_sector_3(&mut FileDevice::make(rt, path, 3)?)
+// Fills a sector with this byte, where the device has it.
+fn put(device: &mut FileDevice, sector: u32, byte: u8) -> Result<(), DeviceFault> {
+    if sector >= device.sectors() {
+        return Err(DeviceFault);
+    }
+    device.write(sector, &[byte; SECTOR_SIZE])
 }
 
 // Whether the bytes of a file are those of three pages, of which sector 3 is full of eights and the others of zeros.
@@ -112,33 +102,12 @@ fn has_sector_3(bytes: &[u8]) -> bool {
     bytes.len() == 12_288
 }
 
-// Whether a file has these bytes.
-fn check_bytes(rt: &HostRuntime, path: &str) -> Result<()> {
-    let bytes = fs::read(rt, path)?;
-    require(has_sector_3(bytes.as_slice()), "other bytes")
-}
-
-// Whether no device is made over a file that is there.
-fn check_not_made(rt: &HostRuntime, path: &str) -> Result<()> {
-    let again = FileDevice::make(rt, path, 3);
-    require(matches!(again, Err(FileFault::Exists)), "made again")
-}
-
-// Whether sector 3 of a device is full of eights.
-fn check_sector_3<D: Device>(device: &mut D) -> Result<()> {
-    let content = content_of(device, 3)?;
-    require(content == [8; SECTOR_SIZE], "another content")
-}
-
-pub fn sectors_lie_one_after_the_other_in_a_file(rt: &HostRuntime) -> Result<()> {
-    let path = "sectors.test";
-    remove(rt, path);
-    write_sector_3(rt, path)?;
-    check_bytes(rt, path)?;
-    check_not_made(rt, path)?;
-    check_sector_3(&mut FileDevice::open(rt, path)?)?;
-    remove(rt, path);
-    Ok(())
+/// Cuts the file of a device of two pages in the middle of its last sector. The system gives the first half of it and no more: the
+/// whole read fails.
+pub fn fails_cut_short(rt: &HostRuntime, path: &str) -> Result<()> {
+    let mut device = FileDevice::make(rt, path, 2)?;
+    set_length(rt, path, 8_192 - 256)?;
+    check_last(&mut device)
 }
 
 // Whether the last sector of a device of two pages fails, and the one before it has zeros.
@@ -147,21 +116,6 @@ fn check_last<D: Device>(device: &mut D) -> Result<()> {
     require(whole == [0; SECTOR_SIZE], "other bytes")?;
     require(content_of(device, 15).is_err(), "half a sector")?;
     require(device.failures() == 1, "other failures")
-}
-
-/// The system gives the first half of the last sector and no more: the whole read fails.
-pub fn a_sector_that_is_cut_short_fails(rt: &HostRuntime) -> Result<()> {
-    let path = "cut_short.test";
-    remove(rt, path);
-    check_cut(rt, path, &mut FileDevice::make(rt, path, 2)?)?;
-    remove(rt, path);
-    Ok(())
-}
-
-// Cuts the file of a device of two pages in the middle of its last sector.
-fn check_cut<D: Device>(rt: &HostRuntime, path: &str, device: &mut D) -> Result<()> {
-    set_length(rt, path, 8_192 - 256)?;
-    check_last(device)
 }
 
 // Cuts a file to a length, or grows it.
@@ -179,43 +133,30 @@ const LENGTHS: [(u64, u32); 5] = [
     (65_537 * 4_096, 0),
 ];
 
-pub fn a_file_has_sectors_where_it_is_of_whole_pages(rt: &HostRuntime) -> Result<()> {
-    let path = "lengths.test";
-    remove(rt, path);
+/// Gives a file each of these lengths, and opens it.
+pub fn has_whole_pages(rt: &HostRuntime, path: &str) -> Result<()> {
     drop(FileDevice::make(rt, path, 2)?);
     for (length, sectors) in LENGTHS {
         set_length(rt, path, length)?;
-        check_sectors(rt, path, sectors)?;
+        let found = FileDevice::open(rt, path)?.sectors();
+        require(found == sectors, "other sectors")?;
     }
-    remove(rt, path);
     Ok(())
 }
 
-// Whether a file has so many sectors.
-fn check_sectors(rt: &HostRuntime, path: &str, sectors: u32) -> Result<()> {
-    let found = FileDevice::open(rt, path)?.sectors();
-    require(found == sectors, "other sectors")
-}
-
-// Whether a device of one page refuses to be written, and is read.
-fn check_unwritten(device: &mut FileDevice) -> Result<()> {
-    require(put(device, 0, &[1; SECTOR_SIZE]).is_err(), "written")?;
+/// A device over a file that is opened to be read alone refuses to be written, and is read.
+pub fn is_only_read(rt: &HostRuntime, path: &str) -> Result<()> {
+    drop(FileDevice::make(rt, path, 1)?);
+    let file = SystemFile::opened(File::open(rt, path)?);
+    let mut device = FileDevice::stand_over(file)?;
+    require(put(&mut device, 0, 1).is_err(), "written")?;
     require(device.failures() == 1, "other failures")?;
-    let content = content_of(device, 0)?;
+    let content = content_of(&mut device, 0)?;
     require(content == [0; SECTOR_SIZE], "other bytes")
 }
 
-pub fn a_file_opened_to_be_read_is_not_written(rt: &HostRuntime) -> Result<()> {
-    let path = "read_only.test";
-    remove(rt, path);
-    drop(FileDevice::make(rt, path, 1)?);
-    let file = SystemFile::opened(File::open(rt, path)?);
-    check_unwritten(&mut FileDevice::stand_over(file)?)?;
-    remove(rt, path);
-    Ok(())
-}
-
-pub fn no_file_is_found_where_there_is_none(rt: &HostRuntime) -> Result<()> {
+/// No file is made in a folder that is not there, and none is opened that is not.
+pub fn finds_none(rt: &HostRuntime) -> Result<()> {
     let made = FileDevice::make(rt, "no_such_folder.test/db", 1);
     require(
         matches!(made, Err(FileFault::Device(SystemCause::NotFound))),

@@ -2,60 +2,83 @@
 use crate::checks::require::require;
 use anyhow::Result;
 use journal_records::{PART_SIZE, write_sectors};
-use sector_device::{Device, MemDevice};
+use sector_device::{Device, MemDevice, SECTOR_SIZE};
 use sector_journal::{JournalFault, append, read_journal};
-use std::alloc::Global;
+use std::alloc::{AllocError, Global};
+
+// What the journal of a root has: how many records, the greatest number, and how many sectors its records take.
+#[derive(Clone, Copy)]
+enum FoundJournal {
+    Records(usize, u64, u16),
+    Damaged,
+    Failed,
+}
+
+// What the journal of a root has on a device of one page.
+fn found(alloc: Global, device: &mut MemDevice, root: u64) -> FoundJournal {
+    if device.sectors() < 8 {
+        return FoundJournal::Failed;
+    }
+    match read_journal(device, alloc, 2, 6, root) {
+        Ok(journal) => FoundJournal::Records(journal.records.len(), journal.top, journal.end),
+        Err(JournalFault::Damaged) => FoundJournal::Damaged,
+        Err(_) => FoundJournal::Failed,
+    }
+}
+
+// Appends sectors to the journal of a device of one page. Whether they are appended.
+fn is_appended(device: &mut MemDevice, first: u32, sectors: &[[u8; SECTOR_SIZE]]) -> bool {
+    if device.sectors() < 8 || first > 6 || sectors.len() > 2 {
+        return false;
+    }
+    append(device, first, sectors).is_ok()
+}
+
+// The two sectors of a record of the root 7 and of the number 9.
+fn two_sectors(alloc: Global) -> Result<Vec<[u8; SECTOR_SIZE]>, AllocError> {
+    write_sectors(alloc, 7, 9, &[5; 2 * PART_SIZE])
+}
 
 pub fn a_record_is_read_again(alloc: Global) -> Result<()> {
     let mut device = MemDevice::new(alloc, 1)?;
-    let sectors = write_sectors(alloc, 7, 9, &[5; 2 * PART_SIZE])?;
-    require(append(&mut device, 2, &sectors).is_ok(), "it is appended")?;
-    let Ok(journal) = read_journal(&mut device, alloc, 2, 6, 7) else {
-        return require(false, "the journal is damaged");
-    };
+    let is_appended = is_appended(&mut device, 2, &two_sectors(alloc)?);
+    require(is_appended, "it is appended")?;
+    check_roots(alloc, &mut device)
+}
+
+// Sees which records three roots have.
+fn check_roots(alloc: Global, device: &mut MemDevice) -> Result<()> {
     require(
-        journal.records.len() == 1 && journal.top == 9 && journal.end == 2,
+        matches!(found(alloc, device, 7), FoundJournal::Records(1, 9, 2)),
         "one record of two sectors",
     )?;
-    let Ok(later) = read_journal(&mut device, alloc, 2, 6, 8) else {
-        return require(false, "the journal of the next root is damaged");
-    };
     require(
-        later.records.is_empty() && later.top == 9 && later.end == 0,
+        matches!(found(alloc, device, 8), FoundJournal::Records(0, 9, 0)),
         "none behind the next root",
     )?;
     require(
-        matches!(
-            read_journal(&mut device, alloc, 2, 6, 6),
-            Err(JournalFault::Damaged)
-        ),
+        matches!(found(alloc, device, 6), FoundJournal::Damaged),
         "a tag of a later root is a fault",
     )
 }
 
 pub fn sectors_that_are_no_journal(alloc: Global) -> Result<()> {
     let mut device = MemDevice::new(alloc, 1)?;
-    let sectors = write_sectors(alloc, 7, 9, &[5; 2 * PART_SIZE])?;
+    let mut sectors = two_sectors(alloc)?;
+    sectors.truncate(1);
+    check_cut_off(alloc, &mut device, &sectors)
+}
+
+// Sees that a record that was cut off is none, and that one behind the end is a fault.
+fn check_cut_off(alloc: Global, device: &mut MemDevice, front: &[[u8; SECTOR_SIZE]]) -> Result<()> {
+    require(is_appended(device, 2, front), "its first sector")?;
     require(
-        append(&mut device, 2, &sectors[..1]).is_ok(),
-        "its first sector",
-    )?;
-    let Ok(journal) = read_journal(&mut device, alloc, 2, 6, 7) else {
-        return require(false, "a record that was cut off is a fault");
-    };
-    require(
-        journal.records.is_empty() && journal.top == 9,
+        matches!(found(alloc, device, 7), FoundJournal::Records(0, 9, _)),
         "no record, and its number",
     )?;
+    require(is_appended(device, 4, front), "the same behind the end")?;
     require(
-        append(&mut device, 4, &sectors[..1]).is_ok(),
-        "the same behind the end",
-    )?;
-    require(
-        matches!(
-            read_journal(&mut device, alloc, 2, 6, 7),
-            Err(JournalFault::Damaged)
-        ),
+        matches!(found(alloc, device, 7), FoundJournal::Damaged),
         "a record behind the end is a fault",
     )
 }

@@ -1,10 +1,18 @@
 //! What the store says of an image.
 
-use crate::images::contents::Contents;
+use crate::stores::map_calls::advance;
+use crate::stores::table::digest_with_entry;
 use kv_store::{OpenFault, PageStore, StoreFault};
 use sector_device::{FileDevice, MemFile};
 use std::alloc::{AllocError, Global};
 use store::Cursor;
+
+/// How many records there are, and the digest of all of them in turn.
+#[derive(Clone, Copy)]
+pub struct Contents {
+    pub records: u64,
+    pub digest: u64,
+}
 
 /// What it finds on the image, or why it does not open it; `Device` also where a read fails.
 pub type ImageAnswer = Result<Contents, OpenFault>;
@@ -14,9 +22,7 @@ type ImageDevice = FileDevice<MemFile>;
 
 /// What the store says of an image.
 pub fn answer_to(alloc: Global, image: &[u8]) -> ImageAnswer {
-    let mut store = store_over(alloc, image)?;
-    let mut cursor = Cursor::over(alloc, &[])?;
-    contents_of(&mut store, &mut cursor)
+    contents_of(alloc, store_over(alloc, image)?)
 }
 
 /// The store on an image.
@@ -37,31 +43,35 @@ fn device_over(alloc: Global, image: &[u8]) -> Result<ImageDevice, OpenFault> {
 }
 
 /// The records of a store that a cursor comes to.
-fn contents_of(store: &mut PageStore<ImageDevice>, cursor: &mut Cursor) -> ImageAnswer {
-    let mut contents = Contents::new();
+fn contents_of(alloc: Global, store: PageStore<ImageDevice>) -> ImageAnswer {
+    let mut store = store;
+    let mut cursor = Cursor::over(alloc, &[])?;
+    let mut contents = Contents {
+        records: 0,
+        digest: 1,
+    };
     for _ in 0..u32::MAX {
-        if !advance(store, cursor)? {
-            return Ok(contents);
+        match advance(&mut cursor, &mut store) {
+            Ok(true) => add(&mut contents, cursor.entry().key(), cursor.entry().value()),
+            Ok(false) => return Ok(contents),
+            Err(StoreFault::Memory) => return Err(OpenFault::Memory),
+            Err(_) => return Err(OpenFault::Device),
         }
-        contents.add(cursor.entry());
     }
     Err(OpenFault::Device)
 }
 
-/// Moves a cursor to the next record. Answers whether there is one.
-fn advance(store: &mut PageStore<ImageDevice>, cursor: &mut Cursor) -> Result<bool, OpenFault> {
-    match cursor.advance(store) {
-        Ok(is_one) => Ok(is_one),
-        Err(StoreFault::Memory) => Err(OpenFault::Memory),
-        Err(_) => Err(OpenFault::Device),
-    }
+/// Adds a record.
+fn add(contents: &mut Contents, key: &[u8], value: &[u8]) {
+    contents.records = contents.records.wrapping_add(1);
+    contents.digest = digest_with_entry(contents.digest, key, value);
 }
 
 /// Appends a line of an answer to an image of this name.
 pub fn push_line(out: &mut String, name: &str, answer: &ImageAnswer) -> Result<(), AllocError> {
     match answer {
         Ok(contents) => {
-            let (records, digest) = (contents.records, contents.digest());
+            let (records, digest) = (contents.records, contents.digest);
             writeln!(out, "{name}: opened, {records} records, {digest:08x}")
         }
         Err(fault) => writeln!(out, "{name}: {fault:?}"),
@@ -72,7 +82,7 @@ pub fn push_line(out: &mut String, name: &str, answer: &ImageAnswer) -> Result<(
 pub fn push_short(out: &mut String, answer: &ImageAnswer) -> Result<(), AllocError> {
     match answer {
         Ok(contents) => {
-            let digest = contents.digest();
+            let digest = contents.digest;
             write!(out, "{digest:08x}")
         }
         Err(OpenFault::WrongSize) => out.push_str("S"),

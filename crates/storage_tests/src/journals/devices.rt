@@ -1,188 +1,99 @@
-//! Devices of a trial, what they hold, and the stores on them.
+//! Devices of a trial, and what they hold.
 
-use crate::journals::choices::SectorChoice;
-use crate::journals::logged::{LoggedDevice, SECTORS};
-use anyhow::{Result, bail};
-use device_store::DeviceStore;
-use journal_store::JournalStore;
-use kv_store::{MAX_CACHE_PAGES, PageStore};
-use sector_device::{Device, Guarded, MemDevice, SECTOR_SIZE};
-use std::alloc::{AllocError, Global};
-use store::Entry;
+use crate::journals::logged::LoggedDevice;
+use journal_switches::{SwitchFault, turn_off, turn_on};
+use kv_store::OpenFault;
+use sector_device::{Guarded, MemDevice};
+use std::alloc::Global;
+use store::StoreFault;
 
 /// How many pages a device has.
-const PAGES: u32 = 64;
+pub const PAGES: u32 = 64;
 
 /// A device of a trial.
 pub type TrialDevice = Guarded<LoggedDevice<MemDevice>>;
 
-/// A store of a trial.
-pub type TrialStore = DeviceStore<TrialDevice>;
-
-/// A sector that is not zero: its number, its content at the last sync, and its last one.
+/// What is to happen to a device.
 #[derive(Clone, Copy)]
-struct HeldSector {
-    number: u32,
-    synced: [u8; SECTOR_SIZE],
-    last: [u8; SECTOR_SIZE],
+pub enum DeviceEvent {
+    /// It stops after so many writes.
+    Stop(u64),
+    /// A call fails that comes after so many, and does nothing.
+    Failure(u64),
+    /// A call fails that comes after so many, and is carried out all the same.
+    LateFailure(u64),
 }
 
-/// What a device holds.
-pub struct TrialImage {
-    alloc: Global,
-    sectors: Vec<HeldSector>,
-}
-
-// Written and not derived: where a value is dropped this is one call, and not its parts one by one.
-impl Drop for TrialImage {
-    fn drop(self) {
-        let TrialImage {
-            alloc: _,
-            sectors: _,
-        } = self;
-    }
-}
-
-impl TrialImage {
-    /// What a device holds. It is started again for that.
-    pub fn of(alloc: Global, device: TrialDevice) -> Result<TrialImage> {
-        let mut device = device.into_device().into_device();
-        // calls pass again
-        device.stop_after(u64::MAX);
-        let mut sectors = Vec::new(alloc);
-        for number in 0..SECTORS {
-            let last = content(&mut device, number)?;
-            sectors.push(HeldSector {
-                number,
-                synced: last,
-                last,
-            })?;
+impl DeviceEvent {
+    /// Lets it happen to a device.
+    pub fn prepare(self, device: &TrialDevice) {
+        let memory = &device.device().device;
+        match self {
+            DeviceEvent::Stop(writes) => memory.stop_after(writes),
+            DeviceEvent::Failure(calls) => memory.fail_call(calls),
+            DeviceEvent::LateFailure(calls) => memory.fail_call_late(calls),
         }
-        restart(&mut device, SectorChoice::Old)?;
-        for held in sectors.iter_mut() {
-            held.synced = content(&mut device, held.number)?;
+    }
+}
+
+/// Whether a journal is turned on or off.
+#[derive(Clone, Copy)]
+pub enum JournalSwitch {
+    On,
+    Off,
+}
+
+/// What came of a journal that is turned on or off: the number of the store, or why it was refused.
+#[derive(Clone, Copy)]
+pub enum SwitchAnswer {
+    Number(u64),
+    Device,
+    Memory,
+    Other,
+}
+
+impl SwitchAnswer {
+    /// The number, where it is one.
+    pub fn number(self) -> Option<u64> {
+        match self {
+            SwitchAnswer::Number(number) => Some(number),
+            SwitchAnswer::Device | SwitchAnswer::Memory | SwitchAnswer::Other => None,
         }
-        sectors.retain(|held| !held.is_zero());
-        Ok(TrialImage { alloc, sectors })
     }
+}
 
-    /// What the device holds after a stop.
-    pub fn restarted(&self, choice: SectorChoice) -> Result<TrialImage, AllocError> {
-        let mut sectors = self.sectors.clone()?;
-        for held in sectors.iter_mut() {
-            if choice.is_new(held.number) {
-                held.synced = held.last;
-            } else {
-                held.last = held.synced;
-            }
+impl JournalSwitch {
+    /// Whether it is turned on.
+    pub fn is_on(self) -> bool {
+        match self {
+            JournalSwitch::On => true,
+            JournalSwitch::Off => false,
         }
-        Ok(TrialImage {
-            alloc: self.alloc,
-            sectors,
-        })
     }
 
-    /// What a sector was given last.
-    pub fn last_content(&self, sector: u32) -> [u8; SECTOR_SIZE] {
-        for held in &self.sectors {
-            if held.number == sector {
-                return held.last;
-            }
+    /// Turns the journal of the store on a device on or off, and hands the device back.
+    pub fn turn(self, alloc: Global, device: TrialDevice) -> (TrialDevice, SwitchAnswer) {
+        let (device, answer) = self.turned(alloc, device);
+        (device, switch_answer(answer))
+    }
+
+    /// What turning it on or off answers.
+    fn turned(self, alloc: Global, device: TrialDevice) -> (TrialDevice, Result<u64, SwitchFault>) {
+        match self {
+            JournalSwitch::On => turn_on(alloc, device),
+            JournalSwitch::Off => turn_off(alloc, device),
         }
-        [0; SECTOR_SIZE]
-    }
-
-    /// A device that holds this: what is unsynced is unsynced still.
-    pub fn device(&self) -> Result<TrialDevice> {
-        let mut device = MemDevice::new(self.alloc, PAGES)?;
-        for held in &self.sectors {
-            write(&mut device, held.number, &held.synced)?;
-        }
-        device.sync()?;
-        for held in &self.sectors {
-            write(&mut device, held.number, &held.last)?;
-        }
-        Ok(Guarded::new(LoggedDevice::new(device)))
     }
 }
 
-impl HeldSector {
-    /// Whether it is zero, after a stop too.
-    fn is_zero(&self) -> bool {
-        self.synced == [0; SECTOR_SIZE] && self.last == [0; SECTOR_SIZE]
+/// What an answer says.
+fn switch_answer(answer: Result<u64, SwitchFault>) -> SwitchAnswer {
+    match answer {
+        Ok(number) => SwitchAnswer::Number(number),
+        Err(SwitchFault::Refused(StoreFault::Device)) => SwitchAnswer::Device,
+        Err(SwitchFault::Unopened(OpenFault::Device)) => SwitchAnswer::Device,
+        Err(SwitchFault::Refused(StoreFault::Memory)) => SwitchAnswer::Memory,
+        Err(SwitchFault::Unopened(OpenFault::Memory)) => SwitchAnswer::Memory,
+        Err(_) => SwitchAnswer::Other,
     }
-}
-
-/// Reads a sector, where the device has it.
-fn content(device: &mut MemDevice, sector: u32) -> Result<[u8; SECTOR_SIZE]> {
-    let mut bytes = [0; SECTOR_SIZE];
-    if sector >= device.sectors() {
-        bail!("no sector of the device");
-    }
-    device.read(sector, &mut bytes)?;
-    Ok(bytes)
-}
-
-/// Writes a sector, where the device has it.
-fn write(device: &mut MemDevice, sector: u32, bytes: &[u8; SECTOR_SIZE]) -> Result<()> {
-    if sector >= device.sectors() {
-        bail!("no sector of the device");
-    }
-    device.write(sector, bytes)?;
-    Ok(())
-}
-
-/// Starts a device again after a stop.
-fn restart(device: &mut MemDevice, choice: SectorChoice) -> Result<()> {
-    if device.sectors() != SECTORS {
-        bail!("a device of another size");
-    }
-    let mut new = [false; SECTORS as usize];
-    for sector in 0..SECTORS {
-        new[sector as usize] = choice.is_new(sector);
-    }
-    device.restart(&new);
-    Ok(())
-}
-
-/// A device that is started again after a stop.
-pub fn restarted(device: TrialDevice, choice: SectorChoice) -> Result<TrialDevice> {
-    let mut device = device.into_device().into_device();
-    restart(&mut device, choice)?;
-    Ok(Guarded::new(LoggedDevice::new(device)))
-}
-
-/// A device with a new store, with a journal or without, that has the record of the role root.
-pub fn new_device(alloc: Global, has_journal: bool) -> Result<TrialDevice> {
-    let mut device = Guarded::new(LoggedDevice::new(MemDevice::new(alloc, PAGES)?));
-    if device.sectors() != SECTORS {
-        bail!("a device of another size");
-    }
-    let key = Vec::from_slice(alloc, "\u{1}root".as_bytes())?;
-    let first = Entry::from_parts(key, Vec::from_slice(alloc, &[3])?);
-    let made = if has_journal {
-        JournalStore::format(alloc, &mut device, &first)
-    } else {
-        PageStore::format(alloc, &mut device, &first)
-    };
-    match made {
-        Ok(()) => Ok(device),
-        Err(_) => bail!("not formatted"),
-    }
-}
-
-/// The store on a device.
-pub fn opened(alloc: Global, device: TrialDevice, cache: usize) -> Result<TrialStore> {
-    if cache == 0 || cache > MAX_CACHE_PAGES {
-        bail!("no size of a cache");
-    }
-    match DeviceStore::open_with(alloc, device, cache) {
-        Ok(store) => Ok(store),
-        Err((_, fault)) => bail!("not opened: {fault:?}"),
-    }
-}
-
-/// The device in memory below a store.
-pub fn memory_below(store: &TrialStore) -> &MemDevice {
-    &store.device().device().device
 }

@@ -1,134 +1,110 @@
 //! Commits of which a call of the device fails.
 
-use crate::journals::batches::BatchScript;
-use crate::journals::choices::choices_for;
-use crate::journals::devices::{TrialImage, TrialStore, memory_below, new_device, opened};
+use crate::journals::devices::DeviceEvent;
+use crate::journals::images::TrialImage;
+use crate::journals::script::BatchScript;
 use crate::journals::tally::TrialTally;
-use crate::journals::wanted::{Made, same_records, wanted_after};
+use crate::journals::trial_stores::{TrialStore, new_device, opened};
+use crate::journals::wanted::wanted_first;
 use anyhow::Result;
-use store::{Entry, Map, Store, StoreFault};
+use store::StoreFault;
 
 /// More calls than a commit makes on 64 pages.
 const MAX_CALLS: u64 = 1_024;
 
-/// The commits of a script of which one has calls that fail.
-#[derive(Drop)]
-struct FailingCommits<'a> {
-    script: &'a BatchScript,
-    cache: usize,
-    index: usize,
-    tally: TrialTally,
-}
-
 /// Makes each call fail that a commit of a script makes.
-pub fn fail_commits(script: &BatchScript, cache: usize) -> Result<TrialTally> {
-    let mut failing = FailingCommits {
-        script,
-        cache,
-        index: 0,
-        tally: TrialTally::new(script.alloc, "failing calls", "devices"),
-    };
+pub fn fail_commits(script: &BatchScript, tally: &mut TrialTally) -> Result<()> {
     for index in 0..script.len() {
-        failing.index = index;
-        for calls in 0..MAX_CALLS {
-            let passes = failing.fail_call(calls, false)?;
-            if failing.fail_call(calls, true)? && passes {
-                break;
-            }
-        }
+        fail_calls(script, index, tally)?;
     }
-    let FailingCommits {
-        script: _,
-        cache: _,
-        index: _,
-        tally,
-    } = failing;
-    Ok(tally)
+    Ok(())
 }
 
-impl<'a> FailingCommits<'a> {
-    /// Makes a call fail that comes after so many. Answers whether the commit makes no more calls than these.
-    fn fail_call(&mut self, calls: u64, is_late: bool) -> Result<bool> {
-        let mut store = self.opened_before()?;
-        let failures = store.failures();
-        if is_late {
-            memory_below(&store).fail_call_late(calls);
-        } else {
-            memory_below(&store).fail_call(calls);
+/// Makes each call of a commit fail, before it is carried out or after.
+fn fail_calls(script: &BatchScript, index: usize, tally: &mut TrialTally) -> Result<()> {
+    for calls in 0..MAX_CALLS {
+        let passes = fail_call(script, index, DeviceEvent::Failure(calls), tally)?;
+        if fail_call(script, index, DeviceEvent::LateFailure(calls), tally)? && passes {
+            return Ok(());
         }
-        let answer = store.commit(&self.script.batch(self.index, 0)?);
-        if store.failures() == failures {
-            self.tally.disagree(answer.is_ok(), "a commit is not made")?;
-            return Ok(true);
-        }
-        self.tally.count_first();
-        self.tally.disagree(
-            answer == Err(StoreFault::Device),
-            "a failure is answered otherwise",
-        )?;
-        self.is_closed(&mut store, failures.saturating_add(1))?;
-        self.check_restarts(store)?;
-        Ok(false)
     }
+    Ok(())
+}
 
-    /// A store in which the commits before were made.
-    fn opened_before(&mut self) -> Result<TrialStore> {
-        let alloc = self.script.alloc;
-        let mut store = opened(alloc, new_device(alloc, true)?, self.cache)?;
-        for index in 0..self.index {
-            let answer = store.commit(&self.script.batch(index, 0)?);
-            self.tally.disagree(answer.is_ok(), "a commit is not made")?;
-        }
-        Ok(store)
+/// Makes a call fail. Answers whether the commit makes no more calls than those before it.
+fn fail_call(
+    script: &BatchScript,
+    index: usize,
+    event: DeviceEvent,
+    tally: &mut TrialTally,
+) -> Result<bool> {
+    let mut store = opened(script, new_device(script.alloc, true)?)?;
+    commit_first(script, &mut store, index, tally)?;
+    let failures = store.failures();
+    store.prepare(event);
+    let answer = store.commit(&script.batch(index, 0)?);
+    if store.failures() == failures {
+        tally.disagree(answer.is_ok(), "a commit is not made");
+        return Ok(true);
     }
+    tally.count_first();
+    let is_so = answer == Err(StoreFault::Device);
+    tally.disagree(is_so, "a failure is answered otherwise");
+    store.prepare(DeviceEvent::Stop(0));
+    let is_closed = store.is_closed(&script.batch(index, 1)?);
+    tally.disagree(is_closed, "a call is answered after a failure");
+    let is_quiet = store.failures() == failures.saturating_add(1);
+    tally.disagree(is_quiet, "a call is made after a failure");
+    check_restarts(script, index, store, tally)?;
+    Ok(false)
+}
 
-    /// Sees that a store answers Device alone, and makes no call of its device, of which so many failed.
-    fn is_closed(&mut self, store: &mut TrialStore, failures: u64) -> Result<()> {
-        memory_below(store).stop_after(0);
-        let mut entry = Entry::new(self.script.alloc);
-        let read = store.get(&[1], &mut entry);
-        let committed = store.commit(&self.script.batch(self.index, 1)?);
-        let is_closed = read == Err(StoreFault::Device) && committed == Err(StoreFault::Device);
-        self.tally
-            .disagree(is_closed, "a call is answered after a failure")?;
-        self.tally.disagree(
-            store.failures() == failures,
-            "a call is made after a failure",
-        )?;
-        Ok(())
+/// Makes so many commits, the first ones.
+fn commit_first(
+    script: &BatchScript,
+    store: &mut TrialStore,
+    commits: usize,
+    tally: &mut TrialTally,
+) -> Result<()> {
+    for index in 0..commits {
+        let answer = store.commit(&script.batch(index, 0)?);
+        tally.disagree(answer.is_ok(), "a commit is not made");
     }
+    Ok(())
+}
 
-    /// Sees what the device has, as it is and started again.
-    fn check_restarts(&mut self, store: TrialStore) -> Result<()> {
-        let device = store.into_device();
-        let unsynced = device.device().unsynced();
-        let image = TrialImage::of(self.script.alloc, device)?;
-        self.check(&image)?;
-        for choice in &choices_for(self.script.alloc, &unsynced)? {
-            self.check(&image.restarted(*choice)?)?;
-        }
-        Ok(())
+/// Sees what the device has, as it is and started again.
+fn check_restarts(
+    script: &BatchScript,
+    index: usize,
+    store: TrialStore,
+    tally: &mut TrialTally,
+) -> Result<()> {
+    let image = TrialImage::of(script.alloc, store.into_device())?;
+    check(script, index, &image, tally)?;
+    for choice in &image.choices()? {
+        check(script, index, &image.restarted(*choice)?, tally)?;
     }
+    Ok(())
+}
 
-    /// Sees that a device has the records before the commit or those after it.
-    fn check(&mut self, image: &TrialImage) -> Result<()> {
-        self.tally.count_second();
-        let mut store = opened(self.script.alloc, image.device()?, self.cache)?;
-        let is_found = self.has(&mut store, self.index)?
-            || self.has(&mut store, self.index.saturating_add(1))?;
-        self.tally
-            .disagree(is_found, "other records after a failure")?;
-        Ok(())
-    }
+/// Sees that a device has the records before the commit of an index or those after it.
+fn check(
+    script: &BatchScript,
+    index: usize,
+    image: &TrialImage,
+    tally: &mut TrialTally,
+) -> Result<()> {
+    tally.count_second();
+    let mut store = opened(script, image.device()?)?;
+    let is_found = has(script, &mut store, index)?
+        || has(script, &mut store, index.saturating_add(1))?;
+    tally.disagree(is_found, "other records after a failure");
+    Ok(())
+}
 
-    /// Whether a store has the records after so many commits.
-    fn has(&self, store: &mut TrialStore, commits: usize) -> Result<bool> {
-        let alloc = self.script.alloc;
-        let mut made = Vec::new(alloc);
-        for index in 0..commits {
-            made.push(Made { index, life: 0 })?;
-        }
-        let mut wanted = wanted_after(self.script, &made)?;
-        Ok(same_records(alloc, store, &mut wanted)?)
-    }
+/// Whether a store has the records after so many commits.
+pub fn has(script: &BatchScript, store: &mut TrialStore, commits: usize) -> Result<bool> {
+    let mut wanted = wanted_first(script, commits)?;
+    Ok(store.has(&mut wanted)?)
 }

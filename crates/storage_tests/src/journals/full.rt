@@ -1,12 +1,15 @@
 //! Devices that are full.
 
-use crate::journals::devices::{TrialStore, new_device, opened};
-use crate::journals::wanted::{new_memory, same_records};
+use crate::journals::script::BatchScript;
+use crate::journals::trial_stores::{TrialStore, new_device, opened};
+use crate::journals::wanted::new_memory;
 use crate::stores::call::{CallWords, number_in};
+use crate::stores::map_calls::commit;
+use crate::stores::table::add_change;
 use anyhow::{Result, bail};
 use kv_store::DEFAULT_CACHE_PAGES;
 use std::alloc::Global;
-use store::{Batch, MAX_VALUE_LENGTH, MemStore, Store, StoreFault};
+use store::{Batch, MemStore, StoreFault};
 
 /// How many rows are changed in a round.
 const CHANGED: u32 = 7;
@@ -29,10 +32,11 @@ impl Drop for Filled {
 
 impl Filled {
     /// A new store, with a journal or without.
-    fn new(alloc: Global, has_journal: bool) -> Result<Filled> {
+    fn new(script: &BatchScript, has_journal: bool) -> Result<Filled> {
+        let store = opened(script, new_device(script.alloc, has_journal)?)?;
         Ok(Filled {
-            store: opened(alloc, new_device(alloc, has_journal)?, DEFAULT_CACHE_PAGES)?,
-            memory: new_memory(alloc)?,
+            store,
+            memory: new_memory(script.alloc)?,
         })
     }
 
@@ -40,52 +44,38 @@ impl Filled {
     fn commit(&mut self, batch: &Batch) -> Result<bool> {
         match self.store.commit(batch) {
             Ok(()) => {
-                self.memory.commit(batch)?;
+                commit(&mut self.memory, batch)?;
                 Ok(true)
             }
             Err(StoreFault::Full) => Ok(false),
             Err(fault) => bail!("another answer: {fault:?}"),
         }
     }
-
-    /// Whether the store has the rows of the one in memory.
-    fn is_same(&mut self, alloc: Global) -> Result<bool> {
-        Ok(same_records(alloc, &mut self.store, &mut self.memory)?)
-    }
 }
 
-/// A store with a journal, and one without.
+/// A store with a journal, and one without, whose rows have so many bytes.
+#[derive(Drop)]
 struct StorePair {
     alloc: Global,
     journaled: Filled,
     plain: Filled,
     size: usize,
-    /// How often the one with a journal was full where the other was not.
-    alone: u32,
-}
-
-// Written and not derived: where a value is dropped this is one call, and not its parts one by one.
-impl Drop for StorePair {
-    fn drop(self) {
-        let StorePair {
-            alloc: _,
-            journaled: _,
-            plain: _,
-            size: _,
-            alone: _,
-        } = self;
-    }
 }
 
 /// Fills the two stores that a line names, changes rows of them in so many rounds, and appends what came of it.
 pub fn fill(call: &CallWords<'_>, out: &mut String) -> Result<()> {
-    let mut pair = StorePair::new(call.alloc, number_in(call.second) as usize)?;
+    let script = BatchScript::new(call.alloc, DEFAULT_CACHE_PAGES, "")?;
+    let mut pair = StorePair {
+        alloc: call.alloc,
+        journaled: Filled::new(&script, true)?,
+        plain: Filled::new(&script, false)?,
+        size: number_in(call.second) as usize,
+    };
     let rows = pair.fill()?;
-    for round in 0..number_in(call.first) {
-        pair.change(round, rows)?;
-    }
-    let is_same = pair.journaled.is_same(call.alloc)? && pair.plain.is_same(call.alloc)?;
-    let (word, alone) = (call.word, pair.alone);
+    let alone = pair.change(number_in(call.first), rows)?;
+    let is_same = pair.journaled.store.has(&mut pair.journaled.memory)?
+        && pair.plain.store.has(&mut pair.plain.memory)?;
+    let word = call.word;
     writeln!(
         out,
         "{word}: full {alone} times where the other is not, all that was taken is there: {is_same}"
@@ -94,20 +84,6 @@ pub fn fill(call: &CallWords<'_>, out: &mut String) -> Result<()> {
 }
 
 impl StorePair {
-    /// Two new stores, whose rows are to have so many bytes.
-    fn new(alloc: Global, size: usize) -> Result<StorePair> {
-        if size > MAX_VALUE_LENGTH {
-            bail!("no value of a store");
-        }
-        Ok(StorePair {
-            alloc,
-            journaled: Filled::new(alloc, true)?,
-            plain: Filled::new(alloc, false)?,
-            size,
-            alone: 0,
-        })
-    }
-
     /// Puts rows until one of the stores is full. How many both have.
     fn fill(&mut self) -> Result<u32> {
         for row in 0..u32::MAX {
@@ -119,27 +95,27 @@ impl StorePair {
         Ok(0)
     }
 
-    /// Changes rows that lie apart, each in a commit.
-    fn change(&mut self, round: u32, rows: u32) -> Result<()> {
-        for part in 0..CHANGED {
+    /// Changes rows that lie apart in so many rounds, each row in a commit. How often the store with a journal was full where the
+    /// other was not.
+    fn change(&mut self, rounds: u32, rows: u32) -> Result<u32> {
+        let mut alone = 0u32;
+        for turn in 0..rounds.saturating_mul(CHANGED) {
+            let (round, part) = (turn / CHANGED, turn % CHANGED);
             let apart = (rows / CHANGED).wrapping_mul(part);
             let row = apart.wrapping_add(round.wrapping_mul(13)) % rows.max(1);
             let (is_taken, is_journaled) = self.put(row, (round % 251) as u8)?;
             if is_taken && !is_journaled {
-                self.alone = self.alone.saturating_add(1);
+                alone = alone.saturating_add(1);
             }
         }
-        Ok(())
+        Ok(alone)
     }
 
     /// Puts a row in both stores. Whether the one without a journal takes it, and whether the other does.
     fn put(&mut self, row: u32, byte: u8) -> Result<(bool, bool)> {
         let mut batch = Batch::new(self.alloc);
-        if self.size > MAX_VALUE_LENGTH {
-            bail!("no value of a store");
-        }
         let value = vec![in self.alloc; byte; self.size]?;
-        batch.put(&key_of(row), value.as_slice())?;
+        add_change(&mut batch, &key_of(row), Some(value.as_slice()))?;
         Ok((self.plain.commit(&batch)?, self.journaled.commit(&batch)?))
     }
 }

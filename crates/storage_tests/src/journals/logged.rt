@@ -6,12 +6,23 @@ use sector_device::{Device, DeviceFault, SECTOR_SIZE};
 pub const SECTORS: u32 = 512;
 
 /// A device of so many sectors, how many sectors were written and how many syncs made, and which sectors were written since the last one.
-#[derive(Drop)]
 pub struct LoggedDevice<D: Device> {
     pub device: D,
     pub writes: u64,
     pub syncs: u64,
-    unsynced: [bool; SECTORS as usize],
+    pub unsynced: [bool; SECTORS as usize],
+}
+
+// Written and not derived: where a value is dropped this is one call, and not its parts one by one.
+impl<D: Device + Drop> Drop for LoggedDevice<D> {
+    fn drop(self) {
+        let LoggedDevice {
+            device: _,
+            writes: _,
+            syncs: _,
+            unsynced: _,
+        } = self;
+    }
 }
 
 impl<D: Device> LoggedDevice<D> {
@@ -34,11 +45,6 @@ impl<D: Device> LoggedDevice<D> {
             unsynced: _,
         } = self;
         device
-    }
-
-    /// For each sector whether it was written since the last sync.
-    pub fn unsynced(&self) -> [bool; SECTORS as usize] {
-        self.unsynced
     }
 }
 

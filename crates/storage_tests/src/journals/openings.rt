@@ -1,39 +1,36 @@
 //! Openings of which a call of the device fails.
 
-use crate::journals::batches::BatchScript;
-use crate::journals::devices::{TrialDevice, TrialImage, new_device, opened};
+use crate::journals::devices::{DeviceEvent, TrialDevice};
+use crate::journals::failing::has;
+use crate::journals::images::TrialImage;
+use crate::journals::script::BatchScript;
 use crate::journals::tally::TrialTally;
-use crate::journals::wanted::{Made, same_records, wanted_after};
-use anyhow::{Result, bail};
-use device_store::DeviceStore;
-use kv_store::{MAX_CACHE_PAGES, OpenFault};
+use crate::journals::trial_stores::{TrialStore, new_device, opened};
+use anyhow::Result;
+use kv_store::OpenFault;
 use sector_device::Device;
-use store::Store;
 
 /// More calls than an opening makes on 64 pages.
 const MAX_CALLS: u64 = 2_048;
 
 /// Makes each call of an opening fail, behind each commit of a script.
-pub fn fail_openings(script: &BatchScript, cache: usize) -> Result<TrialTally> {
-    let mut tally = TrialTally::new(script.alloc, "failing calls", "openings");
-    let mut made = Vec::new(script.alloc);
-    for index in 0..script.len().saturating_add(1) {
-        let image = image_after(script, cache, &made)?;
+pub fn fail_openings(script: &BatchScript, tally: &mut TrialTally) -> Result<()> {
+    for commits in 0..script.len().saturating_add(1) {
+        let image = image_after(script, commits)?;
         for calls in 0..MAX_CALLS {
-            if fail_opening(script, cache, &image, &made, calls, &mut tally)? {
+            if fail_opening(script, &image, commits, calls, tally)? {
                 break;
             }
         }
-        made.push(Made { index, life: 0 })?;
     }
-    Ok(tally)
+    Ok(())
 }
 
-/// What a device holds on which these commits were made.
-fn image_after(script: &BatchScript, cache: usize, made: &[Made]) -> Result<TrialImage> {
-    let mut store = opened(script.alloc, new_device(script.alloc, true)?, cache)?;
-    for commit in made {
-        store.commit(&script.batch(commit.index, commit.life)?)?;
+/// What a device holds on which so many commits were made.
+fn image_after(script: &BatchScript, commits: usize) -> Result<TrialImage> {
+    let mut store = opened(script, new_device(script.alloc, true)?)?;
+    for index in 0..commits {
+        store.commit(&script.batch(index, 0)?)?;
     }
     TrialImage::of(script.alloc, store.into_device())
 }
@@ -41,47 +38,40 @@ fn image_after(script: &BatchScript, cache: usize, made: &[Made]) -> Result<Tria
 /// Makes a call fail that comes after so many. Answers whether the opening makes no more calls than these.
 fn fail_opening(
     script: &BatchScript,
-    cache: usize,
     image: &TrialImage,
-    made: &[Made],
+    commits: usize,
     calls: u64,
     tally: &mut TrialTally,
 ) -> Result<bool> {
-    if cache == 0 || cache > MAX_CACHE_PAGES {
-        bail!("no size of a cache");
-    }
     let device = image.device()?;
-    device.device().device.fail_call(calls);
+    DeviceEvent::Failure(calls).prepare(&device);
     let failures = device.failures();
-    match DeviceStore::open_with(script.alloc, device, cache) {
+    match TrialStore::open(script, device) {
         Ok(store) => {
-            let is_whole = store.failures() == failures;
-            tally.disagree(is_whole, "a failure is answered by Ok")?;
+            tally.disagree(store.failures() == failures, "a failure is answered by Ok");
             Ok(true)
         }
         Err((device, fault)) => {
-            tally.count_first();
             let is_so = fault == OpenFault::Device
                 && device.failures() == failures.saturating_add(1);
-            tally.disagree(is_so, "a failing opening is answered otherwise")?;
-            check(script, cache, device, made, tally)?;
+            tally.disagree(is_so, "a failing opening is answered otherwise");
+            check(script, device, commits, tally)?;
             Ok(false)
         }
     }
 }
 
-/// Sees that a device has the records after these commits.
+/// Sees that a device of which an opening failed has the records after so many commits.
 fn check(
     script: &BatchScript,
-    cache: usize,
     device: TrialDevice,
-    made: &[Made],
+    commits: usize,
     tally: &mut TrialTally,
 ) -> Result<()> {
+    tally.count_first();
     tally.count_second();
-    let mut store = opened(script.alloc, device, cache)?;
-    let mut wanted = wanted_after(script, made)?;
-    let is_found = same_records(script.alloc, &mut store, &mut wanted)?;
-    tally.disagree(is_found, "other records after an opening that failed")?;
+    let mut store = opened(script, device)?;
+    let is_found = has(script, &mut store, commits)?;
+    tally.disagree(is_found, "other records after an opening that failed");
     Ok(())
 }

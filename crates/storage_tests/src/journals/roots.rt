@@ -1,6 +1,6 @@
 //! What the root sectors of a device say.
 
-use crate::journals::devices::TrialImage;
+use crate::journals::images::TrialImage;
 use page_roots::{RootSector, read_root};
 
 /// What the root sectors of a device say.

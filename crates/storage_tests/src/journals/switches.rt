@@ -1,9 +1,8 @@
 //! Stops while a journal is turned on or off, after each count of sector writes.
 
-use crate::journals::batches::{BatchScript, ScriptStep};
-use crate::journals::choices::{SectorChoice, choices_for};
-use crate::journals::devices::TrialImage;
-use crate::journals::switch::{JournalSwitch, is_device_fault};
+use crate::journals::devices::{DeviceEvent, JournalSwitch, SwitchAnswer};
+use crate::journals::images::{SectorChoice, TrialImage};
+use crate::journals::script::{BatchScript, ScriptStep};
 use crate::journals::tally::TrialTally;
 use crate::journals::turning::{Standing, Turning};
 use anyhow::Result;
@@ -12,120 +11,115 @@ use anyhow::Result;
 const MAX_WRITES: u64 = 1_024;
 
 /// The stops of the steps of a script that turn the journal on or off.
-#[derive(Drop)]
-struct Switches<'a> {
-    script: &'a BatchScript,
-    cache: usize,
+#[derive(Clone, Copy)]
+struct Switches {
     every: u64,
     restarts: u64,
-    tally: TrialTally,
 }
 
 /// Stops each step of a script that turns the journal on or off. Of the devices that were started again one in so many is
 /// followed by stops of the same step.
-pub fn stop_switches(script: &BatchScript, cache: usize, every: u32) -> Result<TrialTally> {
+pub fn stop_switches(script: &BatchScript, every: u32, tally: &mut TrialTally) -> Result<()> {
     let mut switches = Switches {
-        script,
-        cache,
         every: u64::from(every.max(1)),
         restarts: 0,
-        tally: TrialTally::new(
-            script.alloc,
-            "restarts with a journal",
-            "restarts without one",
-        ),
     };
     let mut standing = Standing::new(script)?;
-    for step in script.steps() {
+    for step in &script.steps {
         if let ScriptStep::Turn(switch) = *step {
-            switches.stop_twice(&standing, switch)?;
+            switches.stop_twice(script, &standing, switch, tally)?;
         }
-        standing = standing.after(script, cache, *step, &mut switches.tally)?;
+        standing = standing.after(script, *step, tally)?;
     }
-    let Switches {
-        script: _,
-        cache: _,
-        every: _,
-        restarts: _,
-        tally,
-    } = switches;
-    Ok(tally)
+    Ok(())
 }
 
-impl<'a> Switches<'a> {
+impl Switches {
     /// Stops a journal that is turned on or off, and stops that again on a part of what is left.
-    fn stop_twice(&mut self, standing: &Standing, switch: JournalSwitch) -> Result<()> {
-        for left in &self.stop_each(standing, switch)? {
+    fn stop_twice(
+        &mut self,
+        script: &BatchScript,
+        standing: &Standing,
+        switch: JournalSwitch,
+        tally: &mut TrialTally,
+    ) -> Result<()> {
+        for left in &stop_each(script, standing, switch, tally)? {
             self.restarts = self.restarts.wrapping_add(1);
             if self.restarts % self.every.max(1) == 0 {
-                let _left = self.stop_each(left, switch)?;
+                let _left = stop_each(script, left, switch, tally)?;
             }
         }
         Ok(())
     }
+}
 
-    /// Stops a journal that is turned on or off after each count of writes. What is left of it by each choice.
-    fn stop_each(&mut self, standing: &Standing, switch: JournalSwitch) -> Result<Vec<Standing>> {
-        let mut left = Vec::new(self.script.alloc);
-        let turning = Turning::of(self.script, self.cache, switch, standing)?;
-        for writes in 0..MAX_WRITES {
-            if self.stop_after(&turning, standing, writes, &mut left)? {
-                return Ok(left);
-            }
+/// Stops a journal that is turned on or off after each count of writes. What is left of it by each choice.
+fn stop_each(
+    script: &BatchScript,
+    standing: &Standing,
+    switch: JournalSwitch,
+    tally: &mut TrialTally,
+) -> Result<Vec<Standing>> {
+    let mut left = Vec::new(script.alloc);
+    let turning = Turning::of(script, switch, standing)?;
+    for writes in 0..MAX_WRITES {
+        if stop_after(script, &turning, &standing.image, writes, &mut left, tally)? {
+            return Ok(left);
         }
-        Ok(left)
     }
+    Ok(left)
+}
 
-    /// Stops it after so many writes. Answers whether it was made whole.
-    fn stop_after(
-        &mut self,
-        turning: &Turning<'a>,
-        standing: &Standing,
-        writes: u64,
-        left: &mut Vec<Standing>,
-    ) -> Result<bool> {
-        let alloc = self.script.alloc;
-        let device = standing.image.device()?;
-        device.device().device.stop_after(writes);
-        let (device, answer) = turning.switch.turn(alloc, device);
-        let is_answered = answer.is_ok();
-        self.tally.disagree(
-            is_answered || is_device_fault(answer),
-            "a stop is answered otherwise",
-        )?;
-        let unsynced = device.device().unsynced();
-        let stopped = TrialImage::of(alloc, device)?;
-        self.turn_again(
-            turning,
-            standing.with(stopped.restarted(SectorChoice::New)?),
-        )?;
-        for choice in &choices_for(alloc, &unsynced)? {
-            let next = standing.with(stopped.restarted(*choice)?);
-            self.look(turning, &next.image, answer.ok())?;
-            left.push(next)?;
-        }
-        Ok(is_answered)
+/// Stops it after so many writes. Answers whether it was made whole.
+fn stop_after(
+    script: &BatchScript,
+    turning: &Turning,
+    image: &TrialImage,
+    writes: u64,
+    left: &mut Vec<Standing>,
+    tally: &mut TrialTally,
+) -> Result<bool> {
+    let device = image.device()?;
+    DeviceEvent::Stop(writes).prepare(&device);
+    let (device, answer) = turning.switch.turn(script.alloc, device);
+    let answered = answer.number();
+    let is_so = matches!(&answer, SwitchAnswer::Number(_) | SwitchAnswer::Device);
+    tally.disagree(is_so, "a stop is answered otherwise");
+    let stopped = TrialImage::of(script.alloc, device)?;
+    turn_again(script, turning, &stopped, tally)?;
+    for choice in &stopped.choices()? {
+        let next = turning.left(stopped.restarted(*choice)?);
+        look(script, turning, &next.image, answered, tally)?;
+        left.push(next)?;
     }
+    Ok(answered.is_some())
+}
 
-    /// Turns the journal of a device on or off once more.
-    fn turn_again(&mut self, turning: &Turning<'a>, standing: Standing) -> Result<()> {
-        let again = Turning::of(self.script, self.cache, turning.switch, &standing)?;
-        let _left = again.turn(&standing.image, &mut self.tally)?;
-        Ok(())
-    }
+/// Turns the journal of a device on or off once more, all of whose sectors are new.
+fn turn_again(
+    script: &BatchScript,
+    turning: &Turning,
+    stopped: &TrialImage,
+    tally: &mut TrialTally,
+) -> Result<()> {
+    let standing = turning.left(stopped.restarted(SectorChoice::New)?);
+    let again = Turning::of(script, turning.switch, &standing)?;
+    let _left = again.turn(script, &standing.image, tally)?;
+    Ok(())
+}
 
-    /// Looks at what a device has that was started again.
-    fn look(
-        &mut self,
-        turning: &Turning<'a>,
-        image: &TrialImage,
-        answered: Option<u64>,
-    ) -> Result<()> {
-        if turning.check(image, answered, &mut self.tally)? {
-            self.tally.count_first();
-        } else {
-            self.tally.count_second();
-        }
-        Ok(())
+/// Looks at what a device has that was started again.
+fn look(
+    script: &BatchScript,
+    turning: &Turning,
+    image: &TrialImage,
+    answered: Option<u64>,
+    tally: &mut TrialTally,
+) -> Result<()> {
+    if turning.check(script, image, answered, tally)? {
+        tally.count_first();
+    } else {
+        tally.count_second();
     }
+    Ok(())
 }

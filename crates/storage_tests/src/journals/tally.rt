@@ -3,25 +3,32 @@
 use crate::stores::call::CallWords;
 use std::alloc::{AllocError, Global};
 
-/// What was counted in a trial: two numbers with what they count, and a line for each disagreement.
-#[derive(Drop)]
+/// What was counted in a trial: two numbers, and a line for each disagreement.
 pub struct TrialTally {
     pub first: u64,
     pub second: u64,
-    firsts: &'static str,
-    seconds: &'static str,
     disagreements: u64,
     told: String,
 }
 
+// Written and not derived: where a value is dropped this is one call, and not its parts one by one.
+impl Drop for TrialTally {
+    fn drop(self) {
+        let TrialTally {
+            first: _,
+            second: _,
+            disagreements: _,
+            told: _,
+        } = self;
+    }
+}
+
 impl TrialTally {
     /// Nothing was counted.
-    pub fn new(alloc: Global, firsts: &'static str, seconds: &'static str) -> TrialTally {
+    pub fn new(alloc: Global) -> TrialTally {
         TrialTally {
             first: 0,
             second: 0,
-            firsts,
-            seconds,
             disagreements: 0,
             told: String::new(alloc),
         }
@@ -37,34 +44,40 @@ impl TrialTally {
         self.second = self.second.saturating_add(1);
     }
 
-    /// Counts a disagreement and tells of it, unless all is as it should be.
-    pub fn disagree(&mut self, is_so: bool, told: &str) -> Result<(), AllocError> {
+    /// Counts a disagreement and tells of it, unless all is as it should be. Where there is no memory to tell of it, it is counted.
+    pub fn disagree(&mut self, is_so: bool, told: &str) {
         if !is_so {
             self.disagreements = self.disagreements.saturating_add(1);
-            writeln!(self.told, "  {told}")?;
+            let _is_told = writeln!(self.told, "  {told}");
         }
-        Ok(())
     }
 
-    /// Appends the counts, and a line for each disagreement.
-    pub fn push(&self, call: &CallWords<'_>, out: &mut String) -> Result<(), AllocError> {
-        let (word, first, firsts) = (call.word, self.first, self.firsts);
-        let (second, seconds, disagreements) = (self.second, self.seconds, self.disagreements);
-        writeln!(
-            out,
-            "{word}: {first} {firsts}, {second} {seconds}, {disagreements} disagreements"
-        )?;
-        out.push_str(&self.told)
-    }
-
-    /// Appends how many disagreements there are, and a line for each.
-    pub fn push_disagreements(
+    /// Appends the counts, unless the trial is not to tell them, and a line for each disagreement.
+    pub fn push(
         &self,
         call: &CallWords<'_>,
+        is_counted: bool,
         out: &mut String,
     ) -> Result<(), AllocError> {
-        let (word, disagreements) = (call.word, self.disagreements);
-        writeln!(out, "{word}: {disagreements} disagreements")?;
+        let (word, first, second) = (call.word, self.first, self.second);
+        write!(out, "{word}: ")?;
+        if is_counted {
+            let (firsts, seconds) = counted(call.name);
+            write!(out, "{first} {firsts}, {second} {seconds}, ")?;
+        }
+        writeln!(out, "{} disagreements", self.disagreements)?;
         out.push_str(&self.told)
+    }
+}
+
+/// What the two numbers of a trial count.
+fn counted(trial: &str) -> (&'static str, &'static str) {
+    match trial {
+        "stops" => ("stops", "restarts"),
+        "openings" => ("failing calls", "openings"),
+        "counts" => ("sectors", "syncs"),
+        "switches" => ("restarts with a journal", "restarts without one"),
+        "again" => ("steps", "looks"),
+        _ => ("failing calls", "devices"),
     }
 }

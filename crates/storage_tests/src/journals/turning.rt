@@ -1,16 +1,13 @@
 //! What a device is to have whose journal is turned on or off.
 
-use crate::journals::batches::{BatchScript, ScriptStep};
-use crate::journals::choices::SectorChoice;
-use crate::journals::devices::{TrialImage, TrialStore, new_device, opened, restarted};
+use crate::journals::devices::{JournalSwitch, SwitchAnswer};
+use crate::journals::images::TrialImage;
 use crate::journals::roots::Roots;
-use crate::journals::switch::JournalSwitch;
+use crate::journals::script::{BatchScript, ScriptStep};
 use crate::journals::tally::TrialTally;
-use crate::journals::wanted::{Made, same_records, wanted_after};
+use crate::journals::trial_stores::{new_device, opened, opens_in_pages, synced};
+use crate::journals::wanted::wanted_first;
 use anyhow::{Result, bail};
-use device_store::DeviceStore;
-use kv_store::{MAX_CACHE_PAGES, PageStore};
-use store::Store;
 
 /// What a device holds after steps of a script, and how many of these are commits.
 pub struct Standing {
@@ -39,64 +36,62 @@ impl Standing {
 
     /// The same after one more step, which is made whole.
     pub fn after(
-        &self,
+        self,
         script: &BatchScript,
-        cache: usize,
         step: ScriptStep,
         tally: &mut TrialTally,
     ) -> Result<Standing> {
         match step {
-            ScriptStep::Commit(index) => {
-                let mut store = opened(script.alloc, self.image.device()?, cache)?;
-                let answer = store.commit(&script.batch(index, 0)?);
-                tally.disagree(answer.is_ok(), "a commit is not made")?;
-                Ok(Standing {
-                    image: TrialImage::of(script.alloc, store.into_device())?,
-                    commits: index.saturating_add(1),
-                })
-            }
+            ScriptStep::Commit(index) => self.commit(script, index, tally),
             ScriptStep::Turn(switch) => {
-                let turning = Turning::of(script, cache, switch, self)?;
+                let turning = Turning::of(script, switch, &self)?;
                 Ok(Standing {
-                    image: turning.turn(&self.image, tally)?,
+                    image: turning.turn(script, &self.image, tally)?,
                     commits: self.commits,
                 })
             }
         }
     }
 
-    /// The same with another device, whose journal is turned on or off.
-    pub fn with(&self, image: TrialImage) -> Standing {
-        Standing {
-            image,
-            commits: self.commits,
-        }
+    /// The same after the commit of an index.
+    fn commit(
+        self,
+        script: &BatchScript,
+        index: usize,
+        tally: &mut TrialTally,
+    ) -> Result<Standing> {
+        let mut store = opened(script, self.image.device()?)?;
+        let answer = store.commit(&script.batch(index, 0)?);
+        tally.disagree(answer.is_ok(), "a commit is not made");
+        Ok(Standing {
+            image: TrialImage::of(script.alloc, store.into_device())?,
+            commits: index.saturating_add(1),
+        })
     }
 }
 
 /// A journal that is turned on or off, and what the device has before: so many commits, roots, and a number.
 #[derive(Clone, Copy)]
-pub struct Turning<'a> {
-    script: &'a BatchScript,
-    cache: usize,
+pub struct Turning {
     pub switch: JournalSwitch,
     commits: usize,
     roots: Roots,
     number: u64,
 }
 
-impl<'a> Turning<'a> {
+impl Turning {
+    /// What is left where the device holds this then.
+    pub fn left(&self, image: TrialImage) -> Standing {
+        Standing {
+            image,
+            commits: self.commits,
+        }
+    }
+
     /// That of a device after steps of a script.
-    pub fn of(
-        script: &'a BatchScript,
-        cache: usize,
-        switch: JournalSwitch,
-        standing: &Standing,
-    ) -> Result<Turning<'a>> {
-        let store = opened(script.alloc, standing.image.device()?, cache)?;
+    pub fn of(script: &BatchScript, switch: JournalSwitch, standing: &Standing) -> Result<Turning> {
+        let store = opened(script, standing.image.device()?)?;
         Ok(Turning {
-            script,
-            cache,
             switch,
             commits: standing.commits,
             roots: Roots::of(&standing.image),
@@ -105,17 +100,22 @@ impl<'a> Turning<'a> {
     }
 
     /// Turns the journal on or off, and sees what a stop leaves then. Answers what the device holds.
-    pub fn turn(&self, image: &TrialImage, tally: &mut TrialTally) -> Result<TrialImage> {
-        let alloc = self.script.alloc;
-        let (device, answer) = self.switch.turn(alloc, image.device()?);
-        let Ok(number) = answer else {
-            bail!("a journal is not turned on or off: {answer:?}");
+    pub fn turn(
+        &self,
+        script: &BatchScript,
+        image: &TrialImage,
+        tally: &mut TrialTally,
+    ) -> Result<TrialImage> {
+        let (device, answer) = self.switch.turn(script.alloc, image.device()?);
+        let SwitchAnswer::Number(number) = answer else {
+            bail!("a journal is not turned on or off");
         };
-        let left = TrialImage::of(alloc, restarted(device, SectorChoice::Old)?)?;
-        let _has_journal = self.check(&left, Some(number), tally)?;
-        if self.switch == JournalSwitch::Off {
-            let is_opened = self.opens_in_pages(&left)?;
-            tally.disagree(is_opened, "no store in pages")?;
+        let left = synced(script.alloc, device)?;
+        let _has_journal = self.check(script, &left, Some(number), tally)?;
+        if !self.switch.is_on() {
+            let mut wanted = wanted_first(script, self.commits)?;
+            let is_opened = opens_in_pages(script, &left, &mut wanted)?;
+            tally.disagree(is_opened, "no store in pages");
         }
         Ok(left)
     }
@@ -124,21 +124,23 @@ impl<'a> Turning<'a> {
     /// or not. Answers whether it has a journal.
     pub fn check(
         &self,
+        script: &BatchScript,
         image: &TrialImage,
         answered: Option<u64>,
         tally: &mut TrialTally,
     ) -> Result<bool> {
         let roots = Roots::of(image);
-        let mut store = opened(self.script.alloc, image.device()?, self.cache)?;
+        let mut store = opened(script, image.device()?)?;
         let number = store.number();
-        tally.disagree(self.has(&mut store)?, "other records")?;
+        let has_journal = store.has_journal();
+        let mut wanted = wanted_first(script, self.commits)?;
+        tally.disagree(store.has(&mut wanted)?, "other records");
         let may_have = self.may_have(roots, answered.is_some());
-        tally.disagree(may_have, "other roots")?;
+        tally.disagree(may_have, "other roots");
         let is_number = self.may_number(roots, number) && answered.unwrap_or(number) == number;
-        tally.disagree(is_number, "another number")?;
-        let has_journal = matches!(&store, DeviceStore::Journaled(_));
+        tally.disagree(is_number, "another number");
         let is_named = has_journal == roots.has_journal;
-        tally.disagree(is_named, "another kind than the root says")?;
+        tally.disagree(is_named, "another kind than the root says");
         Ok(has_journal)
     }
 
@@ -156,7 +158,7 @@ impl<'a> Turning<'a> {
     fn may_have(&self, roots: Roots, is_answered: bool) -> bool {
         let risen = roots.number.saturating_sub(self.roots.number);
         let is_last = risen == self.rise();
-        let is_on = self.switch == JournalSwitch::On;
+        let is_on = self.switch.is_on();
         let has_journal = if is_last {
             is_on
         } else {
@@ -175,31 +177,6 @@ impl<'a> Turning<'a> {
             self.number <= number && number <= self.number.saturating_add(1)
         } else {
             number == roots.number
-        }
-    }
-
-    /// Whether a store has the records after the commits.
-    fn has<S: Store>(&self, store: &mut S) -> Result<bool> {
-        let alloc = self.script.alloc;
-        let mut made = Vec::new(alloc);
-        for index in 0..self.commits {
-            made.push(Made { index, life: 0 })?;
-        }
-        let mut wanted = wanted_after(self.script, made.as_slice())?;
-        Ok(same_records(alloc, store, &mut wanted)?)
-    }
-
-    /// Whether a device opens as a store in pages alone, with the same records.
-    fn opens_in_pages(&self, image: &TrialImage) -> Result<bool> {
-        if self.cache == 0 || self.cache > MAX_CACHE_PAGES {
-            bail!("no size of a cache");
-        }
-        match PageStore::open_with(self.script.alloc, image.device()?, self.cache) {
-            Ok(store) => {
-                let mut store = store;
-                self.has(&mut store)
-            }
-            Err(_) => Ok(false),
         }
     }
 }

@@ -1,17 +1,11 @@
 //! What a store is to have.
 
-use crate::journals::batches::BatchScript;
+use crate::journals::script::BatchScript;
+use crate::stores::map_calls::commit;
 use anyhow::{Result, bail};
 use sql_types::name::Name;
 use std::alloc::{AllocError, Global};
-use store::{Cursor, Entry, Map, MemStore, Store, StoreFault};
-
-/// A commit of a script: which one, and the life in which it was made.
-#[derive(Clone, Copy, Debug)]
-pub struct Made {
-    pub index: usize,
-    pub life: u8,
-}
+use store::MemStore;
 
 /// The store in memory of a new database whose administrator is root.
 pub fn new_memory(alloc: Global) -> Result<MemStore> {
@@ -21,69 +15,23 @@ pub fn new_memory(alloc: Global) -> Result<MemStore> {
     Ok(MemStore::new(alloc, &name)?)
 }
 
-/// A store in memory after these commits.
-pub fn wanted_after(script: &BatchScript, commits: &[Made]) -> Result<MemStore> {
+/// A store in memory after the first commits of a script, each made in the life that stands at its place.
+pub fn wanted_after(script: &BatchScript, lives: &[u8]) -> Result<MemStore> {
     let mut memory = new_memory(script.alloc)?;
-    for made in commits {
-        let batch = script.batch(made.index, made.life)?;
-        memory.commit(&batch)?;
+    for (index, life) in lives.iter().enumerate() {
+        commit(&mut memory, &script.batch(index, *life)?)?;
     }
     Ok(memory)
 }
 
-/// Commits, and one more behind them.
-pub fn with(alloc: Global, commits: &[Made], next: Made) -> Result<Vec<Made>, AllocError> {
-    let mut all = Vec::from_slice(alloc, commits)?;
-    all.push(next)?;
+/// A store in memory after so many commits, the first ones of a script, each made in the first life.
+pub fn wanted_first(script: &BatchScript, commits: usize) -> Result<MemStore> {
+    wanted_after(script, &vec![in script.alloc; 0; commits]?)
+}
+
+/// The lives of commits, and of one more behind them.
+pub fn with(alloc: Global, lives: &[u8], life: u8) -> Result<Vec<u8>, AllocError> {
+    let mut all = Vec::from_slice(alloc, lives)?;
+    all.push(life)?;
     Ok(all)
-}
-
-/// Whether two stores have the same records, by a scan, look-ups, a walk and a count.
-pub fn same_records<S: Store, T: Store>(
-    alloc: Global,
-    store: &mut S,
-    other: &mut T,
-) -> Result<bool, StoreFault> {
-    Ok(same_scan(alloc, store, other)? && same_walk(store, other)?)
-}
-
-/// Whether a scan of a store meets the records of another, and finds them by their keys.
-fn same_scan<S: Store, T: Store>(
-    alloc: Global,
-    store: &mut S,
-    other: &mut T,
-) -> Result<bool, StoreFault> {
-    let (mut ours, mut theirs) = (Cursor::over(alloc, &[])?, Cursor::over(alloc, &[])?);
-    let mut found = Entry::new(alloc);
-    for _ in 0..u32::MAX {
-        let (is_ours, is_theirs) = (ours.advance(store)?, theirs.advance(other)?);
-        if !is_ours || !is_theirs {
-            return Ok(is_ours == is_theirs);
-        }
-        let (entry, wanted) = (ours.entry(), theirs.entry());
-        if entry.key() != wanted.key() || entry.value() != wanted.value() {
-            return Ok(false);
-        }
-        if !store.get(wanted.key(), &mut found)? || found.value() != wanted.value() {
-            return Ok(false);
-        }
-    }
-    Ok(false)
-}
-
-/// Whether a walk through a store meets the records of another, and as many are counted.
-fn same_walk<S: Store, T: Store>(store: &mut S, other: &mut T) -> Result<bool, StoreFault> {
-    let (mut ours, mut theirs) = (store.seek(&[])?, other.seek(&[])?);
-    for _ in 0..u32::MAX {
-        let (is_ours, is_theirs) = (store.step(&mut ours)?, other.step(&mut theirs)?);
-        if !is_ours || !is_theirs {
-            let (count, wanted) = (Map::count(store, &[], &[])?, Map::count(other, &[], &[])?);
-            return Ok(is_ours == is_theirs && count == wanted);
-        }
-        let (entry, wanted) = (store.entry(&ours), other.entry(&theirs));
-        if entry.key != wanted.key || entry.value != wanted.value {
-            return Ok(false);
-        }
-    }
-    Ok(false)
 }

@@ -1,10 +1,16 @@
 //! Caches of pages.
 
 use crate::stores::call::{CallWords, fill, number_in};
-use crate::stores::callee::Callee;
+use crate::stores::callee::{Callee, make_calls};
 use anyhow::{Result, bail};
 use page_cache::PageCache;
 use storage_sizes::PAGE_SIZE;
+
+/// Makes calls of a cache of so many pages.
+pub fn run_on_cache(first: &CallWords<'_>, calls: &str, out: &mut String) -> Result<()> {
+    let mut cache = PageCache::new(first.alloc, number_in(first.first) as usize)?;
+    make_calls(first.alloc, &mut cache, calls, out)
+}
 
 impl Callee for PageCache {
     fn make(&mut self, call: &CallWords<'_>, out: &mut String) -> Result<()> {

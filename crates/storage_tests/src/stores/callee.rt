@@ -18,15 +18,9 @@ pub fn make_calls<S: Callee>(
     out: &mut String,
 ) -> Result<()> {
     for word in words.split(' ') {
-        make_call(alloc, callee, word, out)?;
+        if !word.is_empty() {
+            callee.make(&CallWords::new(alloc, word), out)?;
+        }
     }
     Ok(())
-}
-
-/// Makes the call of a word, unless the word is empty.
-fn make_call<S: Callee>(alloc: Global, callee: &mut S, word: &str, out: &mut String) -> Result<()> {
-    if word.is_empty() {
-        return Ok(());
-    }
-    callee.make(&CallWords::new(alloc, word), out)
 }

@@ -1,5 +1,6 @@
 //! Stores on a device in memory.
 
+use crate::sectors::{content_of, put};
 use crate::stores::call::{CallWords, bytes_in, number_in};
 use crate::stores::callee::{Callee, make_calls};
 use crate::stores::records::Records;
@@ -10,7 +11,8 @@ use device_store::DeviceStore;
 use journal_store::JournalStore;
 use kv_store::{MAX_CACHE_PAGES, PageStore};
 use sector_device::{Device, Guarded, MAX_MEMORY_PAGES, MemDevice, SECTOR_SIZE};
-use store::{Batch, Entry, MAX_KEY_LENGTH, MAX_VALUE_LENGTH, Store};
+use std::alloc::Global;
+use store::{Batch, Entry, MAX_KEY_LENGTH, MAX_VALUE_LENGTH};
 
 /// A store on a device in memory, with a journal or without.
 type MemoryDeviceStore = DeviceStore<Guarded<MemDevice>>;
@@ -52,58 +54,74 @@ fn new_device(call: &CallWords<'_>) -> Result<MemDevice> {
     if call.second.is_empty() {
         return Ok(device);
     }
-    format(device, call)
-}
-
-/// Makes a new store of one record on a device of 64 pages. Gives the device back.
-fn format(device: MemDevice, call: &CallWords<'_>) -> Result<MemDevice> {
     let (key, value) = (
         bytes_in(call.alloc, call.second)?,
         bytes_in(call.alloc, call.third)?,
     );
-    if key.is_empty() || key.len() > MAX_KEY_LENGTH || value.len() > MAX_VALUE_LENGTH {
-        bail!("no size of a record");
-    }
     let mut device = Guarded::new(device);
+    format(
+        call.alloc,
+        &mut device,
+        call.name == "journaled",
+        key,
+        value,
+    )?;
+    Ok(device.into_device())
+}
+
+/// Makes a new store of one record on a device of 64 pages, with a journal or without.
+pub fn format<D: Device>(
+    alloc: Global,
+    device: &mut Guarded<D>,
+    has_journal: bool,
+    key: Vec<u8>,
+    value: Vec<u8>,
+) -> Result<()> {
+    if !is_formatted(alloc, device, has_journal, Entry::from_parts(key, value)) {
+        bail!("not formatted");
+    }
+    Ok(())
+}
+
+/// Makes a new store of one record, where it is one and the device has 64 pages. Answers whether it is made.
+fn is_formatted<D: Device>(
+    alloc: Global,
+    device: &mut Guarded<D>,
+    has_journal: bool,
+    first: Entry,
+) -> bool {
+    let (key, value) = (first.key(), first.value());
+    if key.is_empty() || key.len() > MAX_KEY_LENGTH || value.len() > MAX_VALUE_LENGTH {
+        return false;
+    }
     if device.sectors() != 512 {
-        bail!("not 64 pages");
+        return false;
     }
-    let first = Entry::from_parts(key, value);
-    let made = if call.name == "journaled" {
-        JournalStore::format(call.alloc, &mut device, &first)
-    } else {
-        PageStore::format(call.alloc, &mut device, &first)
-    };
-    match made {
-        Ok(()) => Ok(device.into_device()),
-        Err(_) => bail!("not formatted"),
+    if has_journal {
+        return JournalStore::format(alloc, device, &first).is_ok();
     }
+    PageStore::format(alloc, device, &first).is_ok()
 }
 
 /// Writes bytes to a sector of a device, and zeros behind them.
 fn put_sector(device: &mut MemDevice, call: &CallWords<'_>) -> Result<()> {
-    let sector = number_in(call.first);
-    if sector >= device.sectors() {
-        bail!("no sector of the device");
-    }
     let mut written = bytes_in(call.alloc, call.second)?;
     written.resize(SECTOR_SIZE, 0)?;
     let mut bytes = [0; SECTOR_SIZE];
     bytes.copy_from_slice(written.as_slice());
-    device.write(sector, &bytes)?;
+    put(device, number_in(call.first), &bytes)?;
     Ok(())
 }
 
 /// Turns bits of one byte of a device.
 fn turn(device: &mut MemDevice, call: &CallWords<'_>) -> Result<()> {
-    let (sector, at) = (number_in(call.first), number_in(call.second) as usize);
-    if sector >= device.sectors() || at >= SECTOR_SIZE {
-        bail!("no byte of the device");
+    let sector = number_in(call.first);
+    let mut bytes = content_of(device, sector)?;
+    match bytes.get_mut(number_in(call.second) as usize) {
+        Some(byte) => *byte ^= u8::try_from(number_in(call.third)).unwrap_or(0),
+        None => bail!("no byte of the device"),
     }
-    let mut bytes = [0; SECTOR_SIZE];
-    device.read(sector, &mut bytes)?;
-    bytes[at] ^= u8::try_from(number_in(call.third)).unwrap_or(0);
-    device.write(sector, &bytes)?;
+    put(device, sector, &bytes)?;
     Ok(())
 }
 
@@ -120,8 +138,10 @@ fn restart(device: &mut MemDevice, call: &CallWords<'_>) -> Result<()> {
 fn count_pages(device: MemDevice, call: &CallWords<'_>, out: &mut String) -> Result<MemDevice> {
     match CowPages::open(call.alloc, device) {
         Ok(mut pages) => {
-            answer_pages(&mut pages, call, out)?;
-            Ok(pages.into_device())
+            let answer = answer_pages(&mut pages, call, out);
+            let device = pages.into_device();
+            answer?;
+            Ok(device)
         }
         Err(_) => bail!("no pages on the device"),
     }
@@ -141,8 +161,9 @@ fn open(
     match DeviceStore::open_with(first.alloc, Guarded::new(device), cache) {
         Ok(store) => run_on_store(store, first, calls, out),
         Err((device, fault)) => {
+            let device = device.into_device();
             first.answer_fault(out, fault)?;
-            Ok(device.into_device())
+            Ok(device)
         }
     }
 }
@@ -161,8 +182,10 @@ fn run_on_store(
             batch: Batch::new(first.alloc),
         },
     };
-    make_calls(first.alloc, &mut open, calls, out)?;
-    Ok(open.records.store.into_device().into_device())
+    let answer = make_calls(first.alloc, &mut open, calls, out);
+    let device = open.records.store.into_device().into_device();
+    answer?;
+    Ok(device)
 }
 
 impl Callee for OpenStore {

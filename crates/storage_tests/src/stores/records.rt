@@ -2,12 +2,12 @@
 
 use crate::stores::call::CallWords;
 use crate::stores::callee::{Callee, make_calls};
-use crate::stores::table::{Table, make_on};
+use crate::stores::map_calls::{commit, commit_migration, look_up, scan_from};
+use crate::stores::table::{Table, add_change, make_on};
 use anyhow::{Result, bail};
 use sql_types::name::Name;
-use store::{
-    Batch, Entry, MAX_KEY_LENGTH, MAX_VALUE_LENGTH, MemStore, Spelling, Store, StoreFault,
-};
+use std::alloc::AllocError;
+use store::{Batch, Entry, MemStore, Spelling, Store, StoreFault};
 
 /// A store, and the changes that are to be committed next.
 #[derive(Drop)]
@@ -17,77 +17,66 @@ pub struct Records<S: Store> {
 }
 
 impl<S: Store> Records<S> {
-    /// Commits the changes, and appends whether they are committed. There are none after that.
-    fn commit(&mut self, call: &CallWords<'_>, out: &mut String) -> Result<()> {
-        let answer = self.store.commit(&self.batch);
-        self.end(answer, call, out)
-    }
-
-    /// Commits the changes and the second spelling, and appends whether they are committed. There are none after that.
-    fn migrate(&mut self, call: &CallWords<'_>, out: &mut String) -> Result<()> {
-        let answer = self.store.commit_migration(&self.batch);
-        self.end(answer, call, out)
-    }
-
-    /// Appends the answer of a commit. There are no changes after that.
-    fn end(
+    /// Begins the next changes, and appends whether those before were committed.
+    fn begin_next(
         &mut self,
         answer: Result<(), StoreFault>,
         call: &CallWords<'_>,
         out: &mut String,
-    ) -> Result<()> {
+    ) -> Result<(), AllocError> {
         self.batch = Batch::new(call.alloc);
         match answer {
-            Ok(()) => call.answer(out, "ok")?,
-            Err(fault) => call.answer_fault(out, fault)?,
+            Ok(()) => call.answer(out, "ok"),
+            Err(fault) => call.answer_fault(out, fault),
         }
-        Ok(())
+    }
+
+    /// Appends the number of the last commit, and how often no room was found and a failure met.
+    fn answer_number(&self, call: &CallWords<'_>, out: &mut String) -> Result<(), AllocError> {
+        let (word, number) = (call.word, self.store.number());
+        let (fulls, failures) = (self.store.fulls(), self.store.failures());
+        writeln!(out, "{word} {number}, {fulls} full, {failures} failed")
     }
 }
 
 impl<S: Store> Table for Records<S> {
     fn change(&mut self, key: &[u8], value: Option<&[u8]>) -> Result<()> {
-        if key.is_empty() || key.len() > MAX_KEY_LENGTH {
-            bail!("no key of a store");
-        }
-        match value {
-            None => self.batch.remove(key)?,
-            Some(value) if value.len() <= MAX_VALUE_LENGTH => self.batch.put(key, value)?,
-            Some(_) => bail!("no value of a store"),
-        }
-        Ok(())
+        add_change(&mut self.batch, key, value)
     }
 
     fn get(&mut self, key: &[u8], out: &mut Entry) -> Result<bool, StoreFault> {
-        self.store.get(key, out)
+        look_up(&mut self.store, key, out)
     }
 
     fn next(&mut self, from: &[u8], out: &mut Entry) -> Result<bool, StoreFault> {
-        self.store.scan_from(from, out)
+        scan_from(&mut self.store, from, out)
     }
 }
 
 impl<S: Store> Callee for Records<S> {
     fn make(&mut self, call: &CallWords<'_>, out: &mut String) -> Result<()> {
         match call.name {
-            "commit" => self.commit(call, out),
-            "migrate" => self.migrate(call, out),
-            "spelling" => {
-                let spelling = match self.store.spelling() {
-                    Spelling::First => "first",
-                    Spelling::Second => "second",
-                };
-                call.answer(out, spelling)?;
-                Ok(())
+            "commit" => {
+                let answer = commit(&mut self.store, &self.batch);
+                self.begin_next(answer, call, out)?;
             }
-            "number" => {
-                let (word, number) = (call.word, self.store.number());
-                let (fulls, failures) = (self.store.fulls(), self.store.failures());
-                writeln!(out, "{word} {number}, {fulls} full, {failures} failed")?;
-                Ok(())
+            "migrate" => {
+                let answer = commit_migration(&mut self.store, &self.batch);
+                self.begin_next(answer, call, out)?;
             }
-            _ => make_on(self, call, out),
+            "spelling" => call.answer(out, word_of(self.store.spelling()))?,
+            "number" => self.answer_number(call, out)?,
+            _ => make_on(self, call, out)?,
         }
+        Ok(())
+    }
+}
+
+/// The word of a spelling.
+fn word_of(spelling: Spelling) -> &'static str {
+    match spelling {
+        Spelling::First => "first",
+        Spelling::Second => "second",
     }
 }
 

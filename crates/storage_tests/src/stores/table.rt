@@ -3,7 +3,7 @@
 use crate::stores::call::{CallWords, bytes_in, number_in};
 use anyhow::{Result, bail};
 use std::alloc::AllocError;
-use store::{Entry, StoreFault};
+use store::{Batch, Entry, MAX_KEY_LENGTH, MAX_VALUE_LENGTH, StoreFault};
 
 /// A map of keys and values, as a tree and a store are.
 pub trait Table {
@@ -16,6 +16,19 @@ pub trait Table {
     /// Reads the first entry from a key on, which is empty, or the key read last and a zero byte. Answers whether there is
     /// one.
     fn next(&mut self, from: &[u8], out: &mut Entry) -> Result<bool, StoreFault>;
+}
+
+/// Adds to a batch that a value is put at a key, or that the key is removed.
+pub fn add_change(batch: &mut Batch, key: &[u8], value: Option<&[u8]>) -> Result<()> {
+    if key.is_empty() || key.len() > MAX_KEY_LENGTH {
+        bail!("no key of a store");
+    }
+    match value {
+        None => batch.remove(key)?,
+        Some(value) if value.len() <= MAX_VALUE_LENGTH => batch.put(key, value)?,
+        Some(_) => bail!("no value of a store"),
+    }
+    Ok(())
 }
 
 /// What a scan has met so far.
@@ -97,21 +110,27 @@ fn go_on<T: Table>(table: &mut T, scan: &mut Walk) -> Result<bool, StoreFault> {
     if table.get(key, &mut scan.found)? && scan.found.value() == value {
         scan.entries_found = scan.entries_found.wrapping_add(1);
     }
-    let digest = digest_with(scan.digest, &key.len().to_be_bytes());
-    let digest = digest_with(digest, &value.len().to_be_bytes());
-    scan.digest = digest_with(digest_with(digest, key), value);
+    scan.digest = digest_with_entry(scan.digest, key, value);
     scan.from.clear();
     scan.from.extend_from_slice(key)?;
     scan.from.push(0)?;
     Ok(true)
 }
 
-/// The Adler-32 digest (Adler's two sums) with bytes more.
+/// The Adler-32 digest (Adler's two sums) with an entry more: the length of its key and that of its value, in eight bytes, the key
+/// and the value.
+pub fn digest_with_entry(digest: u64, key: &[u8], value: &[u8]) -> u64 {
+    let digest = digest_with(digest, &key.len().to_be_bytes());
+    let digest = digest_with(digest, &value.len().to_be_bytes());
+    digest_with(digest_with(digest, key), value)
+}
+
+/// The Adler-32 digest with bytes more.
 fn digest_with(digest: u64, bytes: &[u8]) -> u64 {
     let mut sum = digest % 65_536;
     let mut sum_of_sums = digest / 65_536;
-    for at in 0..bytes.len() {
-        sum = sum.wrapping_add(bytes[at] as u64) % 65_521;
+    for byte in bytes {
+        sum = sum.wrapping_add(u64::from(*byte)) % 65_521;
         sum_of_sums = sum_of_sums.wrapping_add(sum) % 65_521;
     }
     sum_of_sums.wrapping_mul(65_536).wrapping_add(sum)

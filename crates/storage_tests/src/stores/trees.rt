@@ -1,13 +1,15 @@
 //! Trees over pages in memory.
 
+use crate::arrays::page_calls::{new_page, read};
 use crate::stores::call::{CallWords, fill, number_in};
 use crate::stores::callee::Callee;
-use crate::stores::table::{Table, make_on};
+use crate::stores::table::{Table, add_change, make_on};
+use crate::stores::tree_calls::{first, following, look_up};
 use anyhow::{Result, bail};
-use page_tree::{Scratch, TreeCursor, change_first, first_from, get, next};
+use page_tree::{Scratch, TreeCursor, change_first};
 use pages::{MemPages, PAGE_SIZE, Pages};
 use std::alloc::Global;
-use store::{Batch, Entry, MAX_KEY_LENGTH, MAX_VALUE_LENGTH, StoreFault};
+use store::{Batch, Entry, StoreFault};
 
 /// A tree over pages in memory.
 #[derive(Drop)]
@@ -33,7 +35,7 @@ impl MemoryTree {
     fn lay(&mut self, call: &CallWords<'_>) -> Result<()> {
         let mut page = [0; PAGE_SIZE];
         fill(call.alloc, call.first, &mut page)?;
-        match self.pages.new_page(&page) {
+        match new_page(&mut self.pages, &page) {
             Ok(_) => Ok(()),
             Err(_) => bail!("a page is not laid out"),
         }
@@ -56,7 +58,7 @@ impl MemoryTree {
     /// Appends the bytes of a page.
     fn answer_page(&mut self, call: &CallWords<'_>, out: &mut String) -> Result<()> {
         let mut page = [0; PAGE_SIZE];
-        match self.pages.read(number_in(call.first), &mut page) {
+        match read(&mut self.pages, number_in(call.first), &mut page) {
             Ok(()) => call.answer_bytes(out, &page)?,
             Err(_) => call.answer(out, "none")?,
         }
@@ -66,20 +68,13 @@ impl MemoryTree {
 
 impl Table for MemoryTree {
     fn change(&mut self, key: &[u8], value: Option<&[u8]>) -> Result<()> {
-        if key.is_empty() || key.len() > MAX_KEY_LENGTH {
-            bail!("no key of a tree");
-        }
         let mut batch = Batch::new(*self.value.allocator());
-        match value {
-            None => batch.remove(key)?,
-            Some(value) if value.len() <= MAX_VALUE_LENGTH => batch.put(key, value)?,
-            Some(_) => bail!("no value of a tree"),
-        }
+        add_change(&mut batch, key, value)?;
         self.make_first(&batch)
     }
 
     fn get(&mut self, key: &[u8], out: &mut Entry) -> Result<bool, StoreFault> {
-        match get(&mut self.pages, key, &mut self.value) {
+        match look_up(&mut self.pages, key, &mut self.value) {
             Ok(found) => {
                 out.set(key, &self.value)?;
                 Ok(found)
@@ -90,9 +85,9 @@ impl Table for MemoryTree {
 
     fn next(&mut self, from: &[u8], out: &mut Entry) -> Result<bool, StoreFault> {
         let found = if from.is_empty() {
-            first_from(&mut self.pages, from, &mut self.cursor)
+            first(&mut self.pages, &mut self.cursor)
         } else {
-            next(&mut self.pages, &mut self.cursor)
+            following(&mut self.pages, &mut self.cursor)
         };
         match found {
             Ok(found) => {
@@ -121,7 +116,7 @@ pub fn answer_pages<P: Pages>(pages: &mut P, call: &CallWords<'_>, out: &mut Str
     let mut count = 0u32;
     let mut bytes = [0; PAGE_SIZE];
     for page in 0..1_024u32 {
-        if pages.read(page, &mut bytes).is_ok() && (bytes[0] == 1 || !leaves_alone) {
+        if read(pages, page, &mut bytes).is_ok() && (bytes[0] == 1 || !leaves_alone) {
             count = count.wrapping_add(1);
         }
     }

@@ -1,10 +1,11 @@
 //! The steps of a script, and its batches.
 
-use crate::journals::switch::JournalSwitch;
+use crate::journals::devices::JournalSwitch;
 use crate::stores::call::{CallWords, bytes_in, number_in};
+use crate::stores::table::add_change;
 use anyhow::{Result, bail};
 use std::alloc::Global;
-use store::{Batch, MAX_KEY_LENGTH, MAX_VALUE_LENGTH};
+use store::Batch;
 
 /// A step of a script.
 #[derive(Clone, Copy)]
@@ -15,21 +16,34 @@ pub enum ScriptStep {
     Turn(JournalSwitch),
 }
 
-/// The words of each batch of a script, and its steps.
-#[derive(Drop)]
+/// The words of each batch of a script, its steps, and how many pages the caches have over which it is followed.
 pub struct BatchScript {
     pub alloc: Global,
+    pub cache: usize,
+    pub steps: Vec<ScriptStep>,
     batches: Vec<String>,
-    steps: Vec<ScriptStep>,
+}
+
+// Written and not derived: where a value is dropped this is one call, and not its parts one by one.
+impl Drop for BatchScript {
+    fn drop(self) {
+        let BatchScript {
+            alloc: _,
+            cache: _,
+            steps: _,
+            batches: _,
+        } = self;
+    }
 }
 
 impl BatchScript {
     /// The script that words make.
-    pub fn new(alloc: Global, words: &str) -> Result<BatchScript> {
+    pub fn new(alloc: Global, cache: usize, words: &str) -> Result<BatchScript> {
         let mut script = BatchScript {
             alloc,
-            batches: Vec::new(alloc),
+            cache,
             steps: Vec::new(alloc),
+            batches: Vec::new(alloc),
         };
         let mut batch = String::new(alloc);
         for word in words.split(' ') {
@@ -56,11 +70,6 @@ impl BatchScript {
         Ok(())
     }
 
-    /// What is done, one after the other.
-    pub fn steps(&self) -> &[ScriptStep] {
-        self.steps.as_slice()
-    }
-
     /// How many batches there are.
     pub fn len(&self) -> usize {
         self.batches.len()
@@ -69,61 +78,43 @@ impl BatchScript {
     /// The batch of this index, as it is made in a life. It is empty where there is none.
     pub fn batch(&self, index: usize, life: u8) -> Result<Batch> {
         let mut batch = Batch::new(self.alloc);
-        let words = match self.batches.get(index) {
-            Some(words) => words.as_str(),
-            None => "",
-        };
-        for word in words.split(' ') {
-            add_change(&mut batch, &CallWords::new(self.alloc, word), life)?;
+        if let Some(words) = self.batches.get(index) {
+            for word in words.split(' ') {
+                add_changes(&mut batch, &CallWords::new(self.alloc, word), life)?;
+            }
         }
         Ok(batch)
     }
 }
 
-/// Adds the changes that a word writes.
-fn add_change(batch: &mut Batch, call: &CallWords<'_>, life: u8) -> Result<()> {
+/// Adds the changes that a word writes, as they are made in a life.
+fn add_changes(batch: &mut Batch, call: &CallWords<'_>, life: u8) -> Result<()> {
     match call.name {
         "" => Ok(()),
-        "put" => put(
+        "put" => add_change(
             batch,
             &bytes_in(call.alloc, call.first)?,
-            value_in(call.alloc, call.second, life)?,
+            Some(&value_in(call, call.second, life)?),
         ),
-        "remove" => remove(batch, &bytes_in(call.alloc, call.first)?),
-        "rise" => {
-            for number in number_in(call.first)..number_in(call.second) {
-                let value = value_in(call.alloc, call.third, life)?;
-                put(batch, &number.to_be_bytes(), value)?;
-            }
-            Ok(())
-        }
+        "remove" => add_change(batch, &bytes_in(call.alloc, call.first)?, None),
+        "rise" => rise(batch, call, &value_in(call, call.third, life)?),
         _ => bail!("no change of a store"),
     }
 }
 
+/// Puts a value at each number of a range.
+fn rise(batch: &mut Batch, call: &CallWords<'_>, value: &[u8]) -> Result<()> {
+    for number in number_in(call.first)..number_in(call.second) {
+        add_change(batch, &number.to_be_bytes(), Some(value))?;
+    }
+    Ok(())
+}
+
 /// The bytes of a value, as it is put in a life.
-fn value_in(alloc: Global, argument: &str, life: u8) -> Result<Vec<u8>> {
-    let mut value = bytes_in(alloc, argument)?;
+fn value_in(call: &CallWords<'_>, argument: &str, life: u8) -> Result<Vec<u8>> {
+    let mut value = bytes_in(call.alloc, argument)?;
     for byte in value.iter_mut() {
         *byte = byte.wrapping_add(life);
     }
     Ok(value)
-}
-
-/// Puts a value at a key.
-fn put(batch: &mut Batch, key: &[u8], value: Vec<u8>) -> Result<()> {
-    if key.is_empty() || key.len() > MAX_KEY_LENGTH || value.len() > MAX_VALUE_LENGTH {
-        bail!("no record of a store");
-    }
-    batch.put(key, value.as_slice())?;
-    Ok(())
-}
-
-/// Removes a key.
-fn remove(batch: &mut Batch, key: &[u8]) -> Result<()> {
-    if key.is_empty() || key.len() > MAX_KEY_LENGTH {
-        bail!("no key of a store");
-    }
-    batch.remove(key)?;
-    Ok(())
 }
