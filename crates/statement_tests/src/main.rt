@@ -1,14 +1,20 @@
-//! Tests of statements: what texts stand for (`texts`), what statements over rows answer (`rows`), and how sections of a
-//! description are laid out (`layouts`).
+//! Tests of statements: how sections of a description are laid out (`layouts`), what texts stand for (`texts`), what statements over
+//! rows answer (`rows`), what records of a database stand for (`records`), and statements that define something (`definitions`).
 //!
 //! A line `part NAME` of standard input begins one of these parts, whose lines follow; what each of them means is said at the head
-//! of the part.
+//! of the part. `records.py` and `definitions.py` read the lines of two of them and write the same answers.
 #![tactic(auto)]
 
+mod definitions;
 mod layouts;
+mod names;
+mod records;
 mod rows;
 mod texts;
+mod words;
 
+use crate::definitions::DefinedDatabase;
+use crate::records::StoredRecords;
 use crate::rows::OpenDatabase;
 use anyhow::{Result, bail};
 use std::alloc::Global;
@@ -20,20 +26,21 @@ enum StatementPart {
     Layouts,
     Texts,
     Rows,
+    Records,
+    Definitions,
 }
 
-/// The parts, with the database over which statements are carried out.
+/// The parts, each with what its lines left there.
 #[derive(Drop)]
 struct StatementTests {
     part: StatementPart,
-    database: OpenDatabase,
+    rows: OpenDatabase,
+    records: StoredRecords,
+    definitions: DefinedDatabase,
 }
 
 fn main(rt: HostRuntime) -> Result<()> {
-    let mut tests = StatementTests {
-        part: StatementPart::Texts,
-        database: OpenDatabase::new(rt.alloc(), "root")?,
-    };
+    let mut tests = StatementTests::new(rt.alloc())?;
     let mut out = BufWriter::new(rt.alloc(), rt.stdout())?;
     follow_lines(&rt, rt.alloc(), &mut tests, &mut out)
 }
@@ -49,45 +56,72 @@ fn follow_lines<R: Input, W: Write>(
         let line = line?;
         tests.follow(alloc, line.as_str(), out)?;
     }
+    tests.end(out)?;
     out.flush()?;
     Ok(())
 }
 
 impl StatementTests {
+    /// The parts before any line.
+    fn new(alloc: Global) -> Result<StatementTests> {
+        let rows = OpenDatabase::new(alloc, "root")?;
+        let definitions = DefinedDatabase::new(alloc)?;
+        Ok(StatementTests {
+            part: StatementPart::Texts,
+            rows,
+            records: StoredRecords::new(alloc),
+            definitions,
+        })
+    }
+
     /// Begins a part, or does what a line of the one that is there says. Writes what comes of it.
     fn follow<W: Write>(&mut self, alloc: Global, line: &str, out: &mut W) -> Result<()> {
         match (line.strip_prefix("part "), self.part) {
-            (Some(name), _) => self.begin(name),
-            (None, StatementPart::Layouts) => follow_layout(alloc, line, out),
-            (None, StatementPart::Texts) => follow_text(alloc, line, out),
-            (None, StatementPart::Rows) => self.database.run_line(alloc, line, out),
+            (Some(name), _) => self.begin(name, out),
+            (None, StatementPart::Rows) => self.rows.run_line(alloc, line, out),
+            (None, part) => self.tell(alloc, part, line, out),
         }
     }
 
-    /// Begins the part of this name.
-    fn begin(&mut self, name: &str) -> Result<()> {
+    /// Does what a line of a part other than `rows` says, and writes what comes of it.
+    fn tell<W: Write>(
+        &mut self,
+        alloc: Global,
+        part: StatementPart,
+        line: &str,
+        out: &mut W,
+    ) -> Result<()> {
+        let mut told = String::new(alloc);
+        match part {
+            StatementPart::Layouts => layouts::follow(alloc, line, &mut told)?,
+            StatementPart::Texts => texts::follow(alloc, line, &mut told)?,
+            StatementPart::Records => self.records.follow(line, &mut told)?,
+            StatementPart::Definitions => self.definitions.run_line(alloc, line, &mut told)?,
+            StatementPart::Rows => (),
+        }
+        out.write_all(told.as_bytes())?;
+        Ok(())
+    }
+
+    /// Ends the part that is there, and begins the one of this name.
+    fn begin<W: Write>(&mut self, name: &str, out: &mut W) -> Result<()> {
+        self.end(out)?;
         self.part = match name {
             "layouts" => StatementPart::Layouts,
             "texts" => StatementPart::Texts,
             "rows" => StatementPart::Rows,
+            "records" => StatementPart::Records,
+            "definitions" => StatementPart::Definitions,
             _ => bail!("there is no such part"),
         };
         Ok(())
     }
-}
 
-/// Writes the layout that a line names.
-fn follow_layout<W: Write>(alloc: Global, line: &str, out: &mut W) -> Result<()> {
-    let mut told = String::new(alloc);
-    layouts::follow(alloc, line, &mut told)?;
-    out.write_all(told.as_bytes())?;
-    Ok(())
-}
-
-/// Writes what the text of a line stands for.
-fn follow_text<W: Write>(alloc: Global, line: &str, out: &mut W) -> Result<()> {
-    let mut told = String::new(alloc);
-    texts::follow(alloc, line, &mut told)?;
-    out.write_all(told.as_bytes())?;
-    Ok(())
+    /// Writes what is told at the end of the part.
+    fn end<W: Write>(&self, out: &mut W) -> Result<()> {
+        match self.part {
+            StatementPart::Definitions => self.definitions.write_counts(out),
+            _ => Ok(()),
+        }
+    }
 }

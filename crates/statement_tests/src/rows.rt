@@ -4,7 +4,7 @@
 //! that passes its checks it writes each table with the keys among which its rows would be looked
 //! for: one key, a span of keys, or all keys. A line `new` begins again, over a new database.
 //!
-//! A line `record KEY / VALUE` puts a record of these bytes into the store, as if its file had been
+//! A line `record KEY / VALUE` puts a record of these bytes (`notation` of `records`) into the store, as if its file had been
 //! altered. A SELECT speaks of the records that it read, so it answers `failed Damaged` only where it
 //! came to one that spells no row.
 //!
@@ -14,10 +14,11 @@
 //! `model.py` in `scripts/`).
 
 mod looked;
-mod records;
 
+use crate::names::name_of;
+use crate::records::loading::new_store;
+use crate::records::put_record;
 use crate::rows::looked::looked_for;
-use crate::rows::records::put_record;
 use anyhow::{Result, bail};
 use catalogue::definitions::Catalogue;
 use catalogue::effect::Effect;
@@ -62,8 +63,7 @@ pub struct OpenDatabase {
 impl OpenDatabase {
     /// A new database with a superuser of this name.
     pub fn new(alloc: Global, admin: &str) -> Result<OpenDatabase> {
-        let admin = name(alloc, admin)?;
-        let store = MemStore::new(alloc, &admin)?;
+        let store = new_store(alloc, admin)?;
         Ok(OpenDatabase {
             store,
             sessions: Vec::new(alloc),
@@ -131,7 +131,7 @@ impl OpenDatabase {
 
 /// A session of this name, for a role.
 fn new_session(alloc: Global, session: &str, role: &str) -> Result<TestSession> {
-    let role = name(alloc, role)?;
+    let role = name_of(alloc, role)?;
     Ok(TestSession {
         name: String::from_str(alloc, session)?,
         role,
@@ -146,14 +146,6 @@ fn role_of<'s>(sessions: &'s [TestSession], name: &str) -> Result<&'s Name> {
     {
         Some(session) => Ok(&session.role),
         None => bail!("a session is not open"),
-    }
-}
-
-/// The name that a text is.
-fn name(alloc: Global, text: &str) -> Result<Name> {
-    match Name::from_str(alloc, text)? {
-        Some(name) => Ok(name),
-        None => bail!("a role has no name"),
     }
 }
 

@@ -2,17 +2,6 @@
 
 use std::alloc::{AllocError, Global};
 
-/// The letters after a backslash, and the characters that they stand for.
-const ESCAPES: [(&str, &str); 7] = [
-    ("n", "\n"),
-    ("r", "\r"),
-    ("t", "\t"),
-    ("f", "\u{c}"),
-    ("v", "\u{b}"),
-    ("0", "\0"),
-    ("s", " "),
-];
-
 /// The text that a line writes: `{N*X}` is N times X, and a backslash with a letter one character.
 pub fn written_out(alloc: Global, line: &str) -> Result<String, AllocError> {
     let mut out = String::new(alloc);
@@ -65,15 +54,23 @@ fn push_plain(out: &mut String, text: &str) -> Result<(), AllocError> {
 
 /// Appends the character that the first letter stands for, and the rest.
 fn push_escape(out: &mut String, part: &str) -> Result<(), AllocError> {
-    for (letter, character) in ESCAPES {
-        if let Some(rest) = part.strip_prefix(letter) {
-            return push_both(out, character, rest);
-        }
+    let mut letters = part.chars();
+    if let Some(letter) = letters.next() {
+        out.push(meant(letter))?;
     }
-    out.push_str(part)
+    out.push_str(letters.as_str())
 }
 
-fn push_both(out: &mut String, first: &str, second: &str) -> Result<(), AllocError> {
-    out.push_str(first)?;
-    out.push_str(second)
+/// The character that a letter after a backslash stands for.
+fn meant(letter: char) -> char {
+    match letter {
+        'n' => '\n',
+        'r' => '\r',
+        't' => '\t',
+        'f' => '\u{c}',
+        'v' => '\u{b}',
+        '0' => '\0',
+        's' => ' ',
+        other => other,
+    }
 }

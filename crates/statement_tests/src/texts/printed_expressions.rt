@@ -1,6 +1,7 @@
 //! Expressions with a parenthesis around each operator and its operands.
 
-use sql_ast::expression::{ColumnName, Comparison, Expression, Operation};
+use crate::words::{comparison_sign, operation_sign};
+use sql_ast::expression::{ColumnName, Expression};
 use sql_types::value::Value;
 use std::alloc::AllocError;
 
@@ -17,19 +18,19 @@ pub fn push_expression(
         Expression::SessionUser => out.push_str("SESSION_USER"),
         Expression::Compare(operator, left, right) => {
             push_operand(out, "(", left, comparison_sign(*operator))?;
-            push_operand(out, "", right, ")")
+            push_operand(out, " ", right, ")")
         }
         Expression::Arithmetic(operator, left, right) => {
             push_operand(out, "(", left, operation_sign(*operator))?;
-            push_operand(out, "", right, ")")
+            push_operand(out, " ", right, ")")
         }
         Expression::And(left, right) => {
-            push_operand(out, "(", left, " AND ")?;
-            push_operand(out, "", right, ")")
+            push_operand(out, "(", left, " AND")?;
+            push_operand(out, " ", right, ")")
         }
         Expression::Or(left, right) => {
-            push_operand(out, "(", left, " OR ")?;
-            push_operand(out, "", right, ")")
+            push_operand(out, "(", left, " OR")?;
+            push_operand(out, " ", right, ")")
         }
         Expression::Negate(operand) => push_operand(out, "(-", operand, ")"),
         Expression::Not(operand) => push_operand(out, "(NOT ", operand, ")"),
@@ -74,25 +75,4 @@ fn push_column(out: &mut String, column: &ColumnName) -> Result<(), AllocError> 
         out.push_str(".")?;
     }
     out.push_str(column.column.as_str())
-}
-
-fn comparison_sign(operator: Comparison) -> &'static str {
-    match operator {
-        Comparison::Equal => " = ",
-        Comparison::NotEqual => " <> ",
-        Comparison::Less => " < ",
-        Comparison::LessOrEqual => " <= ",
-        Comparison::Greater => " > ",
-        Comparison::GreaterOrEqual => " >= ",
-    }
-}
-
-fn operation_sign(operator: Operation) -> &'static str {
-    match operator {
-        Operation::Add => " + ",
-        Operation::Subtract => " - ",
-        Operation::Multiply => " * ",
-        Operation::Divide => " / ",
-        Operation::Remainder => " % ",
-    }
 }

@@ -1,16 +1,18 @@
 //! Statements: the command, its names and expressions, and the parts that may be left out.
 
 use crate::texts::printed_sources::{push_condition, push_expr, push_named, push_source};
-use sql_ast::columns::ColumnType;
+use crate::words::{
+    action_word, command_word, grantee_word, kind_word, push_word, type_word, words_if,
+};
 use sql_ast::expr::Expr;
-use sql_ast::policy::{PolicyClause, PolicyCommand, PolicyKind};
-use sql_ast::privilege::{Action, Grantee};
+use sql_ast::policy::PolicyClause;
+use sql_ast::privilege::Grantee;
 use sql_ast::role::RoleAttribute;
 use sql_ast::statement::{
     AlterTable, Assignment, ColumnConstraint, ColumnDefinition, CreatePolicy, CreateRole,
     CreateTable, DatabaseStatement, DefiningStatement, Delete, DropBehavior, Grant, GrantRole,
     Insert, NamedAction, Privileges, Revoke, RevokeRole, RowSecurityChange, RowStatement, Select,
-    SelectList, SessionStatement, Statement, TableElement, Update,
+    SelectList, SessionStatement, SetRole, Statement, TableElement, Update,
 };
 use sql_types::items::Items;
 use sql_types::name::Name;
@@ -61,7 +63,12 @@ fn push_defining(out: &mut String, statement: &DefiningStatement) -> Result<(), 
 
 fn push_of_session(out: &mut String, statement: &SessionStatement) -> Result<(), AllocError> {
     match statement {
-        SessionStatement::SetRole(set) => push_set_role(out, &set.role),
+        SessionStatement::SetRole(SetRole { role: Some(role) }) => push_named(
+            out,
+            "SET ROLE ",
+            role,
+        ),
+        SessionStatement::SetRole(SetRole { role: None }) => out.push_str("SET ROLE NONE"),
         SessionStatement::ResetRole => out.push_str("RESET ROLE"),
         SessionStatement::Begin => out.push_str("BEGIN"),
         SessionStatement::Commit => out.push_str("COMMIT"),
@@ -72,13 +79,6 @@ fn push_of_session(out: &mut String, statement: &SessionStatement) -> Result<(),
 fn push_create_role(out: &mut String, create: &CreateRole) -> Result<(), AllocError> {
     push_named(out, "CREATE ROLE ", &create.role)?;
     push_attributes(out, create.attributes.as_slice())
-}
-
-fn push_set_role(out: &mut String, role: &Option<Name>) -> Result<(), AllocError> {
-    match role {
-        Some(role) => push_named(out, "SET ROLE ", role),
-        None => out.push_str("SET ROLE NONE"),
-    }
 }
 
 fn push_alter_table(out: &mut String, alter: &AlterTable) -> Result<(), AllocError> {
@@ -115,10 +115,6 @@ fn attribute_word(attribute: RoleAttribute) -> &'static str {
     }
 }
 
-fn push_if(out: &mut String, holds: bool, words: &str) -> Result<(), AllocError> {
-    if holds { out.push_str(words) } else { Ok(()) }
-}
-
 fn push_names(out: &mut String, before: &str, names: &[Name]) -> Result<(), AllocError> {
     out.push_str(before)?;
     for name in names {
@@ -130,27 +126,20 @@ fn push_names(out: &mut String, before: &str, names: &[Name]) -> Result<(), Allo
 fn push_grantees(out: &mut String, before: &str, grantees: &[Grantee]) -> Result<(), AllocError> {
     out.push_str(before)?;
     for grantee in grantees {
-        push_grantee(out, grantee)?;
+        push_word(out, grantee_word(grantee))?;
     }
     Ok(())
-}
-
-fn push_grantee(out: &mut String, grantee: &Grantee) -> Result<(), AllocError> {
-    match grantee {
-        Grantee::Public => out.push_str(" PUBLIC"),
-        Grantee::Role(role) => push_named(out, " ", role),
-    }
 }
 
 fn push_grant_role(out: &mut String, grant: &GrantRole) -> Result<(), AllocError> {
     push_names(out, "GRANT ROLE", grant.roles.as_slice())?;
     push_names(out, " TO", grant.members.as_slice())?;
-    push_if(out, grant.with_admin_option, " WITH ADMIN OPTION")
+    out.push_str(words_if(grant.with_admin_option, " WITH ADMIN OPTION"))
 }
 
 fn push_revoke_role(out: &mut String, revoke: &RevokeRole) -> Result<(), AllocError> {
     out.push_str("REVOKE ROLE")?;
-    push_if(out, revoke.admin_option_for, " ADMIN OPTION FOR")?;
+    out.push_str(words_if(revoke.admin_option_for, " ADMIN OPTION FOR"))?;
     push_names(out, "", revoke.roles.as_slice())?;
     push_names(out, " FROM", revoke.members.as_slice())?;
     out.push_str(behavior_words(revoke.behavior))
@@ -173,7 +162,7 @@ fn push_element(out: &mut String, element: &TableElement) -> Result<(), AllocErr
 
 fn push_column(out: &mut String, column: &ColumnDefinition) -> Result<(), AllocError> {
     push_named(out, ", ", &column.column)?;
-    out.push_str(type_word(column.column_type))?;
+    push_word(out, type_word(column.column_type))?;
     push_constraints(out, column.constraints.as_slice())
 }
 
@@ -182,14 +171,6 @@ fn push_constraints(out: &mut String, constraints: &[ColumnConstraint]) -> Resul
         out.push_str(constraint_words(*constraint))?;
     }
     Ok(())
-}
-
-fn type_word(column_type: ColumnType) -> &'static str {
-    match column_type {
-        ColumnType::BigInt => " BIGINT",
-        ColumnType::Text => " TEXT",
-        ColumnType::Boolean => " BOOLEAN",
-    }
 }
 
 fn constraint_words(constraint: ColumnConstraint) -> &'static str {
@@ -216,31 +197,6 @@ fn behavior_words(behavior: Option<DropBehavior>) -> &'static str {
     }
 }
 
-fn action_word(action: Action) -> &'static str {
-    match action {
-        Action::Select => " SELECT",
-        Action::Insert => " INSERT",
-        Action::Update => " UPDATE",
-        Action::Delete => " DELETE",
-    }
-}
-
-fn kind_word(kind: Option<PolicyKind>) -> &'static str {
-    match kind {
-        Some(PolicyKind::Permissive) => " PERMISSIVE",
-        Some(PolicyKind::Restrictive) => " RESTRICTIVE",
-        None => "",
-    }
-}
-
-fn command_word(command: Option<PolicyCommand>) -> &'static str {
-    match command {
-        Some(PolicyCommand::All) => " ALL",
-        Some(PolicyCommand::Only(action)) => action_word(action),
-        None => "",
-    }
-}
-
 /// Appends a policy and its table.
 fn push_policy(
     out: &mut String,
@@ -254,21 +210,17 @@ fn push_policy(
 
 fn push_create_policy(out: &mut String, create: &CreatePolicy) -> Result<(), AllocError> {
     push_policy(out, "CREATE POLICY ", &create.policy, &create.table)?;
-    out.push_str(kind_word(create.kind))?;
-    out.push_str(command_word(create.command))?;
-    push_policy_grantees(out, &create.grantees)?;
+    if let Some(kind) = create.kind {
+        push_word(out, kind_word(kind))?;
+    }
+    if let Some(command) = create.command {
+        push_word(out, command_word(command))?;
+    }
+    if let Some(grantees) = &create.grantees {
+        push_grantees(out, " TO", grantees.as_slice())?;
+    }
     push_clause(out, " USING ", &create.using)?;
     push_clause(out, " CHECK ", &create.check)
-}
-
-fn push_policy_grantees(
-    out: &mut String,
-    grantees: &Option<Items<Grantee>>,
-) -> Result<(), AllocError> {
-    match grantees {
-        Some(grantees) => push_grantees(out, " TO", grantees.as_slice()),
-        None => Ok(()),
-    }
 }
 
 /// Appends the text of a policy's condition between brackets, and its expression.
@@ -306,7 +258,7 @@ fn push_privileges(out: &mut String, privileges: &Privileges) -> Result<(), Allo
 
 fn push_actions(out: &mut String, actions: &[NamedAction]) -> Result<(), AllocError> {
     for action in actions {
-        out.push_str(action_word(action.action))?;
+        push_word(out, action_word(action.action))?;
         push_column_names(out, &action.columns)?;
     }
     Ok(())
@@ -317,12 +269,12 @@ fn push_grant(out: &mut String, grant: &Grant) -> Result<(), AllocError> {
     push_privileges(out, &grant.privileges)?;
     push_named(out, " ON ", &grant.table)?;
     push_grantees(out, " TO", grant.grantees.as_slice())?;
-    push_if(out, grant.with_grant_option, " WITH GRANT OPTION")
+    out.push_str(words_if(grant.with_grant_option, " WITH GRANT OPTION"))
 }
 
 fn push_revoke(out: &mut String, revoke: &Revoke) -> Result<(), AllocError> {
     out.push_str("REVOKE")?;
-    push_if(out, revoke.grant_option_for, " GRANT OPTION FOR")?;
+    out.push_str(words_if(revoke.grant_option_for, " GRANT OPTION FOR"))?;
     push_privileges(out, &revoke.privileges)?;
     push_named(out, " ON ", &revoke.table)?;
     push_grantees(out, " FROM", revoke.grantees.as_slice())?;

@@ -1,10 +1,12 @@
 //! The definitions of a database as text, a line each.
 
+use crate::records::database::{push_columns, push_key, push_roles};
+use crate::words::{action_word, grantee_word, grantor_word, words_if};
 use catalogue::definitions::Catalogue;
 use catalogue::table::TableDefinition;
-use sql_ast::columns::{Column, ColumnType, Columns};
-use sql_ast::privilege::{Action, Descriptor, Grantee, Grantor};
-use sql_ast::role::{Membership, Role};
+use sql_ast::columns::Columns;
+use sql_ast::privilege::Descriptor;
+use sql_ast::role::Membership;
 use std::alloc::AllocError;
 
 /// Appends all definitions.
@@ -12,17 +14,6 @@ pub fn push_definitions(out: &mut String, catalogue: &Catalogue) -> Result<(), A
     push_roles(out, catalogue.roles())?;
     push_memberships(out, catalogue.memberships().as_slice())?;
     push_tables(out, catalogue.tables())
-}
-
-fn push_roles(out: &mut String, roles: &[Role]) -> Result<(), AllocError> {
-    for role in roles {
-        let name = role.name.as_str();
-        let superuser = words_if(role.attributes.superuser, " SUPERUSER");
-        let login = words_if(role.attributes.login, " LOGIN");
-        let bypass = words_if(role.attributes.bypass_rls, " BYPASSRLS");
-        write!(out, "role {name}{superuser}{login}{bypass}\n")?;
-    }
-    Ok(())
 }
 
 fn push_memberships(out: &mut String, memberships: &[Membership]) -> Result<(), AllocError> {
@@ -39,8 +30,9 @@ fn push_memberships(out: &mut String, memberships: &[Membership]) -> Result<(), 
 fn push_tables(out: &mut String, tables: &[TableDefinition]) -> Result<(), AllocError> {
     for table in tables {
         push_table(out, table)?;
-        push_columns(out, table.columns().as_slice())?;
-        push_key(out, table.columns().key())?;
+        push_columns(out, "column", table.columns().as_slice(), "\n")?;
+        push_key(out, "key", table.columns().key())?;
+        out.push_str("\n")?;
         push_descriptors(out, table.columns(), table.descriptors())?;
     }
     Ok(())
@@ -52,24 +44,6 @@ fn push_table(out: &mut String, table: &TableDefinition) -> Result<(), AllocErro
     let enabled = words_if(table.row_security(), " ENABLE");
     let forced = words_if(table.forced(), " FORCE");
     write!(out, "table {name} {owner}{enabled}{forced}\n")
-}
-
-fn push_columns(out: &mut String, columns: &[Column]) -> Result<(), AllocError> {
-    for column in columns {
-        let name = column.name.as_str();
-        let column_type = type_word(column.column_type);
-        let not_null = words_if(column.not_null, " NOT NULL");
-        write!(out, "column {name} {column_type}{not_null}\n")?;
-    }
-    Ok(())
-}
-
-fn push_key(out: &mut String, key: &[usize]) -> Result<(), AllocError> {
-    out.push_str("key")?;
-    for index in key {
-        write!(out, " {index}")?;
-    }
-    out.push_str("\n")
 }
 
 fn push_descriptors(
@@ -105,41 +79,4 @@ fn column_word(columns: &Columns, index: usize) -> &str {
         Some(column) => column.name.as_str(),
         None => "?",
     }
-}
-
-fn grantor_word(grantor: &Grantor) -> &str {
-    match grantor {
-        Grantor::System => "_SYSTEM",
-        Grantor::Role(role) => role.as_str(),
-    }
-}
-
-fn grantee_word(grantee: &Grantee) -> &str {
-    match grantee {
-        Grantee::Public => "PUBLIC",
-        Grantee::Role(role) => role.as_str(),
-    }
-}
-
-/// The word of an action.
-pub fn action_word(action: Action) -> &'static str {
-    match action {
-        Action::Select => "SELECT",
-        Action::Insert => "INSERT",
-        Action::Update => "UPDATE",
-        Action::Delete => "DELETE",
-    }
-}
-
-fn type_word(column_type: ColumnType) -> &'static str {
-    match column_type {
-        ColumnType::BigInt => "BIGINT",
-        ColumnType::Text => "TEXT",
-        ColumnType::Boolean => "BOOLEAN",
-    }
-}
-
-/// The words, where something holds, and else none.
-pub fn words_if(holds: bool, words: &'static str) -> &'static str {
-    if holds { words } else { "" }
 }

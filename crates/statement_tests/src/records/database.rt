@@ -2,13 +2,17 @@
 
 use crate::records::expression::push_expression;
 use crate::records::rows::push_rows;
+use crate::words::{
+    action_word, command_word, grantee_word, grantor_word, kind_word, push_word, type_word,
+    words_if,
+};
 use catalogue::definitions::Catalogue;
 use catalogue::numbers::least_free_id;
 use catalogue::policy::CataloguePolicy;
 use catalogue::table::TableDefinition;
-use sql_ast::columns::{Column, ColumnType};
-use sql_ast::policy::{Policy, PolicyClause, PolicyCommand, PolicyKind, PolicyRoles};
-use sql_ast::privilege::{Action, Descriptor, Grantee, Grantor};
+use sql_ast::columns::Column;
+use sql_ast::policy::{Policy, PolicyClause, PolicyRoles};
+use sql_ast::privilege::Descriptor;
 use sql_ast::role::{Membership, Role};
 use sql_types::name::Name;
 use std::alloc::{AllocError, Global};
@@ -29,7 +33,8 @@ pub fn push_database(
     Ok(())
 }
 
-fn push_roles(out: &mut String, roles: &[Role]) -> Result<(), AllocError> {
+/// Appends the roles.
+pub fn push_roles(out: &mut String, roles: &[Role]) -> Result<(), AllocError> {
     for role in roles {
         push_role(out, role)?;
     }
@@ -82,26 +87,32 @@ pub fn push_table(out: &mut String, table: &TableDefinition) -> Result<(), Alloc
     let name = table.name().as_str();
     let owner = table.owner().as_str();
     write!(out, "table {id} {name} of {owner}:")?;
-    push_columns(out, table.columns().as_slice())?;
-    push_key(out, table.columns().key())?;
+    push_columns(out, "", table.columns().as_slice(), ",")?;
+    push_key(out, " key", table.columns().key())?;
     let enabled = words_if(table.row_security(), " ENABLED");
     let forced = words_if(table.forced(), " FORCED");
     writeln!(out, "{enabled}{forced}")
 }
 
-fn push_columns(out: &mut String, columns: &[Column]) -> Result<(), AllocError> {
+/// Appends the columns, each between what stands before and after it.
+pub fn push_columns(
+    out: &mut String,
+    before: &str,
+    columns: &[Column],
+    after: &str,
+) -> Result<(), AllocError> {
     for column in columns {
         let name = column.name.as_str();
         let column_type = type_word(column.column_type);
         let not_null = words_if(column.not_null, " NOT NULL");
-        write!(out, " {name} {column_type}{not_null},")?;
+        write!(out, "{before} {name} {column_type}{not_null}{after}")?;
     }
     Ok(())
 }
 
-/// Appends the indices of a key.
-fn push_key(out: &mut String, key: &[usize]) -> Result<(), AllocError> {
-    out.push_str(" key")?;
+/// Appends the indices of a key after a word.
+pub fn push_key(out: &mut String, before: &str, key: &[usize]) -> Result<(), AllocError> {
+    out.push_str(before)?;
     for index in key {
         write!(out, " {index}")?;
     }
@@ -124,20 +135,6 @@ fn push_descriptors(out: &mut String, descriptors: &[Descriptor]) -> Result<(), 
         writeln!(out, " TO {grantee}{option}")?;
     }
     Ok(())
-}
-
-fn grantor_word(grantor: &Grantor) -> &str {
-    match grantor {
-        Grantor::System => "_SYSTEM",
-        Grantor::Role(role) => role.as_str(),
-    }
-}
-
-fn grantee_word(grantee: &Grantee) -> &str {
-    match grantee {
-        Grantee::Public => "PUBLIC",
-        Grantee::Role(role) => role.as_str(),
-    }
 }
 
 fn push_policies(out: &mut String, policies: &[CataloguePolicy]) -> Result<(), AllocError> {
@@ -170,8 +167,7 @@ fn push_policy_roles(out: &mut String, roles: &PolicyRoles) -> Result<(), AllocE
 
 fn push_names(out: &mut String, names: &[Name]) -> Result<(), AllocError> {
     for name in names {
-        let name = name.as_str();
-        write!(out, " {name}")?;
+        push_word(out, name.as_str())?;
     }
     Ok(())
 }
@@ -188,40 +184,4 @@ fn push_clause(
     let text = clause.text.as_str();
     write!(out, " {word} [{text}] as")?;
     push_expression(out, clause.expression.tree())
-}
-
-/// The words, where something holds, and else none.
-fn words_if(holds: bool, words: &'static str) -> &'static str {
-    if holds { words } else { "" }
-}
-
-fn action_word(action: Action) -> &'static str {
-    match action {
-        Action::Select => "SELECT",
-        Action::Insert => "INSERT",
-        Action::Update => "UPDATE",
-        Action::Delete => "DELETE",
-    }
-}
-
-fn kind_word(kind: PolicyKind) -> &'static str {
-    match kind {
-        PolicyKind::Permissive => "PERMISSIVE",
-        PolicyKind::Restrictive => "RESTRICTIVE",
-    }
-}
-
-fn command_word(command: PolicyCommand) -> &'static str {
-    match command {
-        PolicyCommand::All => "ALL",
-        PolicyCommand::Only(action) => action_word(action),
-    }
-}
-
-fn type_word(column_type: ColumnType) -> &'static str {
-    match column_type {
-        ColumnType::BigInt => "BIGINT",
-        ColumnType::Text => "TEXT",
-        ColumnType::Boolean => "BOOLEAN",
-    }
 }

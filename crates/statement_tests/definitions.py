@@ -1,7 +1,7 @@
 #!/usr/bin/env python3
-"""A second program, which answers the lines of the part `statements` as this crate's program is to.
+"""A second program, which answers the lines of the part `definitions` as this crate's program is to.
 
-tests/second_program.py hands it the lines, and make_statements.py makes them. `python3 make_statements.py | python3 statements.py`
+tests/second_program.py hands it the lines, and make_definitions.py makes them. `python3 make_definitions.py | python3 definitions.py`
 lists how often each kind of statement has each answer, and how large the graphs are.
 
 It shares nothing with the code: it follows the rules of the language (docs/sql.md, docs/definitions.md) and the

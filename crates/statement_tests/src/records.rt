@@ -22,21 +22,21 @@
 //! the rules of the format alone and writes the same lines, and beside bytes with what they were meant to spell.
 
 mod answer;
-mod definitions;
+pub mod database;
 mod expression;
-mod loading;
+pub mod loading;
 mod notation;
 mod rows;
 mod variants;
 
 use crate::records::answer::push_answer;
-use crate::records::loading::{Condition, replace, store_with, tell, tell_other};
+use crate::records::loading::{Condition, put, replace, store_with, tell, tell_other};
 use crate::records::notation::record_of;
 use crate::records::variants::push_variants;
 use anyhow::{Result, bail};
 use catalogue_loading::load;
 use std::alloc::{AllocError, Global};
-use store::{Batch, Fault};
+use store::{Batch, Fault, MemStore, Store};
 
 /// The records of a new database with changes.
 #[derive(Drop)]
@@ -58,15 +58,19 @@ impl StoredRecords {
     pub fn follow(&mut self, line: &str, out: &mut String) -> Result<()> {
         let (word, rest) = line.split_once(' ').unwrap_or((line, ""));
         match word {
-            "--" => writeln!(out, "{line}")?,
-            "new" => self.changes = Batch::new(self.alloc),
-            "put" | "remove" => self.change(word, rest)?,
-            "check" => self.check(out)?,
-            "show" => self.show(out)?,
-            "try" => self.try_record(rest, out)?,
-            "vary" => push_variants(self.alloc, &self.changes, out)?,
-            _ => self.answer(word, rest, out)?,
+            "--" => Ok(writeln!(out, "{line}")?),
+            "new" => self.begin_again(),
+            "put" | "remove" => self.change(word, rest),
+            "check" => self.check(out),
+            "show" => self.show(out),
+            "try" => self.try_record(rest, out),
+            "vary" => push_variants(self.alloc, &self.changes, out),
+            _ => self.answer(word, rest, out),
         }
+    }
+
+    fn begin_again(&mut self) -> Result<()> {
+        self.changes = Batch::new(self.alloc);
         Ok(())
     }
 
@@ -124,6 +128,17 @@ impl StoredRecords {
             Err(_) => bail!("no definitions were loaded"),
         }
     }
+}
+
+/// Puts the record of a text into a store.
+pub fn put_record(alloc: Global, store: &mut MemStore, text: &str) -> Result<()> {
+    let record = record_of(alloc, text)?;
+    let mut changes = Batch::new(alloc);
+    if !put(&mut changes, record.key(), record.value())? {
+        bail!("no store takes a record of this size");
+    }
+    store.commit(&changes)?;
+    Ok(())
 }
 
 /// Appends the lines of a text that another one does not have.

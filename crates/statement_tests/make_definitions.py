@@ -1,7 +1,7 @@
 #!/usr/bin/env python3
-"""Makes the lines of the part `statements` of this crate's program:
+"""Makes the lines of the part `definitions` of this crate's program:
 
-    python3 make_statements.py
+    python3 make_definitions.py
 
 These are:
 
@@ -23,7 +23,7 @@ These are:
 """
 import os
 
-from statements import ACTIONS, Database, supports
+from definitions import ACTIONS, Database, supports
 
 EXAMPLES = os.path.join(os.path.dirname(os.path.abspath(__file__)), "examples.txt")
 SEED = 20160603  # of the statements of every kind

@@ -1,7 +1,7 @@
 //! What each role may do, as text.
 
-use crate::statements::asking::may_issue;
-use crate::statements::dump::{action_word, words_if};
+use crate::definitions::asking::may_issue;
+use crate::words::{action_word, push_word, words_if};
 use catalogue::definitions::Catalogue;
 use catalogue::table::TableDefinition;
 use role_membership::{RoleSet, closure};
@@ -131,8 +131,7 @@ fn push_those_in(roles: &[Role], set: &RoleSet<'_>, out: &mut String) -> Result<
     out.push_str(" is in")?;
     for role in roles {
         if set.contains(&role.name) {
-            let name = role.name.as_str();
-            write!(out, " {name}")?;
+            push_word(out, role.name.as_str())?;
         }
     }
     out.push_str("\n")
@@ -182,7 +181,7 @@ fn push_action(
     if columns.is_empty() {
         return Ok(());
     }
-    push_word(action_word(asked.action), out)?;
+    push_word(out, action_word(asked.action))?;
     if columns.len() < asked.statements.len() {
         push_list(columns.as_slice(), out)?;
     }
@@ -203,7 +202,7 @@ fn allowed_columns<'c>(
             Ok(()) => columns.push(*column)?,
             Err(Refusal(SqlState::InsufficientPrivilege)) => {}
             Err(Refusal(SqlState::OutOfMemory)) => return Err(AllocError),
-            Err(Refusal(code)) => push_word(code.code(), out)?,
+            Err(Refusal(code)) => push_word(out, code.code())?,
         }
     }
     Ok(columns)
@@ -218,8 +217,4 @@ fn push_list(names: &[&str], out: &mut String) -> Result<(), AllocError> {
         before = " ";
     }
     out.push_str(")")
-}
-
-fn push_word(word: &str, out: &mut String) -> Result<(), AllocError> {
-    write!(out, " {word}")
 }

@@ -1,7 +1,7 @@
 //! What a catalogue has by a name.
 
-use crate::records::definitions::{push_membership, push_policy, push_role, push_table};
-use crate::records::loading::name_of;
+use crate::names::name_of;
+use crate::records::database::{push_membership, push_policy, push_role, push_table};
 use crate::records::notation::record_of;
 use crate::records::rows::push_row;
 use anyhow::{Result, bail};

@@ -1,6 +1,5 @@
 //! Whether a role may issue a statement, which is not carried out.
 
-use anyhow::Result;
 use catalogue::definitions::Catalogue;
 use planner::plan_rows;
 use role_membership::{may_grant_role, would_circle};
@@ -10,23 +9,21 @@ use sql_ast::statement::{
 use sql_parser::parse::parse;
 use sql_types::name::Name;
 use sql_types::state::{Refusal, SqlState};
-use std::alloc::Global;
-use std::io::Write;
+use std::alloc::{AllocError, Global};
 
-/// Writes whether a role may issue the statement of a text.
-pub fn write_asked<W: Write>(
+/// Appends whether a role may issue the statement of a text.
+pub fn push_asked(
     alloc: Global,
     catalogue: &Catalogue,
     role: &Name,
     text: &str,
-    out: &mut W,
-) -> Result<()> {
+    out: &mut String,
+) -> Result<(), AllocError> {
     let answer = match asked(alloc, catalogue, role, text) {
         Ok(()) => "ok",
         Err(refusal) => refusal.0.code(),
     };
-    writeln!(out, "{answer}")?;
-    Ok(())
+    writeln!(out, "{answer}")
 }
 
 /// Whether a role may issue the statement of a text.
@@ -73,16 +70,7 @@ fn may_define(
 ) -> Result<(), Refusal> {
     match statement {
         DefiningStatement::GrantRole(granting) => may_grant(alloc, catalogue, role, granting),
-        DefiningStatement::CreateRole(_)
-        | DefiningStatement::DropRole(_)
-        | DefiningStatement::RevokeRole(_)
-        | DefiningStatement::CreateTable(_)
-        | DefiningStatement::DropTable(_)
-        | DefiningStatement::AlterTable(_)
-        | DefiningStatement::CreatePolicy(_)
-        | DefiningStatement::DropPolicy(_)
-        | DefiningStatement::Grant(_)
-        | DefiningStatement::Revoke(_) => Ok(()),
+        _ => Ok(()),
     }
 }
 

@@ -1,6 +1,7 @@
 //! Expressions and values in words: each operator before its operands.
 
-use sql_ast::expression::{ColumnName, Comparison, Expression, Operation};
+use crate::words::{comparison_sign, operation_sign};
+use sql_ast::expression::{ColumnName, Expression};
 use sql_types::value::ValueRef;
 use std::alloc::AllocError;
 
@@ -70,26 +71,5 @@ fn push_column(out: &mut String, column: &ColumnName) -> Result<(), AllocError> 
             write!(out, " {table}.{name}")
         }
         None => write!(out, " .{name}"),
-    }
-}
-
-fn comparison_sign(operator: Comparison) -> &'static str {
-    match operator {
-        Comparison::Equal => " =",
-        Comparison::NotEqual => " <>",
-        Comparison::Less => " <",
-        Comparison::LessOrEqual => " <=",
-        Comparison::Greater => " >",
-        Comparison::GreaterOrEqual => " >=",
-    }
-}
-
-fn operation_sign(operator: Operation) -> &'static str {
-    match operator {
-        Operation::Add => " +",
-        Operation::Subtract => " -",
-        Operation::Multiply => " *",
-        Operation::Divide => " /",
-        Operation::Remainder => " %",
     }
 }

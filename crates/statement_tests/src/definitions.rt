@@ -10,16 +10,18 @@
 //! that begins with `#` is written as it stands.
 //!
 //! That the statements do what the definitions of the language say, and that what is loaded is what
-//! was prepared, is proved; here both stand beside `model.py`, another program, which follows the
+//! was prepared, is proved; here both stand beside `definitions.py`, another program, which follows the
 //! rules of the language as they are written, and writes the same lines.
 
 mod asking;
 mod dump;
 mod rights;
 
-use crate::statements::asking::write_asked;
-use crate::statements::dump::push_definitions;
-use crate::statements::rights::push_rights;
+use crate::definitions::asking::push_asked;
+use crate::definitions::dump::push_definitions;
+use crate::definitions::rights::push_rights;
+use crate::names::name_of;
+use crate::records::loading::new_store;
 use anyhow::{Result, bail};
 use byteorder::{BigEndian, ByteOrder};
 use catalogue::change::SchemaChange;
@@ -41,6 +43,9 @@ use std::io::Write;
 use store::{Fault, MemStore, Stop, Store};
 use stored_rows::check_rows;
 use table_statements::{alter_table, create_table, drop_table};
+
+/// The superuser of a new database.
+const ADMIN: &str = "r0";
 
 /// A database in memory, and what was counted of the statements so far.
 #[derive(Drop)]
@@ -65,7 +70,7 @@ struct Issuer {
 impl DefinedDatabase {
     /// A new database.
     pub fn new(alloc: Global) -> Result<DefinedDatabase> {
-        let mut store = new_store(alloc)?;
+        let mut store = new_store(alloc, ADMIN)?;
         let (catalogue, digest) = loaded(alloc, &mut store)?;
         Ok(DefinedDatabase {
             store,
@@ -76,15 +81,14 @@ impl DefinedDatabase {
         })
     }
 
-    /// Does what a line says, and writes what it comes to.
-    pub fn run_line<W: Write>(&mut self, alloc: Global, line: &str, out: &mut W) -> Result<()> {
+    /// Does what a line says, and appends what it comes to.
+    pub fn run_line(&mut self, alloc: Global, line: &str, out: &mut String) -> Result<()> {
         if line.starts_with("#") {
-            writeln!(out, "{line}")?;
-            Ok(())
+            Ok(writeln!(out, "{line}")?)
         } else if line == "new" {
             self.begin_again(alloc, out)
         } else if line == "definitions" {
-            write_definitions(alloc, &self.catalogue, out)
+            Ok(push_all(alloc, &self.catalogue, out)?)
         } else {
             self.run_statement(alloc, line, out)
         }
@@ -98,10 +102,10 @@ impl DefinedDatabase {
         Ok(())
     }
 
-    fn begin_again<W: Write>(&mut self, alloc: Global, out: &mut W) -> Result<()> {
-        self.store = new_store(alloc)?;
+    fn begin_again(&mut self, alloc: Global, out: &mut String) -> Result<()> {
+        self.store = new_store(alloc, ADMIN)?;
         self.load(alloc)?;
-        writeln!(out, "new")?;
+        out.push_str("new\n")?;
         Ok(())
     }
 
@@ -113,27 +117,27 @@ impl DefinedDatabase {
         Ok(())
     }
 
-    /// Carries out the statement of a line, or asks for it, and writes what it comes to.
-    fn run_statement<W: Write>(&mut self, alloc: Global, line: &str, out: &mut W) -> Result<()> {
+    /// Carries out the statement of a line, or asks for it, and appends what it comes to.
+    fn run_statement(&mut self, alloc: Global, line: &str, out: &mut String) -> Result<()> {
         let Some((roles, text)) = line.split_once(": ") else {
             bail!("a line is no statement");
         };
         if let Some(role) = roles.strip_prefix("may ") {
-            let role = name(alloc, role)?;
-            return write_asked(alloc, &self.catalogue, &role, text, out);
+            let role = name_of(alloc, role)?;
+            return Ok(push_asked(alloc, &self.catalogue, &role, text, out)?);
         }
         let issuer = read_issuer(alloc, roles)?;
-        self.carry_out(alloc, &issuer, text, out)
+        Ok(self.carry_out(alloc, &issuer, text, out)?)
     }
 
-    /// Carries out a statement, counts it, and writes what it comes to.
-    fn carry_out<W: Write>(
+    /// Carries out a statement, counts it, and appends what it comes to.
+    fn carry_out(
         &mut self,
         alloc: Global,
         issuer: &Issuer,
         text: &str,
-        out: &mut W,
-    ) -> Result<()> {
+        out: &mut String,
+    ) -> Result<(), Fault> {
         let (answer, prepared) = self.executed(alloc, issuer, text)?;
         self.load(alloc)?;
         let differs = self.count(prepared);
@@ -185,12 +189,6 @@ impl DefinedDatabase {
     }
 }
 
-/// The store of a new database.
-fn new_store(alloc: Global) -> Result<MemStore> {
-    let admin = name(alloc, "r0")?;
-    Ok(MemStore::new(alloc, &admin)?)
-}
-
 /// The definitions that a store holds, whose rows are checked too, and their digest.
 fn loaded(alloc: Global, store: &mut MemStore) -> Result<(Catalogue, u64), Fault> {
     let catalogue = load(alloc, store)?;
@@ -204,25 +202,9 @@ fn read_issuer(alloc: Global, roles: &str) -> Result<Issuer> {
     let Some((session, current)) = roles.split_once(' ') else {
         bail!("a statement has no issuer");
     };
-    let current = name(alloc, current)?;
-    let session = name(alloc, session)?;
+    let current = name_of(alloc, current)?;
+    let session = name_of(alloc, session)?;
     Ok(Issuer { current, session })
-}
-
-/// The name that a text is.
-fn name(alloc: Global, text: &str) -> Result<Name> {
-    match Name::from_str(alloc, text)? {
-        Some(name) => Ok(name),
-        None => bail!("a role has no name"),
-    }
-}
-
-/// Writes the definitions of a catalogue, and what they let each role do.
-fn write_definitions<W: Write>(alloc: Global, catalogue: &Catalogue, out: &mut W) -> Result<()> {
-    let mut text = String::new(alloc);
-    push_all(alloc, catalogue, &mut text)?;
-    out.write_all(text.as_bytes())?;
-    Ok(())
 }
 
 /// The digest of a catalogue: the first eight bytes of the MD5 digest of its text.

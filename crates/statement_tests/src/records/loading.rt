@@ -1,10 +1,10 @@
 //! What is loaded from the records of a store.
 
-use crate::records::definitions::push_database;
-use anyhow::{Result, bail};
+use crate::names::name_of;
+use crate::records::database::push_database;
+use anyhow::Result;
 use catalogue::definitions::Catalogue;
 use catalogue_loading::load;
-use sql_types::name::Name;
 use sql_types::try_copy::TryCopy;
 use std::alloc::{AllocError, Global};
 use store::{Batch, Entry, Fault, MAX_KEY_LENGTH, MAX_VALUE_LENGTH, MemStore, Store};
@@ -31,23 +31,15 @@ impl Condition {
     }
 }
 
-/// The name that a text is.
-pub fn name_of(alloc: Global, text: &str) -> Result<Name> {
-    match Name::from_str(alloc, text)? {
-        Some(name) => Ok(name),
-        None => bail!("a text is no name"),
-    }
-}
-
-/// The store of a new database with the role root.
-fn new_store(alloc: Global) -> Result<MemStore> {
-    let admin = name_of(alloc, "root")?;
+/// The store of a new database with a superuser of this name.
+pub fn new_store(alloc: Global, admin: &str) -> Result<MemStore> {
+    let admin = name_of(alloc, admin)?;
     Ok(MemStore::new(alloc, &admin)?)
 }
 
 /// The store of a new database with the role root, with changes.
 pub fn store_with(alloc: Global, changes: &Batch) -> Result<MemStore> {
-    let mut store = new_store(alloc)?;
+    let mut store = new_store(alloc, "root")?;
     store.commit(changes)?;
     Ok(store)
 }
@@ -64,7 +56,7 @@ pub fn replace(changes: &mut Batch, key: &[u8], other: Option<&Entry>) -> Result
 }
 
 /// Puts a record. Answers whether it has a size that a store takes.
-fn put(changes: &mut Batch, key: &[u8], value: &[u8]) -> Result<bool, AllocError> {
+pub fn put(changes: &mut Batch, key: &[u8], value: &[u8]) -> Result<bool, AllocError> {
     if key.is_empty() || key.len() > MAX_KEY_LENGTH || value.len() > MAX_VALUE_LENGTH {
         return Ok(false);
     }
