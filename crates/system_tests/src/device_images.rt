@@ -2,11 +2,11 @@
 
 use crate::files::text_of;
 use crate::frames::bytes_of;
-use std::alloc::{AllocError, Global};
+use std::alloc::Global;
 use std::io;
 
 /// How many bytes 64 pages have.
-const LENGTH: usize = 262_144;
+pub const LENGTH: usize = 262_144;
 
 /// What a device of 64 pages holds, the script that is asked of the server over it, and whether the openings of it are stopped
 /// and fail.
@@ -26,7 +26,8 @@ impl DeviceImage {
             is_stopped: false,
         };
         let text = text_of(rt, alloc, name, ".image")?;
-        if let Some(before) = name_before(text.as_str()) {
+        if let ("from", rest) = word_in(text.as_str()) {
+            let before = rest.lines().next().unwrap_or("");
             let text = text_of(rt, alloc, before, ".image")?;
             image.follow(alloc, text.as_str())?;
             image.is_stopped = false;
@@ -36,66 +37,55 @@ impl DeviceImage {
         Ok(image)
     }
 
-    /// The bytes of a file that holds it.
-    pub fn into_file(self) -> Result<Vec<u8>, AllocError> {
-        let mut bytes = self.bytes;
-        bytes.resize(LENGTH, 0)?;
-        Ok(bytes)
-    }
-
     /// Does what lines say.
     fn follow(&mut self, alloc: Global, text: &str) -> io::Result<()> {
         for line in text.lines() {
-            let (word, rest) = line.split_once(' ').unwrap_or((line, ""));
+            let (word, rest) = word_in(line);
             match word {
-                "put" => self.put(alloc, rest)?,
-                "at" => self.change(alloc, rest)?,
-                "ask" => self.ask(rest)?,
+                "put" => put_bytes(alloc, &mut self.bytes, rest)?,
+                "at" => change_bytes(alloc, &mut self.bytes, rest)?,
+                "ask" => {
+                    self.script.push_str(rest)?;
+                    self.script.push_str("\n")?;
+                }
                 "stop" => self.is_stopped = true,
                 _ => {}
             }
         }
         Ok(())
     }
-
-    /// Appends bytes, so many times.
-    fn put(&mut self, alloc: Global, rest: &str) -> io::Result<()> {
-        let (times, digits) = number_in(rest);
-        let bytes = bytes_of(alloc, digits)?;
-        for _ in 0..times {
-            self.bytes.extend_from_slice(bytes.as_slice())?;
-        }
-        Ok(())
-    }
-
-    /// Puts bytes in the place of those at an offset.
-    fn change(&mut self, alloc: Global, rest: &str) -> io::Result<()> {
-        let (start, digits) = number_in(rest);
-        for (at, value) in bytes_of(alloc, digits)?.iter().enumerate() {
-            if let Some(byte) = self.bytes.get_mut(start.saturating_add(at)) {
-                *byte = *value;
-            }
-        }
-        Ok(())
-    }
-
-    /// Appends a line to the script.
-    fn ask(&mut self, line: &str) -> Result<(), AllocError> {
-        self.script.push_str(line)?;
-        self.script.push_str("\n")
-    }
 }
 
-/// The name of the file whose bytes a file begins with, where it begins with those of another.
-fn name_before(text: &str) -> Option<&str> {
-    match text.lines().next() {
-        Some(line) => line.strip_prefix("from "),
-        None => None,
+/// Appends bytes, so many times.
+fn put_bytes(alloc: Global, bytes: &mut Vec<u8>, rest: &str) -> io::Result<()> {
+    let (times, digits) = number_in(rest);
+    let more = bytes_of(alloc, digits)?;
+    for _ in 0..times {
+        bytes.extend_from_slice(more.as_slice())?;
     }
+    Ok(())
+}
+
+/// Puts bytes in the place of those at an offset.
+pub fn change_bytes(alloc: Global, bytes: &mut Vec<u8>, rest: &str) -> io::Result<()> {
+    let (start, digits) = number_in(rest);
+    let mut at = start;
+    for value in bytes_of(alloc, digits)?.iter() {
+        if let Some(byte) = bytes.get_mut(at) {
+            *byte = *value;
+        }
+        at = at.saturating_add(1);
+    }
+    Ok(())
+}
+
+/// The word that a text begins with, and what stands behind it.
+pub fn word_in(text: &str) -> (&str, &str) {
+    text.split_once(' ').unwrap_or((text, ""))
 }
 
 /// The number that a text begins with, and what stands behind it.
-fn number_in(text: &str) -> (usize, &str) {
-    let (number, rest) = text.split_once(' ').unwrap_or((text, ""));
+pub fn number_in(text: &str) -> (usize, &str) {
+    let (number, rest) = word_in(text);
     (number.parse().unwrap_or(0), rest)
 }

@@ -1,8 +1,18 @@
 //! Orders that something outside the program hinders: a file that was altered, is locked or not there, a port that is bound, an
 //! output that fails.
+//!
+//! Each line of the file `orders.hindered` tells one, over a new database of 64 pages in `hindered.db`: what the line that is
+//! printed begins with, the name of what is tried, and what hinders the order. `NAME.expected` holds what is printed then.
+//!
+//! - `zeros`, `cut LENGTH`, `at OFFSET BYTES`: `check` is to open a file of zeros alone, a file of so many bytes, or one with
+//!   these bytes in the place of others.
+//! - `image NAME`: `check` is to open a file that holds what the file `NAME.image` tells.
+//! - `bound_port FILE`: `serve` of a file is to bind a port that is bound already.
+//! - `failing_output`: `run --memory` is to print to an output that fails.
+//! - `locked_file`: `check` is to open a file that another handle has locked.
 
-use crate::altered_files::{FileChange, alter};
-use crate::device_images::DeviceImage;
+use crate::device_images::{DeviceImage, LENGTH, change_bytes, number_in, word_in};
+use crate::files::text_of;
 use crate::orders::{make_database, printed_for_order, told_for_order};
 use crate::reports::report;
 use commands::command::Order;
@@ -15,260 +25,79 @@ use std::{fs, io};
 /// The name of each new database, one after the other.
 const FILE: &str = "hindered.db";
 
-/// A file that is not there.
-const NO_FILE: &str = "no_such_file.db";
-
 /// A script of the folder.
 const SCRIPT: &str = "current_user.sql";
 
-/// What hinders an order.
-#[derive(Clone, Copy)]
-enum Hindrance {
-    /// `check` is to open a file that was altered.
-    AlteredFile(FileChange),
-    /// `check` is to open a file that holds what the file `NAME.image` of this name tells.
-    Image(&'static str),
-    /// `serve` is to bind a port that is bound already.
-    BoundPort,
-    /// `serve` is to open a file that is not there, and to bind a port that is bound already.
-    NoFileOnABoundPort,
-    /// `run --memory` is to print to an output that fails.
-    FailingOutput,
-    /// `check` is to open a file that another handle has locked.
-    LockedFile,
-}
-
-/// What a line begins with, the name of what is tried, what hinders an order, and what is printed then.
-const HINDRANCES: &[(&str, &str, Hindrance, &str)] = &[
-    (
-        "altered",
-        "file_of_zeros",
-        Hindrance::AlteredFile(FileChange::Zeros),
-        "status 1\nguarddb: NotADatabase\n\
-         guarddb: hindered.db: not a database; 'guarddb format' makes one in a new file\n",
-    ),
-    (
-        "altered",
-        "magic",
-        Hindrance::AlteredFile(FileChange::Byte(512, 0x00)),
-        "status 1\nguarddb: NotADatabase\n\
-         guarddb: hindered.db: not a database; 'guarddb format' makes one in a new file\n",
-    ),
-    (
-        "altered",
-        "format",
-        Hindrance::AlteredFile(FileChange::Byte(523, 0x09)),
-        "status 1\nguarddb: Damaged\n\
-         guarddb: hindered.db: the database is damaged; restore it from a copy\n",
-    ),
-    (
-        "altered",
-        "format_0",
-        Hindrance::AlteredFile(FileChange::Byte(523, 0x00)),
-        "status 1\nguarddb: Damaged\n\
-         guarddb: hindered.db: the database is damaged; restore it from a copy\n",
-    ),
-    (
-        "altered",
-        "format_1_of_no_table",
-        Hindrance::AlteredFile(FileChange::Byte(523, 0x01)),
-        "ok CHECK\nstatus 0\n\
-         guarddb: hindered.db was of format 1 and is of format 2 now\n",
-    ),
-    (
-        "altered",
-        "format_3",
-        Hindrance::AlteredFile(FileChange::Byte(523, 0x03)),
-        "ok CHECK\nstatus 0\n",
-    ),
-    (
-        "altered",
-        "number_of_pages",
-        Hindrance::AlteredFile(FileChange::Byte(527, 0x41)),
-        "status 1\nguarddb: WrongSize\n\
-         guarddb: hindered.db: not 64 to 65536 pages of 4096 bytes, or not as many as it was made with\n",
-    ),
-    (
-        "altered",
-        "length",
-        Hindrance::AlteredFile(FileChange::Cut(262_143)),
-        "status 1\nguarddb: WrongSize\n\
-         guarddb: hindered.db: not 64 to 65536 pages of 4096 bytes, or not as many as it was made with\n",
-    ),
-    (
-        "altered",
-        "commit_number",
-        Hindrance::AlteredFile(FileChange::Byte(535, 0x02)),
-        "status 1\nguarddb: Damaged\n\
-         guarddb: hindered.db: the database is damaged; restore it from a copy\n",
-    ),
-    (
-        "altered",
-        "number_of_map_pages",
-        Hindrance::AlteredFile(FileChange::Byte(539, 0x00)),
-        "status 1\nguarddb: Damaged\n\
-         guarddb: hindered.db: the database is damaged; restore it from a copy\n",
-    ),
-    (
-        "altered",
-        "page_named_twice",
-        Hindrance::AlteredFile(FileChange::Byte(8_199, 0x01)),
-        "status 1\nguarddb: Damaged\n\
-         guarddb: hindered.db: the database is damaged; restore it from a copy\n",
-    ),
-    (
-        "altered",
-        "attributes_of_a_role",
-        Hindrance::AlteredFile(FileChange::Byte(4_109, 0x08)),
-        "status 1\nguarddb: Damaged\n\
-         guarddb: hindered.db: the database is damaged; restore it from a copy\n",
-    ),
-    (
-        "altered",
-        "byte_past_the_cells",
-        Hindrance::AlteredFile(FileChange::Byte(4_110, 0x01)),
-        "status 1\nguarddb: Damaged\n\
-         guarddb: hindered.db: the database is damaged; restore it from a copy\n",
-    ),
-    (
-        "altered",
-        "sector_past_the_roots",
-        Hindrance::AlteredFile(FileChange::Byte(1_024, 0x01)),
-        "ok CHECK\nstatus 0\n",
-    ),
-    (
-        "altered",
-        "page_in_no_reach",
-        Hindrance::AlteredFile(FileChange::Byte(12_288, 0x01)),
-        "ok CHECK\nstatus 0\n",
-    ),
-    (
-        "image",
-        "checked_with_grants_of_format_1",
-        Hindrance::Image("grants_of_format_1"),
-        "ok CHECK\nstatus 0\n\
-         guarddb: hindered.db was of format 1 and is of format 2 now\n",
-    ),
-    (
-        "image",
-        "checked_with_grants_of_format_2",
-        Hindrance::Image("grants_of_format_2"),
-        "ok CHECK\nstatus 0\n",
-    ),
-    (
-        "image",
-        "checked_without_room",
-        Hindrance::Image("more_descriptors_than_room"),
-        "status 1\nguarddb: Full\n\
-         guarddb: hindered.db: of format 1, with no room for its records in format 2; \
-         make some with an older guarddb\n",
-    ),
-    (
-        "image",
-        "checked_without_a_number",
-        Hindrance::Image("last_number_of_format_1"),
-        "status 1\nguarddb: Number\n\
-         guarddb: hindered.db: of format 1, with no commit number left to bring it to format 2\n",
-    ),
-    (
-        "hindered",
-        "serve_on_a_bound_port",
-        Hindrance::BoundPort,
-        "status 1\nguarddb: Net\n\
-         guarddb: 127.0.0.1:PORT: the address is in use\n",
-    ),
-    (
-        "hindered",
-        "serve_over_no_file_on_a_bound_port",
-        Hindrance::NoFileOnABoundPort,
-        "status 1\nguarddb: Device\n\
-         guarddb: no_such_file.db: no such file or folder\n",
-    ),
-    (
-        "hindered",
-        "run_to_a_failing_output",
-        Hindrance::FailingOutput,
-        "status 1\nguarddb: Output\n\
-         guarddb: standard output: closed, or it takes no more\n",
-    ),
-    (
-        "hindered",
-        "check_of_a_locked_file",
-        Hindrance::LockedFile,
-        "status 1\nguarddb: InUse\n\
-         guarddb: hindered.db: another process has it open\n",
-    ),
-];
-
-/// A function, since a loop that reads the table itself is proved slowly.
-fn hindrances() -> &'static [(&'static str, &'static str, Hindrance, &'static str)] {
-    HINDRANCES
-}
-
-/// Gives orders over a new database of 64 pages, each of them hindered, and counts those for which something else is printed
-/// than is expected.
+/// Gives the orders, each of them hindered, and counts those for which something else is printed than is expected.
 pub fn give_hindered_orders(
     rt: &HostRuntime,
     alloc: Global,
     differing: &mut u64,
 ) -> io::Result<()> {
-    for (what, name, hindrance, expected) in hindrances() {
-        report_hindered(rt, alloc, what, name, *hindrance, expected, differing)?;
+    for line in text_of(rt, alloc, "orders", ".hindered")?.as_str().lines() {
+        give_hindered(rt, alloc, line, differing)?;
     }
     Ok(())
 }
 
-/// Gives an order that something hinders, removes the database, and prints the line of it.
-fn report_hindered(
+/// Gives the order of a line over a new database, removes that, and prints the line of it.
+fn give_hindered(
     rt: &HostRuntime,
     alloc: Global,
-    what: &str,
-    name: &str,
-    hindrance: Hindrance,
-    expected: &str,
+    line: &str,
     differing: &mut u64,
 ) -> io::Result<()> {
-    let printed = give_hindered(rt, alloc, hindrance);
+    let (what, rest) = word_in(line);
+    let (name, hindrance) = word_in(rest);
+    let expected = text_of(rt, alloc, name, ".expected")?;
+    make_database(rt, alloc, FILE)?;
+    let printed = printed_if_hindered(rt, alloc, hindrance);
     fs::remove_file(rt, FILE)?;
-    let printed = printed?;
-    report(rt, alloc, what, name, expected, printed.as_str(), differing)
-}
-
-/// What is printed for the order that something hinders.
-fn give_hindered(rt: &HostRuntime, alloc: Global, hindrance: Hindrance) -> io::Result<String> {
-    match make_database(rt, alloc, FILE)? {
-        Some(refusal) => Ok(refusal),
-        None => printed_if_hindered(rt, alloc, hindrance),
-    }
+    report(
+        rt,
+        alloc,
+        what,
+        name,
+        expected.as_str(),
+        printed?.as_str(),
+        differing,
+    )
 }
 
 /// What is printed for the order that something hinders, over the new database.
-fn printed_if_hindered(
-    rt: &HostRuntime,
-    alloc: Global,
-    hindrance: Hindrance,
-) -> io::Result<String> {
-    match hindrance {
-        Hindrance::AlteredFile(change) => check_altered(rt, alloc, change),
-        Hindrance::Image(name) => check_image(rt, alloc, name),
-        Hindrance::BoundPort => serve_on_a_bound_port(rt, alloc, FILE),
-        Hindrance::NoFileOnABoundPort => serve_on_a_bound_port(rt, alloc, NO_FILE),
-        Hindrance::FailingOutput => run_to_a_failing_output(rt, alloc),
-        Hindrance::LockedFile => check_a_locked_file(rt, alloc),
+fn printed_if_hindered(rt: &HostRuntime, alloc: Global, hindrance: &str) -> io::Result<String> {
+    let (word, rest) = word_in(hindrance);
+    match word {
+        "image" => check_image(rt, alloc, rest),
+        "bound_port" => serve_on_a_bound_port(rt, alloc, rest),
+        "failing_output" => run_to_a_failing_output(rt, alloc),
+        "locked_file" => check_a_locked_file(rt, alloc),
+        _ => check_altered(rt, alloc, word, rest),
     }
 }
 
-/// What `check` prints where its file was altered.
-fn check_altered(rt: &HostRuntime, alloc: Global, change: FileChange) -> io::Result<String> {
-    alter(rt, alloc, FILE, change)?;
+/// What `check` prints where its file holds these bytes.
+fn check_bytes(rt: &HostRuntime, alloc: Global, bytes: &[u8]) -> io::Result<String> {
+    fs::write(rt, FILE, bytes)?;
     printed_for_order(rt, alloc, &Order::Check { file: FILE })
+}
+
+/// What `check` prints where its file was altered.
+fn check_altered(rt: &HostRuntime, alloc: Global, word: &str, rest: &str) -> io::Result<String> {
+    let mut bytes = fs::read(rt, FILE)?;
+    match word {
+        "cut" => bytes.truncate(number_in(rest).0),
+        "at" => change_bytes(alloc, &mut bytes, rest)?,
+        _ => bytes = vec![in alloc; 0; LENGTH]?,
+    }
+    check_bytes(rt, alloc, bytes.as_slice())
 }
 
 /// What `check` prints where its file holds what another file tells.
 fn check_image(rt: &HostRuntime, alloc: Global, name: &str) -> io::Result<String> {
-    let bytes = DeviceImage::read(rt, alloc, name)?.into_file()?;
-    fs::write(rt, FILE, bytes.as_slice())?;
-    printed_for_order(rt, alloc, &Order::Check { file: FILE })
+    let mut bytes = DeviceImage::read(rt, alloc, name)?.bytes;
+    bytes.resize(LENGTH, 0)?;
+    check_bytes(rt, alloc, bytes.as_slice())
 }
 
 /// What `serve` of a file prints where its port is bound. In place of the port stands `PORT`.

@@ -20,7 +20,6 @@
 //! request that is refused is one of an opening.
 #![tactic(auto)]
 
-mod altered_files;
 mod answers;
 mod command_lines;
 mod device_images;

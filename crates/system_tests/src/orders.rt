@@ -39,8 +39,8 @@ pub fn after_status(alloc: Global, status: u8, err: &[u8]) -> Result<String, All
     format!(in alloc; "status {status}\n{told}")
 }
 
-/// Makes a new database of 64 pages in a file. Answers what the program prints, where that is not that it was made.
-pub fn make_database(rt: &HostRuntime, alloc: Global, file: &str) -> io::Result<Option<String>> {
+/// Makes a new database of 64 pages in a file.
+pub fn make_database(rt: &HostRuntime, alloc: Global, file: &str) -> io::Result<()> {
     let order = Order::Format {
         file,
         pages: 64,
@@ -49,7 +49,8 @@ pub fn make_database(rt: &HostRuntime, alloc: Global, file: &str) -> io::Result<
     };
     let printed = printed_for_order(rt, alloc, &order)?;
     if printed.as_str() == "ok FORMAT\nstatus 0\n" {
-        return Ok(None);
+        Ok(())
+    } else {
+        Err(io::Error::from(io::ErrorKind::Other))
     }
-    Ok(Some(printed))
 }
