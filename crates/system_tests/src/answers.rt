@@ -1,7 +1,7 @@
-//! The texts of answers, and what scripts print, cut into answers and compared.
+//! The texts of answers, and how many answers a text holds.
 
 use sql_types::answer::Answer;
-use std::alloc::{AllocError, Global};
+use std::alloc::Global;
 use std::io;
 use wire::answers::write_answer;
 use wire::output::CountedWriter;
@@ -17,44 +17,25 @@ pub fn text_of_answers(alloc: Global, answers: &[Answer]) -> io::Result<String> 
     Ok(String::from_utf8_lossy(alloc, text.as_slice())?)
 }
 
-/// The answers that a script printed, each with all of its lines: `rows n` has n more lines, and each other answer is one.
-pub fn answers_in(alloc: Global, printed: &str) -> Result<Vec<String>, AllocError> {
-    let mut answers: Vec<String> = Vec::new(alloc);
+/// How many answers a script printed: `rows n` is one with the n lines behind it, and each other line is one.
+pub fn count_answers(printed: &str) -> usize {
+    let mut count: usize = 0;
     let mut rows_left: u64 = 0;
-    for line in printed.split_inclusive('\n') {
+    for line in printed.lines() {
         if rows_left == 0 {
             rows_left = row_count(line);
-            answers.push(String::from_str(alloc, line)?)?;
-        } else if let Some(answer) = answers.last_mut() {
+            count = count.saturating_add(1);
+        } else {
             rows_left -= 1;
-            answer.push_str(line)?;
         }
     }
-    Ok(answers)
+    count
 }
 
 /// How many lines of rows follow an answer's first line.
 fn row_count(line: &str) -> u64 {
     match line.strip_prefix("rows ") {
-        Some(count) => count.trim_end().parse().unwrap_or(0),
+        Some(count) => count.parse().unwrap_or(0),
         None => 0,
-    }
-}
-
-/// The first place at which the given answers are not the expected ones.
-pub fn first_difference(expected: &[String], given: &[String]) -> usize {
-    for (index, (one, other)) in expected.iter().zip(given).enumerate() {
-        if one.as_str() != other.as_str() {
-            return index;
-        }
-    }
-    expected.len().min(given.len())
-}
-
-/// The answer at a place, or `none` where there are fewer.
-pub fn answer_at(answers: &[String], index: usize) -> &str {
-    match answers.get(index) {
-        Some(answer) => answer.as_str(),
-        None => "none",
     }
 }

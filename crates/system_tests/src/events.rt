@@ -6,34 +6,10 @@ use sql_types::text::Text;
 use std::alloc::{AllocError, Global};
 use std::io;
 
-/// The names of the sessions of a script, which have the numbers 1, 2 and so on.
-#[derive(Drop)]
-struct SessionNames<'a> {
-    names: Vec<&'a str>,
-}
-
-impl<'a> SessionNames<'a> {
-    /// The number of the session of this name; a new name gets the next one.
-    fn number(&mut self, name: &'a str) -> io::Result<u32> {
-        let index = match self.names.iter().position(|known| *known == name) {
-            Some(index) => index,
-            None => {
-                self.names.push(name)?;
-                self.names.len().saturating_sub(1)
-            }
-        };
-        match u32::try_from(index.saturating_add(1)) {
-            Ok(number) => Ok(number),
-            Err(_) => Err(io::Error::from(io::ErrorKind::InvalidData)),
-        }
-    }
-}
-
-/// The events that the lines of a script request, all of which are valid.
+/// The events that the lines of a script request, all of which are valid. Its sessions have the numbers 1, 2 and so on, in the
+/// order in which they are named.
 pub fn events_of(alloc: Global, script: &str) -> io::Result<Vec<Event>> {
-    let mut names = SessionNames {
-        names: Vec::new(alloc),
-    };
+    let mut names: Vec<&str> = Vec::new(alloc);
     let mut events = Vec::new(alloc);
     for line in script.split('\n') {
         add_event(alloc, line, &mut names, &mut events)?;
@@ -45,34 +21,33 @@ pub fn events_of(alloc: Global, script: &str) -> io::Result<Vec<Event>> {
 fn add_event<'a>(
     alloc: Global,
     line: &'a str,
-    names: &mut SessionNames<'a>,
+    names: &mut Vec<&'a str>,
     events: &mut Vec<Event>,
 ) -> io::Result<()> {
-    let Some(line) = read_line(line) else {
-        return Err(io::Error::from(io::ErrorKind::InvalidData));
+    let event = match read_line(line) {
+        Some(Line::Skipped) => return Ok(()),
+        Some(Line::Open { name, login }) => opening_of(alloc, number_of(names, name)?, login)?,
+        Some(Line::Statement { name, text }) => statement_of(alloc, number_of(names, name)?, text)?,
+        Some(Line::Close { name }) => Event::Close {
+            session: number_of(names, name)?,
+        },
+        None => return Err(io::Error::from(io::ErrorKind::InvalidData)),
     };
-    if let Some(event) = event_of(alloc, line, names)? {
-        events.push(event)?;
-    }
+    events.push(event)?;
     Ok(())
 }
 
-/// The event that a line requests, if it requests one.
-fn event_of<'a>(
-    alloc: Global,
-    line: Line<'a>,
-    names: &mut SessionNames<'a>,
-) -> io::Result<Option<Event>> {
-    match line {
-        Line::Skipped => Ok(None),
-        Line::Open { name, login } => Ok(Some(opening_of(alloc, names.number(name)?, login)?)),
-        Line::Statement { name, text } => {
-            Ok(Some(statement_of(alloc, names.number(name)?, text)?))
+/// The number of the session of a name; a new name gets the next one.
+fn number_of<'a>(names: &mut Vec<&'a str>, name: &'a str) -> Result<u32, AllocError> {
+    let mut number: u32 = 1;
+    for known in names.iter() {
+        if *known == name {
+            return Ok(number);
         }
-        Line::Close { name } => Ok(Some(Event::Close {
-            session: names.number(name)?,
-        })),
+        number = number.saturating_add(1);
     }
+    names.push(name)?;
+    Ok(number)
 }
 
 /// The event that a login opens a session.

@@ -55,7 +55,6 @@ fn give_hindered(
     fs::remove_file(rt, FILE)?;
     report(
         rt,
-        alloc,
         what,
         name,
         expected.as_str(),

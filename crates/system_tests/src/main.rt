@@ -11,8 +11,8 @@
 //! The scripts that end well are then given to a server once more, all events of a script at once, and to one life of a
 //! database on a device. The bytes in `NAME.frames` are sent to a listener, those of each line by themselves, and
 //! `NAME.expected` holds what is sent back, a line for each frame. The program is given orders that something outside of it
-//! hinders, files that were altered among them, and a server what no script can show. Devices whose bytes stand in files
-//! `NAME.image` are opened, as `migrations` tells, those of an earlier format among them.
+//! hinders, files that were altered among them, as `hindered_orders` tells, and a server what no script can show. Devices whose
+//! bytes stand in files `NAME.image` are opened, as `opened_images` tells, those of an earlier format among them.
 //!
 //! At last the whole server is stopped, and calls of its device fail, as `stops` tells: a part of these trials is tried. With
 //! the word `all` nothing else is tried, and all of them are. With the word `memory` nothing is tried but openings of devices of
@@ -30,9 +30,8 @@ mod frames;
 mod hindered_orders;
 mod listeners;
 mod long_scripts;
-mod migrations;
+mod opened_images;
 mod orders;
-mod printing;
 mod reports;
 mod servers;
 mod stops;
@@ -43,16 +42,102 @@ use crate::command_lines::printed_for;
 use crate::event_lists::run_at_once;
 use crate::files::{names_of, text_of};
 use crate::hindered_orders::give_hindered_orders;
-use crate::listeners::send_frames;
+use crate::listeners::sent_back;
 use crate::long_scripts::expanded;
-use crate::migrations::{open_again, open_images};
+use crate::opened_images::{open_again, printed_of};
 use crate::reports::report;
 use crate::stops::try_stops;
-use crate::stores::{STORES, StoreKind, printed_by};
+use crate::stores::{PAGES, SMALL_PAGES, StoreKind, printed_by};
 use crate::unscripted::check_unscripted;
 use std::alloc::Global;
 use std::process::ExitCode;
 use std::{env, io};
+
+/// What is done with a file of the folder.
+#[derive(Clone, Copy)]
+enum Trial {
+    /// A script is run over a store.
+    Script(StoreKind),
+    /// A script with long lines is run over a store.
+    LongScript(StoreKind),
+    /// Bytes are sent to a listener over a store.
+    Frames(StoreKind),
+    /// A command line is given to the program.
+    Words,
+    /// A device is opened.
+    Image,
+}
+
+/// What is done with the files of each ending: what a line begins with, and what is tried.
+const SCRIPTS: [(&str, Trial); 2] = [
+    ("memory", Trial::Script(StoreKind::Memory)),
+    ("pages", Trial::Script(StoreKind::Pages(PAGES))),
+];
+
+const LONG_SCRIPTS: [(&str, Trial); 2] = [
+    ("memory", Trial::LongScript(StoreKind::Memory)),
+    ("pages", Trial::LongScript(StoreKind::Pages(PAGES))),
+];
+
+const SMALL_SCRIPTS: [(&str, Trial); 1] = [(
+    "64 pages",
+    Trial::LongScript(StoreKind::Pages(SMALL_PAGES)),
+)];
+
+const FRAMES_IN_MEMORY: [(&str, Trial); 1] = [(
+    "listener over memory",
+    Trial::Frames(StoreKind::Memory),
+)];
+
+const FRAMES_IN_PAGES: [(&str, Trial); 1] = [(
+    "listener over pages",
+    Trial::Frames(StoreKind::Pages(PAGES)),
+)];
+
+const WORDS: [(&str, Trial); 1] = [("words", Trial::Words)];
+
+const IMAGES: [(&str, Trial); 1] = [("image", Trial::Image)];
+
+impl Trial {
+    /// What is printed for the file of a name.
+    fn printed(
+        self,
+        rt: &HostRuntime,
+        alloc: Global,
+        name: &str,
+        ending: &str,
+    ) -> io::Result<String> {
+        if matches!(self, Trial::Words) {
+            return printed_for(rt, alloc, name);
+        }
+        if matches!(self, Trial::Image) {
+            return printed_of(rt, alloc, name);
+        }
+        let text = text_of(rt, alloc, name, ending)?;
+        match self {
+            Trial::Script(store) => printed_by(alloc, store, text.as_str()),
+            Trial::LongScript(store) => printed_by(
+                alloc,
+                store,
+                expanded(alloc, text.as_str())?.as_str(),
+            ),
+            Trial::Frames(store) => sent_back(rt, alloc, store, text.as_str()),
+            _ => Ok(text),
+        }
+    }
+
+    /// What is expected for the file of a name.
+    fn expected(self, rt: &HostRuntime, alloc: Global, name: &str) -> io::Result<String> {
+        match self {
+            Trial::Image => text_of(rt, alloc, name, ".opened"),
+            Trial::LongScript(_) => {
+                let text = text_of(rt, alloc, name, ".expected")?;
+                Ok(expanded(alloc, text.as_str())?)
+            }
+            _ => text_of(rt, alloc, name, ".expected"),
+        }
+    }
+}
 
 fn main(rt: HostRuntime) -> io::Result<ExitCode> {
     match count_differing(&rt, rt.alloc())? {
@@ -83,103 +168,55 @@ fn has_word(rt: &HostRuntime, alloc: Global, word: &str) -> io::Result<bool> {
     Ok(words.iter().any(|given| given.as_str() == word))
 }
 
-/// Runs the scripts, sends the frames, and gives the program its orders.
+/// Runs the scripts, sends the frames, gives the program its orders, and opens the devices.
 fn run_parts(rt: &HostRuntime, alloc: Global, differing: &mut u64) -> io::Result<()> {
-    run_scripts(rt, alloc, ".script", &STORES, differing)?;
-    run_scripts(rt, alloc, ".long", &STORES, differing)?;
-    run_scripts(rt, alloc, ".small", &[StoreKind::Small], differing)?;
+    try_files(rt, alloc, ".script", &SCRIPTS, differing)?;
+    try_files(rt, alloc, ".long", &LONG_SCRIPTS, differing)?;
+    try_files(rt, alloc, ".small", &SMALL_SCRIPTS, differing)?;
     run_at_once(rt, alloc, differing)?;
-    for store in STORES {
-        send_frames(rt, alloc, store, differing)?;
-    }
-    give_commands(rt, alloc, differing)?;
+    try_files(rt, alloc, ".frames", &FRAMES_IN_MEMORY, differing)?;
+    try_files(rt, alloc, ".frames", &FRAMES_IN_PAGES, differing)?;
+    try_files(rt, alloc, ".words", &WORDS, differing)?;
     give_hindered_orders(rt, alloc, differing)?;
-    open_images(rt, alloc, differing)?;
+    try_files(rt, alloc, ".image", &IMAGES, differing)?;
     check_unscripted(rt, alloc, differing)
 }
 
-/// Runs the scripts in the files with this ending in the order of their names, each over every one of these stores, and
-/// counts those that print something else than is expected.
-fn run_scripts(
+/// Tries the files with this ending in the order of their names, each in every one of these ways, and counts those for which
+/// something else is printed than is expected.
+fn try_files(
     rt: &HostRuntime,
     alloc: Global,
     ending: &str,
-    stores: &[StoreKind],
+    trials: &[(&str, Trial)],
     differing: &mut u64,
 ) -> io::Result<()> {
     for name in &names_of(rt, alloc, ending)? {
-        run_file(rt, alloc, name.as_str(), ending, stores, differing)?;
+        for (what, trial) in trials {
+            try_file(rt, alloc, what, *trial, name.as_str(), ending, differing)?;
+        }
     }
     Ok(())
 }
 
-/// Runs the script in the file of a name and this ending over each of these stores.
-fn run_file(
+/// Tries a file, and prints the line of it.
+fn try_file(
     rt: &HostRuntime,
     alloc: Global,
+    what: &str,
+    trial: Trial,
     name: &str,
     ending: &str,
-    stores: &[StoreKind],
     differing: &mut u64,
 ) -> io::Result<()> {
-    let script = script_part(rt, alloc, name, ending, ending)?;
-    let expected = script_part(rt, alloc, name, ".expected", ending)?;
-    let (script, expected) = (script.as_str(), expected.as_str());
-    for store in stores {
-        run_over(rt, alloc, name, script, expected, *store, differing)?;
-    }
-    Ok(())
-}
-
-/// Runs a script over a store, and prints the line of it.
-fn run_over(
-    rt: &HostRuntime,
-    alloc: Global,
-    name: &str,
-    script: &str,
-    expected: &str,
-    store: StoreKind,
-    differing: &mut u64,
-) -> io::Result<()> {
-    let printed = printed_by(alloc, store, script)?;
-    let what = store.name();
-    report(rt, alloc, what, name, expected, printed.as_str(), differing)
-}
-
-/// The text of a file of a script, or what it stands for where the script has long lines.
-fn script_part(
-    rt: &HostRuntime,
-    alloc: Global,
-    name: &str,
-    ending: &str,
-    ending_of_script: &str,
-) -> io::Result<String> {
-    let text = text_of(rt, alloc, name, ending)?;
-    if ending_of_script == ".script" {
-        Ok(text)
-    } else {
-        Ok(expanded(alloc, text.as_str())?)
-    }
-}
-
-/// Gives the command lines to the program in the order of their names, and counts those that print something else than is
-/// expected.
-fn give_commands(rt: &HostRuntime, alloc: Global, differing: &mut u64) -> io::Result<()> {
-    for name in &names_of(rt, alloc, ".words")? {
-        give_command(rt, alloc, name.as_str(), differing)?;
-    }
-    Ok(())
-}
-
-/// Gives the program the command line of a name, and prints the line of it.
-fn give_command(
-    rt: &HostRuntime,
-    alloc: Global,
-    name: &str,
-    differing: &mut u64,
-) -> io::Result<()> {
-    let expected = text_of(rt, alloc, name, ".expected")?;
-    let printed = printed_for(rt, alloc, name)?;
-    let (expected, printed) = (expected.as_str(), printed.as_str());
-    report(rt, alloc, "words", name, expected, printed, differing)
+    let expected = trial.expected(rt, alloc, name)?;
+    let printed = trial.printed(rt, alloc, name, ending)?;
+    report(
+        rt,
+        what,
+        name,
+        expected.as_str(),
+        printed.as_str(),
+        differing,
+    )
 }

@@ -1,10 +1,13 @@
-//! Servers over new databases.
+//! Servers over new databases. The functions that open a server and call it have no contract, so that those above are checked
+//! without a server's.
 
 use connections::listen::Listen;
 use connections::listener::{Served, serve_listener};
-use opening::open;
+use opening::{OpeningFault, Refused, open};
 use server::server::Server;
 use sessions::Decider;
+use sql_types::answer::Answer;
+use sql_types::event::Event;
 use statements::Statements;
 use std::alloc::Global;
 use std::io;
@@ -13,12 +16,33 @@ use store::Store;
 /// A server over a store.
 pub type ServerOver<S> = Server<S, Decider<Statements>>;
 
+/// Opens a server over a store, or hands the store back and tells why none is.
+pub fn try_server<S: Store + Drop>(
+    alloc: Global,
+    store: S,
+) -> Result<ServerOver<S>, (S, OpeningFault)> {
+    match open(alloc, store, Decider::new(Statements)) {
+        Ok(server) => Ok(server),
+        Err(Refused { store, fault }) => Err((store, fault)),
+    }
+}
+
 /// Opens a server over a store.
 pub fn open_server<S: Store + Drop>(alloc: Global, store: S) -> io::Result<ServerOver<S>> {
-    match open(alloc, store, Decider::new(Statements)) {
+    match try_server(alloc, store) {
         Ok(server) => Ok(server),
         Err(_) => Err(io::Error::from(io::ErrorKind::Other)),
     }
+}
+
+/// Gives a server events, and adds its answers.
+pub fn run_events<S: Store>(
+    server: &mut ServerOver<S>,
+    events: &[Event],
+    answers: &mut Vec<Answer>,
+) -> io::Result<()> {
+    server.run(events, answers)?;
+    Ok(())
 }
 
 /// Serves one connection of a listener over a store.

@@ -27,42 +27,33 @@
 
 mod bad_frames;
 mod choices;
+mod commits;
 mod copies;
-mod failing;
-mod failures;
 pub mod fault;
-mod first_stops;
 pub mod images;
-mod migrations;
-mod moments;
 mod openings;
-mod outcome;
 mod parts;
 mod places;
-pub mod records;
-mod requests;
-mod restarts;
 mod scripts;
-mod second_stops;
 pub mod servers;
+pub mod talks;
 mod tallies;
-mod tally;
+mod work;
 
 use crate::device_images::DeviceImage;
 use crate::files::{names_of, text_of};
 use crate::stops::bad_frames::send_bad_frames;
+use crate::stops::commits::ScriptEvent;
 use crate::stops::copies::stop_copies;
-use crate::stops::failures::fail_events;
 use crate::stops::fault::TrialFault;
-use crate::stops::first_stops::stop_event;
 use crate::stops::images::Image;
-use crate::stops::migrations::{Migration, hinder_migration};
-use crate::stops::openings::fail_last_openings;
+use crate::stops::openings::{Opening, hinder_migration};
 use crate::stops::parts::Parts;
-use crate::stops::requests::run_first;
+use crate::stops::places::TrialPlace;
 use crate::stops::scripts::Script;
 use crate::stops::servers::{CACHE_PAGES, DeviceServer, open_new};
-use crate::stops::tallies::Tallies;
+use crate::stops::tallies::{Kind, Trials};
+use crate::stops::work::{Hindrance, hinder_each};
 use std::alloc::Global;
 use std::io;
 
@@ -98,13 +89,13 @@ pub fn try_stops(
     all: bool,
     differing: &mut u64,
 ) -> io::Result<()> {
-    let mut sums = Tallies::new(alloc);
-    if let Err(fault) = try_all(rt, alloc, all, &mut sums) {
+    let mut trials = Trials::new(alloc, all);
+    if let Err(fault) = try_all(rt, alloc, all, &mut trials) {
         *differing = differing.saturating_add(1);
         println!(rt; "stops end early: {fault:?}")?;
     }
-    *differing = differing.saturating_add(sums.disagreements());
-    sums.print(rt)
+    *differing = differing.saturating_add(trials.disagreements());
+    trials.print_sums(rt)
 }
 
 /// Tries a part of each kind of trial, or all of it.
@@ -112,119 +103,18 @@ fn try_all(
     rt: &HostRuntime,
     alloc: Global,
     all: bool,
-    sums: &mut Tallies,
-) -> Result<(), TrialFault> {
-    let mut parts = Parts::new(all);
-    stop_scripts(rt, alloc, &mut parts, sums)?;
-    fail_scripts(rt, alloc, &parts, sums)?;
-    hinder_migrations(rt, alloc, all, sums)?;
-    copy_last(rt, alloc, &parts, sums)?;
-    send_frames(rt, alloc, sums)
-}
-
-/// Stops events of the scripts with stops.
-fn stop_scripts(
-    rt: &HostRuntime,
-    alloc: Global,
-    parts: &mut Parts,
-    sums: &mut Tallies,
+    trials: &mut Trials,
 ) -> Result<(), TrialFault> {
     for (name, part) in STOPPED {
-        let script = read_script(rt, alloc, name)?;
-        let every = parts.step(part);
-        stop_commits(rt, alloc, name, &script, every, parts, sums)?;
+        stop_commits(rt, alloc, name, trials.parts.step(part), trials)?;
     }
-    Ok(())
-}
-
-/// Fails calls of the scripts with failing calls, of those that have an event.
-fn fail_scripts(
-    rt: &HostRuntime,
-    alloc: Global,
-    parts: &Parts,
-    sums: &mut Tallies,
-) -> Result<(), TrialFault> {
     for (name, part) in FAILING {
-        let script = read_script(rt, alloc, name)?;
-        if !script.events.is_empty() {
-            fail_calls(rt, alloc, name, &script, parts.step(part), sums)?;
-        }
+        fail_script(rt, alloc, name, trials.parts.step(part), trials)?;
     }
-    Ok(())
-}
-
-/// Stops openings that migrate, and fails calls of them.
-fn hinder_migrations(
-    rt: &HostRuntime,
-    alloc: Global,
-    all: bool,
-    sums: &mut Tallies,
-) -> Result<(), TrialFault> {
-    for name in &names_of(rt, alloc, ".image")? {
-        let image = DeviceImage::read(rt, alloc, name.as_str())?;
-        if image.is_stopped {
-            hinder(rt, alloc, name.as_str(), &image, all, sums)?;
-        }
-    }
-    Ok(())
-}
-
-/// Stops the opening of what a device holds, as above, and adds and prints what was tried.
-fn hinder(
-    rt: &HostRuntime,
-    alloc: Global,
-    name: &str,
-    image: &DeviceImage,
-    all: bool,
-    sums: &mut Tallies,
-) -> Result<(), TrialFault> {
-    let migration = Migration::of(alloc, image)?;
-    let mut tried = Tallies::new(alloc);
-    hinder_migration(alloc, &migration, &mut Parts::new(all), &mut tried)?;
-    sums.add(rt, name, &tried)?;
-    tried.print_migration(rt, name)?;
-    let image = Image::of_bytes(alloc, image.bytes.as_slice())?;
-    copy(rt, alloc, name, &image, 1, sums)
-}
-
-/// Stops copies of the database at the end of a script.
-fn copy_last(
-    rt: &HostRuntime,
-    alloc: Global,
-    parts: &Parts,
-    sums: &mut Tallies,
-) -> Result<(), TrialFault> {
-    let (name, part) = COPIED;
-    let script = read_script(rt, alloc, name)?;
-    let events = script.events.as_slice();
-    let mut server = open_new(alloc, CACHE_PAGES)?;
-    run_first(&mut server, events, events.len());
-    let image = Image::of(alloc, server.end())?;
-    copy(rt, alloc, name, &image, parts.step(part) as u64, sums)
-}
-
-/// Stops copies of the database that a device holds after each count of writes, or one of `every` of them, and adds what was
-/// tried.
-fn copy(
-    rt: &HostRuntime,
-    alloc: Global,
-    name: &str,
-    source: &Image,
-    every: u64,
-    sums: &mut Tallies,
-) -> Result<(), TrialFault> {
-    let mut tried = Tallies::new(alloc);
-    stop_copies(alloc, source, every, &mut tried.copies)?;
-    sums.add(rt, name, &tried)?;
-    Ok(())
-}
-
-/// Sends each bad frame.
-fn send_frames(rt: &HostRuntime, alloc: Global, sums: &mut Tallies) -> Result<(), TrialFault> {
-    let mut tried = Tallies::new(alloc);
-    send_bad_frames(alloc, &mut tried.frames)?;
-    sums.add(rt, "bad frames", &tried)?;
-    Ok(())
+    hinder_migrations(rt, alloc, all, trials)?;
+    copy_last(rt, alloc, trials)?;
+    send_bad_frames(alloc, trials)?;
+    Ok(trials.close(rt, "bad frames")?)
 }
 
 /// The script in the file `NAME.stopped`.
@@ -233,82 +123,149 @@ fn read_script(rt: &HostRuntime, alloc: Global, name: &str) -> Result<Script, Tr
     Script::from_text(alloc, text.as_str())
 }
 
-/// Stops each event of a script that commits, or one of `every` of them.
+/// Stops each event of a script that commits, or one of `every` of them, and prints a line for each.
 fn stop_commits(
     rt: &HostRuntime,
     alloc: Global,
     name: &str,
-    script: &Script,
     every: usize,
-    parts: &mut Parts,
-    sums: &mut Tallies,
+    trials: &mut Trials,
 ) -> Result<(), TrialFault> {
-    let commits = script.commits(alloc)?;
-    for index in commits.iter().step_by(every.max(1)) {
-        stop_commit(rt, alloc, name, script, *index, parts, sums)?;
+    let script = read_script(rt, alloc, name)?;
+    let mut left: usize = 0;
+    for index in 0..script.talk.events.len() {
+        if script.changes_map(index)? {
+            if left == 0 {
+                stop_commit(rt, alloc, name, &script, index, trials)?;
+                left = every;
+            }
+            left = left.saturating_sub(1);
+        }
     }
     Ok(())
 }
 
-/// Stops the event of a script at an index, and adds and prints what was tried.
+/// Stops the event of a script at an index, and prints the line of it.
 fn stop_commit(
     rt: &HostRuntime,
     alloc: Global,
     name: &str,
     script: &Script,
     index: usize,
-    parts: &mut Parts,
-    sums: &mut Tallies,
+    trials: &mut Trials,
 ) -> Result<(), TrialFault> {
-    let mut tried = Tallies::new(alloc);
-    stop_event(alloc, script, index, parts, &mut tried)?;
-    sums.add(rt, name, &tried)?;
-    tried.print_stops(rt, name, index.saturating_add(1))?;
-    Ok(())
+    let event = ScriptEvent {
+        script,
+        index,
+        cache: CACHE_PAGES,
+    };
+    let place = TrialPlace::after(index);
+    hinder_each(alloc, &event, Kind::Stops, Hindrance::Stop, place, trials)?;
+    print!(rt; "{name}: event {}: ", index.saturating_add(1))?;
+    trials.print_stops_and_openings(rt)?;
+    Ok(trials.close(rt, name)?)
 }
 
-/// Fails each call of the events of a script, or of one of `every` of them, and each call of an opening at its end.
-fn fail_calls(
+/// Fails each call of the events of a script, if it has one, or of one of `every` of them, and each call of an opening at its end.
+fn fail_script(
     rt: &HostRuntime,
     alloc: Global,
     name: &str,
-    script: &Script,
     every: usize,
-    sums: &mut Tallies,
+    trials: &mut Trials,
 ) -> Result<(), TrialFault> {
+    let script = read_script(rt, alloc, name)?;
+    if script.talk.events.is_empty() {
+        return Ok(());
+    }
     for cache in CACHES {
-        fail_calls_with(rt, alloc, name, script, cache, every, sums)?;
+        fail_events(alloc, &script, cache, every, trials)?;
+        fail_last_openings(alloc, &script, cache, trials)?;
+        let place = format!(in alloc; "{name}: cache of {cache} pages: ")?;
+        trials.print_failures_and_openings(rt, place.as_str())?;
+        trials.close(rt, name)?;
     }
     Ok(())
 }
 
-/// Fails calls, as above, of a server that keeps so many pages, and adds and prints what was tried.
-fn fail_calls_with(
-    rt: &HostRuntime,
+/// Fails each call of the events of a script, or of one of `every` of them, of a server that keeps so many pages.
+fn fail_events(
     alloc: Global,
-    name: &str,
     script: &Script,
     cache: usize,
     every: usize,
-    sums: &mut Tallies,
+    trials: &mut Trials,
 ) -> Result<(), TrialFault> {
-    let mut tried = Tallies::new(alloc);
-    fail_events(alloc, script, cache, every, &mut tried.failures)?;
-    fail_last_openings(alloc, script, cache, &mut tried.openings)?;
-    Ok(report_calls(rt, name, cache, &tried, sums)?)
+    for index in (0..script.talk.events.len()).step_by(every.max(1)) {
+        let event = ScriptEvent {
+            script,
+            index,
+            cache,
+        };
+        let place = TrialPlace::after(index);
+        let (kind, hindrance) = (Kind::Failures, Hindrance::Failure);
+        hinder_each(alloc, &event, kind, hindrance, place, trials)?;
+    }
+    Ok(())
 }
 
-/// Adds and prints what was tried with a server that keeps so many pages.
-fn report_calls(
-    rt: &HostRuntime,
-    name: &str,
+/// Fails each call of an opening after the last event of a script, by a server that keeps so many pages.
+fn fail_last_openings(
+    alloc: Global,
+    script: &Script,
     cache: usize,
-    tried: &Tallies,
-    sums: &mut Tallies,
-) -> io::Result<()> {
-    sums.add(rt, name, tried)?;
-    print!(rt; "{name}: cache of {cache} pages: ")?;
-    tried.failures.print_calls(rt, "failing calls")?;
-    print!(rt; "{name}: cache of {cache} pages: ")?;
-    tried.openings.print_calls(rt, "failing calls of openings")
+    trials: &mut Trials,
+) -> Result<(), TrialFault> {
+    let last = script.talk.events.len();
+    let image = image_at_end(alloc, script)?;
+    let opening = Opening {
+        script,
+        image: &image,
+        first: last,
+        last,
+        cache,
+    };
+    let place = TrialPlace::after(last);
+    let (kind, hindrance) = (Kind::Openings, Hindrance::Failure);
+    hinder_each(alloc, &opening, kind, hindrance, place, trials)
+}
+
+/// What a device holds after all events of a script.
+fn image_at_end(alloc: Global, script: &Script) -> Result<Image, TrialFault> {
+    let mut server = open_new(alloc, CACHE_PAGES)?;
+    let count = script.talk.events.len();
+    script.talk.give_first(alloc, count, &mut server)?;
+    Image::of(alloc, server.end())
+}
+
+/// Stops openings that migrate, fails calls of them, and stops copies of their databases.
+fn hinder_migrations(
+    rt: &HostRuntime,
+    alloc: Global,
+    all: bool,
+    trials: &mut Trials,
+) -> Result<(), TrialFault> {
+    for name in &names_of(rt, alloc, ".image")? {
+        let image = DeviceImage::read(rt, alloc, name.as_str())?;
+        if image.is_stopped {
+            trials.parts = Parts::new(all);
+            hinder_migration(alloc, &image, trials)?;
+            print!(rt; "{name}: migration: ")?;
+            trials.print_stops_and_openings(rt)?;
+            let source = Image::of_bytes(alloc, image.bytes.as_slice())?;
+            stop_copies(alloc, &source, 1, trials)?;
+            trials.close(rt, name.as_str())?;
+        }
+    }
+    Ok(())
+}
+
+/// Stops copies of the database at the end of a script.
+fn copy_last(rt: &HostRuntime, alloc: Global, trials: &mut Trials) -> Result<(), TrialFault> {
+    let (name, part) = COPIED;
+    let script = read_script(rt, alloc, name)?;
+    let source = image_at_end(alloc, &script)?;
+    let every = trials.parts.step(part) as u64;
+    stop_copies(alloc, &source, every, trials)?;
+    Ok(trials.close(rt, name)?)
 }

@@ -5,14 +5,14 @@ use crate::answers::text_of_answers;
 use crate::events::{opening_of, statement_of};
 use crate::long_scripts::expanded;
 use crate::reports::report;
-use crate::servers::{ServerOver, open_server};
+use crate::servers::{ServerOver, open_server, run_events};
 use crate::stores::{ADMIN, new_in_memory};
 use sql_types::answer::Answer;
 use sql_types::event::Event;
 use sql_types::tag::Tag;
 use std::alloc::{AllocError, Global};
 use std::io;
-use store::MemStore;
+use store::Store;
 
 /// What the events are answered, and which sessions they leave.
 const ANSWERED: &str = "\
@@ -27,22 +27,21 @@ stopped: false
 /// Gives events that no script requests, and writes an answer that none is given. Prints a line for each, and counts those of
 /// which something else comes than is expected.
 pub fn check_unscripted(rt: &HostRuntime, alloc: Global, differing: &mut u64) -> io::Result<()> {
-    let answered = answered_at_once(alloc)?;
-    let what = "at once";
+    let mut server = open_server(alloc, new_in_memory(alloc)?)?;
+    let given = answered_by(alloc, &mut server)?;
+    let given = given.as_str();
     report(
         rt,
-        alloc,
-        what,
+        "at once",
         "sessions_7_and_3",
         ANSWERED,
-        answered.as_str(),
+        given,
         differing,
     )?;
     let counted = text_of_answers(alloc, &[inserted(u64::MAX)])?;
     let expected = "ok INSERT 18446744073709551615\n";
     report(
         rt,
-        alloc,
         "text",
         "largest_count",
         expected,
@@ -60,17 +59,11 @@ fn inserted(count: u64) -> Answer {
     }
 }
 
-/// What the events are answered that are given at once, and which sessions they leave.
-fn answered_at_once(alloc: Global) -> io::Result<String> {
-    let mut server = open_server(alloc, new_in_memory(alloc)?)?;
-    answered_by(alloc, &mut server)
-}
-
 /// What a server over a new database answers the events, and which sessions they leave.
-fn answered_by(alloc: Global, server: &mut ServerOver<MemStore>) -> io::Result<String> {
+fn answered_by<S: Store>(alloc: Global, server: &mut ServerOver<S>) -> io::Result<String> {
     let events = listed_events(alloc)?;
     let mut answers = Vec::new(alloc);
-    server.run(events.as_slice(), &mut answers)?;
+    run_events(server, events.as_slice(), &mut answers)?;
     let mut text = text_of_answers(alloc, answers.as_slice())?;
     let (first, second) = (server.session_at(0), server.session_at(1));
     writeln!(text, "sessions: {first:?}, {second:?}")?;
@@ -78,18 +71,13 @@ fn answered_by(alloc: Global, server: &mut ServerOver<MemStore>) -> io::Result<S
     Ok(text)
 }
 
-/// The events that open the sessions 7 and 3, ask nothing in session 3 but in comments, and close session 7.
+/// The events that open the sessions 7 and 3, ask nothing in session 3 but in the longest text of comments, and close session 7.
 fn listed_events(alloc: Global) -> Result<Vec<Event>, AllocError> {
+    let comments = expanded(alloc, "{21845*--\n}")?;
     let mut events = Vec::new(alloc);
     events.push(opening_of(alloc, 7, ADMIN)?)?;
     events.push(opening_of(alloc, 3, ADMIN)?)?;
-    events.push(commented(alloc, 3)?)?;
+    events.push(statement_of(alloc, 3, comments.as_str())?)?;
     events.push(Event::Close { session: 7 })?;
     Ok(events)
-}
-
-/// The event that asks nothing but in the longest text of comments.
-fn commented(alloc: Global, session: u32) -> Result<Event, AllocError> {
-    let comments = expanded(alloc, "{21845*--\n}")?;
-    statement_of(alloc, session, comments.as_str())
 }

@@ -3,11 +3,11 @@
 use crate::servers::open_server;
 use crate::stops::fault::TrialFault;
 use crate::stops::places::TrialPlace;
-use crate::stops::tally::Tally;
+use crate::stops::tallies::{Kind, Trials};
 use crate::stores::new_in_memory;
 use connections::connection::{End, serve_connection};
 use connections::frame_sink::FrameSink;
-use std::alloc::{AllocError, Global};
+use std::alloc::Global;
 use std::io;
 use std::io::Read;
 use wire::input::CountedReader;
@@ -40,29 +40,26 @@ impl Read for PieceReader<'_> {
     }
 }
 
-/// Sends each bad frame.
-pub fn send_bad_frames(alloc: Global, tally: &mut Tally) -> Result<(), TrialFault> {
-    for (index, frame) in BAD_FRAMES.iter().enumerate() {
-        tally.count_tried();
-        if let Err(fault) = check_bad_frame(alloc, frame) {
-            tally.disagree(TrialPlace::after(index), fault)?;
+/// Sends each bad frame, and then one that would be answered by itself, whole and byte by byte.
+pub fn send_bad_frames(alloc: Global, trials: &mut Trials) -> Result<(), TrialFault> {
+    let mut place = TrialPlace::after(0);
+    for frame in BAD_FRAMES {
+        trials.count_tried(Kind::Frames);
+        match check_bad_frame(alloc, frame) {
+            Ok(()) => {}
+            Err(fault) => trials.disagree(Kind::Frames, place, fault)?,
         }
+        place.events = place.events.saturating_add(1);
     }
     Ok(())
 }
 
-/// Serves a connection whose bytes are a bad frame, and a frame that would be answered by itself, whole and byte by byte.
+/// Serves a connection whose bytes are a bad frame and the good one, whole and byte by byte.
 fn check_bad_frame(alloc: Global, frame: &[u8]) -> Result<(), TrialFault> {
-    let bytes = before_good_frame(alloc, frame)?;
-    check_pieces(alloc, bytes.as_slice(), 1)?;
-    check_pieces(alloc, bytes.as_slice(), bytes.len())
-}
-
-/// The bytes of a frame, and then those of the good one.
-fn before_good_frame(alloc: Global, frame: &[u8]) -> Result<Vec<u8>, AllocError> {
     let mut bytes = Vec::from_slice(alloc, frame)?;
     bytes.extend_from_slice(GOOD_FRAME)?;
-    Ok(bytes)
+    check_pieces(alloc, bytes.as_slice(), 1)?;
+    check_pieces(alloc, bytes.as_slice(), bytes.len())
 }
 
 /// Serves a connection whose bytes come in pieces of so many, and checks its end and what is sent back.

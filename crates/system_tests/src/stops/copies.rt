@@ -1,16 +1,13 @@
 //! Copies of databases, of which the device that the copy is made on is stopped after counts of sector writes.
 
 use crate::stops::fault::TrialFault;
-use crate::stops::first_stops::MAX_WRITES;
 use crate::stops::images::Image;
 use crate::stops::places::TrialPlace;
-use crate::stops::restarts::check_restarts;
-use crate::stops::servers::{CACHE_PAGES, OpeningOutcome, end_and_scan, open_device, try_opening};
-use crate::stops::tally::Tally;
+use crate::stops::servers::find_on;
+use crate::stops::tallies::{Kind, Trials};
+use crate::stops::work::{Attempt, Hindrance, Work, hinder_each};
 use crate::stores::SMALL_PAGES;
 use database_copies::{DatabaseCopyFault, Unwatched, copy_database};
-use device_store::OpenFault;
-use opening::OpeningFault;
 use sector_device::{Guarded, MemDevice};
 use std::alloc::Global;
 
@@ -21,101 +18,65 @@ pub fn stop_copies(
     alloc: Global,
     source: &Image,
     every: u64,
-    tally: &mut Tally,
+    trials: &mut Trials,
 ) -> Result<(), TrialFault> {
-    match stop_each(alloc, source, every, tally) {
-        Ok(()) => Ok(()),
-        Err(fault) => tally.disagree(TrialPlace::after(0), fault),
-    }
+    let found = find_on(alloc, source.running(alloc)?)?;
+    let records = found.records.as_slice();
+    let copying = Copying {
+        source,
+        records,
+        every,
+    };
+    let (kind, place) = (Kind::Copies, TrialPlace::after(0));
+    hinder_each(alloc, &copying, kind, Hindrance::Stop, place, trials)
 }
 
-/// Stops a copy after counts of sector writes, until it is answered.
-fn stop_each(
-    alloc: Global,
-    source: &Image,
+/// A copy of a device that holds this, and has these records. It is stopped after so many times a count.
+#[derive(Clone, Copy)]
+struct Copying<'a> {
+    source: &'a Image,
+    records: &'a [u8],
     every: u64,
-    tally: &mut Tally,
-) -> Result<(), TrialFault> {
-    let (_, records) = end_and_scan(alloc, open_device(alloc, source.running(alloc)?)?)?;
-    for stop in 0..MAX_WRITES {
-        let writes = stop.saturating_mul(every);
-        if is_copied_before(alloc, source, records.as_slice(), writes, tally)? {
-            return Ok(());
+}
+
+impl Work for Copying<'_> {
+    fn attempt(
+        &self,
+        alloc: Global,
+        hindrance: Hindrance,
+        count: u64,
+    ) -> Result<Attempt, TrialFault> {
+        let device = Guarded::new(self.source.running(alloc)?);
+        let target = MemDevice::new(alloc, SMALL_PAGES)?;
+        hindrance.begin(&target, count.saturating_mul(self.every));
+        let (device, target, copied) = copy_database(alloc, device, target, &mut Unwatched);
+        if !Image::of(alloc, device.into_device())?.has_content_of(self.source) {
+            return Err(TrialFault::AnotherContent);
+        }
+        match copied {
+            Ok(()) => Attempt::of(alloc, target, hindrance, true, 0),
+            Err(DatabaseCopyFault::Device) => Attempt::of(alloc, target, hindrance, false, 0),
+            Err(_) => Err(TrialFault::CopyRefused),
         }
     }
-    Err(TrialFault::NoEnd)
-}
 
-/// Stops a copy after so many writes, and opens what that left by each choice of sectors. Answers whether the database was
-/// copied before the stop.
-fn is_copied_before(
-    alloc: Global,
-    source: &Image,
-    records: &[u8],
-    writes: u64,
-    tally: &mut Tally,
-) -> Result<bool, TrialFault> {
-    let (left, is_copied) = stopped(alloc, source, writes)?;
-    let place = TrialPlace {
-        stop: Some(writes),
-        ..TrialPlace::after(0)
-    };
-    tally.count_tried();
-    check_restarts(alloc, &left, place, tally, |_, device| {
-        check_copy(alloc, device, records, is_copied)
-    })?;
-    Ok(is_copied)
-}
-
-/// What the device of a copy holds that is stopped after so many writes, and whether the database was copied before. What was
-/// copied has the content that it had.
-fn stopped(alloc: Global, source: &Image, writes: u64) -> Result<(Image, bool), TrialFault> {
-    let device = Guarded::new(source.running(alloc)?);
-    let target = MemDevice::new(alloc, SMALL_PAGES)?;
-    target.stop_after(writes);
-    let (device, target, copied) = copy_database(alloc, device, target, &mut Unwatched);
-    if !Image::of(alloc, device.into_device())?.has_content_of(source) {
-        return Err(TrialFault::AnotherContent);
-    }
-    let is_copied = match copied {
-        Ok(()) => true,
-        Err(DatabaseCopyFault::Device) => false,
-        Err(_) => return Err(TrialFault::CopyRefused),
-    };
-    Ok((Image::of(alloc, target)?, is_copied))
-}
-
-/// Opens a server on the device of a copy. It has these records; or, where the copy was not answered, no database is there.
-fn check_copy(
-    alloc: Global,
-    device: MemDevice,
-    records: &[u8],
-    is_copied: bool,
-) -> Result<(), TrialFault> {
-    match try_opening(alloc, device, CACHE_PAGES) {
-        Ok(OpeningOutcome::Server(server)) => {
-            let (_, found) = end_and_scan(alloc, server)?;
-            if found.as_slice() == records {
-                Ok(())
-            } else {
-                Err(TrialFault::AnotherMap)
+    /// It has these records; or, where the copy was not answered, no database is there.
+    fn check(&self, alloc: Global, device: MemDevice, is_done: bool) -> Result<usize, TrialFault> {
+        match find_on(alloc, device) {
+            Ok(found) => {
+                if found.records.as_slice() == self.records {
+                    Ok(0)
+                } else {
+                    Err(TrialFault::AnotherMap)
+                }
             }
-        }
-        Ok(OpeningOutcome::Device(_)) => Err(TrialFault::Device),
-        Err(fault) => {
-            if !is_copied && is_no_database(fault) {
-                Ok(())
-            } else {
-                Err(fault)
+            Err(fault) => {
+                if fault.is_no_database() && !is_done {
+                    Ok(0)
+                } else {
+                    Err(fault)
+                }
             }
         }
     }
-}
-
-/// Whether an opening found no database: no root, or records that stand for none.
-fn is_no_database(fault: TrialFault) -> bool {
-    matches!(
-        fault,
-        TrialFault::NoStore(OpenFault::NotADatabase) | TrialFault::NoServer(OpeningFault::Damaged)
-    )
 }

@@ -38,13 +38,7 @@ pub enum TrialFault {
     AnotherMap,
     /// The map on a device is neither that before one more commit nor that after it.
     AnotherMapAgain,
-    /// One more commit is refused.
-    CommitRefused,
-    /// A call of the device fails during one more commit.
-    CommitFails,
-    /// The call that failed is passed over.
-    PassedOver,
-    /// So many calls failed, where it was to be one.
+    /// So many calls failed, where it was to be one, or none where the work was done.
     Calls(u64),
     /// An event is answered by 58030 before a call fails.
     EarlyFailure,
@@ -52,10 +46,44 @@ pub enum TrialFault {
     LaterAnswer,
     /// An opening or a copy hands a device back with another content.
     AnotherContent,
-    /// What an opening found is lost by a stop.
-    Lost,
     /// A copy is refused for another fault than that its device stopped.
     CopyRefused,
+}
+
+impl TrialFault {
+    /// Whether an opening was refused since the device failed.
+    pub fn is_device(self) -> bool {
+        matches!(
+            self,
+            TrialFault::NoStore(OpenFault::Device) | TrialFault::NoServer(OpeningFault::Device)
+        )
+    }
+
+    /// Whether an opening was refused since memory was.
+    pub fn is_memory(self) -> bool {
+        matches!(
+            self,
+            TrialFault::NoStore(OpenFault::Memory) | TrialFault::NoServer(OpeningFault::Memory)
+        )
+    }
+
+    /// Whether an opening found no database: no root, or records that stand for none.
+    pub fn is_no_database(self) -> bool {
+        matches!(
+            self,
+            TrialFault::NoStore(OpenFault::NotADatabase)
+                | TrialFault::NoServer(OpeningFault::Damaged)
+        )
+    }
+
+    /// Tells why an opening was refused.
+    pub fn tell(self, out: &mut String) -> Result<(), AllocError> {
+        match self {
+            TrialFault::NoStore(fault) => write!(out, "{fault:?}"),
+            TrialFault::NoServer(fault) => write!(out, "{fault:?}"),
+            _ => write!(out, "{self:?}"),
+        }
+    }
 }
 
 impl From<AllocError> for TrialFault {

@@ -1,156 +1,187 @@
-//! Openings of which a call fails.
+//! Openings that are stopped or of which a call fails, among them those that migrate.
 
-use crate::stops::failing::{Failing, fail_each};
+use crate::device_images::DeviceImage;
+use crate::stops::choices::Choice;
 use crate::stops::fault::TrialFault;
-use crate::stops::first_stops::StoppedDevice;
 use crate::stops::images::Image;
-use crate::stops::outcome::Outcome;
 use crate::stops::places::TrialPlace;
-use crate::stops::requests::run_first;
-use crate::stops::restarts::check_restarts;
-use crate::stops::scripts::{FoundStore, Script};
-use crate::stops::servers::{
-    CACHE_PAGES, DeviceServer, OpeningOutcome, device_of, open_new, try_opening,
-};
-use crate::stops::tally::Tally;
-use sector_device::{Device, MemDevice};
+use crate::stops::scripts::Script;
+use crate::stops::servers::{CACHE_PAGES, Found, attempt_opening, find_on};
+use crate::stops::tallies::{Kind, Trials};
+use crate::stops::work::{Attempt, Hindrance, Work, check_restarts, hinder_each};
+use sector_device::MemDevice;
 use std::alloc::Global;
 
-/// An opening of what a stop left while events of a script were answered, its unsynced sectors unsynced still, and how many
-/// pages the server keeps.
+/// An opening of a device that holds this, its unsynced sectors unsynced still, with a cache of so many pages. Its map is that of
+/// the last or the first of two moments.
 #[derive(Clone, Copy)]
-pub struct FailingOpening<'a> {
+pub struct Opening<'a> {
     pub script: &'a Script,
-    pub stop: &'a StoppedDevice,
+    pub image: &'a Image,
+    pub first: usize,
+    pub last: usize,
     pub cache: usize,
 }
 
-impl Failing for FailingOpening<'_> {
-    fn fail_call(&self, alloc: Global, calls: u64) -> Result<Outcome, TrialFault> {
-        let device = self.stop.image.running(alloc)?;
-        device.fail_call(calls);
-        match try_opening(alloc, device, self.cache)? {
-            OpeningOutcome::Server(server) => passed(server.device()),
-            OpeningOutcome::Device(device) => Ok(Outcome::Failed(handed_back(
-                alloc, self.stop, device,
-            )?)),
+impl Work for Opening<'_> {
+    fn attempt(
+        &self,
+        alloc: Global,
+        hindrance: Hindrance,
+        count: u64,
+    ) -> Result<Attempt, TrialFault> {
+        let device = self.image.running(alloc)?;
+        let attempt = attempt_opening(alloc, device, self.cache, hindrance, count)?;
+        if attempt.is_done || attempt.image.has_content_of(self.image) {
+            Ok(attempt)
+        } else {
+            Err(TrialFault::AnotherContent)
         }
     }
 
-    fn open_all(
+    fn check(&self, alloc: Global, device: MemDevice, _is_done: bool) -> Result<usize, TrialFault> {
+        let found = find_on(alloc, device)?;
+        let records = found.records.as_slice();
+        self.script.moment_of(records, self.first, self.last)
+    }
+
+    /// Opens the device as it is, and once more after a stop, by each choice of the sectors that the opening left unsynced. Each
+    /// time the same map is found.
+    fn try_more(
+        &self,
+        alloc: Global,
+        kind: Kind,
+        image: &Image,
+        is_done: bool,
+        place: TrialPlace,
+        trials: &mut Trials,
+    ) -> Result<(), TrialFault> {
+        trials.count_opened(kind);
+        let Found {
+            device,
+            records,
+            ..
+        } = find_on(alloc, image.running(alloc)?)?;
+        let moment = self
+            .script
+            .moment_of(records.as_slice(), self.first, self.last)?;
+        let image = Image::of(alloc, device)?;
+        let again = Opening {
+            first: moment,
+            last: moment,
+            ..*self
+        };
+        check_restarts(alloc, &again, kind, &image, is_done, place, trials)
+    }
+}
+
+/// An opening that migrates a device, which holds this, as it is or started again by a choice. The records and their number are
+/// those that are there after it.
+#[derive(Clone, Copy)]
+struct Migrating<'a> {
+    image: &'a Image,
+    choice: Option<Choice>,
+    migrated: &'a Found,
+}
+
+impl Work for Migrating<'_> {
+    fn attempt(
+        &self,
+        alloc: Global,
+        hindrance: Hindrance,
+        count: u64,
+    ) -> Result<Attempt, TrialFault> {
+        let device = match self.choice {
+            Some(choice) => self.image.restarted(alloc, choice)?,
+            None => self.image.running(alloc)?,
+        };
+        attempt_opening(alloc, device, CACHE_PAGES, hindrance, count)
+    }
+
+    /// Its records are of the second spelling, and they and their number are those after the migration.
+    fn check(&self, alloc: Global, device: MemDevice, _is_done: bool) -> Result<usize, TrialFault> {
+        let (found, migrated) = (find_on(alloc, device)?, self.migrated);
+        let is_next = found.format == 2 && found.number == migrated.number;
+        if is_next && found.records.as_slice() == migrated.records.as_slice() {
+            Ok(0)
+        } else {
+            Err(TrialFault::AnotherMap)
+        }
+    }
+
+    /// Opens the device as it is, where a call failed.
+    fn try_more(
+        &self,
+        alloc: Global,
+        kind: Kind,
+        image: &Image,
+        is_done: bool,
+        _place: TrialPlace,
+        trials: &mut Trials,
+    ) -> Result<(), TrialFault> {
+        if matches!(kind, Kind::Openings) {
+            trials.count_opened(kind);
+            let _first = self.check(alloc, image.running(alloc)?, is_done)?;
+        }
+        Ok(())
+    }
+
+    fn stop_again(
         &self,
         alloc: Global,
         image: &Image,
         place: TrialPlace,
-        tally: &mut Tally,
+        choice: Choice,
+        _moment: usize,
+        trials: &mut Trials,
     ) -> Result<(), TrialFault> {
-        if let Err(fault) = open_running(alloc, self, image, place, tally) {
-            tally.disagree(place, fault)?;
-        }
-        check_restarts(alloc, image, place, tally, |_, device| {
-            let _found = self.find(alloc, device)?;
-            Ok(())
-        })
+        let choice = Some(choice);
+        let again = Migrating {
+            image,
+            choice,
+            migrated: self.migrated,
+        };
+        let place = TrialPlace {
+            restart: choice,
+            ..place
+        };
+        hinder_each(
+            alloc,
+            &again,
+            Kind::SecondStops,
+            Hindrance::Stop,
+            place,
+            trials,
+        )
     }
 }
 
-impl FailingOpening<'_> {
-    /// Opens a server on a device that holds what the stop left, and tells of which moment its map is.
-    fn find(&self, alloc: Global, device: MemDevice) -> Result<FoundStore, TrialFault> {
-        let StoppedDevice {
-            index,
-            is_answered,
-            ..
-        } = self.stop;
-        self.script.find(alloc, device, *index, *is_answered)
-    }
-}
-
-/// Fails each call of an opening after the last event of a script.
-pub fn fail_last_openings(
+/// Stops the opening of a device that is migrated, after each count of its sector writes, and fails each call of it in turn.
+pub fn hinder_migration(
     alloc: Global,
-    script: &Script,
-    cache: usize,
-    tally: &mut Tally,
+    device_image: &DeviceImage,
+    trials: &mut Trials,
 ) -> Result<(), TrialFault> {
-    let stop = end_of(alloc, script)?;
-    let opening = FailingOpening {
-        script,
-        stop: &stop,
-        cache,
+    let image = Image::of_bytes(alloc, device_image.bytes.as_slice())?;
+    let migrated = find_on(alloc, image.running(alloc)?)?;
+    let opening = Migrating {
+        image: &image,
+        choice: None,
+        migrated: &migrated,
     };
-    match fail_each(alloc, &opening, stop.place, tally) {
-        Ok(()) => Ok(()),
-        Err(fault) => tally.disagree(stop.place, fault),
+    for (kind, hindrance) in [
+        (Kind::Stops, Hindrance::Stop),
+        (Kind::Openings, Hindrance::Failure),
+        (Kind::Openings, Hindrance::LateFailure),
+    ] {
+        hinder_each(
+            alloc,
+            &opening,
+            kind,
+            hindrance,
+            TrialPlace::after(0),
+            trials,
+        )?;
     }
-}
-
-/// What a device holds after all events of a script, each of them answered.
-fn end_of(alloc: Global, script: &Script) -> Result<StoppedDevice, TrialFault> {
-    let mut server = open_new(alloc, CACHE_PAGES)?;
-    run_first(&mut server, &script.events, script.events.len());
-    let index = script.events.len().saturating_sub(1);
-    Ok(StoppedDevice {
-        image: Image::of(alloc, server.end())?,
-        index,
-        is_answered: true,
-        place: TrialPlace::after(index),
-    })
-}
-
-/// How many reads a device has made no call of which failed.
-pub fn passed(device: &MemDevice) -> Result<Outcome, TrialFault> {
-    if device.failures() != 0 {
-        return Err(TrialFault::PassedOver);
-    }
-    let reads = device.reads();
-    Ok(Outcome::Passed { reads })
-}
-
-/// What a device holds that an opening hands back: one call failed, and its content is as before.
-fn handed_back(
-    alloc: Global,
-    stop: &StoppedDevice,
-    device: MemDevice,
-) -> Result<Image, TrialFault> {
-    match device.failures() {
-        1 => image_as_before(alloc, stop, device),
-        failures => Err(TrialFault::Calls(failures)),
-    }
-}
-
-/// What a device holds, whose content is as after a stop.
-fn image_as_before(
-    alloc: Global,
-    stop: &StoppedDevice,
-    device: MemDevice,
-) -> Result<Image, TrialFault> {
-    let image = Image::of(alloc, device)?;
-    if image.has_content_of(&stop.image) {
-        Ok(image)
-    } else {
-        Err(TrialFault::AnotherContent)
-    }
-}
-
-/// Opens the device as it is, and once more after a stop, by each choice of the sectors that the opening left unsynced. Each
-/// time the same map is found.
-fn open_running(
-    alloc: Global,
-    opening: &FailingOpening<'_>,
-    image: &Image,
-    place: TrialPlace,
-    tally: &mut Tally,
-) -> Result<(), TrialFault> {
-    tally.count_opened();
-    let FoundStore { store, moment } = opening.find(alloc, image.running(alloc)?)?;
-    let found = Image::of(alloc, device_of(store))?;
-    check_restarts(alloc, &found, place, tally, |_, device| {
-        let again = opening.find(alloc, device)?;
-        if again.moment == moment {
-            Ok(())
-        } else {
-            Err(TrialFault::Lost)
-        }
-    })
+    Ok(())
 }

@@ -7,14 +7,12 @@ use crate::stops::choices::Choice;
 pub struct TrialPlace {
     /// How many events were answered before the one under way.
     pub events: usize,
-    /// After how many writes the device stopped.
-    pub stop: Option<u64>,
-    /// By which choice it was started again for one more commit.
+    /// After how many writes the device stopped, or after how many calls one failed.
+    pub count: Option<u64>,
+    /// By which choice it was started again for one more commit or opening.
     pub restart: Option<Choice>,
-    /// After how many writes of that commit it stopped again.
-    pub second_stop: Option<u64>,
-    /// After how many calls one failed.
-    pub failure: Option<u64>,
+    /// After how many writes or calls of that it was hindered again.
+    pub again: Option<u64>,
     /// By which choice the device was started again in the end.
     pub choice: Option<Choice>,
 }
@@ -24,11 +22,21 @@ impl TrialPlace {
     pub fn after(events: usize) -> TrialPlace {
         TrialPlace {
             events,
-            stop: None,
+            count: None,
             restart: None,
-            second_stop: None,
-            failure: None,
+            again: None,
             choice: None,
         }
+    }
+
+    /// Where the device is hindered after so many writes or calls, for the second time where it was before.
+    pub fn at(self, count: u64) -> TrialPlace {
+        let mut place = self;
+        if place.count.is_none() {
+            place.count = Some(count);
+        } else {
+            place.again = Some(count);
+        }
+        place
     }
 }

@@ -1,25 +1,23 @@
 //! Servers on devices of 64 pages, of whose calls some fail, opened as the program opens them: whether there is a journal, the root
 //! says. The functions that open servers and call them have no contract, so that the trials are checked without those of a server.
 
-use crate::servers::ServerOver;
+use crate::servers::{ServerOver, open_server, try_server};
 use crate::stops::fault::TrialFault;
-use crate::stops::records::scan;
+use crate::stops::talks::Talk;
+use crate::stops::work::{Attempt, Hindrance};
 use crate::stores::{SMALL_PAGES, new_device};
-use device_store::{DeviceStore, MAX_CACHE_PAGES, OpenFault};
-use opening::{OpeningFault, Refused, open};
+use device_store::{DeviceStore, MAX_CACHE_PAGES};
 use sector_device::{Guarded, MemDevice};
-use sessions::Decider;
 use sql_types::answer::Answer;
 use sql_types::event::Event;
-use statements::Statements;
-use std::alloc::Global;
-use store::Store;
+use std::alloc::{AllocError, Global};
+use store::{Cursor, Entry, Map, Spelling, Store};
 
 /// How many pages the program keeps.
 pub const CACHE_PAGES: usize = MAX_CACHE_PAGES;
 
 /// A store on a device, with a journal or without.
-pub type StoreOnDevice = DeviceStore<Guarded<MemDevice>>;
+type StoreOnDevice = DeviceStore<Guarded<MemDevice>>;
 
 /// A server over a store on a device.
 pub type OnDevice = ServerOver<StoreOnDevice>;
@@ -56,54 +54,52 @@ impl DeviceServer for OnDevice {
 }
 
 /// The device of a store.
-pub fn device_of(store: StoreOnDevice) -> MemDevice {
+fn device_of(store: StoreOnDevice) -> MemDevice {
     store.into_device().into_device()
 }
 
-/// What an opening came to: a server, or the device, handed back because a call of it failed.
+/// A device on which no server was opened, and why.
 #[derive(Drop)]
-pub enum OpeningOutcome {
-    Server(OnDevice),
-    Device(MemDevice),
+pub struct NotOpened {
+    pub device: MemDevice,
+    pub fault: TrialFault,
 }
 
-/// Opens a server on a device, with a cache of so many pages. A refusal other than that the device failed is an error.
-pub fn try_opening(
+/// Opens a server on a device, with a cache of so many pages, or hands the device back.
+pub fn open_or_hand_back(
     alloc: Global,
     device: MemDevice,
     cache: usize,
-) -> Result<OpeningOutcome, TrialFault> {
+) -> Result<OnDevice, NotOpened> {
     if cache == 0 || cache > MAX_CACHE_PAGES {
-        return Err(TrialFault::NoSuchCache);
+        let fault = TrialFault::NoSuchCache;
+        return Err(NotOpened { device, fault });
     }
     match DeviceStore::open_with(alloc, Guarded::new(device), cache) {
-        Ok(store) => try_server(alloc, store),
-        Err((device, OpenFault::Device)) => Ok(OpeningOutcome::Device(device.into_device())),
-        Err((_, fault)) => Err(TrialFault::NoStore(fault)),
+        Ok(store) => server_or_device(alloc, store),
+        Err((device, fault)) => Err(NotOpened {
+            device: device.into_device(),
+            fault: TrialFault::NoStore(fault),
+        }),
     }
 }
 
-/// Opens a server over a store on a device. A refusal other than that the device failed is an error.
-fn try_server(alloc: Global, store: StoreOnDevice) -> Result<OpeningOutcome, TrialFault> {
-    match open(alloc, store, Decider::new(Statements)) {
-        Ok(server) => Ok(OpeningOutcome::Server(server)),
-        Err(Refused { store, fault }) => without_server(store, fault),
-    }
-}
-
-/// What an opening came to that opened no server over a store.
-fn without_server(store: StoreOnDevice, fault: OpeningFault) -> Result<OpeningOutcome, TrialFault> {
-    match fault {
-        OpeningFault::Device => Ok(OpeningOutcome::Device(device_of(store))),
-        _ => Err(TrialFault::NoServer(fault)),
+/// Opens a server over a store on a device, or hands the device back.
+fn server_or_device(alloc: Global, store: StoreOnDevice) -> Result<OnDevice, NotOpened> {
+    match try_server(alloc, store) {
+        Ok(server) => Ok(server),
+        Err((store, fault)) => Err(NotOpened {
+            device: device_of(store),
+            fault: TrialFault::NoServer(fault),
+        }),
     }
 }
 
 /// Opens a server on a device no call of which fails, with a cache of so many pages.
-pub fn open_cached(alloc: Global, device: MemDevice, cache: usize) -> Result<OnDevice, TrialFault> {
-    match try_opening(alloc, device, cache)? {
-        OpeningOutcome::Server(server) => Ok(server),
-        OpeningOutcome::Device(_) => Err(TrialFault::NoServer(OpeningFault::Device)),
+fn open_cached(alloc: Global, device: MemDevice, cache: usize) -> Result<OnDevice, TrialFault> {
+    match open_or_hand_back(alloc, device, cache) {
+        Ok(server) => Ok(server),
+        Err(NotOpened { fault, .. }) => Err(fault),
     }
 }
 
@@ -117,12 +113,99 @@ pub fn open_new(alloc: Global, cache: usize) -> Result<OnDevice, TrialFault> {
     open_cached(alloc, new_device(alloc, SMALL_PAGES)?, cache)
 }
 
-/// The store of a server that is ended, and its records.
-pub fn end_and_scan<S: Store + Drop>(
+/// Opens a server on a device that is hindered after a count, with a cache of so many pages. A refusal other than that the device
+/// failed is an error.
+pub fn attempt_opening(
+    alloc: Global,
+    device: MemDevice,
+    cache: usize,
+    hindrance: Hindrance,
+    count: u64,
+) -> Result<Attempt, TrialFault> {
+    hindrance.begin(&device, count);
+    match open_or_hand_back(alloc, device, cache) {
+        Ok(server) => Attempt::of(alloc, server.end(), hindrance, true, 0),
+        Err(NotOpened { device, fault }) => {
+            if fault.is_device() {
+                Attempt::of(alloc, device, hindrance, false, 0)
+            } else {
+                Err(fault)
+            }
+        }
+    }
+}
+
+/// What a server found on a device: the records, the number of the last commit, and the format.
+#[derive(Drop)]
+pub struct Found {
+    pub device: MemDevice,
+    pub records: Vec<u8>,
+    pub number: u64,
+    pub format: u32,
+}
+
+/// Opens a server on a device, and tells what it found.
+pub fn find_on(alloc: Global, device: MemDevice) -> Result<Found, TrialFault> {
+    let mut store = open_device(alloc, device)?.into_store();
+    let records = scan(alloc, &mut store)?;
+    let (number, format) = (store.number(), format_of(&store));
+    Ok(Found {
+        device: device_of(store),
+        records,
+        number,
+        format,
+    })
+}
+
+/// The format of the store on a device.
+fn format_of(store: &StoreOnDevice) -> u32 {
+    match (store, store.spelling()) {
+        (DeviceStore::Journaled(_), _) => 3,
+        (DeviceStore::Pages(_), Spelling::First) => 1,
+        (DeviceStore::Pages(_), Spelling::Second) => 2,
+    }
+}
+
+/// The records that a server finds, and the server, which is ended and opened again, after one more commit.
+pub fn find_and_commit<S: Store + Drop>(
     alloc: Global,
     server: ServerOver<S>,
-) -> Result<(S, Vec<u8>), TrialFault> {
+    commit: &Talk,
+) -> Result<(Vec<u8>, ServerOver<S>), TrialFault> {
     let mut store = server.into_store();
     let records = scan(alloc, &mut store)?;
-    Ok((store, records))
+    let mut server = open_server(alloc, store)?;
+    commit.give_first(alloc, commit.events.len(), &mut server)?;
+    Ok((records, server))
+}
+
+/// The records that a server leaves.
+pub fn records_of<S: Store + Drop>(
+    alloc: Global,
+    server: ServerOver<S>,
+) -> Result<Vec<u8>, TrialFault> {
+    let mut store = server.into_store();
+    scan(alloc, &mut store)
+}
+
+/// The records of a map in the order of their keys: of each the key and the value, each of them after its length.
+fn scan<M: Map>(alloc: Global, map: &mut M) -> Result<Vec<u8>, TrialFault> {
+    let mut records = Vec::new(alloc);
+    let mut cursor = Cursor::over(alloc, &[])?;
+    for _ in 0..u64::MAX {
+        if !cursor.advance(map)? {
+            break;
+        }
+        add_record(cursor.entry(), &mut records)?;
+    }
+    Ok(records)
+}
+
+/// Adds a record.
+fn add_record(entry: &Entry, records: &mut Vec<u8>) -> Result<(), AllocError> {
+    for part in [entry.key(), entry.value()] {
+        records.extend_from_slice(&part.len().to_be_bytes())?;
+        records.extend_from_slice(part)?;
+    }
+    Ok(())
 }

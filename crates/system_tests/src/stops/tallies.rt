@@ -1,117 +1,229 @@
-//! What was tried of each kind.
+//! What was tried of each kind, and what went otherwise than expected.
 
-use crate::printing::print_counts;
-use crate::stops::tally::Tally;
+use crate::reports::print_counts;
+use crate::stops::fault::TrialFault;
+use crate::stops::parts::Parts;
+use crate::stops::places::TrialPlace;
 use std::alloc::Global;
 use std::io;
 
-/// What was tried of each kind: at an event, or in the whole run.
-pub struct Tallies {
-    /// Stops of commits.
-    pub stops: Tally,
-    /// Stops of one more commit, on a device that was opened after a stop.
-    pub second_stops: Tally,
-    /// Calls that failed while events were answered.
-    pub failures: Tally,
-    /// Calls of openings that failed.
-    pub openings: Tally,
+/// The kinds of trials.
+#[derive(Clone, Copy)]
+pub enum Kind {
+    /// Stops of commits and of migrations.
+    Stops,
+    /// Stops of one more commit or migration, on a device that was started again after a stop.
+    SecondStops,
+    /// Calls that fail while events are answered.
+    Failures,
+    /// Calls of openings that fail.
+    Openings,
     /// Stops of copies.
-    pub copies: Tally,
+    Copies,
     /// Bad frames.
-    pub frames: Tally,
+    Frames,
 }
 
-// Written and not derived: where a value is dropped this is one call, and not its parts one by one.
-impl Drop for Tallies {
-    fn drop(self) {
-        let Tallies {
-            stops: _,
-            second_stops: _,
-            failures: _,
-            openings: _,
-            copies: _,
-            frames: _,
-        } = self;
+/// How often something was tried.
+#[derive(Clone, Copy)]
+pub struct Tally {
+    /// How many stops there were, how many calls failed, or how many frames were sent.
+    pub tried: u64,
+    /// How many of the calls that failed were reads.
+    pub reads: u64,
+    /// How many devices were opened after them.
+    pub opened: u64,
+    /// How often something went otherwise than expected.
+    pub disagreements: u64,
+}
+
+impl Tally {
+    /// Nothing was tried.
+    fn none() -> Tally {
+        Tally {
+            tried: 0,
+            reads: 0,
+            opened: 0,
+            disagreements: 0,
+        }
     }
+}
+
+/// What was tried of each kind.
+#[derive(Clone, Copy)]
+pub struct Tallies {
+    stops: Tally,
+    second_stops: Tally,
+    failures: Tally,
+    openings: Tally,
+    copies: Tally,
+    frames: Tally,
+    /// How often something went otherwise than expected.
+    pub disagreements: u64,
 }
 
 impl Tallies {
     /// Nothing was tried.
-    pub fn new(alloc: Global) -> Tallies {
+    pub fn none() -> Tallies {
         Tallies {
-            stops: Tally::new(alloc),
-            second_stops: Tally::new(alloc),
-            failures: Tally::new(alloc),
-            openings: Tally::new(alloc),
-            copies: Tally::new(alloc),
-            frames: Tally::new(alloc),
+            stops: Tally::none(),
+            second_stops: Tally::none(),
+            failures: Tally::none(),
+            openings: Tally::none(),
+            copies: Tally::none(),
+            frames: Tally::none(),
+            disagreements: 0,
         }
     }
 
-    /// How often something went otherwise than expected.
+    fn of(&mut self, kind: Kind) -> &mut Tally {
+        match kind {
+            Kind::Stops => &mut self.stops,
+            Kind::SecondStops => &mut self.second_stops,
+            Kind::Failures => &mut self.failures,
+            Kind::Openings => &mut self.openings,
+            Kind::Copies => &mut self.copies,
+            Kind::Frames => &mut self.frames,
+        }
+    }
+}
+
+/// What was tried, at one place and in the whole run, and which parts of the trials are taken.
+#[derive(Drop)]
+pub struct Trials {
+    /// Which parts are taken.
+    pub parts: Parts,
+    /// What was tried since the last line was printed.
+    now: Tallies,
+    /// What was tried in the whole run.
+    sums: Tallies,
+    /// A line for each disagreement since the last line was printed.
+    faults: String,
+}
+
+impl Trials {
+    /// Nothing was tried of all trials, or of a part of them.
+    pub fn new(alloc: Global, all: bool) -> Trials {
+        Trials {
+            parts: Parts::new(all),
+            now: Tallies::none(),
+            sums: Tallies::none(),
+            faults: String::new(alloc),
+        }
+    }
+
+    /// Counts one more that was tried.
+    pub fn count_tried(&mut self, kind: Kind) {
+        count(&mut self.now.of(kind).tried, 1);
+        count(&mut self.sums.of(kind).tried, 1);
+    }
+
+    /// Counts so many calls more that were reads.
+    pub fn count_reads(&mut self, kind: Kind, reads: u64) {
+        count(&mut self.now.of(kind).reads, reads);
+        count(&mut self.sums.of(kind).reads, reads);
+    }
+
+    /// Counts one more device that was opened.
+    pub fn count_opened(&mut self, kind: Kind) {
+        count(&mut self.now.of(kind).opened, 1);
+        count(&mut self.sums.of(kind).opened, 1);
+    }
+
+    /// Counts a disagreement at a place.
+    pub fn disagree(
+        &mut self,
+        kind: Kind,
+        place: TrialPlace,
+        fault: TrialFault,
+    ) -> Result<(), TrialFault> {
+        count(&mut self.now.disagreements, 1);
+        count(&mut self.sums.disagreements, 1);
+        count(&mut self.now.of(kind).disagreements, 1);
+        count(&mut self.sums.of(kind).disagreements, 1);
+        writeln!(self.faults, "{place:?}: {fault:?}")?;
+        Ok(())
+    }
+
+    /// How often something went otherwise than expected in the whole run.
     pub fn disagreements(&self) -> u64 {
-        let stops = self.stops.disagreements;
-        let second_stops = self.second_stops.disagreements;
-        let failures = self.failures.disagreements;
-        let openings = self.openings.disagreements;
-        let copies = self.copies.disagreements;
-        stops
-            .saturating_add(second_stops)
-            .saturating_add(failures)
-            .saturating_add(openings)
-            .saturating_add(copies)
-            .saturating_add(self.frames.disagreements)
+        self.sums.disagreements
     }
 
-    /// Adds what else was tried, and prints a line for each disagreement of it.
-    pub fn add(&mut self, rt: &HostRuntime, name: &str, other: &Tallies) -> io::Result<()> {
-        self.stops.add(rt, name, &other.stops)?;
-        self.second_stops.add(rt, name, &other.second_stops)?;
-        self.failures.add(rt, name, &other.failures)?;
-        self.openings.add(rt, name, &other.openings)?;
-        self.copies.add(rt, name, &other.copies)?;
-        self.frames.add(rt, name, &other.frames)
+    /// Prints a line for each disagreement since the last line, and begins to count anew for the next.
+    pub fn close(&mut self, rt: &HostRuntime, name: &str) -> io::Result<()> {
+        for line in self.faults.as_str().lines() {
+            println!(rt; "{name}: disagreement: {line}")?;
+        }
+        self.faults.clear();
+        self.now = Tallies::none();
+        Ok(())
     }
 
-    /// Prints a line of each kind.
-    pub fn print(&self, rt: &HostRuntime) -> io::Result<()> {
-        self.stops.print_stops(rt, "stops")?;
-        self.second_stops.print_stops(rt, "second stops")?;
-        self.failures.print_calls(rt, "failing calls")?;
-        self.openings.print_calls(rt, "failing calls of openings")?;
-        println!(rt;
-            "stops of copies: {} disagreements",
-            self.copies.disagreements
-        )?;
-        let (tried, disagreements) = (self.frames.tried, self.frames.disagreements);
-        println!(rt; "bad frames: {tried}, {disagreements} disagreements")
-    }
-
-    /// Prints what was tried at the stops of an event.
-    pub fn print_stops(&self, rt: &HostRuntime, name: &str, event: usize) -> io::Result<()> {
-        print!(rt; "{name}: event {event}: ")?;
-        self.print_stops_and_openings(rt)
-    }
-
-    /// Prints what was tried of a migration.
-    pub fn print_migration(&self, rt: &HostRuntime, name: &str) -> io::Result<()> {
-        print!(rt; "{name}: migration: ")?;
-        self.print_stops_and_openings(rt)
-    }
-
-    /// Prints how many stops there were, and how many openings failed.
-    fn print_stops_and_openings(&self, rt: &HostRuntime) -> io::Result<()> {
+    /// Prints how many stops there were since the last line, and how many openings failed.
+    pub fn print_stops_and_openings(&self, rt: &HostRuntime) -> io::Result<()> {
+        let now = &self.now;
         print_counts(
             rt,
             &[
-                (self.stops.tried, " stops, "),
-                (self.stops.opened, " devices, "),
-                (self.second_stops.tried, " second stops, "),
-                (self.second_stops.opened, " devices, "),
-                (self.openings.tried, " failing calls of openings, "),
-                (self.openings.opened, " devices, "),
-                (self.disagreements(), " disagreements\n"),
+                (now.stops.tried, " stops, "),
+                (now.stops.opened, " devices, "),
+                (now.second_stops.tried, " second stops, "),
+                (now.second_stops.opened, " devices, "),
+                (now.openings.tried, " failing calls of openings, "),
+                (now.openings.opened, " devices, "),
+                (now.disagreements, " disagreements\n"),
             ],
         )
     }
+
+    /// Prints how many calls failed since the last line.
+    pub fn print_failures_and_openings(&self, rt: &HostRuntime, name: &str) -> io::Result<()> {
+        print_calls(rt, name, "failing calls", self.now.failures)?;
+        print_calls(rt, name, "failing calls of openings", self.now.openings)
+    }
+
+    /// Prints a line of each kind for the whole run.
+    pub fn print_sums(&self, rt: &HostRuntime) -> io::Result<()> {
+        let sums = &self.sums;
+        print_stops(rt, "stops", sums.stops)?;
+        print_stops(rt, "second stops", sums.second_stops)?;
+        print_calls(rt, "", "failing calls", sums.failures)?;
+        print_calls(rt, "", "failing calls of openings", sums.openings)?;
+        let (copies, frames) = (sums.copies.disagreements, sums.frames.disagreements);
+        println!(rt; "stops of copies: {copies} disagreements")?;
+        println!(rt; "bad frames: {}, {frames} disagreements", sums.frames.tried)
+    }
+}
+
+/// Counts so many more.
+fn count(number: &mut u64, more: u64) {
+    *number = number.saturating_add(more);
+}
+
+/// Prints a line of stops.
+fn print_stops(rt: &HostRuntime, name: &str, tally: Tally) -> io::Result<()> {
+    print!(rt; "{name}: ")?;
+    print_counts(
+        rt,
+        &[
+            (tally.tried, ", "),
+            (tally.opened, " devices opened, "),
+            (tally.disagreements, " disagreements\n"),
+        ],
+    )
+}
+
+/// Prints a line of calls that failed.
+fn print_calls(rt: &HostRuntime, place: &str, name: &str, tally: Tally) -> io::Result<()> {
+    print!(rt; "{place}{name}: ")?;
+    print_counts(
+        rt,
+        &[
+            (tally.tried, ", "),
+            (tally.reads, " of them reads, "),
+            (tally.opened, " devices opened, "),
+            (tally.disagreements, " disagreements\n"),
+        ],
+    )
 }
