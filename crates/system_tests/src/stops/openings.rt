@@ -8,7 +8,7 @@ use crate::stops::places::TrialPlace;
 use crate::stops::scripts::Script;
 use crate::stops::servers::{CACHE_PAGES, Found, attempt_opening, find_on};
 use crate::stops::tallies::{Kind, Trials};
-use crate::stops::work::{Attempt, Hindrance, Work, check_restarts, hinder_each};
+use crate::stops::work::{Attempt, Hindrance, Work, hinder_each};
 use sector_device::MemDevice;
 use std::alloc::Global;
 
@@ -45,42 +45,52 @@ impl Work for Opening<'_> {
         self.script.moment_of(records, self.first, self.last)
     }
 
-    /// Opens the device as it is, and once more after a stop, by each choice of the sectors that the opening left unsynced. Each
-    /// time the same map is found.
+    /// Opens the device as it is, and once more after a stop. Each time the same map is found.
     fn try_more(
         &self,
         alloc: Global,
         kind: Kind,
         image: &Image,
-        is_done: bool,
+        _is_done: bool,
         place: TrialPlace,
         trials: &mut Trials,
     ) -> Result<(), TrialFault> {
         trials.count_opened(kind);
-        let Found {
-            device,
-            records,
-            ..
-        } = find_on(alloc, image.running(alloc)?)?;
-        let moment = self
-            .script
-            .moment_of(records.as_slice(), self.first, self.last)?;
+        let found = find_on(alloc, image.running(alloc)?)?;
+        let records = found.records.as_slice();
+        let moment = self.script.moment_of(records, self.first, self.last)?;
+        let Found { device, .. } = found;
         let image = Image::of(alloc, device)?;
-        let again = Opening {
-            first: moment,
-            last: moment,
-            ..*self
-        };
-        check_restarts(alloc, &again, kind, &image, is_done, place, trials)
+        find_again(alloc, self.script, moment, &image, kind, place, trials)
     }
 }
 
-/// An opening that migrates a device, which holds this, as it is or started again by a choice. The records and their number are
-/// those that are there after it.
+/// Opens what an opening left after a stop, by each choice of the sectors that it left unsynced. Each time the map of a moment is
+/// found.
+fn find_again(
+    alloc: Global,
+    script: &Script,
+    moment: usize,
+    image: &Image,
+    kind: Kind,
+    place: TrialPlace,
+    trials: &mut Trials,
+) -> Result<(), TrialFault> {
+    for choice in &image.choices(alloc)? {
+        trials.count_opened(kind);
+        let found = find_on(alloc, image.restarted(alloc, *choice)?)?;
+        if let Err(fault) = script.moment_of(found.records.as_slice(), moment, moment) {
+            let choice = Some(*choice);
+            trials.disagree(kind, TrialPlace { choice, ..place }, fault)?;
+        }
+    }
+    Ok(())
+}
+
+/// An opening that migrates a device, which holds this. The records and their number are those that are there after it.
 #[derive(Clone, Copy)]
 struct Migrating<'a> {
     image: &'a Image,
-    choice: Option<Choice>,
     migrated: &'a Found,
 }
 
@@ -91,22 +101,12 @@ impl Work for Migrating<'_> {
         hindrance: Hindrance,
         count: u64,
     ) -> Result<Attempt, TrialFault> {
-        let device = match self.choice {
-            Some(choice) => self.image.restarted(alloc, choice)?,
-            None => self.image.running(alloc)?,
-        };
+        let device = self.image.running(alloc)?;
         attempt_opening(alloc, device, CACHE_PAGES, hindrance, count)
     }
 
-    /// Its records are of the second spelling, and they and their number are those after the migration.
     fn check(&self, alloc: Global, device: MemDevice, _is_done: bool) -> Result<usize, TrialFault> {
-        let (found, migrated) = (find_on(alloc, device)?, self.migrated);
-        let is_next = found.format == 2 && found.number == migrated.number;
-        if is_next && found.records.as_slice() == migrated.records.as_slice() {
-            Ok(0)
-        } else {
-            Err(TrialFault::AnotherMap)
-        }
+        check_migrated(alloc, device, self.migrated)
     }
 
     /// Opens the device as it is, where a call failed.
@@ -115,13 +115,13 @@ impl Work for Migrating<'_> {
         alloc: Global,
         kind: Kind,
         image: &Image,
-        is_done: bool,
+        _is_done: bool,
         _place: TrialPlace,
         trials: &mut Trials,
     ) -> Result<(), TrialFault> {
         if matches!(kind, Kind::Openings) {
             trials.count_opened(kind);
-            let _first = self.check(alloc, image.running(alloc)?, is_done)?;
+            let _first = check_migrated(alloc, image.running(alloc)?, self.migrated)?;
         }
         Ok(())
     }
@@ -135,16 +135,13 @@ impl Work for Migrating<'_> {
         _moment: usize,
         trials: &mut Trials,
     ) -> Result<(), TrialFault> {
-        let choice = Some(choice);
-        let again = Migrating {
+        let again = MigratingAgain {
             image,
             choice,
             migrated: self.migrated,
         };
-        let place = TrialPlace {
-            restart: choice,
-            ..place
-        };
+        let restart = Some(choice);
+        let place = TrialPlace { restart, ..place };
         hinder_each(
             alloc,
             &again,
@@ -153,6 +150,41 @@ impl Work for Migrating<'_> {
             place,
             trials,
         )
+    }
+}
+
+/// The same of a device that a stop left and that is started again by a choice.
+#[derive(Clone, Copy)]
+struct MigratingAgain<'a> {
+    image: &'a Image,
+    choice: Choice,
+    migrated: &'a Found,
+}
+
+impl Work for MigratingAgain<'_> {
+    fn attempt(
+        &self,
+        alloc: Global,
+        hindrance: Hindrance,
+        count: u64,
+    ) -> Result<Attempt, TrialFault> {
+        let device = self.image.restarted(alloc, self.choice)?;
+        attempt_opening(alloc, device, CACHE_PAGES, hindrance, count)
+    }
+
+    fn check(&self, alloc: Global, device: MemDevice, _is_done: bool) -> Result<usize, TrialFault> {
+        check_migrated(alloc, device, self.migrated)
+    }
+}
+
+/// Opens a server on a device. Its records are of the second spelling, and they and their number are those after a migration.
+fn check_migrated(alloc: Global, device: MemDevice, migrated: &Found) -> Result<usize, TrialFault> {
+    let found = find_on(alloc, device)?;
+    let is_next = found.format == 2 && found.number == migrated.number;
+    if is_next && found.records.as_slice() == migrated.records.as_slice() {
+        Ok(0)
+    } else {
+        Err(TrialFault::AnotherMap)
     }
 }
 
@@ -166,7 +198,6 @@ pub fn hinder_migration(
     let migrated = find_on(alloc, image.running(alloc)?)?;
     let opening = Migrating {
         image: &image,
-        choice: None,
         migrated: &migrated,
     };
     for (kind, hindrance) in [

@@ -173,7 +173,7 @@ fn check_left<W: Work>(
 }
 
 /// Starts a device that holds this again by each choice of its unsynced sectors, and checks what is found on it.
-pub fn check_restarts<W: Work>(
+fn check_restarts<W: Work>(
     alloc: Global,
     work: &W,
     kind: Kind,
