@@ -32,7 +32,7 @@ RETIRED = {
     'lists_seen': 'visibility', 'seen_statements': 'sessions', 'execute_seen': 'execute_visible', 'decisions::': 'sessions',
     'rowoutcome': 'effect', 'rowchanges': 'effect', 'pagebuffer': 'dirty pages', 'lower_root': 'collapse_root', 'settle': 'bind',
     'tightness': 'precedence', 'draft': 'scratch', 'memory_trials': 'memory_tests', r'(?:image|array|store)_trials': 'storage_tests',
-    r'grammar_tests|row_trials': 'statement_tests', r'(?:catalogue|definition)_trials': 'definition_tests',
+    r'grammar_tests|row_trials': 'statement_tests', r'(?:catalogue|definition)_trials|definition_tests': 'statement_tests',
     'feed_trials': 'feed_tests',
 }
 # Words of this project's own, for which the field has better ones.
