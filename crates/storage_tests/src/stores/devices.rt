@@ -183,7 +183,9 @@ fn run_on_store(
         },
     };
     let answer = make_calls(first.alloc, &mut open, calls, out);
-    let device = open.records.store.into_device().into_device();
+    let records = open.records;
+    let store = records.store;
+    let device = store.into_device().into_device();
     answer?;
     Ok(device)
 }
