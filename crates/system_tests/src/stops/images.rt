@@ -38,8 +38,9 @@ impl Image {
 
     /// What a device holds, which is started again for it.
     fn read(alloc: Global, device: &mut MemDevice) -> Result<Image, TrialFault> {
-        // calls pass again
+        // calls pass again, also where one that was to fail did not come
         device.stop_after(u64::MAX);
+        device.fail_call(u64::MAX);
         let last = contents(alloc, device)?;
         let synced = synced_contents(alloc, device)?;
         Ok(Image { synced, last })
