@@ -34,6 +34,5 @@ mod Edits
 mod LeafChanges
 mod Bounded
 mod Made
-mod Turning
 mod LeavesBehind
 pub mod LeafJoins

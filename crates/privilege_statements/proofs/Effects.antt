@@ -31,8 +31,15 @@ use Rattle.abstract_database.specs.Statements.{Effect, warned, grant, revoke}
 use Rattle.grant_graph.proofs.Marks.{taken_is}
 use Rattle.privilege_statements.specs.declared.named.Named.{Named}
 use Rattle.privilege_statements.specs.Named.{IsNamed}
-use Rattle.privilege_statements.specs.Descriptors.{Around, database_in, carried_out, checked, grant_checked, warning_where}
+use Rattle.privilege_statements.specs.Descriptors.{Around, database_in, carried_out, checked, grant_checked, warning_where, is_known}
 use Rattle.privilege_statements.proofs.Orders.{all_rise, same_named, found_in_order, granted_in_order}
+
+-- ---- the checks
+
+pub known_roles : (db : Database) (gs : List Grantee) → list_all (is_known db.roles) gs ≡ list_all (has_role db) (grantee_roles gs)
+known_roles db [] = refl
+known_roles db (grantee.Public ∷ gs) = known_roles db gs
+known_roles db (grantee.Role name ∷ gs) = ap (λ (b : Bool). has_role db name && b) (known_roles db gs)
 
 -- ---- lists of which the same are named
 

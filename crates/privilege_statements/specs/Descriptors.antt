@@ -59,3 +59,8 @@ grant_checked db current layout s = do
 abbrev pub warning_where : Bool → Warning → Option Warning
 warning_where true warning = Some warning
 warning_where false warning = None
+
+-- whether a grantee is PUBLIC or one of these roles
+abbrev pub is_known : List Role → Grantee → Bool
+is_known roles grantee.Public = true
+is_known roles (grantee.Role name) = list_any (is_role_named name) roles

@@ -4,4 +4,3 @@ pub mod Units
 pub mod Named
 pub mod Descriptors
 pub mod Alone
-pub mod Statements

@@ -11,7 +11,6 @@ mod grantors;
 mod named;
 mod ordered;
 mod schema_changes;
-mod statement;
 mod statements;
 mod units;
 

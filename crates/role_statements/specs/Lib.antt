@@ -1,2 +1,1 @@
 pub mod Usage
-pub mod MembershipStatements

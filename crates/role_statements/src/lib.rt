@@ -5,7 +5,6 @@
 mod attributes;
 mod creating;
 mod dropping;
-mod membership_statement;
 mod memberships;
 mod usage;
 

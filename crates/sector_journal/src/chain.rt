@@ -4,14 +4,13 @@ ghost use Rattle.journal_chain.specs.Chain.{Part, Entry, Holds, IsWhole, Chains,
 ghost use Rattle.journal_chain.specs.Journal.{IsSound, IsJournal, IsGreatest};
 ghost use Rattle.journal_records.specs.Sectors.{sector_at};
 ghost use Rattle.journal_records.specs.Records.{parts_of};
-ghost use Rattle.store.specs.declared.fault.Fault.TheVariants as faults;
+ghost use Rattle.sector_journal.specs.declared.journal.JournalFault.TheVariants as faults;
 ghost use Rattle.sector_journal.specs.Reading.{region_of, part_under, entries_of, BeginsWith, AreWhole, IsNumberIn, IsRecordAt, IsReadAs};
 
-use crate::journal::{Journal, JournalRecord};
+use crate::journal::{Journal, JournalFault, JournalRecord};
 use journal_records::{JournalSector, PART_SIZE, SectorTag, part_bytes, read_sector};
 use sector_device::SECTOR_SIZE;
 use std::alloc::{AllocError, Global};
-use store::Fault;
 
 // Whether a tag is that of the part of this index of the record of another.
 fn is_part_of(found: SectorTag, tag: SectorTag, index: usize) -> bool
@@ -215,7 +214,7 @@ pub fn find_journal(
     root: u64,
     room: u16,
     sectors: &[[u8; SECTOR_SIZE]],
-) -> Result<Journal, Fault>
+) -> Result<Journal, JournalFault>
     requires { length sectors.now ≡ room }
     ensures read { IfOk result (λ journal. IsReadAs journal root room (region_of room sectors.now)) }
     ensures damaged { result ≡ Err faults.Damaged → (es : List Entry)
@@ -224,7 +223,7 @@ pub fn find_journal(
 {
     let chain = read_chain(alloc, root, room, sectors)?;
     if !are_sound(root, room, chain.end, sectors) {
-        return Err(Fault::Damaged);
+        return Err(JournalFault::Damaged);
     }
     Ok(Journal {
         records: chain.records,

@@ -10,16 +10,21 @@ use Rattle.journal_store.proofs.Reading.{failed_goes, kept_under, goes_under}
 use Rattle.journal_store.proofs.reads.JournalStoreMap.count.Goals as goal
 
 pub returns-then-has_failed : goal.returns-then-has_failed
-returns-then-has_failed g c = record { preserved = keeps_same c.args.self.now; goes = failed_goes g.met.D.Device.only_now c.args.self.now (sym c.has_failed.ensures ∙ c.if-has_failed.true) _; still = λ had. (refl, refl) }
+returns-then-has_failed g c =
+    let failed = sym c.has_failed.ensures ∙ c.if-has_failed.true in
+    record {
+      preserved = keeps_same c.args.self.now;
+      goes = failed_goes g.met.D.Device.only_now c.args.self.now failed _;
+      still = λ had. (refl, refl);
+    }
 
 pub returns : goal.returns
 returns g c =
-    let is = c.count_under.ensures in
     let s = c.args.self.now in
     let works = sym c.has_failed.ensures ∙ c.if-has_failed.false in
-    let kept = kept_under s (record s { store = c.count_under.new.map }) refl refl refl is.preserved is.records in
+    let is = c.count_under.ensures in
     record {
-      preserved = kept;
-      goes = goes_under g.met.D.Device.only_now s _ works c.as_slice-lists.result.now c.as_slice-lists.ensures kept (λ (ls : List Changes) (count : ℕ). count ≡ count_of (span c.args.start.now c.args.stop.now (applied_all ls (store_state s.store).map))) _ is.goes;
+      preserved = kept_under s _ refl refl refl is.preserved is.records;
+      goes = goes_under g.met.D.Device.only_now s _ works c.as_slice-lists.result.now c.as_slice-lists.ensures (kept_under s _ refl refl refl is.preserved is.records) (λ (ls : List Changes) (count : ℕ). count ≡ count_of (span c.args.start.now c.args.stop.now (applied_all ls (store_state s.store).map))) _ is.goes;
       still = λ had. absurd (false≢true (sym works ∙ had));
     }

@@ -1,49 +1,75 @@
-use Rattle.std.proofs.Common.{Bool, refl}
+use Rattle.std.proofs.Common.{◌≡◌, ◌⊎◌, None, [], refl, sym, ap, ◌∙◌, subst, arith}
+use Rattle.pages.specs.declared.array.PageFault.TheVariants.{Memory}
+use Rattle.cow_pages.specs.Cow.{working_array}
+use Rattle.cow_pages.specs.Preserved.{IsPreserved, FailedWith}
+use Rattle.page_tree.specs.Kept.{KeepsPlace}
+use Rattle.page_tree.specs.declared.cursor.TreeCursor.{TreeCursor}
+use Rattle.kv_store.specs.declared.read_only.ReadOnlyPages.{ReadOnlyPages}
 use Rattle.kv_store.specs.declared.tree_store.TreeStore.{TreeStore}
 use Rattle.kv_store.specs.Contents.{contents_of}
-use Rattle.kv_store.specs.TreeStore.{pages_of, store_state}
-use Rattle.kv_store.proofs.Answering.{HasRead, HasRefused, read_on, refused_nothing, refused_goes, refused_counts, works_still}
+use Rattle.kv_store.specs.TreeStore.{store_state}
+use Rattle.kv_store.specs.Unwritten.{WritesNothing}
 use Rattle.kv_store.proofs.Batches.{working_holds}
-use Rattle.kv_store.proofs.Walking.{goes_on, takes}
-use Rattle.kv_store.proofs.tree_store.TreeStoreMap.step.Given.{Over}
-use Rattle.kv_store.proofs.tree_store.TreeStoreMap.step.Goals.{After-step}
+use Rattle.std.proofs.lemmas.Bool.{false≢true}
+use Rattle.kv_store.proofs.Counting.{refusal_counts}
+use Rattle.kv_store.proofs.Reading.{only_reads, read_refused, cause_of_read}
+use Rattle.kv_store.proofs.Walking.{goes_on, goes_to_fault, takes}
 use Rattle.kv_store.proofs.tree_store.TreeStoreMap.step.Goals as goal
-
--- what the call leaves of the store
-has_read : (g : Over) (c : After-step g) → HasRead c.args.self.now (record c.args.self.now { pages = c.step.new.pages })
-has_read g c =
-    let is = c.step.ensures in
-    record { preserved = is.preserved; working = λ faithful l. (is.only_reads faithful).same l; place = λ sound. sound.place; has_failed = refl; counts = record { fulls = refl; failures = refl } }
 
 pub returns-in-Ok : goal.returns-in-Ok
 returns-in-Ok g c =
     let old = c.args.self.now in
-    let new : TreeStore g.row.D.Denot g.D.Device = record old { pages = c.step.new.pages } in
+    let new : TreeStore g.row.D.Denot g.D.Device = record {
+      pages = c.step.new.pages;
+      scratch = c.args.self.now.scratch;
+      value = c.args.self.now.value;
+      cursor = c.args.self.now.cursor;
+      has_failed = c.args.self.now.has_failed;
+      fulls = c.args.self.now.fulls;
+      failures = c.args.self.now.failures;
+    } in
     let is = c.in-Ok.ensures in
     record {
       preserved = is.preserved;
       goes = goes_on _ c.in-Ok.found (store_state old) (store_state new)
-          (read_on g.met.D.Device.only_now g.met.D.Device.content_left old new c.if-self.false (has_read g (goal.at.returns-in-Ok g c).After-step) (λ sound. is.works (sound.works c.if-self.false).is_open.has_not_failed))
+          (only_reads g.met.D.Device.only_now g.met.D.Device.content_left old new c.if-self.false is.preserved.preserved (λ sound works. is.works (sound.works c.if-self.false).is_open.has_not_failed) (λ faithful l. (is.only_reads faithful).same l) (λ sound. sound.place) refl (omega arith))
           c.if-self.false c.if-self.false
           (λ sound records ahead.
-          let held = working_holds (contents_of (pages_of old)) (pages_of old) (sound.works c.if-self.false) in
-          takes old new c.step.new.walk c.in-Ok.found records is.preserved ahead.durable (is.found sound.faithful (contents_of (pages_of old)).records held records ahead.in_map));
-      still = works_still _ old new c.if-self.false;
+          let held = working_holds (contents_of old.pages.below) old.pages.below (sound.works c.if-self.false) in
+          takes old new c.step.new.walk c.in-Ok.found records is.preserved ahead.durable (is.found sound.faithful (contents_of old.pages.below).records held records ahead.in_map));
+      still = λ had. absurd (false≢true (sym c.if-self.false ∙ had));
       counts = record { fulls = refl; failures = refl };
     }
 
 pub returns-in-Err : goal.returns-in-Err
 returns-in-Err g c =
     let old = c.args.self.now in
-    let mid : TreeStore g.row.D.Denot g.D.Device = record old { pages = c.step.new.pages } in
+    let mid : TreeStore g.row.D.Denot g.D.Device = record {
+      pages = c.step.new.pages;
+      scratch = c.args.self.now.scratch;
+      value = c.args.self.now.value;
+      cursor = c.args.self.now.cursor;
+      has_failed = c.args.self.now.has_failed;
+      fulls = c.args.self.now.fulls;
+      failures = c.args.self.now.failures;
+    } in
     let new = c.refuse_read.new.self in
+    let is = c.in-Err.ensures in
     let refuse = c.refuse_read.ensures in
-    let refused : HasRefused c.in-Err.fault c.refuse_read.result mid new = record { pages = refuse.pages; cursor = refuse.cursor; fulls = refuse.fulls; failures = refuse.failures; refused = refuse.refused; counts = refuse.counts } in
-    let read = has_read g (goal.at.returns-in-Err g c).After-step in
+    let fault = c.in-Err.fault in
     record {
-      preserved = refused_nothing g.met.D.Device.only_now g.met.D.Device.content_left old mid new c.if-self.false read _ _ refused;
-      goes = refused_goes g.met.D.Device.only_now g.met.D.Device.content_left old mid new c.if-self.false read _ _ refused c.in-Err.ensures.faults
-          (λ sound. c.in-Err.ensures.found sound.faithful (contents_of (pages_of old)).records (working_holds (contents_of (pages_of old)) (pages_of old) (sound.works c.if-self.false))) _;
-      still = works_still _ old new c.if-self.false;
-      counts = refused_counts g.met.D.Device.only_now g.met.D.Device.content_left old mid new c.if-self.false read _ _ refused Bool;
+      preserved = subst (λ (p : ReadOnlyPages g.row.D.Denot g.D.Device). WritesNothing old.pages.below p.below) (sym refuse.pages) is.preserved;
+      goes = goes_to_fault _ c.refuse_read.result ([], []) (store_state old) (store_state new)
+          (read_refused g.met.D.Device.only_now g.met.D.Device.content_left old mid new c.if-self.false
+          (subst (λ (p : ReadOnlyPages g.row.D.Denot g.D.Device). IsPreserved old.pages.below p.below) (sym refuse.pages) is.preserved.preserved)
+          (λ faithful l. ap (λ (p : ReadOnlyPages g.row.D.Denot g.D.Device). working_array p.below l) refuse.pages ∙ (is.only_reads faithful).same l)
+          (λ sound. subst (λ (k : TreeCursor). KeepsPlace (contents_of old.pages.below).records k) (sym refuse.cursor) sound.place)
+          refl refl refuse.fulls refuse.failures None ([], []) fault is.faults
+          (λ sound.
+          let held = working_holds (contents_of old.pages.below) old.pages.below (sound.works c.if-self.false) in
+          let caused = is.found sound.faithful (contents_of old.pages.below).records held in
+          (caused.well_formed, subst (λ (p : ReadOnlyPages g.row.D.Denot g.D.Device). (fault ≡ Memory) ⊎ FailedWith old.pages.below p.below fault) (sym refuse.pages) (cause_of_read is.faults caused.cause)))
+          c.refuse_read.result refuse.refused);
+      still = λ had. absurd (false≢true (sym c.if-self.false ∙ had));
+      counts = refusal_counts fault c.refuse_read.result mid old new refl refl refuse.fulls refuse.counts;
     }
