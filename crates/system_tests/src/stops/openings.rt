@@ -6,7 +6,7 @@ use crate::stops::fault::TrialFault;
 use crate::stops::images::Image;
 use crate::stops::places::TrialPlace;
 use crate::stops::scripts::Script;
-use crate::stops::servers::{CACHE_PAGES, Found, attempt_opening, find_on};
+use crate::stops::servers::{CACHE_PAGES, FoundStore, attempt_opening, find_on};
 use crate::stops::tallies::{Kind, Trials};
 use crate::stops::work::{Attempt, Hindrance, Work, hinder_each};
 use sector_device::MemDevice;
@@ -59,7 +59,7 @@ impl Work for Opening<'_> {
         let found = find_on(alloc, image.running(alloc)?)?;
         let records = found.records.as_slice();
         let moment = self.script.moment_of(records, self.first, self.last)?;
-        let Found { device, .. } = found;
+        let FoundStore { device, .. } = found;
         let image = Image::of(alloc, device)?;
         find_again(alloc, self.script, moment, &image, kind, place, trials)
     }
@@ -91,7 +91,7 @@ fn find_again(
 #[derive(Clone, Copy)]
 struct Migrating<'a> {
     image: &'a Image,
-    migrated: &'a Found,
+    migrated: &'a FoundStore,
 }
 
 impl Work for Migrating<'_> {
@@ -158,7 +158,7 @@ impl Work for Migrating<'_> {
 struct MigratingAgain<'a> {
     image: &'a Image,
     choice: Choice,
-    migrated: &'a Found,
+    migrated: &'a FoundStore,
 }
 
 impl Work for MigratingAgain<'_> {
@@ -178,7 +178,11 @@ impl Work for MigratingAgain<'_> {
 }
 
 /// Opens a server on a device. Its records are of the second spelling, and they and their number are those after a migration.
-fn check_migrated(alloc: Global, device: MemDevice, migrated: &Found) -> Result<usize, TrialFault> {
+fn check_migrated(
+    alloc: Global,
+    device: MemDevice,
+    migrated: &FoundStore,
+) -> Result<usize, TrialFault> {
     let found = find_on(alloc, device)?;
     let is_next = found.format == 2 && found.number == migrated.number;
     if is_next && found.records.as_slice() == migrated.records.as_slice() {

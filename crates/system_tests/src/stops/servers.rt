@@ -137,7 +137,7 @@ pub fn attempt_opening(
 
 /// What a server found on a device: the records, the number of the last commit, and the format.
 #[derive(Drop)]
-pub struct Found {
+pub struct FoundStore {
     pub device: MemDevice,
     pub records: Vec<u8>,
     pub number: u64,
@@ -145,11 +145,11 @@ pub struct Found {
 }
 
 /// Opens a server on a device, and tells what it found.
-pub fn find_on(alloc: Global, device: MemDevice) -> Result<Found, TrialFault> {
+pub fn find_on(alloc: Global, device: MemDevice) -> Result<FoundStore, TrialFault> {
     let mut store = open_device(alloc, device)?.into_store();
     let records = scan(alloc, &mut store)?;
     let (number, format) = (store.number(), format_of(&store));
-    Ok(Found {
+    Ok(FoundStore {
         device: device_of(store),
         records,
         number,
