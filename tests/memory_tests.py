@@ -37,7 +37,7 @@ none. Or it prints `guarddb: Memory` alone, with status 1, and the file is as it
 With the word `stores` it is the program of crates/storage_tests whose requests are refused, the one in the environment variable
 STORES. It is given the lines of its part `journals` that make each step again which is refused memory: openings and commits of a
 store with a journal, and the turns of the journal on and off. The run must print what a run with ample memory prints, with status 0,
-or only the first lines of it, with status 1, where the memory of the trial itself was refused.
+or only the first lines of it, with status 1, where the memory of the test itself was refused.
 
     FEEDS=crates/feed_tests/out/feed_tests python3 tests/memory_tests.py feeds [EVERY]
 
@@ -359,7 +359,7 @@ class Feeds:
 OTHERWISE = 'did otherwise'
 OUTCOMES = ['answered another event with 53200', 'answered a COMMIT with 53200', 'ended with guarddb: Memory', 'took no notice']
 FED = ['fed a piece again']
-STORED = ['printed the same', 'ended, since the trial was refused memory']
+STORED = ['printed the same', 'ended, since the test was refused memory']
 
 
 def counted(pool, name, test, requests, outcomes):

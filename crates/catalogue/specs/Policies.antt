@@ -9,6 +9,7 @@ use Rattle.expressions.specs.Names.{MeansTheSame}
 use Rattle.expressions.specs.Parts.{check_type}
 use Rattle.expressions.specs.Types.{TypedTerm, fits, names_then_types}
 use Rattle.abstract_database.specs.Lists.{TheName}
+use Rattle.catalogue.specs.declared.policy.BoundClauses.{BoundClauses}
 use Rattle.catalogue.specs.declared.policy.CataloguePolicy.{CataloguePolicy}
 
 -- a table alone, by its name and columns
@@ -56,6 +57,11 @@ BindsClause scope c (Some e) = IsBoundClause scope c e
 abbrev pub BindsOptional : List Table → Option PolicyClause → Option (Option TypedTerm) → Type 0
 BindsOptional scope c None = IfSome c (IsCondition scope) → ⊥
 BindsOptional scope c (Some e) = AreBound scope c e
+
+-- so are both clauses of a policy
+abbrev pub BindsClauses : List Table → Policy → Option BoundClauses → Type 0
+BindsClauses scope p None = HasConditions scope p → ⊥
+BindsClauses scope p (Some bound) = HasConditions scope p × AreBound scope p.using bound.using × AreBound scope p.check bound.check
 
 -- a policy is bound, unless one of its clauses is no condition
 abbrev pub BindsPolicy : List Table → Policy → Option CataloguePolicy → Type 0

@@ -2,7 +2,7 @@
 
 ghost use Rattle.std.specs.Prelude.{◌≡◌, IfOk};
 ghost use Rattle.sql_ast.specs.Scope.{tables_of};
-ghost use Rattle.catalogue.specs.Policies.{scope_of, BindsClause, BindsOptional, BindsPolicy};
+ghost use Rattle.catalogue.specs.Policies.{scope_of, BindsClause, BindsOptional, BindsClauses, BindsPolicy};
 
 use expressions::types::{Typed, check_types};
 use sql_ast::columns::{ColumnType, Columns};
@@ -26,9 +26,9 @@ pub struct CataloguePolicy {
 
 impl TryCopy for CataloguePolicy {
     fn try_copy(&self, alloc: Global) -> Result<CataloguePolicy, AllocError> {
-        let policy = self.policy.try_copy(alloc)?;
         let using = self.using.try_copy(alloc)?;
         let check = self.check.try_copy(alloc)?;
+        let policy = self.policy.try_copy(alloc)?;
         Ok(CataloguePolicy {
             policy,
             using,
@@ -52,17 +52,38 @@ pub fn bind_policy(
         columns,
     }];
     let scope = Scope { tables: &tables };
-    let Some(using) = bind_optional(alloc, &policy.using, &scope)? else {
+    match bind_clauses(alloc, &policy, &scope)? {
+        None => Ok(None),
+        Some(bound) => Ok(Some(CataloguePolicy {
+            policy,
+            using: bound.using,
+            check: bound.check,
+        })),
+    }
+}
+
+/// The clauses of a policy, bound.
+#[derive(Drop)]
+struct BoundClauses {
+    using: Option<Typed>,
+    check: Option<Typed>,
+}
+
+/// Both clauses of a policy, bound, or `None` where one of them is no condition.
+fn bind_clauses(
+    alloc: Global,
+    policy: &Policy,
+    scope: &Scope<'_>,
+) -> Result<Option<BoundClauses>, AllocError>
+    ensures { IfOk result (BindsClauses (tables_of scope.now) policy.now) }
+{
+    let Some(using) = bind_optional(alloc, &policy.using, scope)? else {
         return Ok(None);
     };
-    let Some(check) = bind_optional(alloc, &policy.check, &scope)? else {
+    let Some(check) = bind_optional(alloc, &policy.check, scope)? else {
         return Ok(None);
     };
-    Ok(Some(CataloguePolicy {
-        policy,
-        using,
-        check,
-    }))
+    Ok(Some(BoundClauses { using, check }))
 }
 
 /// What may be a clause, bound, or `None` where it is no condition.

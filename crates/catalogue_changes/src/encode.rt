@@ -3,16 +3,16 @@
 
 ghost use Rattle.std.specs.Prelude.{◌≡◌, ◌≢◌, ◌≤◌, ◌<◌, ◌^◌, [], ◌∷◌, ◌++◌, flat_map, length, Err, IfOk, IfSome, MatchOption, OnOk};
 ghost use Rattle.byteorder.specs.Endian.{big_bytes};
-ghost use Rattle.abstract_database.specs.Database.{action_number, grantor_name, grantee_name};
 ghost use Rattle.stored_database.specs.Spelling.{ended, flag, place_byte, type_number, column_bytes, layout_bytes, role_flags, role_record, membership_record, table_record, descriptor_record, policy_record, kind_number, command_number, roles_bytes, clause_bytes};
 ghost use Rattle.stored_database.specs.Entries.{IsRecordSize};
 ghost use Rattle.catalogue_changes.specs.Sizes.{FitsRecord, HasPlace, HasCountableRoles, HasShortText};
 
 use byteorder::{BigEndian, ByteOrder};
+use catalogue::order::{action_number, grantee_name, grantor_name};
 use catalogue::table::TableDefinition;
 use sql_ast::columns::{Column, ColumnType, Columns};
 use sql_ast::policy::{Policy, PolicyClause, PolicyCommand, PolicyKind, PolicyRoles};
-use sql_ast::privilege::{Action, Descriptor, Grantee, Grantor};
+use sql_ast::privilege::Descriptor;
 use sql_ast::role::{Membership, Role, RoleAttributes};
 use sql_types::name::Name;
 use std::alloc::{AllocError, Global};
@@ -94,10 +94,10 @@ pub fn descriptor_entry(alloc: Global, table: u32, descriptor: &Descriptor) -> R
         return Err(Fault::Damaged);
     };
     let mut key = table_key(alloc, DESCRIPTOR, table)?;
-    key.push(number_of(descriptor.action))?;
+    key.push(action_number(descriptor.action))?;
     key.push(place)?;
-    push_ended(&mut key, name_of_grantor(&descriptor.grantor))?;
-    push_ended(&mut key, name_of_grantee(&descriptor.grantee))?;
+    push_ended(&mut key, grantor_name(&descriptor.grantor))?;
+    push_ended(&mut key, grantee_name(&descriptor.grantee))?;
     let value = Vec::from_slice(alloc, &[flag(descriptor.grantable, 1)])?;
     sized(Entry::from_parts(key, value))
 }
@@ -184,35 +184,6 @@ fn flags_of(attributes: &RoleAttributes) -> u8
     flag(attributes.superuser, 1) + flag(attributes.login, 2) + flag(attributes.bypass_rls, 4)
 }
 
-fn number_of(action: Action) -> u8
-    ensures { result ≡ action_number action }
-{
-    match action {
-        Action::Select => 1,
-        Action::Insert => 2,
-        Action::Update => 3,
-        Action::Delete => 4,
-    }
-}
-
-fn name_of_grantor(grantor: &Grantor) -> &str
-    ensures { result.now ≡ grantor_name grantor.now }
-{
-    match grantor {
-        Grantor::System => "",
-        Grantor::Role(name) => name.as_str(),
-    }
-}
-
-fn name_of_grantee(grantee: &Grantee) -> &str
-    ensures { result.now ≡ grantee_name grantee.now }
-{
-    match grantee {
-        Grantee::Public => "",
-        Grantee::Role(name) => name.as_str(),
-    }
-}
-
 fn kind_byte(kind: PolicyKind) -> u8
     ensures { result ≡ kind_number kind }
 {
@@ -227,7 +198,7 @@ fn command_byte(command: PolicyCommand) -> u8
 {
     match command {
         PolicyCommand::All => 0,
-        PolicyCommand::Only(action) => number_of(action),
+        PolicyCommand::Only(action) => action_number(action),
     }
 }
 

@@ -8,7 +8,6 @@ use Rattle.sector_device.specs.Device.{DeviceState, Image, HasFailed, IsLeft}
 use Rattle.store.specs.declared.fault.Fault.{Fault}
 use Rattle.store.specs.declared.fault.Fault.TheVariants as read
 use Rattle.store.specs.Records.{Records, Changes}
-use Rattle.store.specs.Readers.{HasFaultCause}
 use Rattle.store.specs.Store.{Contents, StoreState, HasDeviceCause, KeepsHistory, stored}
 use Rattle.store.specs.declared.fault.StoreFault.TheVariants as commit
 use Rattle.store.proofs.Reading.{cause_later}
@@ -31,10 +30,8 @@ use Rattle.device_copies.specs.declared.fault.DeviceCopyFault.TheVariants as rec
 use Rattle.device_copies.specs.Copies.{CopiesAll, CopiesTo, HasSourceCause, IsCopied}
 use Rattle.device_databases.specs.Databases.{HoldsDatabase, MeansNone}
 use Rattle.database_copies.specs.declared.fault.DatabaseCopyFault.{DatabaseCopyFault}
-use Rattle.database_copies.specs.declared.fault.DatabaseCopyFault.TheVariants.{Memory, Source, WrongSize, Full, Device}
-use Rattle.database_copies.specs.declared.fault.SourceFault.{SourceFault}
-use Rattle.database_copies.specs.declared.fault.SourceFault.TheVariants as source
-use Rattle.database_copies.specs.Databases.{Copies, CopiesDatabase, CopiesRead, CopiesStore, HasReadCause, IsCopyOf, IsRead, fault_of_copy, fault_of_pages, fault_of_reads, told_of}
+use Rattle.database_copies.specs.declared.fault.DatabaseCopyFault.TheVariants.{Pages, Read, Memory, WrongSize, Full, Device}
+use Rattle.database_copies.specs.Databases.{Copies, CopiesDatabase, CopiesRead, CopiesStore, HasReadCause, IsCopyOf, IsRead, fault_of_copy, told_of}
 use Rattle.database_copies.proofs.Reading.{under_lists}
 
 -- ---- a store that is copied
@@ -64,7 +61,7 @@ no_outsized sizes all contents lists is has =
 
 pub refused_copy : {E : Type 0} (state : E → DeviceState) (contents : Contents) (fault : RecordsFault) (old new : E) → CopiesRead contents state (Err fault) old new → (fault ≡ records.Damaged → ⊥)
     → CopiesStore contents state (Err (fault_of_copy fault)) old new
-refused_copy state contents records.Memory old new is not = inr is
+refused_copy state contents records.Memory old new is not = is
 refused_copy state contents records.Source old new is not = inr is
 refused_copy state contents records.Damaged old new is not = absurd (not refl)
 refused_copy state contents records.WrongSize old new is not = is
@@ -82,15 +79,10 @@ undamaged P (Ok x) is none = tt
 undamaged P (Err fault) is none = λ damaged. none (is damaged)
 
 pub refused_read : {E : Type 0} (state : E → DeviceState) (contents : Contents) (fault : Fault) (target : E) → ((db : Database) → Stands contents db → fault ≡ read.Damaged → ⊥)
-    → CopiesStore contents state (Err (fault_of_reads fault)) target target
-refused_read state contents read.Memory target none = inl refl
+    → CopiesStore contents state (Err (Read fault)) target target
+refused_read state contents read.Memory target none = refl
 refused_read state contents read.Device target none = inl refl
 refused_read state contents read.Damaged target none = (λ db stands. none db stands refl, refl)
-
-pub cause_of_reads : (fault : Fault) (old new : StoreState) → HasFaultCause fault old new → HasReadCause (fault_of_reads fault) old new
-cause_of_reads read.Memory old new cause = tt
-cause_of_reads read.Device old new cause = cause
-cause_of_reads read.Damaged old new cause = tt
 
 pub cause_of_copy : (fault : RecordsFault) (old new : StoreState) → HasSourceCause fault old new → HasReadCause (fault_of_copy fault) old new
 cause_of_copy records.Memory old new cause = tt
@@ -131,12 +123,12 @@ failed_from {D} {g} d s t opened history faithful cause = elim (cause.fault (ope
 ]
 
 pub refused_pages : {E : Type 0} (state : E → DeviceState) (d e : DeviceState) (fault : OpenFault) (target : E) → IsNamedFor fault d → (fault ≡ pages.Device → HasFailed d e)
-    → CopiesDatabase d e state (Err (fault_of_pages fault)) target target
+    → CopiesDatabase d e state (Err (Pages fault)) target target
 refused_pages state d e pages.WrongSize target named failed = (named, refl)
 refused_pages state d e pages.NotADatabase target named failed = (named, refl)
-refused_pages state d e pages.Damaged target named failed = (inl named, refl)
-refused_pages state d e pages.Device target named failed = (failed refl, inl refl)
-refused_pages state d e pages.Memory target named failed = inl refl
+refused_pages state d e pages.Damaged target named failed = (named, refl)
+refused_pages state d e pages.Device target named failed = (failed refl, refl)
+refused_pages state d e pages.Memory target named failed = (named, refl)
 
 module _ {E : Type 0} (state : E → DeviceState) (d e : DeviceState) (contents : Contents) (has : HasContents (d.sectors / 8) contents d.content) (s t : StoreState) (failed : HasDeviceCause s t → HasFailed d e) where
   abbrev held : (result : Result (Unit {0}) RecordsFault) (old new : E) → CopiesRead contents state result old new → Copies d state result old new
@@ -150,11 +142,11 @@ module _ {E : Type 0} (state : E → DeviceState) (d e : DeviceState) (contents 
     held (Ok x) old new is,
     λ faithful image left. record { contents = in_second contents; has = has_plain false ((state new).sectors / 8) (in_second contents) image refl (is.2.1 faithful image left); stands = is.1 },
   )
-  copies_database (Err Memory) old new is cause = elim is [ inl same ↦ inl same | inr copied ↦ inr (held (Err records.Memory) old new copied) ]
-  copies_database (Err (Source source.WrongSize)) old new is cause = absurd is
-  copies_database (Err (Source source.NotADatabase)) old new is cause = absurd is
-  copies_database (Err (Source source.Damaged)) old new is cause = (inr (none_held is.0), is.1)
-  copies_database (Err (Source source.Device)) old new is cause = (failed cause, elim is [ inl same ↦ inl same | inr copied ↦ inr (held (Err records.Source) old new copied) ])
+  copies_database (Err (Pages fault)) old new is cause = absurd is
+  copies_database (Err (Read read.Memory)) old new is cause = is
+  copies_database (Err (Read read.Damaged)) old new is cause = (none_held is.0, is.1)
+  copies_database (Err Memory) old new is cause = held (Err records.Memory) old new is
+  copies_database (Err (Read read.Device)) old new is cause = (failed cause, elim is [ inl same ↦ inl same | inr copied ↦ inr (held (Err records.Source) old new copied) ])
   copies_database (Err WrongSize) old new is cause = held (Err records.WrongSize) old new is
   copies_database (Err (Full least)) old new is cause = held (Err (records.Full least)) old new is
   copies_database (Err Device) old new is cause = held (Err records.Device) old new is

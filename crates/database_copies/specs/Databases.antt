@@ -2,11 +2,10 @@
 use Rattle.std.specs.Prelude.{◌≡◌, ◌⊎◌, ◌/◌, false, List, Some, Result, Ok, Err}
 use Rattle.storage_sizes.specs.declared.spelling.Spelling.{Spelling}
 use Rattle.sector_device.specs.Device.{DeviceState, Image, HasFailed, IsLeft}
-use Rattle.store.specs.declared.fault.Fault.{Fault}
 use Rattle.store.specs.declared.fault.Fault.TheVariants as read
+use Rattle.store.specs.Readers.{HasFaultCause}
 use Rattle.store.specs.Records.{Changes}
-use Rattle.store.specs.Store.{Contents, StoreState, HasDeviceCause}
-use Rattle.cow_pages.specs.declared.open.OpenFault.{OpenFault}
+use Rattle.store.specs.Store.{Contents, StoreState}
 use Rattle.cow_pages.specs.declared.open.OpenFault.TheVariants as pages
 use Rattle.cow_pages.specs.Image.{first_fault, is_size}
 use Rattle.device_store.specs.Opening.{IsNamedFor}
@@ -19,28 +18,15 @@ use Rattle.device_copies.specs.declared.fault.DeviceCopyFault.TheVariants as rec
 use Rattle.device_copies.specs.Copies.{CopiesAll}
 use Rattle.device_databases.specs.Databases.{HoldsDatabase, MeansDatabase, MeansNone}
 use Rattle.database_copies.specs.declared.fault.DatabaseCopyFault.{DatabaseCopyFault}
-use Rattle.database_copies.specs.declared.fault.DatabaseCopyFault.TheVariants.{Memory, Source, WrongSize, Full, Device}
-use Rattle.database_copies.specs.declared.fault.SourceFault.{SourceFault}
-use Rattle.database_copies.specs.declared.fault.SourceFault.TheVariants as source
+use Rattle.database_copies.specs.declared.fault.DatabaseCopyFault.TheVariants.{Pages, Read, Memory, WrongSize, Full, Device}
 
 -- ---- faults
 
-abbrev pub fault_of_pages : OpenFault → DatabaseCopyFault
-fault_of_pages pages.WrongSize = Source source.WrongSize
-fault_of_pages pages.NotADatabase = Source source.NotADatabase
-fault_of_pages pages.Damaged = Source source.Damaged
-fault_of_pages pages.Device = Source source.Device
-fault_of_pages pages.Memory = Memory
-
-abbrev pub fault_of_reads : Fault → DatabaseCopyFault
-fault_of_reads read.Memory = Memory
-fault_of_reads read.Device = Source source.Device
-fault_of_reads read.Damaged = Source source.Damaged
-
+-- that of a copy of records: one of their source is one of reading it
 abbrev pub fault_of_copy : RecordsFault → DatabaseCopyFault
+fault_of_copy records.Source = Read read.Device
+fault_of_copy records.Damaged = Read read.Damaged
 fault_of_copy records.Memory = Memory
-fault_of_copy records.Source = Source source.Device
-fault_of_copy records.Damaged = Source source.Damaged
 fault_of_copy records.WrongSize = WrongSize
 fault_of_copy (records.Full least) = Full least
 fault_of_copy records.Device = Device
@@ -62,25 +48,19 @@ CopiesRead contents state result old new = (db : Database) × Stands contents db
 -- contents that stand for no database are not copied; of others a copy is tried
 abbrev pub CopiesStore : {E : Type 0} → Contents → (E → DeviceState) → Result (Unit {0}) DatabaseCopyFault → E → E → Type 0
 CopiesStore contents state (Ok x) old new = CopiesRead contents state (Ok x) old new
-CopiesStore contents state (Err Memory) old new = (new ≡ old) ⊎ CopiesRead contents state (Err records.Memory) old new
-CopiesStore contents state (Err (Source source.WrongSize)) old new = ⊥
-CopiesStore contents state (Err (Source source.NotADatabase)) old new = ⊥
-CopiesStore contents state (Err (Source source.Damaged)) old new = ((db : Database) → Stands contents db → ⊥) × (new ≡ old)
-CopiesStore contents state (Err (Source source.Device)) old new = (new ≡ old) ⊎ CopiesRead contents state (Err records.Source) old new
+CopiesStore contents state (Err (Pages fault)) old new = ⊥
+CopiesStore contents state (Err (Read read.Memory)) old new = new ≡ old
+CopiesStore contents state (Err (Read read.Device)) old new = (new ≡ old) ⊎ CopiesRead contents state (Err records.Source) old new
+CopiesStore contents state (Err (Read read.Damaged)) old new = ((db : Database) → Stands contents db → ⊥) × (new ≡ old)
+CopiesStore contents state (Err Memory) old new = CopiesRead contents state (Err records.Memory) old new
 CopiesStore contents state (Err WrongSize) old new = CopiesRead contents state (Err records.WrongSize) old new
 CopiesStore contents state (Err (Full least)) old new = CopiesRead contents state (Err (records.Full least)) old new
 CopiesStore contents state (Err Device) old new = CopiesRead contents state (Err records.Device) old new
 
 -- why the source is told to be the cause
 abbrev pub HasReadCause : DatabaseCopyFault → StoreState → StoreState → Type 0
-HasReadCause Memory old new = Unit {0}
-HasReadCause (Source source.WrongSize) old new = Unit {0}
-HasReadCause (Source source.NotADatabase) old new = Unit {0}
-HasReadCause (Source source.Damaged) old new = Unit {0}
-HasReadCause (Source source.Device) old new = HasDeviceCause old new
-HasReadCause WrongSize old new = Unit {0}
-HasReadCause (Full least) old new = Unit {0}
-HasReadCause Device old new = Unit {0}
+HasReadCause (Read fault) old new = HasFaultCause fault old new
+HasReadCause fault old new = Unit {0}
 
 -- ---- a device that is copied
 
@@ -94,22 +74,16 @@ pub record Copies {E : Type 0} (source : DeviceState) (state : E → DeviceState
 abbrev pub IsCopyOf : Database → DeviceState → Type 0
 IsCopyOf db d = (image : Image) → IsLeft d image → MeansDatabase (d.sectors / 8) image db
 
--- the fault of a source that stands in what it holds, or that of a call
-abbrev pub IsOfSource : SourceFault → DeviceState → DeviceState → Type 0
-IsOfSource source.WrongSize d e = IsNamedFor pages.WrongSize d
-IsOfSource source.NotADatabase d e = IsNamedFor pages.NotADatabase d
-IsOfSource source.Damaged d e = IsNamedFor pages.Damaged d ⊎ MeansNone (d.sectors / 8) d.content
-IsOfSource source.Device d e = HasFailed d e
-
--- The whole database is copied; or nothing is written, for memory or for the source; or a copy is tried that stops for memory, for the
--- source, for room or for its device
+-- The whole database is copied; or nothing is written, for memory or for the source: its device failed, or the fault stands in what it
+-- holds; or a copy is tried that stops for memory, for the source, for room or for its device
 abbrev pub CopiesDatabase : {E : Type 0} → DeviceState → DeviceState → (E → DeviceState) → Result (Unit {0}) DatabaseCopyFault → E → E → Type 0
 CopiesDatabase d e state (Ok x) old new = (copy : Copies d state (Ok x) old new) × ((state old).faithful → IsCopyOf copy.database (state new))
-CopiesDatabase d e state (Err Memory) old new = (new ≡ old) ⊎ Copies d state (Err records.Memory) old new
-CopiesDatabase d e state (Err (Source source.WrongSize)) old new = IsOfSource source.WrongSize d e × (new ≡ old)
-CopiesDatabase d e state (Err (Source source.NotADatabase)) old new = IsOfSource source.NotADatabase d e × (new ≡ old)
-CopiesDatabase d e state (Err (Source source.Damaged)) old new = IsOfSource source.Damaged d e × (new ≡ old)
-CopiesDatabase d e state (Err (Source source.Device)) old new = IsOfSource source.Device d e × ((new ≡ old) ⊎ Copies d state (Err records.Source) old new)
+CopiesDatabase d e state (Err (Pages pages.Device)) old new = HasFailed d e × (new ≡ old)
+CopiesDatabase d e state (Err (Pages fault)) old new = IsNamedFor fault d × (new ≡ old)
+CopiesDatabase d e state (Err (Read read.Memory)) old new = new ≡ old
+CopiesDatabase d e state (Err (Read read.Device)) old new = HasFailed d e × ((new ≡ old) ⊎ Copies d state (Err records.Source) old new)
+CopiesDatabase d e state (Err (Read read.Damaged)) old new = MeansNone (d.sectors / 8) d.content × (new ≡ old)
+CopiesDatabase d e state (Err Memory) old new = Copies d state (Err records.Memory) old new
 CopiesDatabase d e state (Err WrongSize) old new = Copies d state (Err records.WrongSize) old new
 CopiesDatabase d e state (Err (Full least)) old new = Copies d state (Err (records.Full least)) old new
 CopiesDatabase d e state (Err Device) old new = Copies d state (Err records.Device) old new

@@ -24,7 +24,7 @@ use store::Store;
 /// database. On a device that was blank, as a new one of zeros is, a stop at any moment leaves no contents, or records that
 /// stand for no database, or the whole copy; and after each fault but `Device` it leaves no whole copy.
 ///
-/// `Source`: no database is on the source, or its device failed. `WrongSize`: the device of the copy has another size;
+/// `Pages`, `Read`: no database is on the source, or its device failed. `WrongSize`: the device of the copy has another size;
 /// nothing was written. `Full`: no room is left on it; it names how many pages a copy wants at least. `Device`: it failed.
 /// `Memory`: an allocation failed.
 ///
@@ -42,10 +42,7 @@ pub fn copy_database<D: JournalDevice, E: Device, W: Watch>(
 {
     let mut store = match DeviceStore::open(alloc, source) {
         Ok(store) => store,
-        Err((source, fault)) => {
-            let fault = DatabaseCopyFault::from(fault);
-            return (source, target, Err(fault));
-        }
+        Err((source, fault)) => return (source, target, Err(DatabaseCopyFault::Pages(fault))),
     };
     let (target, copied) = copy_store(alloc, &mut store, target, watch);
     (store.into_device(), target, copied)
@@ -67,10 +64,7 @@ fn copy_store<S: Store, E: Device, W: Watch>(
     copied_records_stand();
     let lists = match read_source(alloc, store) {
         Ok(lists) => lists,
-        Err(fault) => {
-            let fault = DatabaseCopyFault::from(fault);
-            return (target, Err(fault));
-        }
+        Err(fault) => return (target, Err(DatabaseCopyFault::Read(fault))),
     };
     let (target, copied) = copy_under(alloc, store, lists.as_slice(), target, watch);
     (target, told(copied))

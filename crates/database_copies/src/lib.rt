@@ -8,4 +8,4 @@ mod under;
 
 pub use database::copy_database;
 pub use device_copies::{Unwatched, Watch};
-pub use fault::{DatabaseCopyFault, SourceFault};
+pub use fault::DatabaseCopyFault;

@@ -19,13 +19,22 @@ pub fn database_sections<'a>(
 ) -> Result<Vec<Section<'a>>, AllocError> {
     let tables = catalogue.tables();
     let mut sections = Vec::new(alloc);
-    sections.push(roles(alloc, catalogue.roles())?)?;
-    sections.push(memberships(alloc, catalogue)?)?;
-    sections.push(table_section(alloc, tables)?)?;
-    sections.push(columns(alloc, tables)?)?;
-    sections.push(privileges(alloc, tables)?)?;
-    sections.push(policies(alloc, tables)?)?;
+    push_section(&mut sections, roles(alloc, catalogue.roles()))?;
+    push_section(&mut sections, memberships(alloc, catalogue))?;
+    push_section(&mut sections, table_section(alloc, tables))?;
+    push_section(&mut sections, columns(alloc, tables))?;
+    push_section(&mut sections, privileges(alloc, tables))?;
+    push_section(&mut sections, policies(alloc, tables))?;
     Ok(sections)
+}
+
+/// Adds a section, where memory was not refused for it.
+fn push_section<'a>(
+    sections: &mut Vec<Section<'a>>,
+    section: Result<Section<'a>, AllocError>,
+) -> Result<(), AllocError> {
+    sections.push(section?)?;
+    Ok(())
 }
 
 /// The roles with their attributes.

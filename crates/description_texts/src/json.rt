@@ -10,12 +10,21 @@ use std::alloc::{AllocError, Global};
 pub fn render_json(alloc: Global, sections: &[Section<'_>]) -> Result<String, AllocError> {
     let mut members = Map::new(alloc);
     for section in sections {
-        let rows = rows_value(alloc, section)?;
-        drop(members.insert(String::from_str(alloc, section.name)?, rows)?);
+        insert_rows(alloc, &mut members, section)?;
     }
     let mut text = Value::Object(members).to_string_pretty(alloc)?;
     text.push('\n')?;
     Ok(text)
+}
+
+fn insert_rows(
+    alloc: Global,
+    members: &mut Map<String, Value>,
+    section: &Section<'_>,
+) -> Result<(), AllocError> {
+    let name = String::from_str(alloc, section.name)?;
+    drop(members.insert(name, rows_value(alloc, section)?)?);
+    Ok(())
 }
 
 fn rows_value(alloc: Global, section: &Section<'_>) -> Result<Value, AllocError> {
@@ -29,10 +38,20 @@ fn rows_value(alloc: Global, section: &Section<'_>) -> Result<Value, AllocError>
 fn row_value(alloc: Global, columns: &[&str], row: &[Cell<'_>]) -> Result<Value, AllocError> {
     let mut members = Map::new(alloc);
     for (column, cell) in columns.iter().zip(row.iter()) {
-        let value = cell_value(alloc, cell)?;
-        drop(members.insert(String::from_str(alloc, column)?, value)?);
+        insert_cell(alloc, &mut members, column, cell)?;
     }
     Ok(Value::Object(members))
+}
+
+fn insert_cell(
+    alloc: Global,
+    members: &mut Map<String, Value>,
+    column: &str,
+    cell: &Cell<'_>,
+) -> Result<(), AllocError> {
+    let name = String::from_str(alloc, column)?;
+    drop(members.insert(name, cell_value(alloc, cell)?)?);
+    Ok(())
 }
 
 fn cell_value(alloc: Global, cell: &Cell<'_>) -> Result<Value, AllocError> {

@@ -33,34 +33,87 @@ pub fn role_sections<'a>(
     let Some(description) = describe_role(alloc, catalogue, name)? else {
         return Ok(None);
     };
-    let mut rights = rights_section(alloc);
-    let mut given = given_section(alloc);
-    let mut guards = guard_section(alloc);
-    let mut policies = policy_section(alloc);
+    let sections = sections_of(alloc, catalogue, name, &description)?;
+    Ok(Some(sections))
+}
+
+/// The sections of a role that is there.
+fn sections_of<'a>(
+    alloc: Global,
+    catalogue: &'a Catalogue,
+    name: &'a Name,
+    description: &RoleDescription<'a>,
+) -> Result<Vec<Section<'a>>, AllocError>
+    requires { AreItsRoles catalogue.now.memberships name.now description.now.roles }
+{
+    let mut sections = Vec::new(alloc);
+    push_role(alloc, &mut sections, name, description)?;
+    let mut tables = TableSections::new(alloc);
     for table in catalogue.tables() {
-        push_rights(
-            alloc,
-            &mut rights,
-            catalogue,
-            &description.roles,
-            name,
-            table,
-        )?;
-        let access = describe_access(alloc, catalogue, &description.roles, name, table)?;
-        push_given(alloc, &mut given, table, &access)?;
-        guards.push(vec![in alloc;
+        tables.push(alloc, catalogue, &description.roles, name, table)?;
+    }
+    tables.push_to(&mut sections)?;
+    Ok(sections)
+}
+
+/// What a role may do to tables, by kind.
+#[derive(Drop)]
+struct TableSections<'a> {
+    rights: Section<'a>,
+    given: Section<'a>,
+    guards: Section<'a>,
+    policies: Section<'a>,
+}
+
+impl<'a> TableSections<'a> {
+    fn new(alloc: Global) -> TableSections<'a> {
+        TableSections {
+            rights: rights_section(alloc),
+            given: given_section(alloc),
+            guards: guard_section(alloc),
+            policies: policy_section(alloc),
+        }
+    }
+
+    /// Adds what the role may do to a table.
+    fn push(
+        &mut self,
+        alloc: Global,
+        catalogue: &'a Catalogue,
+        roles: &RoleSet<'_>,
+        role: &'a Name,
+        table: &'a TableDefinition,
+    ) -> Result<(), AllocError>
+        requires { AreItsRoles catalogue.now.memberships role.now roles.now }
+    {
+        push_rights(alloc, &mut self.rights, catalogue, roles, role, table)?;
+        let access = describe_access(alloc, catalogue, roles, role, table)?;
+        self.push_access(alloc, table, &access)
+    }
+
+    /// Adds what gives the role something of a table, and which policies guard it.
+    fn push_access(
+        &mut self,
+        alloc: Global,
+        table: &'a TableDefinition,
+        access: &TableAccess<'a>,
+    ) -> Result<(), AllocError> {
+        push_given(alloc, &mut self.given, table, access)?;
+        self.guards.push(vec![in alloc;
             Cell::Text(table.name().as_str()),
             Cell::Flag(access.is_guarded),
         ]?)?;
-        push_policies(alloc, &mut policies, table, &access)?;
+        push_policies(alloc, &mut self.policies, table, access)
     }
-    let mut sections = Vec::new(alloc);
-    push_role(alloc, &mut sections, name, &description)?;
-    sections.push(rights)?;
-    sections.push(given)?;
-    sections.push(guards)?;
-    sections.push(policies)?;
-    Ok(Some(sections))
+
+    /// Adds the sections to others.
+    fn push_to(self, sections: &mut Vec<Section<'a>>) -> Result<(), AllocError> {
+        sections.push(self.rights)?;
+        sections.push(self.given)?;
+        sections.push(self.guards)?;
+        sections.push(self.policies)?;
+        Ok(())
+    }
 }
 
 /// Adds the sections of the role itself and of its memberships.

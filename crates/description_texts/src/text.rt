@@ -27,9 +27,19 @@ pub fn render_text(alloc: Global, sections: &[Section<'_>]) -> Result<String, Al
 fn push_rows(alloc: Global, out: &mut String, section: &Section<'_>) -> Result<(), AllocError> {
     let header = header_texts(alloc, section.columns)?;
     let rows = row_texts(alloc, section)?;
-    let widths = widths(alloc, header.as_slice(), rows.as_slice())?;
-    push_row(out, widths.as_slice(), header.as_slice())?;
-    for row in rows.as_slice() {
+    push_table(alloc, out, header.as_slice(), rows.as_slice())
+}
+
+/// Adds rows under their header, each column as wide as its widest cell.
+fn push_table(
+    alloc: Global,
+    out: &mut String,
+    header: &[String],
+    rows: &[Vec<String>],
+) -> Result<(), AllocError> {
+    let widths = widths(alloc, header, rows)?;
+    push_row(out, widths.as_slice(), header)?;
+    for row in rows {
         push_row(out, widths.as_slice(), row.as_slice())?;
     }
     Ok(())

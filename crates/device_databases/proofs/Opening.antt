@@ -7,15 +7,16 @@ use Rattle.sector_device.specs.Timeline.{LeavesOnly, IsPresent, read_by, joined,
 use Rattle.sector_device.specs.Device.{DeviceState, IsLeft, HasFailed, timeline}
 use Rattle.sector_device.specs.declared.device.Device.{Ghosts}
 use Rattle.sector_device.proofs.Runs.{lifted}
+use Rattle.store.specs.declared.fault.Fault.TheVariants as read
+use Rattle.store.specs.declared.fault.StoreFault.TheVariants as commit
 use Rattle.store.specs.Store.{Contents, stored, KeepsHistory, OnlyReads, IsUnchanged, HasDeviceCause}
 use Rattle.cow_pages.specs.declared.open.OpenFault.{OpenFault as PagesFault}
-use Rattle.cow_pages.specs.declared.open.OpenFault.TheVariants as pages
 use Rattle.cow_pages.specs.Held.{KeepsContent}
 use Rattle.device_store.specs.declared.stores.DeviceStore.{DeviceStore}
 use Rattle.kv_store.specs.ContentLaws.{same_parts}
 use Rattle.journal_store.specs.ImageLaws.{one_contents}
 use Rattle.device_store.specs.Images.{IsReadAs}
-use Rattle.device_store.specs.Opening.{IsNamedFor, IsOpened as IsStoreOpened, CannotOpen}
+use Rattle.device_store.specs.Opening.{IsOpened as IsStoreOpened, CannotOpen}
 use Rattle.device_store.specs.Reads.{OnlyLooksInto, faithful_under}
 use Rattle.device_store.specs.StoreLaws.{settled_on}
 use Rattle.device_store.specs.Stores.{state_under, store_state}
@@ -24,13 +25,13 @@ use Rattle.abstract_database.specs.Database.{Database}
 use Rattle.server.specs.declared.server.Server.{Server}
 use Rattle.server.specs.Standing.{Stands, Means, at_start}
 use Rattle.migration.specs.declared.fault.OpeningFault.{OpeningFault}
-use Rattle.migration.specs.declared.fault.OpeningFault.TheVariants as opening
+use Rattle.migration.specs.declared.fault.OpeningFault.TheVariants.{Read, Commit}
 use Rattle.opening.specs.Openings.{IsOpened as IsServerOpened, IsNumberAfter, HasOpeningCause, KeepsDatabase, OnlyLooks, failed_after_opening}
 use Rattle.script_runs.specs.Closing.{StandsWithinLimit}
 use Rattle.device_databases.specs.declared.database.Opened.{Opened}
-use Rattle.lives.specs.OnDevice.{fault_of_opening, fault_of_pages}
+use Rattle.lives.specs.OnDevice.{IsOfDevice}
 use Rattle.lives.proofs.Opening.{device_of_pages, failed_for, leaves_database, reading_leaves}
-use Rattle.lives.specs.declared.fault.DatabaseFault.TheVariants.{WrongSize, NotADatabase, Damaged, Device, Memory, Full, Number}
+use Rattle.lives.specs.declared.fault.DatabaseFault.TheVariants.{Pages, Records}
 use Rattle.device_databases.specs.Databases.{records_on, HoldsDatabase, HoldsFirstSpelling, IsUnwritten, LeavesAsBefore, LeavesDatabase}
 use Rattle.device_databases.specs.Openings.{IsMigrated, IsOfMigration, IsOnlyRead, IsOpenedOn, IsRefused, IsTriedOn, IsUntried, OpensAs, StandsIn, is_first}
 
@@ -42,19 +43,12 @@ leaves_before d e unwritten =
 
 -- ---- refused for its pages
 
-stands_in : (fault : PagesFault) (d : DeviceState) → IsNamedFor fault d → StandsIn (fault_of_pages fault) d
-stands_in pages.WrongSize d named = named
-stands_in pages.NotADatabase d named = named
-stands_in pages.Damaged d named = inl named
-stands_in pages.Device d named = tt
-stands_in pages.Memory d named = named
-
-pub refused_pages : (d e : DeviceState) (fault : PagesFault) → CannotOpen d fault e → d.faithful → IsRefused d (fault_of_pages fault) e
+pub refused_pages : (d e : DeviceState) (fault : PagesFault) → CannotOpen d fault e → d.faithful → IsRefused d (Pages fault) e
 refused_pages d e fault cannot faithful =
     let unwritten : IsUnwritten d e = record { history = cannot.history; content = cannot.content faithful } in
     record {
       faithful = cannot.history.faithful faithful;
-      stands = stands_in fault d (cannot.named faithful);
+      stands = cannot.named faithful;
       failed = λ device. cannot.cause (device_of_pages fault device);
       outcome = inl (unwritten, leaves_before d e unwritten);
     }
@@ -82,26 +76,30 @@ module _ {D : Type 0} {g : Ghosts D} (present : (device : D) → (g.state device
   abbrev holds_first : (store_state s).spelling ≡ First → HoldsFirstSpelling d
   holds_first first = record { contents = stored (store_state s); has = (opened.holds faithful).contents; first = first }
 
-  stands_records : (f : OpeningFault) → HasOpeningCause f (store_state s) (store_state t) → StandsIn (fault_of_opening f) d
-  stands_records opening.Memory cause = inl (opened.holds faithful).no_fault
-  stands_records opening.Device cause = tt
-  stands_records opening.Damaged cause = inr (record { contents = stored (store_state s); has = (opened.holds faithful).contents; none = cause })
-  stands_records opening.Full cause = holds_first cause.0
-  stands_records opening.Number cause = (holds_first cause.0, (opened.holds faithful).number_is ∙ cause.1)
+  stands_records : (f : OpeningFault) → HasOpeningCause f (store_state s) (store_state t) → StandsIn (Records f) d
+  stands_records (Read read.Memory) cause = inl (opened.holds faithful).no_fault
+  stands_records (Read read.Device) cause = tt
+  stands_records (Read read.Damaged) cause = record { contents = stored (store_state s); has = (opened.holds faithful).contents; none = cause }
+  stands_records (Commit commit.Full) cause = holds_first cause.0
+  stands_records (Commit commit.Memory) cause = holds_first cause.0
+  stands_records (Commit commit.Device) cause = holds_first cause.0
+  stands_records (Commit commit.Number) cause = (holds_first cause.0, (opened.holds faithful).number_is ∙ cause.1)
 
   -- a store that answered no fault of the device works
-  works_after : (f : OpeningFault) → fault_of_opening f ≢ Device → (store_state t).has_failed ≡ failed_after_opening (Err f) (store_state s).has_failed → (store_state t).has_failed ≡ false
-  works_after opening.Memory other is = is ∙ opened.has_not_failed
-  works_after opening.Device other is = absurd (other refl)
-  works_after opening.Damaged other is = is ∙ opened.has_not_failed
-  works_after opening.Full other is = is ∙ opened.has_not_failed
-  works_after opening.Number other is = is ∙ opened.has_not_failed
+  works_after : (f : OpeningFault) → (IsOfDevice (Records f) → ⊥) → (store_state t).has_failed ≡ failed_after_opening (Err f) (store_state s).has_failed → (store_state t).has_failed ≡ false
+  works_after (Read read.Memory) other is = is ∙ opened.has_not_failed
+  works_after (Read read.Device) other is = absurd (other tt)
+  works_after (Read read.Damaged) other is = is ∙ opened.has_not_failed
+  works_after (Commit commit.Full) other is = is ∙ opened.has_not_failed
+  works_after (Commit commit.Memory) other is = is ∙ opened.has_not_failed
+  works_after (Commit commit.Device) other is = absurd (other tt)
+  works_after (Commit commit.Number) other is = is ∙ opened.has_not_failed
 
-  of_device : (f : OpeningFault) → fault_of_opening f ≢ Device → f ≢ opening.Device
-  of_device f other is = other (ap fault_of_opening is)
+  of_device : (f : OpeningFault) → (IsOfDevice (Records f) → ⊥) → f ≢ Commit commit.Device
+  of_device f other is = other (subst (λ (x : OpeningFault). IsOfDevice (Records x)) (sym is) tt)
 
   -- so a stop leaves its contents, which are as they were
-  left_unchanged : (f : OpeningFault) → fault_of_opening f ≢ Device → (store_state t).has_failed ≡ failed_after_opening (Err f) (store_state s).has_failed → IsUnchanged (store_state s) (store_state t)
+  left_unchanged : (f : OpeningFault) → (IsOfDevice (Records f) → ⊥) → (store_state t).has_failed ≡ failed_after_opening (Err f) (store_state s).has_failed → IsUnchanged (store_state s) (store_state t)
       → (x : Option Contents) → (records_on (state_under t)).left x → x ≡ Some (stored (store_state s))
   left_unchanged f other works same x left =
       settled_on t x (history.sound (opened.holds faithful).sound) (works_after f other works) (left_of_store present d s t opened faithful x left)
@@ -112,9 +110,9 @@ module _ {D : Type 0} {g : Ghosts D} (present : (device : D) → (g.state device
   stands_for_store db held =
       subst (λ (c : Contents). Stands c db) (one_contents d.content (d.sectors / 8) (d.sectors / 8) held.contents (stored (store_state s)) held.has (opened.holds faithful).contents) held.stands
 
-  tried : (f : OpeningFault) → IsOfMigration (fault_of_opening f) → (store_state s).spelling ≡ First → (store_state t).has_failed ≡ failed_after_opening (Err f) (store_state s).has_failed
-      → (f ≢ opening.Device → IsUnchanged (store_state s) (store_state t)) → ((db : Database) → Stands (stored (store_state s)) db → KeepsDatabase db (Err f) (store_state s) (store_state t))
-      → IsTriedOn (fault_of_opening f) d (state_under t)
+  tried : (f : OpeningFault) → IsOfMigration (Records f) → (store_state s).spelling ≡ First → (store_state t).has_failed ≡ failed_after_opening (Err f) (store_state s).has_failed
+      → (f ≢ Commit commit.Device → IsUnchanged (store_state s) (store_state t)) → ((db : Database) → Stands (stored (store_state s)) db → KeepsDatabase db (Err f) (store_state s) (store_state t))
+      → IsTriedOn (Records f) d (state_under t)
   tried f of_migration first works unchanged same = record {
     holds = holds_first first;
     of_migration = of_migration;
@@ -124,19 +122,18 @@ module _ {D : Type 0} {g : Ghosts D} (present : (device : D) → (g.state device
   }
 
 -- either the store was only looked at, or it was of the first spelling, and the fault is one of a migration
-looked_or_tried : {P Q : Type 0} (sp : Spelling) (f : OpeningFault) → (OnlyLooks sp (Err f) → P) → (sp ≡ First → IsOfMigration (fault_of_opening f) → Q) → P ⊎ Q
+looked_or_tried : {P Q : Type 0} (sp : Spelling) (f : OpeningFault) → (OnlyLooks sp (Err f) → P) → (sp ≡ First → IsOfMigration (Records f) → Q) → P ⊎ Q
 looked_or_tried Second f looked tried = inl (looked tt)
-looked_or_tried First opening.Memory looked tried = inr (tried refl tt)
-looked_or_tried First opening.Device looked tried = inr (tried refl tt)
-looked_or_tried First opening.Damaged looked tried = inl (looked tt)
-looked_or_tried First opening.Full looked tried = inr (tried refl tt)
-looked_or_tried First opening.Number looked tried = inr (tried refl tt)
+looked_or_tried First (Read read.Memory) looked tried = inr (tried refl tt)
+looked_or_tried First (Read read.Device) looked tried = inr (tried refl tt)
+looked_or_tried First (Read read.Damaged) looked tried = inl (looked tt)
+looked_or_tried First (Commit fault) looked tried = inr (tried refl tt)
 
 pub refused_records : {D : Type 0} {g : Ghosts D} (present : (device : D) → (g.state device).faithful → IsPresent (timeline (g.state device))) (d : DeviceState) (s t : DeviceStore D g) (f : OpeningFault) → IsStoreOpened d s → d.faithful
     → KeepsHistory (store_state s) (store_state t) → HasOpeningCause f (store_state s) (store_state t)
-    → (store_state t).has_failed ≡ failed_after_opening (Err f) (store_state s).has_failed → (f ≢ opening.Device → IsUnchanged (store_state s) (store_state t))
+    → (store_state t).has_failed ≡ failed_after_opening (Err f) (store_state s).has_failed → (f ≢ Commit commit.Device → IsUnchanged (store_state s) (store_state t))
     → (OnlyLooks (store_state s).spelling (Err f) → OnlyLooksInto s t) → ((db : Database) → Stands (stored (store_state s)) db → KeepsDatabase db (Err f) (store_state s) (store_state t))
-    → IsRefused d (fault_of_opening f) (state_under t)
+    → IsRefused d (Records f) (state_under t)
 refused_records {D} {g} present d s t f opened faithful history cause works unchanged nothing same = record {
   faithful = faithful_under t (history.sound (opened.holds faithful).sound);
   stands = stands_records present d s t opened faithful history f cause;

@@ -1,10 +1,12 @@
 -- What opening a database on a device comes to.
-use Rattle.std.specs.Prelude.{◌≡◌, ◌≢◌, ◌⊎◌, ◌≤◌, ◌+◌, ◌-◌, ◌^◌, ◌/◌, Bool, true, false, Option, Some, Result, MatchResult}
+use Rattle.std.specs.Prelude.{◌≡◌, ◌⊎◌, ◌≤◌, ◌+◌, ◌-◌, ◌^◌, ◌/◌, Bool, true, false, Option, Some, Result, MatchResult}
 use Rattle.storage_sizes.specs.declared.spelling.Spelling.{Spelling}
 use Rattle.storage_sizes.specs.declared.spelling.Spelling.TheVariants.{First, Second}
 use Rattle.sector_device.specs.Device.{DeviceState, HasFailed}
 use Rattle.sector_device.specs.declared.device.Device.{Ghosts}
 use Rattle.cow_pages.specs.declared.open.OpenFault.TheVariants as pages
+use Rattle.store.specs.declared.fault.Fault.TheVariants as read
+use Rattle.store.specs.declared.fault.StoreFault.TheVariants as commit
 use Rattle.store.specs.Store.{Contents}
 use Rattle.device_store.specs.declared.stores.DeviceStore.{DeviceStore}
 use Rattle.device_store.specs.Opening.{IsNamedFor}
@@ -13,7 +15,9 @@ use Rattle.abstract_database.specs.Database.{Database}
 use Rattle.server.specs.declared.server.Server.{Server}
 use Rattle.server.specs.Standing.{Represents, at_start}
 use Rattle.lives.specs.declared.fault.DatabaseFault.{DatabaseFault}
-use Rattle.lives.specs.declared.fault.DatabaseFault.TheVariants.{WrongSize, NotADatabase, Damaged, Device, Memory, Full, Number}
+use Rattle.lives.specs.declared.fault.DatabaseFault.TheVariants.{Pages, Records}
+use Rattle.lives.specs.OnDevice.{IsOfDevice}
+use Rattle.migration.specs.declared.fault.OpeningFault.TheVariants.{Read, Commit}
 use Rattle.device_databases.specs.declared.database.Opened.{Opened}
 use Rattle.device_databases.specs.Databases.{HoldsDatabase, HoldsFirstSpelling, IsUnwritten, KeepsRecords, LeavesAsBefore, LeavesDatabase, MeansNone, records_on}
 
@@ -64,27 +68,23 @@ pub record IsOpenedOn {D : Type 0} {g : Ghosts D} {X : Type 0} (d : DeviceState)
 -- ---- what was refused
 
 -- The fault that stands in what the device holds: that of its pages, or Damaged where its records stand for no database. Memory
--- is asked for after the size and the magic are tested. That a call of the device failed says nothing of what it holds. A
--- migration is refused for room or for a number where the records are of the first spelling, and for a number where theirs is the
--- last.
+-- is asked for after the size and the magic are tested. That a call of the device failed says nothing of what it holds. The
+-- commit of a migration is refused where the records are of the first spelling, and for a number where theirs is the last.
 abbrev pub StandsIn : DatabaseFault → DeviceState → Type 0
-StandsIn WrongSize d = IsNamedFor pages.WrongSize d
-StandsIn NotADatabase d = IsNamedFor pages.NotADatabase d
-StandsIn Damaged d = IsNamedFor pages.Damaged d ⊎ MeansNone (d.sectors / 8) d.content
-StandsIn Device d = Unit {0}
-StandsIn Memory d = IsNamedFor pages.Memory d
-StandsIn Full d = HoldsFirstSpelling d
-StandsIn Number d = (holds : HoldsFirstSpelling d) × (holds.has.number ≡ 2 ^ 64 - 1)
+StandsIn (Pages fault) d = IsNamedFor fault d
+StandsIn (Records (Read read.Memory)) d = IsNamedFor pages.Memory d
+StandsIn (Records (Read read.Device)) d = Unit {0}
+StandsIn (Records (Read read.Damaged)) d = MeansNone (d.sectors / 8) d.content
+StandsIn (Records (Commit commit.Number)) d = (holds : HoldsFirstSpelling d) × (holds.has.number ≡ 2 ^ 64 - 1)
+StandsIn (Records (Commit fault)) d = HoldsFirstSpelling d
 
 -- a fault that a migration may have
 abbrev pub IsOfMigration : DatabaseFault → Type 0
-IsOfMigration WrongSize = ⊥
-IsOfMigration NotADatabase = ⊥
-IsOfMigration Damaged = ⊥
-IsOfMigration Device = Unit {0}
-IsOfMigration Memory = Unit {0}
-IsOfMigration Full = Unit {0}
-IsOfMigration Number = Unit {0}
+IsOfMigration (Pages fault) = ⊥
+IsOfMigration (Records (Read read.Memory)) = Unit {0}
+IsOfMigration (Records (Read read.Device)) = Unit {0}
+IsOfMigration (Records (Read read.Damaged)) = ⊥
+IsOfMigration (Records (Commit fault)) = Unit {0}
 
 -- The migration of records of the first spelling was tried: the database that the device held stayed, at every moment; and unless
 -- the device failed, a stop now leaves the contents that it held, and nothing else
@@ -92,7 +92,7 @@ pub record IsTriedOn (fault : DatabaseFault) (d e : DeviceState) : Type 0 where
   pub holds : HoldsFirstSpelling d
   pub of_migration : IsOfMigration fault
   pub leaves : (db : Database) → HoldsDatabase d db → LeavesDatabase db d e
-  pub unchanged : fault ≢ Device → (x : Option Contents) → (records_on e).left x → x ≡ Some holds.contents
+  pub unchanged : (IsOfDevice fault → ⊥) → (x : Option Contents) → (records_on e).left x → x ≡ Some holds.contents
   pub failures : d.failures ≤ e.failures
 
 -- not one sector was written: so a stop leaves records that it might have left before
@@ -103,7 +103,7 @@ IsUntried d e = IsUnwritten d e × LeavesAsBefore d e
 pub record IsRefused (d : DeviceState) (fault : DatabaseFault) (e : DeviceState) : Type 0 where
   pub faithful : e.faithful
   pub stands : StandsIn fault d
-  pub failed : fault ≡ Device → HasFailed d e
+  pub failed : IsOfDevice fault → HasFailed d e
   pub outcome : IsUntried d e ⊎ IsTriedOn fault d e
 
 -- ---- answers

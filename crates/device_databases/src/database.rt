@@ -32,13 +32,13 @@ pub struct Opened<D: Device, X> {
 /// and a stop leaves no more than before. Records of the first spelling are migrated, in one commit:
 /// a stop then leaves the same database at every moment, also where the migration is refused.
 ///
-/// `WrongSize`, `NotADatabase` and `Damaged` name the first fault that stands in the content, in
-/// this order: the size, the magic of the root sectors, the root sectors, the size that the root
-/// names, the map, the tree of records, the journal where there is one, the database that they stand
-/// for; nothing is written then.
-/// `Device`: the device failed. `Memory`: an allocation failed, once the size and the magic were
-/// tested. `Full`: no room is left for the records of the first spelling in the second. `Number`: no
-/// commit number is left for them.
+/// `Pages`: no store was opened. `WrongSize`, `NotADatabase` and `Damaged` name the first fault that
+/// stands in the content, in this order: the size, the magic of the root sectors, the root sectors,
+/// the size that the root names, the map, the tree of records, the journal where there is one.
+/// `Records`: a store was opened, but no server. `Damaged`: the records stand for no database. After
+/// these nothing is written. `Full`: no room is left for the records of the first spelling in the
+/// second. `Number`: no commit number is left for them. Of both, `Device`: the device failed, and
+/// `Memory`: an allocation failed, once the size and the magic were tested.
 pub fn open_database<D: JournalDevice, X: Decide + Drop>(
     alloc: Global,
     device: D,
@@ -53,7 +53,7 @@ pub fn open_database<D: JournalDevice, X: Decide + Drop>(
 {
     let store = match DeviceStore::open_with(alloc, device, cache_pages) {
         Ok(store) => store,
-        Err((device, fault)) => return Err((device, DatabaseFault::from(fault))),
+        Err((device, fault)) => return Err((device, DatabaseFault::Pages(fault))),
     };
     let was_migrated = is_first_spelling(store.spelling());
     match open(alloc, store, decider) {
@@ -62,7 +62,7 @@ pub fn open_database<D: JournalDevice, X: Decide + Drop>(
             was_migrated,
         }),
         Err(refused) => {
-            let fault = DatabaseFault::from(refused.fault);
+            let fault = DatabaseFault::Records(refused.fault);
             Err((refused.store.into_device(), fault))
         }
     }

@@ -1,7 +1,10 @@
 pub mod CountedRows
+pub mod InPlace
 pub mod InRanges
+pub mod JoinedRows
 pub mod LookedUp
 pub mod OneTables
+pub mod OuterWalk
 pub mod Seen
 pub mod SoughtKeys
 pub mod Together

@@ -2,9 +2,12 @@
 #![tactic(auto)]
 
 mod counted;
+mod in_place;
 mod in_ranges;
+mod joined_rows;
 mod looked_up;
 mod one_table;
+mod outer_walk;
 mod selection;
 mod several_tables;
 mod sought;

@@ -1,5 +1,5 @@
 -- What reading the definitions of a database comes to, by what opening its store and reading that come to.
-use Rattle.std.proofs.Common.{◌≡◌, ◌⊎◌, ◌≤◌, ◌<◌, ℕ, List, Result, Ok, Err, false, inl, inr, refl, sym, subst}
+use Rattle.std.proofs.Common.{List, Result, Ok, Err, inl, sym, subst}
 use Rattle.sector_device.specs.Timeline.{IsPresent}
 use Rattle.sector_device.specs.Device.{DeviceState, timeline}
 use Rattle.sector_device.specs.declared.device.Device.{Ghosts}
@@ -9,7 +9,6 @@ use Rattle.store.specs.Readers.{HasFaultCause}
 use Rattle.store.specs.Records.{Records, Changes}
 use Rattle.store.specs.Store.{Contents, stored, KeepsHistory}
 use Rattle.cow_pages.specs.declared.open.OpenFault.{OpenFault as PagesFault}
-use Rattle.cow_pages.specs.declared.open.OpenFault.TheVariants as pages
 use Rattle.device_store.specs.declared.stores.DeviceStore.{DeviceStore}
 use Rattle.device_store.specs.Opening.{IsOpened, CannotOpen}
 use Rattle.device_store.specs.Reads.{OnlyLooksInto}
@@ -19,14 +18,14 @@ use Rattle.stored_database.specs.Definitions.{Definitions}
 use Rattle.transactions.specs.Views.{applied_all}
 use Rattle.catalogue_loading.specs.Found.{Finds}
 use Rattle.migration.specs.Respelled.{AreRespelling, RespellsFrom}
-use Rattle.opening.specs.Openings.{AreOfDatabase, read_fault}
+use Rattle.migration.specs.declared.fault.OpeningFault.TheVariants as opening
+use Rattle.opening.specs.Openings.{AreOfDatabase}
 use Rattle.opening.proofs.Reading.{under_lists}
-use Rattle.lives.specs.declared.fault.DatabaseFault.TheVariants as opening
+use Rattle.lives.specs.declared.fault.DatabaseFault.TheVariants as database
 use Rattle.device_databases.specs.Databases.{IsUnwritten}
-use Rattle.lives.specs.OnDevice.{fault_of_opening, fault_of_pages}
 use Rattle.lives.proofs.Opening.{device_cause}
 use Rattle.device_databases.proofs.Opening.{refused_pages}
-use Rattle.file_commands.specs.Reading.{AreDefinitionsOf, HasDefinitions, HasFault, IsOfReading, ReadsOn}
+use Rattle.file_commands.specs.Reading.{AreDefinitionsOf, HasDefinitions, HasFault, ReadsOn}
 
 -- ---- what was read of a store
 
@@ -47,18 +46,11 @@ found_under (Err Damaged) contents lists are finds = λ db stands.
 
 -- ---- a device that was refused for its pages
 
-of_pages : (fault : PagesFault) → IsOfReading (fault_of_pages fault)
-of_pages pages.WrongSize = tt
-of_pages pages.NotADatabase = tt
-of_pages pages.Damaged = tt
-of_pages pages.Device = tt
-of_pages pages.Memory = tt
-
-pub refused_unread : (d e : DeviceState) (fault : PagesFault) → CannotOpen d fault e → d.faithful → ReadsOn d (Err (fault_of_pages fault)) e
+pub refused_unread : (d e : DeviceState) (fault : PagesFault) → CannotOpen d fault e → d.faithful → ReadsOn d (Err (database.Pages fault)) e
 refused_unread d e fault cannot faithful =
     let refused = refused_pages d e fault cannot faithful in
     record {
-      read = record { of_reading = of_pages fault; stands = refused.stands; failed = refused.failed };
+      read = record { of_reading = tt; stands = refused.stands; failed = refused.failed };
       unwritten = record { history = cannot.history; content = cannot.content faithful };
     }
 
@@ -80,15 +72,15 @@ module _ {D : Type 0} {g : Ghosts D} (present : (device : D) → (g.state device
   }
 
   fault_on : (f : Fault) → KeepsHistory (store_state s) (store_state t) → AreDefinitionsOf (stored (store_state s)) (Err f) → HasFaultCause f (store_state s) (store_state t)
-      → HasFault d (fault_of_opening (read_fault f)) (state_under t)
-  fault_on Memory history are cause = record { of_reading = tt; stands = inl (opened.holds faithful).no_fault; failed = λ is. absurd (let bad : opening.Memory ≡ opening.Device = is in cc) }
+      → HasFault d (database.Records (opening.Read f)) (state_under t)
+  fault_on Memory history are cause = record { of_reading = tt; stands = inl (opened.holds faithful).no_fault; failed = λ is. absurd is }
   fault_on Device history are cause = record { of_reading = tt; stands = tt; failed = λ is. device_cause d s t opened faithful history cause }
   fault_on Damaged history are cause = record {
     of_reading = tt;
-    stands = inr (record { contents = stored (store_state s); has = (opened.holds faithful).contents; none = are });
-    failed = λ is. absurd (let bad : opening.Damaged ≡ opening.Device = is in cc);
+    stands = record { contents = stored (store_state s); has = (opened.holds faithful).contents; none = are };
+    failed = λ is. absurd is;
   }
 
   pub unread_on : (f : Fault) → KeepsHistory (store_state s) (store_state t) → AreDefinitionsOf (stored (store_state s)) (Err f) → HasFaultCause f (store_state s) (store_state t)
-      → ReadsOn d (Err (fault_of_opening (read_fault f))) (state_under t)
+      → ReadsOn d (Err (database.Records (opening.Read f))) (state_under t)
   unread_on f history are cause = record { read = fault_on f history are cause; unwritten = unwritten }

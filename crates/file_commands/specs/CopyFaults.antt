@@ -4,18 +4,18 @@ use Rattle.sector_device.specs.declared.open_file.FileFault.TheVariants as file
 use Rattle.sector_device.specs.declared.system_cause.SystemCause.TheVariants.{Other}
 use Rattle.database_copies.specs.declared.fault.DatabaseCopyFault.{DatabaseCopyFault}
 use Rattle.database_copies.specs.declared.fault.DatabaseCopyFault.TheVariants as copy
-use Rattle.database_copies.specs.declared.fault.SourceFault.TheVariants as source
+use Rattle.lives.specs.declared.fault.DatabaseFault.TheVariants.{Pages}
+use Rattle.migration.specs.declared.fault.OpeningFault.TheVariants.{Read}
 use Rattle.file_commands.specs.declared.copy_fault.FileCopyFault.{FileCopyFault}
 use Rattle.file_commands.specs.declared.copy_fault.FileCopyFault.TheVariants.{File, New, Partial, Full}
 use Rattle.file_commands.specs.declared.fault.CommandFault.TheVariants as command
+use Rattle.file_commands.specs.Faults.{of_opening, of_records}
 
 -- of a copy from one device to another
 abbrev pub of_copy : DatabaseCopyFault → FileCopyFault
+of_copy (copy.Pages fault) = File (of_opening (Pages fault))
+of_copy (copy.Read fault) = File (of_records (Read fault))
 of_copy copy.Memory = New command.Memory
-of_copy (copy.Source source.WrongSize) = File command.WrongSize
-of_copy (copy.Source source.NotADatabase) = File command.NotADatabase
-of_copy (copy.Source source.Damaged) = File command.Damaged
-of_copy (copy.Source source.Device) = File (command.Device Other)
 of_copy copy.WrongSize = New command.WrongSize
 of_copy (copy.Full least) = Full least
 of_copy copy.Device = New (command.Device Other)

@@ -2,10 +2,15 @@
 use Rattle.sector_device.specs.declared.open_file.FileFault.{FileFault}
 use Rattle.sector_device.specs.declared.open_file.FileFault.TheVariants as file
 use Rattle.sector_device.specs.declared.system_cause.SystemCause.TheVariants.{NotFound, Other}
+use Rattle.store.specs.declared.fault.Fault.TheVariants as read
+use Rattle.store.specs.declared.fault.StoreFault.TheVariants as commit
+use Rattle.cow_pages.specs.declared.open.OpenFault.TheVariants as pages
+use Rattle.migration.specs.declared.fault.OpeningFault.{OpeningFault}
+use Rattle.migration.specs.declared.fault.OpeningFault.TheVariants.{Read, Commit}
 use Rattle.systems.specs.declared.fault.OpenPathFault.{OpenPathFault}
 use Rattle.systems.specs.declared.fault.OpenPathFault.TheVariants as path
 use Rattle.lives.specs.declared.fault.DatabaseFault.{DatabaseFault}
-use Rattle.lives.specs.declared.fault.DatabaseFault.TheVariants as opening
+use Rattle.lives.specs.declared.fault.DatabaseFault.TheVariants.{Pages, Records}
 use Rattle.device_databases.specs.declared.making.MakeFault.{MakeFault}
 use Rattle.device_databases.specs.declared.making.MakeFault.TheVariants as made
 use Rattle.file_commands.specs.declared.fault.CommandFault.{CommandFault}
@@ -32,10 +37,19 @@ of_making made.WrongSize = WrongSize
 
 -- of opening the database that a device holds
 abbrev pub of_opening : DatabaseFault → CommandFault
-of_opening opening.WrongSize = WrongSize
-of_opening opening.NotADatabase = NotADatabase
-of_opening opening.Damaged = Damaged
-of_opening opening.Device = Device Other
-of_opening opening.Memory = Memory
-of_opening opening.Full = Full
-of_opening opening.Number = Number
+of_opening (Pages pages.WrongSize) = WrongSize
+of_opening (Pages pages.NotADatabase) = NotADatabase
+of_opening (Pages pages.Damaged) = Damaged
+of_opening (Pages pages.Device) = Device Other
+of_opening (Pages pages.Memory) = Memory
+of_opening (Records (Read read.Damaged)) = Damaged
+of_opening (Records (Read read.Device)) = Device Other
+of_opening (Records (Read read.Memory)) = Memory
+of_opening (Records (Commit commit.Full)) = Full
+of_opening (Records (Commit commit.Number)) = Number
+of_opening (Records (Commit commit.Device)) = Device Other
+of_opening (Records (Commit commit.Memory)) = Memory
+
+-- of opening a server over a store
+abbrev pub of_records : OpeningFault → CommandFault
+of_records fault = of_opening (Records fault)

@@ -12,7 +12,9 @@ use Rattle.stored_database.specs.Definitions.{Definitions}
 use Rattle.stored_database.specs.Records.{Shows}
 use Rattle.stored_database.specs.Spellings.{spelled_in_second, Stands}
 use Rattle.lives.specs.declared.fault.DatabaseFault.{DatabaseFault}
-use Rattle.lives.specs.declared.fault.DatabaseFault.TheVariants as opening
+use Rattle.lives.specs.declared.fault.DatabaseFault.TheVariants.{Pages, Records}
+use Rattle.lives.specs.OnDevice.{IsOfDevice}
+use Rattle.migration.specs.declared.fault.OpeningFault.TheVariants as opening
 use Rattle.device_databases.specs.Databases.{HoldsDatabase, IsUnwritten}
 use Rattle.device_databases.specs.Openings.{StandsIn}
 use Rattle.file_commands.specs.declared.fault.CommandFault.{CommandFault}
@@ -42,19 +44,15 @@ pub record HasDefinitions (d : DeviceState) (definitions : Definitions) : Type 0
 
 -- a fault that a reading may have: none of a migration
 abbrev pub IsOfReading : DatabaseFault → Type 0
-IsOfReading opening.WrongSize = Unit {0}
-IsOfReading opening.NotADatabase = Unit {0}
-IsOfReading opening.Damaged = Unit {0}
-IsOfReading opening.Device = Unit {0}
-IsOfReading opening.Memory = Unit {0}
-IsOfReading opening.Full = ⊥
-IsOfReading opening.Number = ⊥
+IsOfReading (Pages fault) = Unit {0}
+IsOfReading (Records (opening.Read fault)) = Unit {0}
+IsOfReading (Records (opening.Commit fault)) = ⊥
 
 -- the fault stands in what the device holds, or a call of it failed
 pub record HasFault (d : DeviceState) (fault : DatabaseFault) (e : DeviceState) : Type 0 where
   pub of_reading : IsOfReading fault
   pub stands : StandsIn fault d
-  pub failed : fault ≡ opening.Device → HasFailed d e
+  pub failed : IsOfDevice fault → HasFailed d e
 
 -- the definitions of the database that the device holds, or why they were not read
 abbrev pub AreReadOn : DeviceState → Result Definitions DatabaseFault → DeviceState → Type 0

@@ -4,7 +4,9 @@ ghost use Rattle.std.specs.Prelude.{◌≡◌};
 ghost use Rattle.file_commands.specs.CopyFaults.{of_copy};
 
 use crate::fault::CommandFault;
-use database_copies::SourceFault;
+use database_copies::DatabaseCopyFault;
+use device_databases::DatabaseFault;
+use opening::OpeningFault;
 use sector_device::SystemCause;
 
 /// Why the database in a file was not copied to a new file.
@@ -20,29 +22,21 @@ pub enum FileCopyFault {
     Full(u64),
 }
 
-impl From<database_copies::DatabaseCopyFault> for FileCopyFault {
+impl From<DatabaseCopyFault> for FileCopyFault {
     ghost from_gives = { λ fault given. given ≡ of_copy fault };
 
-    fn from(fault: database_copies::DatabaseCopyFault) -> FileCopyFault {
+    fn from(fault: DatabaseCopyFault) -> FileCopyFault {
         match fault {
-            database_copies::DatabaseCopyFault::Memory => FileCopyFault::New(CommandFault::Memory),
-            database_copies::DatabaseCopyFault::Source(SourceFault::WrongSize) => {
-                FileCopyFault::File(CommandFault::WrongSize)
+            DatabaseCopyFault::Pages(fault) => {
+                FileCopyFault::File(CommandFault::from(DatabaseFault::Pages(fault)))
             }
-            database_copies::DatabaseCopyFault::Source(SourceFault::NotADatabase) => {
-                FileCopyFault::File(CommandFault::NotADatabase)
+            DatabaseCopyFault::Read(fault) => {
+                FileCopyFault::File(CommandFault::from(OpeningFault::Read(fault)))
             }
-            database_copies::DatabaseCopyFault::Source(SourceFault::Damaged) => {
-                FileCopyFault::File(CommandFault::Damaged)
-            }
-            database_copies::DatabaseCopyFault::Source(SourceFault::Device) => {
-                FileCopyFault::File(CommandFault::Device(SystemCause::Other))
-            }
-            database_copies::DatabaseCopyFault::WrongSize => FileCopyFault::New(
-                CommandFault::WrongSize,
-            ),
-            database_copies::DatabaseCopyFault::Full(least) => FileCopyFault::Full(least),
-            database_copies::DatabaseCopyFault::Device => {
+            DatabaseCopyFault::Memory => FileCopyFault::New(CommandFault::Memory),
+            DatabaseCopyFault::WrongSize => FileCopyFault::New(CommandFault::WrongSize),
+            DatabaseCopyFault::Full(least) => FileCopyFault::Full(least),
+            DatabaseCopyFault::Device => {
                 FileCopyFault::New(CommandFault::Device(SystemCause::Other))
             }
         }

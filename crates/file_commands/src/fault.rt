@@ -1,10 +1,13 @@
 //! Why a command over a file was not carried out.
 
 ghost use Rattle.std.specs.Prelude.{◌≡◌};
-ghost use Rattle.file_commands.specs.Faults.{of_file, of_making, of_opening, of_path};
+ghost use Rattle.file_commands.specs.Faults.{of_file, of_making, of_opening, of_path, of_records};
 
 use device_databases::{DatabaseFault, MakeFault};
+use device_store::OpenFault;
+use opening::OpeningFault;
 use sector_device::{FileFault, SystemCause};
+use store::{Fault, StoreFault};
 use systems::OpenPathFault;
 use thiserror::Error;
 
@@ -47,6 +50,45 @@ pub enum CommandFault {
     Output,
 }
 
+impl From<DatabaseFault> for CommandFault {
+    ghost from_gives = { λ fault given. given ≡ of_opening fault };
+
+    fn from(fault: DatabaseFault) -> CommandFault {
+        match fault {
+            DatabaseFault::Pages(OpenFault::WrongSize) => CommandFault::WrongSize,
+            DatabaseFault::Pages(OpenFault::NotADatabase) => CommandFault::NotADatabase,
+            DatabaseFault::Pages(OpenFault::Damaged)
+            | DatabaseFault::Records(OpeningFault::Read(Fault::Damaged)) => CommandFault::Damaged,
+            DatabaseFault::Pages(OpenFault::Device)
+            | DatabaseFault::Records(OpeningFault::Read(Fault::Device))
+            | DatabaseFault::Records(OpeningFault::Commit(StoreFault::Device)) => {
+                CommandFault::Device(SystemCause::Other)
+            }
+            DatabaseFault::Pages(OpenFault::Memory)
+            | DatabaseFault::Records(OpeningFault::Read(Fault::Memory))
+            | DatabaseFault::Records(OpeningFault::Commit(StoreFault::Memory)) => {
+                CommandFault::Memory
+            }
+            DatabaseFault::Records(OpeningFault::Commit(StoreFault::Full)) => CommandFault::Full,
+            DatabaseFault::Records(OpeningFault::Commit(StoreFault::Number)) => {
+                CommandFault::Number
+            }
+        }
+    }
+}
+
+impl From<MakeFault> for CommandFault {
+    ghost from_gives = { λ fault given. given ≡ of_making fault };
+
+    fn from(fault: MakeFault) -> CommandFault {
+        match fault {
+            MakeFault::Memory => CommandFault::Memory,
+            MakeFault::Device => CommandFault::Device(SystemCause::Other),
+            MakeFault::WrongSize => CommandFault::WrongSize,
+        }
+    }
+}
+
 impl From<OpenPathFault> for CommandFault {
     ghost from_gives = { λ fault given. given ≡ of_path fault };
 
@@ -72,30 +114,10 @@ impl From<FileFault> for CommandFault {
     }
 }
 
-impl From<MakeFault> for CommandFault {
-    ghost from_gives = { λ fault given. given ≡ of_making fault };
+impl From<OpeningFault> for CommandFault {
+    ghost from_gives = { λ fault given. given ≡ of_records fault };
 
-    fn from(fault: MakeFault) -> CommandFault {
-        match fault {
-            MakeFault::Memory => CommandFault::Memory,
-            MakeFault::Device => CommandFault::Device(SystemCause::Other),
-            MakeFault::WrongSize => CommandFault::WrongSize,
-        }
-    }
-}
-
-impl From<DatabaseFault> for CommandFault {
-    ghost from_gives = { λ fault given. given ≡ of_opening fault };
-
-    fn from(fault: DatabaseFault) -> CommandFault {
-        match fault {
-            DatabaseFault::WrongSize => CommandFault::WrongSize,
-            DatabaseFault::NotADatabase => CommandFault::NotADatabase,
-            DatabaseFault::Damaged => CommandFault::Damaged,
-            DatabaseFault::Device => CommandFault::Device(SystemCause::Other),
-            DatabaseFault::Memory => CommandFault::Memory,
-            DatabaseFault::Full => CommandFault::Full,
-            DatabaseFault::Number => CommandFault::Number,
-        }
+    fn from(fault: OpeningFault) -> CommandFault {
+        CommandFault::from(DatabaseFault::Records(fault))
     }
 }

@@ -51,13 +51,13 @@ fn read_definitions<D: JournalDevice>(
 {
     let mut store = match DeviceStore::open(alloc, device) {
         Ok(store) => store,
-        Err((device, fault)) => return (device, Err(DatabaseFault::from(fault))),
+        Err((device, fault)) => return (device, Err(DatabaseFault::Pages(fault))),
     };
     let read = read_store(alloc, &mut store);
     let left = store.into_device();
     match read {
         Ok(catalogue) => (left, Ok(catalogue)),
-        Err(fault) => (left, Err(DatabaseFault::from(OpeningFault::from(fault)))),
+        Err(fault) => (left, Err(DatabaseFault::Records(OpeningFault::Read(fault)))),
     }
 }
 

@@ -4,7 +4,7 @@ ghost use Rattle.std.specs.Prelude.{◌≡◌};
 ghost use Rattle.file_commands.specs.SwitchFaults.{of_switch};
 
 use crate::fault::CommandFault;
-use device_store::OpenFault;
+use device_databases::DatabaseFault;
 use journal_switches::SwitchFault;
 use sector_device::SystemCause;
 use store::StoreFault;
@@ -29,24 +29,16 @@ impl From<SwitchFault> for FileSwitchFault {
 
     fn from(fault: SwitchFault) -> FileSwitchFault {
         match fault {
-            SwitchFault::Unopened(OpenFault::WrongSize) => {
-                FileSwitchFault::File(CommandFault::WrongSize)
-            }
-            SwitchFault::Unopened(OpenFault::NotADatabase) => {
-                FileSwitchFault::File(CommandFault::NotADatabase)
-            }
-            SwitchFault::Unopened(OpenFault::Damaged) => FileSwitchFault::File(
-                CommandFault::Damaged,
-            ),
-            SwitchFault::Unopened(OpenFault::Memory) | SwitchFault::Refused(StoreFault::Memory) => {
-                FileSwitchFault::File(CommandFault::Memory)
-            }
-            SwitchFault::Unopened(OpenFault::Device) | SwitchFault::Refused(StoreFault::Device) => {
-                FileSwitchFault::File(CommandFault::Device(SystemCause::Other))
+            SwitchFault::Unopened(fault) => {
+                FileSwitchFault::File(CommandFault::from(DatabaseFault::Pages(fault)))
             }
             SwitchFault::NotMigrated => FileSwitchFault::FirstFormat,
             SwitchFault::Refused(StoreFault::Full) => FileSwitchFault::NoRoom,
             SwitchFault::Refused(StoreFault::Number) => FileSwitchFault::NoNumber,
+            SwitchFault::Refused(StoreFault::Memory) => FileSwitchFault::File(CommandFault::Memory),
+            SwitchFault::Refused(StoreFault::Device) => {
+                FileSwitchFault::File(CommandFault::Device(SystemCause::Other))
+            }
         }
     }
 }

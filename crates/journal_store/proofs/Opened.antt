@@ -1,8 +1,7 @@
 -- A device with a journal that was opened: what the store holds, or why there is none.
-use Rattle.std.proofs.Common.{◌≡◌, ◌<◌, ◌+◌, ◌/◌, inl, inr, ⊎_elim, ℕ, true, false, List, [], None, Some, get_or, max, refl, sym, ap, subst, ◌∙◌, arith}
+use Rattle.std.proofs.Common.{◌≡◌, ◌<◌, ◌+◌, ◌/◌, inl, inr, ℕ, true, false, List, [], None, Some, get_or, refl, sym, ap, subst, ◌∙◌, arith}
 use Rattle.std.specs.Prelude.{Result, Ok, Err, IsErrAnd}
 use Rattle.std.proofs.Math.Path.{fun_ext}
-use Rattle.std.proofs.lemmas.Bool.{cases_lt}
 use Rattle.storage_sizes.specs.declared.spelling.Spelling.TheVariants.{Second}
 use Rattle.sector_device.specs.Device.{DeviceState, Image, IsSynced, KeepsHistory, history_joined}
 use Rattle.sector_device.specs.declared.device.Device.{Ghosts}
@@ -29,7 +28,7 @@ use Rattle.kv_store.specs.Opening.{IsNamedWith, IsOpenedWith, CannotOpenWith}
 use Rattle.kv_store.specs.TreeStore.{pages_of, store_state}
 use Rattle.kv_store.specs.TreeLaws.{keys_rise}
 use Rattle.journal_store.specs.declared.stores.JournalStore.{JournalStore}
-use Rattle.journal_store.specs.Meaning.{HasJournaledContents, IsJournalReadAs, IsNumberOf, journal_start, journal_room}
+use Rattle.journal_store.specs.Meaning.{HasJournaledContents, IsJournalReadAs, journal_start, journal_room}
 use Rattle.journal_store.specs.Stores.{device_under, base_of, root_number, IsSoundJournal}
 use Rattle.journal_store.specs.Opening.{IsNamedFor, HoldsImage, IsOpened, CannotOpen, Opens, IsReplayed, NotReplayed}
 use Rattle.journal_store.specs.MeaningLaws.{under_has}

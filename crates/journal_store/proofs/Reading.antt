@@ -1,7 +1,8 @@
 -- Reads of a store with a journal, which are reads of its pages under what waits.
-use Rattle.std.proofs.Common.{◌≡◌, ◌+◌, ℕ, Bool, true, false, List, Option, Result, Ok, Err, inl, max, refl, sym, ap, subst, ◌∙◌, arith}
+use Rattle.std.proofs.Common.{◌≡◌, ◌+◌, ℕ, Bool, true, false, List, Option, Result, Err, inl, max, refl, sym, ap, subst, ◌∙◌, arith}
 use Rattle.std.proofs.Math.Path.{fun_ext}
 use Rattle.std.proofs.lemmas.Bool.{false≢true}
+use Rattle.std.proofs.lemmas.Result.{IfErr-weaker}
 use Rattle.sector_device.specs.Timeline.{LeavesOnly, IsPresent, read_by}
 use Rattle.sector_device.proofs.Runs.{lifted}
 use Rattle.sector_device.specs.Device.{Image, IsLeft, DeviceState, timeline}
@@ -12,9 +13,9 @@ use Rattle.journal_chain.specs.Journal.{IsJournal, NumbersUpTo}
 use Rattle.sector_journal.specs.Journals.{region_in, HoldsJournal}
 use Rattle.cow_pages.specs.Cow.{root_of}
 use Rattle.cow_pages.specs.Held.{KeepsContent}
-use Rattle.store.specs.Records.{Record, Records, Changes}
+use Rattle.store.specs.Records.{Record, Records, Changes, IsFound}
 use Rattle.store.specs.Steps.{Goes}
-use Rattle.store.specs.Store.{OnlyReads, Reads, HasReadCause}
+use Rattle.store.specs.Store.{StoreState, OnlyReads, Reads, HasReadCause}
 use Rattle.store.specs.declared.fault.StoreFault.{StoreFault}
 use Rattle.store.specs.declared.fault.StoreFault.TheVariants.{Full, Memory, Device, Number}
 use Rattle.store.proofs.Reading.{none_read}
@@ -27,7 +28,7 @@ use Rattle.journal_store.specs.declared.stores.JournalStore.{JournalStore}
 use Rattle.journal_store.specs.Meaning.{IsNumberOf, journal_start, journal_room}
 use Rattle.journal_store.specs.Images.{IsReadAs}
 use Rattle.journal_store.specs.Stores.{device_under, root_number, HoldsRecords, IsSoundJournal, journal_state}
-use Rattle.journal_store.specs.Reads.{KeepsJournal, present_in}
+use Rattle.journal_store.specs.Reads.{KeepsJournal, IsStill, keeps_same, present_in}
 
 -- a device whose content stays, of which a stop leaves no more, holds the journal still
 journal_stays : (root top : ℕ) (es : List Entry) (d e : DeviceState) → e.sectors ≡ d.sectors → KeepsContent d e → HoldsJournal journal_start journal_room root top es d → HoldsJournal journal_start journal_room root top es e
@@ -84,7 +85,7 @@ module _ {D : Type 0} {g : Ghosts D} (present : (device : D) → (g.state device
       map_is : (journal_state t).map ≡ (journal_state s).map
       map_is = ap (λ (w : List Changes). applied_all w (store_state t.store).map) keeps.waiting ∙ ap (λ (es : Records). applied_all s.waiting es) (reads.unchanged sound.pages).map
 
-    pub journal_only_reads : OnlyReads (journal_state s) (journal_state t)
+    journal_only_reads : OnlyReads (journal_state s) (journal_state t)
     journal_only_reads = record {
       history = record { sound = still_sound; fulls = reads.history.fulls; failures = reads.history.failures; faults = reads.history.faults };
       unchanged = λ sound. record {
@@ -96,91 +97,58 @@ module _ {D : Type 0} {g : Ghosts D} (present : (device : D) → (g.state device
     }
 
   -- the cause of a fault below
-  cause_is : (fault : StoreFault) → HasReadCause fault (view_state s.waiting (store_state s.store)) (view_state t.waiting (store_state t.store)) → HasReadCause fault (journal_state s) (journal_state t)
+  cause_is : (fault : StoreFault) → HasReadCause fault (view_state s.waiting (store_state s.store)) (view_state s.waiting (store_state t.store)) → HasReadCause fault (journal_state s) (journal_state t)
   cause_is Full cause = cause
   cause_is Memory cause = tt
   cause_is Device cause = record { counted = cause.counted; fault = λ sound. cause.fault sound.pages }
   cause_is Number cause = cause
 
-  below : OnlyReads (view_state s.waiting (store_state s.store)) (view_state t.waiting (store_state t.store)) → OnlyReads (store_state s.store) (store_state t.store)
-  below reads = map_only_reads s.waiting t.waiting (store_state s.store) (store_state t.store) keeps.records reads
-
   -- a read of the view is one of the store
-  pub journal_reads : (entry : Option Record) (result : Result Bool StoreFault) (out : Record) → Reads entry result out (view_state s.waiting (store_state s.store)) (view_state t.waiting (store_state t.store))
-      → Reads entry result out (journal_state s) (journal_state t)
-  journal_reads entry (Ok found) out reads = record {
-    only_reads = journal_only_reads (below reads.only_reads);
-    found = λ sound. reads.found sound.pages;
-    cause = tt;
-    failed = reads.failed;
-    closed = λ closes had. absurd (false≢true (sym works ∙ had));
-  }
-  journal_reads entry (Err fault) out reads = record {
-    only_reads = journal_only_reads (below reads.only_reads);
-    found = λ sound. tt;
-    cause = cause_is fault reads.cause;
-    failed = reads.failed;
-    closed = λ closes had. absurd (false≢true (sym works ∙ had));
-  }
-
-  pub journal_goes : {T : Type 0} (answers : T → Type 0) (result : Result T StoreFault) → Goes answers result (view_state s.waiting (store_state s.store)) (view_state t.waiting (store_state t.store))
+  journal_goes : {T : Type 0} {answers : T → Type 0} {result : Result T StoreFault} → Goes answers result (view_state s.waiting (store_state s.store)) (view_state s.waiting (store_state t.store))
       → Goes answers result (journal_state s) (journal_state t)
-  journal_goes answers (Ok x) goes = record {
-    only_reads = journal_only_reads (below goes.only_reads);
+  journal_goes {T} {answers} {result} goes = record {
+    only_reads = journal_only_reads (map_only_reads s.waiting s.waiting (store_state s.store) (store_state t.store) keeps.records goes.only_reads);
     answer = λ sound. goes.answer sound.pages;
-    cause = tt;
-    failed = goes.failed;
-    closed = λ closes had. absurd (false≢true (sym works ∙ had));
-  }
-  journal_goes answers (Err fault) goes = record {
-    only_reads = journal_only_reads (below goes.only_reads);
-    answer = λ sound. tt;
-    cause = cause_is fault goes.cause;
+    cause = IfErr-weaker result _ _ cause_is goes.cause;
     failed = goes.failed;
     closed = λ closes had. absurd (false≢true (sym works ∙ had));
   }
 
--- ---- a store that has answered Device
+-- ---- what a read of the store does
 
-module _ {D : Type 0} {g : Ghosts D} (present : (device : D) → (g.state device).faithful → IsPresent (timeline (g.state device))) (s : JournalStore D g) (failed : s.store.has_failed ≡ true) where
-  pub failed_reads : (entry : Option Record) (out : Record) → Reads entry (Err Device) out (journal_state s) (journal_state s)
-  failed_reads entry out = record {
-    only_reads = nothing_read present s;
-    found = λ sound. tt;
-    cause = record { counted = inl failed; fault = λ sound. inl failed };
-    failed = failed;
-    closed = λ closes had. refl;
-  }
+pub record IsRead {D : Type 0} {g : Ghosts D} {T : Type 0} (answers : T → Type 0) (result : Result T StoreFault) (s t : JournalStore D g) : Type 0 where
+  pub preserved : KeepsJournal s t
+  pub goes : Goes answers result (journal_state s) (journal_state t)
+  pub still : IsStill result s t
 
-  pub failed_goes : {T : Type 0} (answers : T → Type 0) → Goes {T = T} answers (Err Device) (journal_state s) (journal_state s)
-  failed_goes answers = record {
+-- a store that has answered Device is not read
+pub not_read : {D : Type 0} {g : Ghosts D} {T : Type 0} {answers : T → Type 0} (present : (device : D) → (g.state device).faithful → IsPresent (timeline (g.state device)))
+    (s : JournalStore D g) → s.store.has_failed ≡ true → IsRead answers (Err Device) s s
+not_read present s failed = record {
+  preserved = keeps_same s;
+  goes = record {
     only_reads = nothing_read present s;
     answer = λ sound. tt;
     cause = record { counted = inl failed; fault = λ sound. inl failed };
     failed = failed;
     closed = λ closes had. refl;
-  }
+  };
+  still = λ had. (refl, refl);
+}
 
--- ---- reads of the pages under what waits
+-- a read of the pages under what waits writes nothing, and does not touch what waits
+pub read_under : {D : Type 0} {g : Ghosts D} {T : Type 0} {answers : T → Type 0} {result : Result T StoreFault} (present : (device : D) → (g.state device).faithful → IsPresent (timeline (g.state device)))
+    (s t : JournalStore D g) → s.store.has_failed ≡ false → t.waiting ≡ s.waiting → t.top ≡ s.top → t.end ≡ s.end → WritesNothing (pages_of s.store) (pages_of t.store)
+    → KeepsRecords (store_state s.store) (store_state t.store) → Goes answers result (view_state s.waiting (store_state s.store)) (view_state s.waiting (store_state t.store)) → IsRead answers result s t
+read_under present s t works waiting top ends nothing records goes =
+    let keeps : KeepsJournal s t = record { waiting = waiting; top = top; ends = ends; nothing = nothing; records = records } in
+    record { preserved = keeps; goes = journal_goes present s t works keeps goes; still = λ had. absurd (false≢true (sym works ∙ had)) }
 
--- nothing was written, and what waits was not touched
-pub kept_under : {D : Type 0} {g : Ghosts D} (s t : JournalStore D g) → t.waiting ≡ s.waiting → t.top ≡ s.top → t.end ≡ s.end → WritesNothing (pages_of s.store) (pages_of t.store)
-    → KeepsRecords (store_state s.store) (store_state t.store) → KeepsJournal s t
-kept_under s t waiting top ends nothing records = record { waiting = waiting; top = top; ends = ends; nothing = nothing; records = records }
+-- ---- a read of an entry
 
-module _ {D : Type 0} {g : Ghosts D} (present : (device : D) → (g.state device).faithful → IsPresent (timeline (g.state device)))
-    (s t : JournalStore D g) (works : s.store.has_failed ≡ false) (lists : List Changes) (waits : lists ≡ s.waiting) (keeps : KeepsJournal s t) where
-  pub reads_under : (entry : Records → Option Record) (result : Result Bool StoreFault) (out : Record)
-      → Reads (entry (applied_all lists (store_state s.store).map)) result out (view_state lists (store_state s.store)) (view_state lists (store_state t.store))
-      → Reads (entry (journal_state s).map) result out (journal_state s) (journal_state t)
-  reads_under entry result out reads =
-      let moved = subst (λ (ls : List Changes). Reads (entry (applied_all ls (store_state s.store).map)) result out (view_state ls (store_state s.store)) (view_state ls (store_state t.store))) waits reads in
-      journal_reads present s t works keeps (entry (journal_state s).map) result out
-      (subst (λ (ls : List Changes). Reads (entry (journal_state s).map) result out (view_state s.waiting (store_state s.store)) (view_state ls (store_state t.store))) (sym keeps.waiting) moved)
+module _ {entry : Option Record} {result : Result Bool StoreFault} {out : Record} {old new : StoreState} where
+  pub as_goes : Reads entry result out old new → Goes (λ (found : Bool). IsFound found out entry) result old new
+  as_goes is = record { only_reads = is.only_reads; answer = is.found; cause = is.cause; failed = is.failed; closed = is.closed }
 
-  pub goes_under : {T : Type 0} (answers : List Changes → T → Type 0) (result : Result T StoreFault) → Goes (answers lists) result (view_state lists (store_state s.store)) (view_state lists (store_state t.store))
-      → Goes (answers s.waiting) result (journal_state s) (journal_state t)
-  goes_under answers result goes =
-      let moved = subst (λ (ls : List Changes). Goes (answers ls) result (view_state ls (store_state s.store)) (view_state ls (store_state t.store))) waits goes in
-      journal_goes present s t works keeps (answers s.waiting) result
-      (subst (λ (ls : List Changes). Goes (answers s.waiting) result (view_state s.waiting (store_state s.store)) (view_state ls (store_state t.store))) (sym keeps.waiting) moved)
+  pub as_reads : Goes (λ (found : Bool). IsFound found out entry) result old new → Reads entry result out old new
+  as_reads is = record { only_reads = is.only_reads; found = is.answer; cause = is.cause; failed = is.failed; closed = is.closed }

@@ -7,8 +7,8 @@ use Rattle.journal_records.specs.Changes.{Spells}
 use Rattle.journal_records.specs.Records.{entry_of, parts_of}
 use Rattle.sector_journal.specs.Reading.{entries_of, AreWhole}
 use Rattle.sector_journal.specs.declared.journal.JournalRecord.{JournalRecord}
-use Rattle.sector_journal.specs.declared.journal.JournalFault.{JournalFault}
-use Rattle.sector_journal.specs.declared.journal.JournalFault.TheVariants.{Damaged}
+use Rattle.store.specs.declared.fault.Fault.{Fault}
+use Rattle.store.specs.declared.fault.Fault.TheVariants.{Damaged}
 use Rattle.sector_journal.proofs.Opening.{entries_more}
 use Rattle.store.specs.Records.{Records, Changes, IsOrdered, applied}
 use Rattle.transactions.specs.Views.{applied_all}
@@ -64,12 +64,12 @@ pub ends_inside : (region : Region) (root room finish : ℕ) (es : List Entry) �
 ends_inside region root room finish es chain at = omega (arith, chain_ends region root 0 0 room es chain, at)
 
 -- a fault that is passed on is the same
-abbrev answer : (T : Type 0) → JournalFault → Result T JournalFault
+abbrev answer : (T : Type 0) → Fault → Result T Fault
 answer T fault = Err fault
 
-pub passed_on : {T : Type 0} (r : Result T JournalFault) (fault : JournalFault) → IsErrAnd r (λ e. e ≡ fault) → r ≡ Err Damaged → fault ≡ Damaged
+pub passed_on : {T : Type 0} (r : Result T Fault) (fault : Fault) → IsErrAnd r (λ e. e ≡ fault) → r ≡ Err Damaged → fault ≡ Damaged
 passed_on (Ok x) fault is same = absurd is
 passed_on {T} (Err e) fault is same = again is same
   where
-    again : {a b : JournalFault} → a ≡ b → answer T a ≡ answer T Damaged → b ≡ Damaged
+    again : {a b : Fault} → a ≡ b → answer T a ≡ answer T Damaged → b ≡ Damaged
     again p q = cc

@@ -5,7 +5,7 @@ ghost use Rattle.cow_pages.specs.Held.{KeepsContent};
 ghost use Rattle.cow_pages.specs.Image.{is_size};
 ghost use Rattle.store.specs.Records.{Changes};
 ghost use Rattle.sector_journal.specs.Reading.{entries_of, AreWhole};
-ghost use Rattle.sector_journal.specs.declared.journal.JournalFault.TheVariants as faults;
+ghost use Rattle.store.specs.declared.fault.Fault.TheVariants as faults;
 ghost use Rattle.journal_store.specs.Meaning.{SpellBatches};
 ghost use Rattle.journal_store.specs.Opening.{Opens, AreOf, IsReplayed, NotReplayed};
 
@@ -15,9 +15,9 @@ use cow_pages::page_count;
 use journal_records::read_batch;
 use kv_store::{DEFAULT_CACHE_PAGES, MAX_CACHE_PAGES, OpenFault, TreeStore};
 use sector_device::{Device, SECTOR_SIZE};
-use sector_journal::{JournalFault, JournalRecord, find_journal, read_sectors};
+use sector_journal::{JournalRecord, find_journal, read_sectors};
 use std::alloc::Global;
-use store::Store;
+use store::{Fault, Store};
 use transactions::ChangeLists;
 
 // The sectors behind the root sectors.
@@ -49,7 +49,7 @@ fn read_behind_roots<D: Device>(
 }
 
 // The batches of records, the first of them first. Memory: an allocation failed. Damaged: a record spells none.
-fn read_batches(alloc: Global, records: &[JournalRecord]) -> Result<ChangeLists, JournalFault>
+fn read_batches(alloc: Global, records: &[JournalRecord]) -> Result<ChangeLists, Fault>
     requires { AreWhole records.now }
     ensures read { IfOk result (λ waiting. AreOf records.now waiting) }
     ensures damaged { result ≡ Err faults.Damaged → (batches : List Changes)
@@ -60,7 +60,7 @@ fn read_batches(alloc: Global, records: &[JournalRecord]) -> Result<ChangeLists,
     for record in records {
         match read_batch(alloc, &record.bytes)? {
             Some(batch) => waiting.record(batch)?,
-            None => return Err(JournalFault::Damaged),
+            None => return Err(Fault::Damaged),
         }
     }
     Ok(waiting)
@@ -77,7 +77,7 @@ struct Replayed {
 
 // The journal of a root that these sectors are. Memory: an allocation failed. Damaged: they are none, or a record of it
 // spells no batch.
-fn replay(alloc: Global, root: u64, sectors: &[[u8; SECTOR_SIZE]]) -> Result<Replayed, JournalFault>
+fn replay(alloc: Global, root: u64, sectors: &[[u8; SECTOR_SIZE]]) -> Result<Replayed, Fault>
     requires { length sectors.now ≡ JOURNAL_ROOM }
     ensures read { IfOk result (λ replayed. IsReplayed root sectors.now replayed) }
     ensures inside { IfOk result (λ replayed. replayed.end ≤ JOURNAL_ROOM) }
@@ -130,9 +130,9 @@ impl<D: JournalDevice> JournalStore<D> {
                 end: replayed.end,
                 alloc,
             }),
-            Err(JournalFault::Memory) => Err((store.into_device(), OpenFault::Memory)),
-            Err(JournalFault::Damaged) => Err((store.into_device(), OpenFault::Damaged)),
-            Err(JournalFault::Device) => unreachable!(),
+            Err(Fault::Memory) => Err((store.into_device(), OpenFault::Memory)),
+            Err(Fault::Damaged) => Err((store.into_device(), OpenFault::Damaged)),
+            Err(Fault::Device) => unreachable!(),
         }
     }
 }

@@ -34,10 +34,6 @@ fault_counts {D} {g} T fault Memory mid old new fulls failures same is = record 
 fault_counts {D} {g} T fault Device mid old new fulls failures same is = same ∙ fulls
 fault_counts {D} {g} T fault Number mid old new fulls failures same is = is
 
-pub refusal_counts : {D : Type 0} {g : Ghosts D} (fault : PageFault) (answer : StoreFault) (mid old new : TreeStore D g) → mid.fulls ≡ old.fulls → mid.failures ≡ old.failures → new.fulls ≡ mid.fulls → CountsRefusal fault answer mid new
-    → CountsRead {T = Bool} (Err answer) old new
-refusal_counts {D} {g} fault answer mid old new fulls failures same is = fault_counts Bool fault answer mid old new fulls failures same is
-
 -- a commit was refused by a store that had the same counts
 pub alone_counts : {D : Type 0} {g : Ghosts D} (fault : StoreFault) (mid old new : TreeStore D g) → mid.fulls ≡ old.fulls → mid.failures ≡ old.failures → CountsAlone fault mid new → CountsAlone fault old new
 alone_counts {D} {g} Full mid old new fulls failures is = is ∙ failures

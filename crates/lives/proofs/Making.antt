@@ -10,8 +10,9 @@ use Rattle.device_store.specs.Images.{IsReadAs, HasContents}
 use Rattle.device_store.specs.Opening.{IsNamedFor}
 use Rattle.abstract_database.specs.Database.{Database}
 use Rattle.server.specs.Standing.{Stands}
+use Rattle.lives.specs.declared.fault.DatabaseFault.TheVariants.{Pages}
 use Rattle.lives.specs.Lives.{IsFoundLeft, standing_over, LeavesFound}
-use Rattle.lives.specs.OnDevice.{records_on, fault_of_pages}
+use Rattle.lives.specs.OnDevice.{records_on}
 use Rattle.lives.specs.NewDatabase.{IsNone, IsNoneOr, Makes, IsLeftOf, IsRefusedAsNone}
 
 pub images_left : (db : Database) (stop : ℕ) (old new next : DeviceState) → Makes db old new → new.sectors ≡ old.sectors → old.moment ≤ stop → stop ≤ new.moment → IsLeftOf new stop next
@@ -45,7 +46,7 @@ pub no_fault_is_none : (found : Option OpenFault) → found ≡ None → found �
 no_fault_is_none found is none = let bad : None ≡ Some NotADatabase = sym is ∙ none in cc
 
 pub refused_as_none : (fault : OpenFault) (d e : DeviceState) → IsNone d.sectors d.content → IsNamedFor fault d → (fault ≡ Device → HasFailed d e) → KeepsContent d e
-    → IsRefusedAsNone (Err (fault_of_pages fault)) d e
+    → IsRefusedAsNone (Err (Pages fault)) d e
 refused_as_none WrongSize d e none named failed keeps = other_fault _ (first_fault d.sectors d.content) WrongSize none named (λ is. let bad : WrongSize ≡ NotADatabase = is in cc)
 refused_as_none NotADatabase d e none named failed keeps = (inl refl, keeps)
 refused_as_none Damaged d e none named failed keeps =

@@ -10,7 +10,7 @@ use Rattle.device_store.specs.Images.{HasContents}
 use Rattle.abstract_database.specs.Database.{Database}
 use Rattle.server.specs.Standing.{Stands}
 use Rattle.lives.specs.declared.fault.DatabaseFault.{DatabaseFault}
-use Rattle.lives.specs.declared.fault.DatabaseFault.TheVariants.{NotADatabase, Device}
+use Rattle.lives.specs.declared.fault.DatabaseFault.TheVariants.{Pages}
 use Rattle.lives.specs.Stopping.{IsLeftAt}
 
 -- an image of so many sectors in which there is no database
@@ -33,4 +33,4 @@ pub record IsLeftOf (new : DeviceState) (stop : ℕ) (next : DeviceState) : Type
 -- a device with no database is refused as such, or for itself where it failed, and no sector of it is written
 abbrev pub IsRefusedAsNone : Result (Unit {0}) DatabaseFault → DeviceState → DeviceState → Type 0
 IsRefusedAsNone (Ok x) old new = ⊥
-IsRefusedAsNone (Err fault) old new = ((fault ≡ NotADatabase) ⊎ ((fault ≡ Device) × HasFailed old new)) × KeepsContent old new
+IsRefusedAsNone (Err fault) old new = ((fault ≡ Pages image.NotADatabase) ⊎ ((fault ≡ Pages image.Device) × HasFailed old new)) × KeepsContent old new

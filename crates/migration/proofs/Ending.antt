@@ -6,21 +6,13 @@ use Rattle.store.specs.Records.{Records, Changes, applied}
 use Rattle.store.specs.Contents.{changed_in}
 use Rattle.store.specs.Store.{StoreState, stored, KeepsHistory, OnlyReads, Commits, failed_after}
 use Rattle.store.specs.declared.fault.StoreFault.{StoreFault}
-use Rattle.store.specs.declared.fault.StoreFault.TheVariants as commit
 use Rattle.store.proofs.Reading.{history_joined}
 use Rattle.abstract_database.specs.Database.{Database}
 use Rattle.stored_database.specs.Spellings.{with_places, Stands}
-use Rattle.migration.specs.Migrated.{commit_fault, failed_after_opening, HasOpeningCause, Migrates}
+use Rattle.migration.specs.declared.fault.OpeningFault.TheVariants.{Commit}
+use Rattle.migration.specs.Migrated.{failed_after_opening, HasOpeningCause, Migrates}
 use Rattle.migration.specs.Respelled.{AreRespelling}
 use Rattle.migration.proofs.Migrating.{IsSettled, commit_cause, nothing_done, commit_fails, commit_done}
-
--- ---- whether the store has failed
-
-failed_by_commit : (fault : StoreFault) (had between now : Bool) → between ≡ had → now ≡ failed_after {T = Unit {0}} (Err fault) between → now ≡ failed_after_opening (Err (commit_fault fault)) had
-failed_by_commit commit.Full had between now same is = is ∙ same
-failed_by_commit commit.Memory had between now same is = is ∙ same
-failed_by_commit commit.Device had between now same is = is
-failed_by_commit commit.Number had between now same is = is ∙ same
 
 -- ---- lists
 
@@ -78,12 +70,12 @@ module _ {S : Type 0} (state : S → StoreState) (old mid new : S) (lists : List
   failed_ok u v none some = by_lists lists (λ is. ap (λ (x : S). (state x).has_failed) (none is).1 ∙ unfailed) (λ c cs is. (some c cs is).failed ∙ unfailed)
 
   pub failed_err : (fault : StoreFault) → CommitsNone (Err fault) mid new lists → CommitsOne (Err fault) (state mid) (state new) lists
-      → (state new).has_failed ≡ failed_after_opening (Err (commit_fault fault)) (state old).has_failed
+      → (state new).has_failed ≡ failed_after_opening (Err (Commit fault)) (state old).has_failed
   failed_err fault none some = by_lists lists (λ is. absurd (no_fault (none is).0))
-      (λ c cs is. failed_by_commit fault (state old).has_failed (state mid).has_failed (state new).has_failed unfailed (some c cs is).failed)
+      (λ c cs is. (some c cs is).failed ∙ ap (λ (had : Bool). failed_after {T = Unit {0}} (Err fault) had) unfailed)
 
   module _ (sound : (state old).sound) (are : AreRespelling (state old).spelling (state old).map lists) where
-    pub cause_err : (fault : StoreFault) → CommitsNone (Err fault) mid new lists → CommitsOne (Err fault) (state mid) (state new) lists → HasOpeningCause (commit_fault fault) (state old) (state new)
+    pub cause_err : (fault : StoreFault) → CommitsNone (Err fault) mid new lists → CommitsOne (Err fault) (state mid) (state new) lists → HasOpeningCause (Commit fault) (state old) (state new)
     cause_err fault none some = by_lists lists (λ is. absurd (no_fault (none is).0))
         (λ c cs is. commit_cause fault (state old) (state mid) (state new) (is_first (state old) lists c cs is are).first reads (reads.unchanged sound) unfailed (some c cs is).history (some c cs is).cause)
 
@@ -95,7 +87,7 @@ module _ {S : Type 0} (state : S → StoreState) (old mid new : S) (lists : List
           let first = is_first (state old) lists c cs is are in
           commit_done c (state old) (state mid) (state new) sound reads first.first first.respells db settled stands u ((some c cs is).at_once (reads.history.sound sound) (unfailed ∙ works)))
 
-      pub migrates_err : (fault : StoreFault) → CommitsNone (Err fault) mid new lists → CommitsOne (Err fault) (state mid) (state new) lists → Migrates (Err (commit_fault fault)) db (state old) (state new)
+      pub migrates_err : (fault : StoreFault) → CommitsNone (Err fault) mid new lists → CommitsOne (Err fault) (state mid) (state new) lists → Migrates (Err (Commit fault)) db (state old) (state new)
       migrates_err fault none some = by_lists lists (λ is. absurd (no_fault (none is).0))
           (λ c cs is.
           let first = is_first (state old) lists c cs is are in

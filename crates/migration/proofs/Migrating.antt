@@ -14,9 +14,9 @@ use Rattle.store.specs.declared.fault.StoreFault.TheVariants as commit
 use Rattle.store.proofs.Reading.{cause_later, rose_later}
 use Rattle.abstract_database.specs.Database.{Database}
 use Rattle.stored_database.specs.Spellings.{with_places, spelled_in_second, Stands, Means}
-use Rattle.migration.specs.Migrated.{in_second, read_fault, commit_fault, HasOpeningCause, KeepsDatabase, AfterMigration, Migrates}
+use Rattle.migration.specs.Migrated.{in_second, HasOpeningCause, KeepsDatabase, AfterMigration, Migrates}
 use Rattle.migration.specs.declared.fault.OpeningFault.{OpeningFault}
-use Rattle.migration.specs.declared.fault.OpeningFault.TheVariants.{Device}
+use Rattle.migration.specs.declared.fault.OpeningFault.TheVariants.{Read, Commit}
 use Rattle.migration.specs.Respelled.{RespellsFrom}
 
 -- ---- contents
@@ -43,16 +43,16 @@ respelled_contents changes old mid first same is = same_contents refl (ap (appli
 
 -- ---- causes
 
-pub read_cause : (fault : Fault) (old new : StoreState) → HasFaultCause fault old new → RespellsFrom old.spelling (Err fault) old.map → HasOpeningCause (read_fault fault) old new
+pub read_cause : (fault : Fault) (old new : StoreState) → HasFaultCause fault old new → RespellsFrom old.spelling (Err fault) old.map → HasOpeningCause (Read fault) old new
 read_cause read.Memory old new cause none = tt
 read_cause read.Device old new cause none = cause
 read_cause read.Damaged old new cause none = none
 
 pub commit_cause : (fault : StoreFault) (old mid new : StoreState) → old.spelling ≡ First → OnlyReads old mid → IsUnchanged old mid → mid.has_failed ≡ old.has_failed → KeepsHistory mid new
-    → HasCause fault mid new → HasOpeningCause (commit_fault fault) old new
+    → HasCause fault mid new → HasOpeningCause (Commit fault) old new
 commit_cause commit.Full old mid new first reads same unfailed later cause = (first, rose_later old.fulls mid.fulls new.fulls reads.history.fulls later.fulls cause)
-commit_cause commit.Memory old mid new first reads same unfailed later cause = tt
-commit_cause commit.Device old mid new first reads same unfailed later cause = cause_later commit.Device old mid new reads.history unfailed later cause
+commit_cause commit.Memory old mid new first reads same unfailed later cause = (first, tt)
+commit_cause commit.Device old mid new first reads same unfailed later cause = (first, cause_later commit.Device old mid new reads.history unfailed later cause)
 commit_cause commit.Number old mid new first reads same unfailed later cause = (first, sym same.number ∙ cause)
 
 -- ---- what is left
@@ -68,10 +68,8 @@ module _ (old new : StoreState) (db : Database) (sound : old.sound) (settled : I
   pub read_keeps : (result : Result (Unit {0}) OpeningFault) → KeepsDatabase db result old new
   read_keeps result = record { during = read_leaves; now = read_leaves.now; number = inr (let same = (reads.unchanged sound).number in omega (arith, same)) }
 
-  pub read_fails : (fault : Fault) → Migrates (Err (read_fault fault)) db old new
-  read_fails read.Memory = record { keeps = read_keeps _; outcome = reads.unchanged sound }
-  read_fails read.Device = record { keeps = read_keeps _; outcome = tt }
-  read_fails read.Damaged = record { keeps = read_keeps _; outcome = reads.unchanged sound }
+  pub read_fails : (fault : Fault) → Migrates (Err (Read fault)) db old new
+  read_fails fault = record { keeps = read_keeps _; outcome = reads.unchanged sound }
 
   pub nothing_done : old.spelling ≡ Second → (u : Unit {0}) → Migrates (Ok u) db old new
   nothing_done second u = record {
@@ -130,13 +128,13 @@ module _ (changes : Changes) (old mid new : StoreState) (sound : old.sound) (rea
     commit_left result c x left = now_means result x (c.left x left)
 
     commit_keeps : (result : Result (Unit {0}) StoreFault) (told : Result (Unit {0}) OpeningFault) → CommitsAtOnce result after mid new
-        → (told ≡ Err Device) ⊎ (new.number ≤ old.number + 1) → KeepsDatabase db told old new
+        → (told ≡ Err (Commit commit.Device)) ⊎ (new.number ≤ old.number + 1) → KeepsDatabase db told old new
     commit_keeps result told c number = record { during = commit_leaves result c; now = commit_left result c; number = number }
 
-    refused : (fault : StoreFault) → CommitsAtOnce (Err fault) after mid new → IsUnchanged mid new → AfterMigration (Err (commit_fault fault)) old new → Migrates (Err (commit_fault fault)) db old new
+    refused : (fault : StoreFault) → CommitsAtOnce (Err fault) after mid new → IsUnchanged mid new → AfterMigration (Err (Commit fault)) old new → Migrates (Err (Commit fault)) db old new
     refused fault c same outcome = record { keeps = commit_keeps (Err fault) _ c (inr (stays same)); outcome = outcome }
 
-    pub commit_fails : (fault : StoreFault) → CommitsAtOnce (Err fault) after mid new → Migrates (Err (commit_fault fault)) db old new
+    pub commit_fails : (fault : StoreFault) → CommitsAtOnce (Err fault) after mid new → Migrates (Err (Commit fault)) db old new
     commit_fails commit.Full c = refused commit.Full c c.committed (unchanged c.committed)
     commit_fails commit.Memory c = refused commit.Memory c c.committed (unchanged c.committed)
     commit_fails commit.Number c = refused commit.Number c c.committed (unchanged c.committed)

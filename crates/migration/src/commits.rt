@@ -31,9 +31,10 @@ pub fn commit_respelled<S: Store>(store: &mut S, lists: &[Batch]) -> Result<(), 
 /// Spells the records of a store of the first spelling in the second, in one commit; does nothing
 /// in the second. Over records that stand for a database a stop at any moment leaves that database.
 ///
-/// Memory: an allocation failed. Damaged: the records stand for no database. Full: no room is left.
-/// Number: no commit number is. After these nothing has changed. Device: the device failed, and
-/// which spelling is there is known only when the device is opened again.
+/// `Read`: `Memory`: an allocation failed. `Damaged`: the records stand for no database. `Device`: the
+/// device failed. Nothing has changed then. `Commit`: `Memory`: an allocation failed. `Full`: no room
+/// is left. `Number`: no commit number is. Nothing has changed then either, but after `Device`: the
+/// device failed, and which spelling is there is known only when it is opened again.
 pub fn migrate<S: Store>(alloc: Global, store: &mut S) -> Result<(), OpeningFault>
     ensures history { KeepsHistory (S.state store.old) (S.state store.new) }
     ensures failed { (S.state store.new).has_failed
@@ -49,10 +50,10 @@ pub fn migrate<S: Store>(alloc: Global, store: &mut S) -> Result<(), OpeningFaul
 {
     let lists = match respelled_lists(alloc, store) {
         Ok(lists) => lists,
-        Err(fault) => return Err(OpeningFault::from(fault)),
+        Err(fault) => return Err(OpeningFault::Read(fault)),
     };
     match commit_respelled(store, lists.as_slice()) {
         Ok(()) => Ok(()),
-        Err(fault) => Err(OpeningFault::from(fault)),
+        Err(fault) => Err(OpeningFault::Commit(fault)),
     }
 }

@@ -14,8 +14,8 @@ use Rattle.stored_database.specs.Definitions.{Definitions}
 use Rattle.stored_database.specs.Records.{Shows}
 use Rattle.stored_database.specs.Spellings.{spelled_in_second, Stands}
 use Rattle.migration.specs.declared.fault.OpeningFault.{OpeningFault}
-use Rattle.migration.specs.declared.fault.OpeningFault.TheVariants as opening
-use Rattle.migration.specs.Migrated.{Migrates, read_fault, commit_fault, failed_after_opening, HasOpeningCause}
+use Rattle.migration.specs.declared.fault.OpeningFault.TheVariants.{Read, Commit}
+use Rattle.migration.specs.Migrated.{Migrates, failed_after_opening, HasOpeningCause}
 use Rattle.migration.specs.Respelled.{AreRespelling}
 use Rattle.migration.proofs.Migrating.{IsSettled}
 use Rattle.migration.proofs.Ending.{by_lists, no_fault, migrates_ok, CommitsNone, CommitsOne}
@@ -24,23 +24,23 @@ use Rattle.opening.specs.Read.{AreRead}
 
 -- ---- an opening that ends with a fault of its reads
 
-pub looked : {T : Type 0} (fault : Fault) (old new : StoreState) → HasRead {T = T} (Err fault) old new → HasLooked (Err (read_fault fault)) old new
+pub looked : {T : Type 0} (fault : Fault) (old new : StoreState) → HasRead {T = T} (Err fault) old new → HasLooked (Err (Read fault)) old new
 looked read.Memory old new h = record { only_reads = h.only_reads; cause = h.cause; failed = h.failed }
 looked read.Device old new h = record { only_reads = h.only_reads; cause = h.cause; failed = h.failed }
 looked read.Damaged old new h = record { only_reads = h.only_reads; cause = h.cause; failed = h.failed }
 
-pub read_failed : {T : Type 0} (fault : Fault) (old new : StoreState) → HasRead {T = T} (Err fault) old new → new.has_failed ≡ failed_after_opening (Err (read_fault fault)) old.has_failed
+pub read_failed : {T : Type 0} (fault : Fault) (old new : StoreState) → HasRead {T = T} (Err fault) old new → new.has_failed ≡ failed_after_opening (Err (Read fault)) old.has_failed
 read_failed read.Memory old new h = h.failed
 read_failed read.Device old new h = h.failed
 read_failed read.Damaged old new h = h.failed
 
-pub read_cause : (fault : Fault) (old new : StoreState) → HasFaultCause fault old new → AreRead (stored old) (Err fault) → HasOpeningCause (read_fault fault) old new
+pub read_cause : (fault : Fault) (old new : StoreState) → HasFaultCause fault old new → AreRead (stored old) (Err fault) → HasOpeningCause (Read fault) old new
 read_cause read.Memory old new cause none = tt
 read_cause read.Device old new cause none = cause
 read_cause read.Damaged old new cause none = none
 
 -- what stands for a database is not damaged
-pub not_damaged : (fault : OpeningFault) (old new : StoreState) → HasOpeningCause fault old new → (db : Database) → Stands (stored old) db → fault ≢ opening.Damaged
+pub not_damaged : (fault : OpeningFault) (old new : StoreState) → HasOpeningCause fault old new → (db : Database) → Stands (stored old) db → fault ≢ Read read.Damaged
 not_damaged fault old new cause db stands is = subst (λ (f : OpeningFault). HasOpeningCause f old new) is cause db stands
 
 -- ---- an opening that only looks makes no commit
@@ -49,30 +49,24 @@ pub opened_looking : (s : Spelling) (u : Unit {0}) → OnlyLooks s (Ok u) → s 
 opened_looking First u h = absurd h
 opened_looking Second u h = refl
 
-refused_first : (fault : StoreFault) → OnlyLooks First (Err (commit_fault fault)) → ⊥
-refused_first commit.Full h = h
-refused_first commit.Memory h = h
-refused_first commit.Device h = h
-refused_first commit.Number h = h
-
-refused_looking : (s : Spelling) (fault : StoreFault) → OnlyLooks s (Err (commit_fault fault)) → s ≡ Second
-refused_looking First fault h = absurd (refused_first fault h)
+refused_looking : (s : Spelling) (fault : StoreFault) → OnlyLooks s (Err (Commit fault)) → s ≡ Second
+refused_looking First fault h = absurd h
 refused_looking Second fault h = refl
 
 -- an opening that only looks at what it opens only looks where memory then runs out
-pub looking_without_memory : (s : Spelling) → OnlyLooks s (Err opening.Memory) → OnlyLooks s (Ok tt)
+pub looking_without_memory : (s : Spelling) → OnlyLooks s (Err (Read read.Memory)) → OnlyLooks s (Ok tt)
 looking_without_memory First h = absurd h
 looking_without_memory Second h = tt
 
 -- a fault of a commit comes only where there is a list, so not in the second spelling
 pub no_look_refused : {P S : Type 0} (s : Spelling) (fault : StoreFault) (mid new : S) (lists : List Changes) → (s ≡ Second → lists ≡ []) → CommitsNone (Err fault) mid new lists
-    → OnlyLooks s (Err (commit_fault fault)) → P
+    → OnlyLooks s (Err (Commit fault)) → P
 no_look_refused s fault mid new lists unlisted none looks = absurd (no_fault (none (unlisted (refused_looking s fault looks))).0)
 
 -- ---- an opening that ends with its commit, or with none
 
 -- what a refused commit leaves is what was there, except after Device
-unchanged_by : (fault : StoreFault) (after : Contents) (old new : StoreState) → AfterCommit (Err fault) after old new → (commit_fault fault ≡ opening.Device) ⊎ IsUnchanged old new
+unchanged_by : (fault : StoreFault) (after : Contents) (old new : StoreState) → AfterCommit (Err fault) after old new → (fault ≡ commit.Device) ⊎ IsUnchanged old new
 unchanged_by commit.Full after old new is = inr is
 unchanged_by commit.Memory after old new is = inr is
 unchanged_by commit.Device after old new is = inl refl
@@ -92,7 +86,7 @@ module _ {S : Type 0} (state : S → StoreState) (old mid new : S) (lists : List
 
   module _ (sound : (state old).sound) (works : (state old).has_failed ≡ false) where
     pub unchanged_refused : (fault : StoreFault) → CommitsNone (Err fault) mid new lists → CommitsOne (Err fault) (state mid) (state new) lists
-        → (commit_fault fault ≡ opening.Device) ⊎ IsUnchanged (state old) (state new)
+        → (fault ≡ commit.Device) ⊎ IsUnchanged (state old) (state new)
     unchanged_refused fault none some = by_lists lists (λ is. absurd (no_fault (none is).0)) (λ c cs is.
         let done = (some c cs is).at_once (reads.history.sound sound) (unfailed ∙ works) in
         ⊎_elim (λ device. inl device) (λ same. inr (unchanged_since (state old) (state mid) (state new) (reads.unchanged sound) same)) (unchanged_by fault _ (state mid) (state new) done.committed))

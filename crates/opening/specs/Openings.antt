@@ -12,8 +12,8 @@ use Rattle.stored_database.specs.Definitions.{Definitions}
 use Rattle.stored_database.specs.Records.{Shows}
 use Rattle.stored_database.specs.Spellings.{Stands, Means}
 use Rattle.migration.specs.declared.fault.OpeningFault.{OpeningFault}
-use Rattle.migration.specs.declared.fault.OpeningFault.TheVariants.{Memory, Device, Damaged, Full, Number}
-pub use Rattle.migration.specs.Migrated.{read_fault, commit_fault, failed_after_opening, HasOpeningCause, KeepsDatabase}
+use Rattle.migration.specs.declared.fault.OpeningFault.TheVariants.{Read, Commit}
+pub use Rattle.migration.specs.Migrated.{failed_after_opening, HasOpeningCause, KeepsDatabase}
 use Rattle.server.specs.declared.server.Server.{Server}
 use Rattle.server.specs.Standing.{Represents, at_start}
 use Rattle.opening.specs.declared.opening.Refused.{Refused}
@@ -48,20 +48,16 @@ IsNumberAfter Second before number = number ≡ before
 abbrev pub OnlyLooks : Spelling → Result (Unit {0}) OpeningFault → Type 0
 OnlyLooks Second outcome = Unit {0}
 OnlyLooks First (Ok x) = ⊥
-OnlyLooks First (Err Memory) = ⊥
-OnlyLooks First (Err Device) = ⊥
-OnlyLooks First (Err Damaged) = Unit {0}
-OnlyLooks First (Err Full) = ⊥
-OnlyLooks First (Err Number) = ⊥
+OnlyLooks First (Err (Read read.Memory)) = ⊥
+OnlyLooks First (Err (Read read.Device)) = ⊥
+OnlyLooks First (Err (Read read.Damaged)) = Unit {0}
+OnlyLooks First (Err (Commit fault)) = ⊥
 
 -- reads, with this outcome, which is none of a commit
 abbrev pub HasLooked : Result (Unit {0}) OpeningFault → StoreState → StoreState → Type 0
 HasLooked (Ok x) old new = HasRead (Ok x) old new
-HasLooked (Err Memory) old new = HasRead {T = Unit {0}} (Err read.Memory) old new
-HasLooked (Err Device) old new = HasRead {T = Unit {0}} (Err read.Device) old new
-HasLooked (Err Damaged) old new = HasRead {T = Unit {0}} (Err read.Damaged) old new
-HasLooked (Err Full) old new = ⊥
-HasLooked (Err Number) old new = ⊥
+HasLooked (Err (Read fault)) old new = HasRead {T = Unit {0}} (Err fault) old new
+HasLooked (Err (Commit fault)) old new = ⊥
 
 -- the server has just been opened over the database that these contents stand for, and its store is of the second spelling
 pub record IsOpened {S X : Type 0} (state : S → StoreState) (contents : Contents) (server : Server S X) : Type 0 where

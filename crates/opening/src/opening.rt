@@ -2,10 +2,12 @@
 
 ghost use Rattle.std.specs.Prelude.{◌≡◌, ◌≢◌, [], Err, IfOk, IfErr, OnOk, true, false};
 ghost use Rattle.storage_sizes.specs.declared.spelling.Spelling.TheVariants.{Second};
+ghost use Rattle.store.specs.declared.fault.StoreFault.TheVariants as commit;
 ghost use Rattle.store.specs.Readers.{HasRead};
 ghost use Rattle.store.specs.Store.{StoreState, KeepsHistory, IsUnchanged, stored};
 ghost use Rattle.abstract_database.specs.Database.{Database};
 ghost use Rattle.stored_database.specs.Spellings.{Stands};
+ghost use Rattle.migration.specs.declared.fault.OpeningFault.TheVariants.{Read, Commit};
 ghost use Rattle.migration.specs.Migrated.{HasOpeningCause, KeepsDatabase, failed_after_opening};
 ghost use Rattle.opening.specs.Openings.{IsOpened, HasLooked, IsNumberAfter, OnlyLooks, outcome_of, store_of};
 ghost use Rattle.opening.specs.Read.{AreRead};
@@ -32,12 +34,13 @@ pub struct Refused<S> {
 /// The records of a store of the first spelling are then spelled in the second, in one commit; a
 /// stop at any moment leaves the same database.
 ///
-/// Damaged: the contents stand for no database; nothing is written. Device: the device failed, or
-/// what it gave was none of the store's; a store that had failed before answers it always. In which
-/// spelling the records of a store of the first then are is known when the device is opened again.
-/// Memory: an allocation failed. Full: the records of the first spelling find no room in the second.
-/// Number: no commit number is left for them. After Memory, Damaged, Full and Number the store that
-/// is handed back works as before, with the contents and the number that it had.
+/// `Read`: `Damaged`: the contents stand for no database; nothing is written. `Device`: the device
+/// failed, or what it gave was none of the store's; a store that had failed before answers it always.
+/// `Memory`: an allocation failed. `Commit`: the records of the first spelling were not spelled in the
+/// second. `Full`: they find no room in it. `Number`: no commit number is left for them. `Memory`: an
+/// allocation failed. `Device`: the device failed, and in which spelling they then are is known when it
+/// is opened again. After each other fault the store that is handed back has the contents and the
+/// number that it had, and after each but the two of the device it works as before.
 pub fn open<S: Store, X: Decide + Drop>(
     alloc: Global,
     store: S,
@@ -58,30 +61,30 @@ pub fn open<S: Store, X: Decide + Drop>(
         (S.state server.store).number) }
     ensures damaged { (S.state store).sound → (db : Database)
         → Stands (stored (S.state store)) db
-        → IfErr result (λ refused. refused.fault ≢ OpeningFault.Damaged) }
+        → IfErr result (λ refused. refused.fault ≢ Read Fault.Damaged) }
     ensures cause { (S.state store).sound
         → IfErr result (λ refused. HasOpeningCause refused.fault (S.state store)
         (S.state (store_of result))) }
     ensures failed { (S.state store).has_failed ≡ true
-        → outcome_of result ≡ Err OpeningFault.Device }
+        → outcome_of result ≡ Err (Read Fault.Device) }
     ensures works { (S.state (store_of result)).has_failed
         ≡ failed_after_opening (outcome_of result) (S.state store).has_failed }
     ensures unchanged { (S.state store).sound
-        → IfErr result (λ refused. refused.fault ≢ OpeningFault.Device
+        → IfErr result (λ refused. refused.fault ≢ Commit commit.Device
         → IsUnchanged (S.state store) (S.state (store_of result))) }
 {
     let mut store = store;
     let (lists, catalogue) = match read_store(alloc, &mut store) {
         Ok(read) => read,
         Err(fault) => {
-            let fault = OpeningFault::from(fault);
+            let fault = OpeningFault::Read(fault);
             return Err(Refused { store, fault });
         }
     };
     match commit_respelled(&mut store, lists.as_slice()) {
         Ok(()) => Ok(Server::over(alloc, store, decider, catalogue)),
         Err(fault) => {
-            let fault = OpeningFault::from(fault);
+            let fault = OpeningFault::Commit(fault);
             Err(Refused { store, fault })
         }
     }

@@ -34,5 +34,6 @@ mod Edits
 mod LeafChanges
 mod Bounded
 mod Made
+mod Turning
 mod LeavesBehind
 pub mod LeafJoins

@@ -5,15 +5,10 @@ use Rattle.pages.specs.declared.array.PageFault.{PageFault}
 use Rattle.pages.specs.declared.array.PageFault.TheVariants.{Full}
 use Rattle.pages.specs.declared.array.Pages.{Ghosts}
 use Rattle.pages.specs.State.{PagesState, OnlyReads}
-use Rattle.page_nodes.specs.Map.{Entry}
-use Rattle.page_nodes.specs.Node.{four_bytes}
-use Rattle.page_nodes.specs.Search.{child_in, cell_past}
 use Rattle.store.specs.Records.{Changes}
 use Rattle.page_tree.specs.Taking.{TakesPages, most_changed}
 use Rattle.page_tree.proofs.Taking.{least_left, taken_then}
-use Rattle.page_tree.specs.Bounds.{IsBound, bound_past}
 use Rattle.page_tree.specs.Changed.{Change, AreWithin, MakesSome}
-use Rattle.page_tree.specs.declared.bound.KeyBound.{KeyBound}
 use Rattle.page_tree.specs.declared.changes.Changed.{Changed}
 
 pub reads_then : (S T U : PagesState) → OnlyReads S T → OnlyReads T U → OnlyReads S U
@@ -24,11 +19,6 @@ pub made_since : {P : Type 0} (g : Ghosts P) (old mid new : P) (high above : Opt
     → (made : Option Changed) → MakesSome g mid new high first changes A made → MakesSome g old new above first changes B made
 made_since g old mid new high above first changes A B reads within gives None is = (reads_then (g.state old) (g.state mid) (g.state new) reads is.0, is.1)
 made_since g old mid new high above first changes A B reads within gives (Some c) is = (within (take c.made changes) is.0, gives c is.0 is.1)
-
--- the child of a key, and the bound of its keys
-pub turned_as : (child : ℕ) (bound : KeyBound) (high : Option (List ℕ)) (k key first : List ℕ) (cs : List Entry) → k ≡ key → (four_bytes child ≡ child_in k first cs) × IsBound bound (bound_past (cell_past k cs) high)
-    → (four_bytes child ≡ child_in key first cs) × IsBound bound (bound_past (cell_past key cs) high)
-turned_as child bound high k key first cs same is = subst (λ (x : List ℕ). (four_bytes child ≡ child_in x first cs) × IsBound bound (bound_past (cell_past x cs) high)) same is
 
 pub none_is : {T : Type 0} (made : Option T) (X : Type 0) (Y : T → Type 0) → made ≡ None → MatchOption made X Y → X
 none_is {T} made X Y is all = subst (λ (o : Option T). MatchOption o X Y) is all

@@ -1,7 +1,6 @@
 -- An item put among others in rising order, at the place behind those that come before it.
-use Rattle.std.proofs.Common.{◌≡◌, ℕ, zero, suc, arith, Bool, true, false, cond, ◌&&◌, ◌+◌, List, [], ◌∷◌, ◌++◌, map, fold, slice_get, refl, sym, ap, ◌∙◌, inl, inr}
-use Rattle.std.specs.List.{insert, prefix_len, flat_map, list_all}
-use Rattle.std.proofs.lemmas.List.Folds.{list_all-append}
+use Rattle.std.proofs.Common.{◌≡◌, ℕ, zero, suc, arith, true, false, cond, ◌+◌, List, [], ◌∷◌, map, fold, slice_get, refl, sym, ap, ◌∙◌, inl, inr}
+use Rattle.std.specs.List.{insert, prefix_len}
 use Rattle.std.specs.Ordering.{is_lt, is_eq, is_gt}
 use Rattle.std.specs.declared.cmp.Ordering.{Ordering}
 use Rattle.std.specs.declared.cmp.Ordering.TheVariants.{Less, Equal, Greater}
@@ -72,8 +71,3 @@ put_new x (y ∷ ys) e = go (name_cmp x y) refl e (put_new x ys) where
 pub stays_public : (gs : List Grantee) → fold with_grantee roles.Public gs ≡ roles.Public
 stays_public [] = refl
 stays_public (g ∷ gs) = stays_public gs
-
--- a test of all that lists have together
-pub all_together : {X Y : Type 0} (test : Y → Bool) (f : X → List Y) (xs : List X) → list_all test (flat_map f xs) ≡ list_all (λ x. list_all test (f x)) xs
-all_together test f [] = refl
-all_together test f (x ∷ xs) = list_all-append test (f x) (flat_map f xs) ∙ ap (λ (b : Bool). list_all test (f x) && b) (all_together test f xs)

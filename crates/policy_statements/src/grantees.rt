@@ -4,7 +4,6 @@ ghost use Rattle.std.specs.Prelude.{◌≡◌, [], fold, unwrap_or, IfOk};
 ghost use Rattle.std.specs.List.{list_all};
 ghost use Rattle.sql_ast.specs.declared.policy.PolicyRoles.TheVariants.{Only as only};
 ghost use Rattle.abstract_database.specs.Database.{has_role};
-ghost use Rattle.abstract_database.specs.Privileges.{role_of};
 ghost use Rattle.abstract_database.specs.Checks.{grantee_roles};
 ghost use Rattle.abstract_database.specs.Definitions.{policy_roles as roles_of, with_grantee};
 ghost use Rattle.stored_database.specs.Definitions.{database_of};
@@ -24,23 +23,7 @@ pub(crate) fn are_roles(catalogue: &Catalogue, grantees: &Option<Items<Grantee>>
 {
     match grantees {
         None => true,
-        Some(grantees) => are_known(catalogue, grantees.as_slice()),
-    }
-}
-
-fn are_known(catalogue: &Catalogue, grantees: &[Grantee]) -> bool
-    ensures { result ≡ list_all (λ grantee.
-        list_all (has_role (database_of catalogue.now)) (role_of grantee)) grantees.now }
-{
-    grantees.iter().all(|grantee| is_known(catalogue, grantee))
-}
-
-fn is_known(catalogue: &Catalogue, grantee: &Grantee) -> bool
-    ensures { result ≡ list_all (has_role (database_of catalogue.now)) (role_of grantee.now) }
-{
-    match grantee {
-        Grantee::Public => true,
-        Grantee::Role(name) => catalogue.has_role(name),
+        Some(grantees) => catalogue.knows_grantees(grantees.as_slice()),
     }
 }
 

@@ -6,16 +6,9 @@ ghost use Rattle.std.specs.Ordering.{is_gt};
 ghost use Rattle.abstract_database.specs.Lists.{name_cmp, put, the_new};
 ghost use Rattle.policy_statements.specs.Names.{is_this};
 
+use catalogue::order::compare_names;
 use sql_types::name::Name;
 use std::alloc::AllocError;
-use std::cmp::Ordering;
-
-/// The order of two names, by their bytes.
-pub(crate) fn compare_names(left: &Name, right: &Name) -> Ordering
-    ensures { result ≡ name_cmp left.now right.now }
-{
-    left.as_str().cmp(right.as_str())
-}
 
 /// Puts a name among others that rise, unless it is there. The only error is that an allocation
 /// failed.

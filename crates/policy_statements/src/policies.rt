@@ -5,7 +5,7 @@ ghost use Rattle.std.specs.List.{insert, prefix_len};
 ghost use Rattle.std.specs.Ordering.{is_gt};
 ghost use Rattle.abstract_database.specs.Lists.{name_cmp, drop_where};
 
-use crate::names::compare_names;
+use catalogue::order::compare_names;
 use catalogue::policy::CataloguePolicy;
 use sql_types::name::Name;
 use std::alloc::AllocError;

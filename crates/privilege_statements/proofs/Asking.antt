@@ -1,5 +1,5 @@
 -- Whether a role has some privilege on a table, by the names of the roles that it is in.
-use Rattle.std.proofs.Common.{◌≡◌, Bool, true, false, ◌&&◌, ◌||◌, List, [], ◌∷◌, map, bytes_eq, Bor, refl, sym, ap, ◌∙◌, inl, inr}
+use Rattle.std.proofs.Common.{◌≡◌, Bool, false, ◌&&◌, ◌||◌, List, [], ◌∷◌, map, bytes_eq, Bor, refl, sym, ap, ◌∙◌, inl, inr}
 use Rattle.std.specs.List.{list_any}
 use Rattle.sql_ast.specs.declared.role.Membership.{Membership}
 use Rattle.sql_ast.specs.declared.privilege.Grantee.{Grantee}
@@ -12,21 +12,11 @@ use Rattle.abstract_database.specs.Privileges.{reaches}
 use Rattle.abstract_database.specs.Whole.{Each}
 use Rattle.abstract_database.proofs.ListLemmas.{same_bytes}
 use Rattle.catalogue.specs.Grants.{is_for, IsNamed, AreNamed}
+use Rattle.grant_graph.proofs.Marks.{any_or}
 
 none_any : {X : Type 0} (xs : List X) → list_any (λ (x : X). false) xs ≡ false
 none_any [] = refl
 none_any (x ∷ xs) = none_any xs
-
-shuffled : (a b c d : Bool) → ((a || b) || (c || d)) ≡ ((a || c) || (b || d))
-shuffled true b c d = refl
-shuffled false true true d = refl
-shuffled false true false d = refl
-shuffled false false true d = refl
-shuffled false false false d = refl
-
-any_or : {X : Type 0} (p q : X → Bool) (xs : List X) → list_any (λ x. p x || q x) xs ≡ (list_any p xs || list_any q xs)
-any_or p q [] = refl
-any_or p q (x ∷ xs) = ap (λ b. (p x || q x) || b) (any_or p q xs) ∙ shuffled (p x) (q x) (list_any p xs) (list_any q xs)
 
 any_swapped : {X Y : Type 0} (f : X → Y → Bool) (xs : List X) (ys : List Y) → list_any (λ x. list_any (f x) ys) xs ≡ list_any (λ y. list_any (λ x. f x y) xs) ys
 any_swapped f [] ys = sym (none_any ys)

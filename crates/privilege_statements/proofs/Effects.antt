@@ -1,6 +1,6 @@
 -- What GRANT and REVOKE on a table of a database answer and leave.
 use Rattle.std.proofs.Common.{◌≡◌, ◌&&◌, ◌||◌, ℕ, Bool, true, false, not, cond, List, [], ◌∷◌, Option, None, Result, Ok, Err, refl, sym, ap, subst, ◌∙◌}
-use Rattle.std.specs.List.{list_any, list_all}
+use Rattle.std.specs.List.{list_any}
 use Rattle.std.specs.Option.{option_map}
 use Rattle.std.specs.Prelude.{IfErr}
 use Rattle.std.specs.Result.{IsErrAnd}
@@ -15,7 +15,6 @@ use Rattle.sql_ast.specs.declared.role.Role.{Role}
 use Rattle.sql_ast.specs.declared.role.Membership.{Membership}
 use Rattle.sql_ast.specs.declared.policy.Policy.{Policy}
 use Rattle.sql_ast.specs.declared.privilege.Grantee.{Grantee}
-use Rattle.sql_ast.specs.declared.privilege.Grantee.TheVariants as grantee
 use Rattle.sql_ast.specs.declared.privilege.Descriptor.{Descriptor}
 use Rattle.sql_ast.specs.declared.statement.DropBehavior.{DropBehavior}
 use Rattle.sql_ast.specs.declared.statement.Privileges.{Privileges}
@@ -24,22 +23,15 @@ use Rattle.sql_ast.specs.declared.statement.Grant.{Grant}
 use Rattle.sql_ast.specs.declared.statement.Revoke.{Revoke}
 use Rattle.expressions.specs.Stages.{◌>>=◌, require, each}
 use Rattle.abstract_database.specs.Lists.{TheName, Rising, change_where, drop_where, found_or}
-use Rattle.abstract_database.specs.Database.{Database, Table, TableOf, has_role, descriptor_cmp}
+use Rattle.abstract_database.specs.Database.{Database, Table, TableOf, descriptor_cmp}
 use Rattle.abstract_database.specs.Privileges.{has_some_privilege, columns_named, privileges_of, leaves_out, granted_by, with_descriptors, is_named_in, is_taken_by, without_named, without_option, abandoned, is_cascade, held_or_refused, revoked}
 use Rattle.abstract_database.specs.Checks.{CheckedRevoke, found_column, require_roles, grantee_roles, is_public}
 use Rattle.abstract_database.specs.Statements.{Effect, warned, grant, revoke}
 use Rattle.grant_graph.proofs.Marks.{taken_is}
 use Rattle.privilege_statements.specs.declared.named.Named.{Named}
 use Rattle.privilege_statements.specs.Named.{IsNamed}
-use Rattle.privilege_statements.specs.Descriptors.{Around, database_in, carried_out, checked, grant_checked, warning_where, is_known}
+use Rattle.privilege_statements.specs.Descriptors.{Around, database_in, carried_out, checked, grant_checked, warning_where}
 use Rattle.privilege_statements.proofs.Orders.{all_rise, same_named, found_in_order, granted_in_order}
-
--- ---- the checks
-
-pub known_roles : (db : Database) (gs : List Grantee) → list_all (is_known db.roles) gs ≡ list_all (has_role db) (grantee_roles gs)
-known_roles db [] = refl
-known_roles db (grantee.Public ∷ gs) = known_roles db gs
-known_roles db (grantee.Role name ∷ gs) = ap (λ (b : Bool). has_role db name && b) (known_roles db gs)
 
 -- ---- lists of which the same are named
 

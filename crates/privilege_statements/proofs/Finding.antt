@@ -36,6 +36,9 @@ use Rattle.catalogue_changes.proofs.TableBridgeLemmas.{table_there, found_among}
 use Rattle.catalogue_changes.proofs.AloneLemmas.{grant_alone, revoke_alone}
 use Rattle.privilege_statements.specs.Descriptors.{Around, database_in, carried_out}
 use Rattle.privilege_statements.specs.Alone.{LeavesAlone, IsRefusedAlone}
+use Rattle.privilege_statements.specs.Statements.{table_of, run_of, IsRead}
+use Rattle.privilege_statements.specs.declared.statement.PrivilegeStatement.{PrivilegeStatement}
+use Rattle.privilege_statements.specs.declared.statement.PrivilegeStatement.TheVariants as statement
 use Rattle.privilege_statements.proofs.Carrying.{ConcernsTable}
 
 -- ---- no table of this name
@@ -54,15 +57,15 @@ not_found : (d : Definitions) (db : Database) (name : TheName) → Describes d d
 not_found d db name h e =
     ap (λ (o : Option Table). found_or UndefinedTable (option_map (λ (t : Table). t.definition) o)) (ap (λ (x : Database). table_named x name) h.is ∙ none_with_rows name d.tables h.rows e)
 
-pub grant_on_none : (d : Definitions) (current : TheName) (s : Grant) → find (is_definition_named s.table) d.tables ≡ None → Refuses (IsCurrent current) (λ db users. grant db users s) d (record { 0 = UndefinedTable })
+grant_on_none : (d : Definitions) (current : TheName) (s : Grant) → find (is_definition_named s.table) d.tables ≡ None → Refuses (IsCurrent current) (λ db users. grant db users s) d (record { 0 = UndefinedTable })
 grant_on_none d current s e = inr (λ db users h by. rw (not_found d db s.table h e) refl)
 
-pub revoke_on_none : (d : Definitions) (current : TheName) (s : Revoke) → find (is_definition_named s.table) d.tables ≡ None → Refuses (IsCurrent current) (λ db users. revoke db users s) d (record { 0 = UndefinedTable })
+revoke_on_none : (d : Definitions) (current : TheName) (s : Revoke) → find (is_definition_named s.table) d.tables ≡ None → Refuses (IsCurrent current) (λ db users. revoke db users s) d (record { 0 = UndefinedTable })
 revoke_on_none d current s e = inr (λ db users h by. rw (not_found d db s.table h e) refl)
 
 -- ---- the statements concern their table
 
-pub grant_concerns : (d : Definitions) (s : Grant) (t : TableDefinition) → IsReadGrant s → IsTableOf d s.table t → ConcernsTable (λ db users. grant db users s) d t
+grant_concerns : (d : Definitions) (s : Grant) (t : TableDefinition) → IsReadGrant s → IsTableOf d s.table t → ConcernsTable (λ db users. grant db users s) d t
 grant_concerns d s t read found = record {
   agrees = λ db users h. grant_alone d db users s t h found;
   whole = λ db users e h is.
@@ -70,13 +73,23 @@ grant_concerns d s t read found = record {
       (grant_whole db users s read (described_whole d db h) e is);
 }
 
-pub revoke_concerns : (d : Definitions) (s : Revoke) (t : TableDefinition) → IsTableOf d s.table t → ConcernsTable (λ db users. revoke db users s) d t
+revoke_concerns : (d : Definitions) (s : Revoke) (t : TableDefinition) → IsTableOf d s.table t → ConcernsTable (λ db users. revoke db users s) d t
 revoke_concerns d s t found = record {
   agrees = λ db users h. revoke_alone d db users s t h found;
   whole = λ db users e h is.
       whole_of e.database (ordered db users (on_database.Defining (defining.Revoke s)) e is (described_whole d db h).definitions.order)
       (revoke_whole db users s (described_whole d db h) e is);
 }
+
+-- ---- each of them
+
+pub on_none : (d : Definitions) (current : TheName) (s : PrivilegeStatement) → find (is_definition_named (table_of s)) d.tables ≡ None → Refuses (IsCurrent current) (run_of s) d (record { 0 = UndefinedTable })
+on_none d current (statement.Grant s) e = grant_on_none d current s.now e
+on_none d current (statement.Revoke s) e = revoke_on_none d current s.now e
+
+pub concerns_table : (d : Definitions) (s : PrivilegeStatement) (t : TableDefinition) → IsRead s → IsTableOf d (table_of s) t → ConcernsTable (run_of s) d t
+concerns_table d (statement.Grant s) t read found = grant_concerns d s.now t read found
+concerns_table d (statement.Revoke s) t read found = revoke_concerns d s.now t found
 
 -- the table of a name has it
 pub named_as : (d : Definitions) (name : TheName) (t : TableDefinition) → IsTableOf d name t → name ≡ t.definition.name

@@ -10,7 +10,6 @@ use Rattle.sql_ast.specs.Layout.{Layout}
 use Rattle.sql_ast.specs.declared.role.Role.{Role}
 use Rattle.sql_ast.specs.declared.role.Membership.{Membership}
 use Rattle.sql_ast.specs.declared.privilege.Grantee.{Grantee}
-use Rattle.sql_ast.specs.declared.privilege.Grantee.TheVariants as grantee
 use Rattle.sql_ast.specs.declared.privilege.Descriptor.{Descriptor}
 use Rattle.sql_ast.specs.declared.policy.Policy.{Policy}
 use Rattle.sql_ast.specs.declared.statement.Privileges.{Privileges}
@@ -18,7 +17,7 @@ use Rattle.sql_ast.specs.declared.statement.Grant.{Grant}
 use Rattle.expressions.specs.Meaning.{UserNames}
 use Rattle.expressions.specs.Stages.{◌>>=◌, require, each}
 use Rattle.abstract_database.specs.Lists.{TheName}
-use Rattle.abstract_database.specs.Database.{Database, Table, TableOf, is_table_named, is_role_named}
+use Rattle.abstract_database.specs.Database.{Database, Table, TableOf, is_table_named}
 use Rattle.abstract_database.specs.Privileges.{columns_named, has_some_privilege}
 use Rattle.abstract_database.specs.Checks.{found_column, require_roles, grantee_roles, is_public}
 use Rattle.abstract_database.specs.Statements.{Effect, effect}
@@ -59,8 +58,3 @@ grant_checked db current layout s = do
 abbrev pub warning_where : Bool → Warning → Option Warning
 warning_where true warning = Some warning
 warning_where false warning = None
-
--- whether a grantee is PUBLIC or one of these roles
-abbrev pub is_known : List Role → Grantee → Bool
-is_known roles grantee.Public = true
-is_known roles (grantee.Role name) = list_any (is_role_named name) roles

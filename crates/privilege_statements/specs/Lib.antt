@@ -4,3 +4,4 @@ pub mod Units
 pub mod Named
 pub mod Descriptors
 pub mod Alone
+pub mod Statements

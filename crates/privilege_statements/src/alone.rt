@@ -1,78 +1,69 @@
 //! GRANT and REVOKE over the privilege descriptors of a table alone.
 
 ghost use Rattle.std.specs.Prelude.{◌≡◌, IfOk, IfErr};
-ghost use Rattle.sql_types.specs.declared.tag.Tag.TheVariants as tag;
-ghost use Rattle.abstract_database.specs.Statements.{grant as grants, revoke as revokes};
 ghost use Rattle.catalogue.specs.Descriptors.{descriptors_after};
 ghost use Rattle.catalogue_changes.specs.DescriptorChanges.{IsChangeOf};
 ghost use Rattle.catalogue_changes.specs.StatementChanges.{IsTableOf};
 ghost use Rattle.privilege_statements.specs.Alone.{LeavesAlone, IsRefusedAlone};
+ghost use Rattle.privilege_statements.specs.Asking.{IsAsker};
+ghost use Rattle.privilege_statements.specs.Changes.{Fits, with_those, without_those};
+ghost use Rattle.privilege_statements.specs.Statements.{table_of, tag_of, run_of, Leaves, IsRefusedSo};
 
 use crate::asker::Asker;
 use crate::changes::{Taken, change_of};
 use crate::descriptors::{grant_privileges, revoke_privileges};
+use crate::statement::PrivilegeStatement;
 use catalogue::definitions::Catalogue;
 use catalogue::descriptor_change::DescriptorChange;
 use catalogue::table::TableDefinition;
 use role_membership::closure;
-use sql_ast::statement::{Grant, Revoke};
 use sql_types::name::Name;
 use sql_types::state::Refusal;
 use sql_types::warning::Warning;
 use std::alloc::Global;
 
-/// The change that a GRANT makes of the privilege descriptors of its table, and the warning, if something was not
-/// granted. `UndefinedObject` comes where a grantee is no role; `UndefinedColumn` where the table has not a column
-/// that is named; `InsufficientPrivilege` where the current role has no privilege on the table or on a column of it;
-/// `InvalidGrantOperation` where PUBLIC would have the grant option; `OutOfMemory` only where memory was refused.
-pub(crate) fn granted(
+/// The descriptors that go and come by a statement, and the warning, if something was left out.
+fn exchanged(
     alloc: Global,
-    catalogue: &Catalogue,
-    table: &TableDefinition,
-    current: &Name,
-    statement: &Grant,
-) -> Result<(DescriptorChange, Option<Warning>), Refusal>
-    requires { IsTableOf catalogue.now statement.now.table table.now }
-    ensures change { IfOk result (λ r. IsChangeOf table.now r.0) }
-    ensures left { IfOk result (λ r. LeavesAlone current.now
-        (λ db users. grants db users statement.now) catalogue.now table.now
-        tag.Grant r.1 (descriptors_after r.0 table.now.descriptors)) }
-    ensures refused { IfErr result (IsRefusedAlone current.now
-        (λ db users. grants db users statement.now) catalogue.now table.now) }
+    asker: Asker<'_, '_>,
+    statement: PrivilegeStatement<'_>,
+) -> Result<(Taken, Option<Warning>), Refusal>
+    requires asker { IsAsker asker }
+    requires table { table_of statement ≡ asker.table.now.definition.name }
+    ensures left { IfOk result (λ r. Leaves asker.entry statement.entry r.1
+        (with_those r.0.come.items (without_those r.0.gone.items asker.entry.table.now.descriptors))) }
+    ensures fits { IfOk result (λ r. Fits (table_of statement.entry)
+        r.0.gone.items r.0.come.items asker.entry.table.now.descriptors) }
+    ensures refused { IfErr result (IsRefusedSo asker.entry statement.entry) }
 {
-    let memberships = catalogue.memberships();
-    let roles = closure(alloc, memberships, current)?;
-    let asker = Asker {
-        catalogue,
-        table,
-        role: current,
-        roles: &roles,
-    };
-    let (come, warning) = grant_privileges(alloc, asker, statement)?;
-    let gone = Vec::new(alloc);
-    let change = change_of(alloc, table, Taken { gone, come })?;
-    Ok((change, warning))
+    match statement {
+        PrivilegeStatement::Grant(grant) => {
+            let (come, warning) = grant_privileges(alloc, asker, grant)?;
+            let gone = Vec::new(alloc);
+            Ok((Taken { gone, come }, warning))
+        }
+        PrivilegeStatement::Revoke(revoke) => revoke_privileges(alloc, asker, revoke),
+    }
 }
 
-/// The change that a REVOKE makes of the privilege descriptors of its table, and the warning, if something was not
-/// revoked. `UndefinedObject` comes where a grantee is no role; `UndefinedColumn` where the table has not a column
+/// The change that a GRANT or a REVOKE makes of the privilege descriptors of its table, and the warning, if something
+/// was left out. `UndefinedObject` comes where a grantee is no role; `UndefinedColumn` where the table has not a column
 /// that is named; `InsufficientPrivilege` where the current role has no privilege on the table or on a column of it;
-/// `DependentPrivileges` where others depend on what it takes and it does not say CASCADE; `OutOfMemory` only where
-/// memory was refused.
-pub(crate) fn revoked(
+/// `InvalidGrantOperation` where PUBLIC would have the grant option; `DependentPrivileges` where others depend on what
+/// a REVOKE takes and it does not say CASCADE; `OutOfMemory` only where memory was refused.
+pub(crate) fn descriptors_changed(
     alloc: Global,
     catalogue: &Catalogue,
     table: &TableDefinition,
     current: &Name,
-    statement: &Revoke,
+    statement: PrivilegeStatement<'_>,
 ) -> Result<(DescriptorChange, Option<Warning>), Refusal>
-    requires { IsTableOf catalogue.now statement.now.table table.now }
+    requires { IsTableOf catalogue.now (table_of statement) table.now }
     ensures change { IfOk result (λ r. IsChangeOf table.now r.0) }
-    ensures left { IfOk result (λ r. LeavesAlone current.now
-        (λ db users. revokes db users statement.now) catalogue.now table.now
-        tag.Revoke r.1 (descriptors_after r.0 table.now.descriptors)) }
-    ensures refused { IfErr result (IsRefusedAlone current.now
-        (λ db users. revokes db users statement.now) catalogue.now table.now) }
+    ensures left { IfOk result (λ r. LeavesAlone current.now (run_of statement.entry) catalogue.now table.now
+        (tag_of statement.entry) r.1 (descriptors_after r.0 table.now.descriptors)) }
+    ensures refused { IfErr result
+        (IsRefusedAlone current.now (run_of statement.entry) catalogue.now table.now) }
 {
     let memberships = catalogue.memberships();
     let roles = closure(alloc, memberships, current)?;
@@ -82,7 +73,7 @@ pub(crate) fn revoked(
         role: current,
         roles: &roles,
     };
-    let (taken, warning) = revoke_privileges(alloc, asker, statement)?;
-    let change = change_of(alloc, table, taken)?;
+    let (exchanged, warning) = exchanged(alloc, asker, statement)?;
+    let change = change_of(alloc, table, exchanged)?;
     Ok((change, warning))
 }

@@ -1,12 +1,11 @@
 //! Who may run a statement on the privileges of a table.
 ghost use Rattle.std.specs.Prelude.{◌≡◌, Ok, Err, OnOk, IfErr};
-ghost use Rattle.std.specs.List.{list_all, list_any};
+ghost use Rattle.std.specs.List.{list_any};
 ghost use Rattle.catalogue.specs.Grants.{is_for};
-ghost use Rattle.abstract_database.specs.Database.{has_role};
 ghost use Rattle.abstract_database.specs.Privileges.{has_some_privilege};
-ghost use Rattle.abstract_database.specs.Checks.{grantee_roles, is_public as is_the_public};
+ghost use Rattle.abstract_database.specs.Checks.{is_public as is_the_public};
 ghost use Rattle.privilege_statements.specs.Asking.{asked_by, IsAsker, reaches as reaches_of};
-ghost use Rattle.privilege_statements.specs.Descriptors.{checked, is_known as is_known_of};
+ghost use Rattle.privilege_statements.specs.Descriptors.{checked};
 
 use crate::asker::Asker;
 use crate::units::names_columns;
@@ -35,30 +34,6 @@ pub(crate) fn has_public(grantees: &[Grantee]) -> bool
     ensures { result ≡ list_any is_the_public grantees.now }
 {
     grantees.iter().any(|grantee| is_public(grantee))
-}
-
-/// Whether the grantee is PUBLIC or a role.
-fn is_known(catalogue: &Catalogue, grantee: &Grantee) -> bool
-    ensures { result ≡ is_known_of catalogue.now.roles grantee.now }
-{
-    match grantee {
-        Grantee::Public => true,
-        Grantee::Role(role) => catalogue.has_role(role),
-    }
-}
-
-/// Whether each grantee is PUBLIC or a role.
-fn are_known(catalogue: &Catalogue, grantees: &[Grantee]) -> bool
-    ensures { result ≡ list_all (is_known_of catalogue.now.roles) grantees.now }
-{
-    grantees.iter().all(|grantee| is_known(catalogue, grantee))
-}
-
-/// The same, as the database that is asked about has them.
-fn are_roles(asker: Asker<'_, '_>, grantees: &[Grantee]) -> bool
-    ensures { result ≡ list_all (has_role (asked_by asker.entry)) (grantee_roles grantees.now) }
-{
-    are_known(asker.catalogue, grantees)
 }
 
 /// Whether a privilege descriptor of the table is for one of these roles.
@@ -103,7 +78,7 @@ pub(crate) fn check(
     ensures refused { IfErr result (λ e. checked (asked_by asker.entry) asker.entry.role.now table.now
         asker.entry.table.now.definition.layout privileges.now grantees.now ≡ Err e.0) }
 {
-    if !are_roles(asker, grantees) {
+    if !asker.catalogue.knows_grantees(grantees) {
         return Err(Refusal(SqlState::UndefinedObject));
     }
     if !names_columns(asker.table.columns(), privileges) {

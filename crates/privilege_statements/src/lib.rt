@@ -11,6 +11,7 @@ mod grantors;
 mod named;
 mod ordered;
 mod schema_changes;
+mod statement;
 mod statements;
 mod units;
 

@@ -1,22 +1,23 @@
 //! GRANT and REVOKE of privileges (SQL:2016 Foundation, 12.2 and 12.7; PostgreSQL manual, GRANT,
 //! REVOKE).
 
-ghost use Rattle.std.specs.Prelude.{◌≡◌, IfErr};
+ghost use Rattle.std.specs.Prelude.{IfErr};
 ghost use Rattle.store.specs.Stop.{FailsForMemory};
 ghost use Rattle.sql_ast.specs.Read.{IsReadGrant};
 ghost use Rattle.abstract_database.specs.Statements.{grant as grants, revoke as revokes};
 ghost use Rattle.catalogue.specs.Executed.{Defines};
 ghost use Rattle.catalogue_changes.specs.Carried.{IsCurrent};
+ghost use Rattle.privilege_statements.specs.Statements.{run_of, IsRead};
 
-use crate::alone::{granted, revoked};
+use crate::alone::descriptors_changed;
 use crate::schema_changes::schema_change;
+use crate::statement::PrivilegeStatement;
 use catalogue::definitions::Catalogue;
 use catalogue::effect::Effect;
 use catalogue_changes::{defined, push_descriptors_set};
 use sql_ast::statement::{Grant, Revoke};
 use sql_types::name::Name;
 use sql_types::state::SqlState;
-use sql_types::tag::Tag;
 use std::alloc::Global;
 use store::{Batch, Stop};
 
@@ -38,14 +39,12 @@ pub fn grant(
     ensures executes { IsReadGrant statement.now → Defines (IsCurrent current.now)
         (λ db users. grants db users statement.now) catalogue.now result }
 {
-    let Some(table) = catalogue.table(&statement.table) else {
-        return Err(Stop::Refused(SqlState::UndefinedTable));
-    };
-    let (change, warning) = granted(alloc, catalogue, table, current, statement)?;
-    let mut changes = Batch::new(alloc);
-    push_descriptors_set(alloc, catalogue, table, &change, &mut changes)?;
-    let change = schema_change(alloc, catalogue, table, change)?;
-    Ok(defined(Tag::Grant, warning, changes, change))
+    carry_out(
+        alloc,
+        catalogue,
+        current,
+        PrivilegeStatement::Grant(statement),
+    )
 }
 
 /// Carries out REVOKE for the current role: it takes the privileges, or with GRANT OPTION FOR their grant
@@ -69,12 +68,31 @@ pub fn revoke(
     ensures executes { Defines (IsCurrent current.now)
         (λ db users. revokes db users statement.now) catalogue.now result }
 {
-    let Some(table) = catalogue.table(&statement.table) else {
+    carry_out(
+        alloc,
+        catalogue,
+        current,
+        PrivilegeStatement::Revoke(statement),
+    )
+}
+
+/// Carries out a GRANT or a REVOKE for the current role.
+fn carry_out(
+    alloc: Global,
+    catalogue: &Catalogue,
+    current: &Name,
+    statement: PrivilegeStatement<'_>,
+) -> Result<Effect, Stop>
+    ensures memory { IfErr result FailsForMemory }
+    ensures executes { IsRead statement.entry
+        → Defines (IsCurrent current.now) (run_of statement.entry) catalogue.now result }
+{
+    let Some(table) = catalogue.table(statement.table_name()) else {
         return Err(Stop::Refused(SqlState::UndefinedTable));
     };
-    let (change, warning) = revoked(alloc, catalogue, table, current, statement)?;
+    let (change, warning) = descriptors_changed(alloc, catalogue, table, current, statement)?;
     let mut changes = Batch::new(alloc);
     push_descriptors_set(alloc, catalogue, table, &change, &mut changes)?;
     let change = schema_change(alloc, catalogue, table, change)?;
-    Ok(defined(Tag::Revoke, warning, changes, change))
+    Ok(defined(statement.tag(), warning, changes, change))
 }

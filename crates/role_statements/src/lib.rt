@@ -5,6 +5,7 @@
 mod attributes;
 mod creating;
 mod dropping;
+mod membership_statement;
 mod memberships;
 mod usage;
 

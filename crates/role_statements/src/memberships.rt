@@ -1,12 +1,14 @@
 //! GRANT and REVOKE of roles (SQL:2016 Foundation, 12.5 and 12.7; PostgreSQL manual, GRANT,
 //! REVOKE).
 
-ghost use Rattle.std.specs.Prelude.{IfErr};
+ghost use Rattle.std.specs.Prelude.{IfOk, IfErr};
 ghost use Rattle.store.specs.Stop.{FailsForMemory};
 ghost use Rattle.abstract_database.specs.Statements.{grant_role as grants_role, revoke_role as revokes_role};
 ghost use Rattle.catalogue.specs.Executed.{Defines};
 ghost use Rattle.catalogue_changes.specs.Carried.{IsCurrent};
+ghost use Rattle.role_statements.specs.MembershipStatements.{run_of, Sets, IsRefusedSo};
 
+use crate::membership_statement::MembershipStatement;
 use catalogue::change::SchemaChange;
 use catalogue::definitions::Catalogue;
 use catalogue::effect::Effect;
@@ -14,7 +16,7 @@ use catalogue_changes::{defined, push_memberships};
 use role_membership::{Memberships, grant_roles, revoke_roles};
 use sql_ast::statement::{GrantRole, RevokeRole};
 use sql_types::name::Name;
-use sql_types::tag::Tag;
+use sql_types::state::Refusal;
 use std::alloc::Global;
 use store::{Batch, Stop};
 
@@ -35,19 +37,12 @@ pub fn grant_role(
     ensures executes { Defines (IsCurrent current.now)
         (λ db users. grants_role db users statement.now) catalogue.now result }
 {
-    let mut memberships = catalogue.memberships().to_vec(alloc)?;
-    grant_roles(
+    carry_out(
         alloc,
-        catalogue.roles(),
-        &mut memberships,
+        catalogue,
         current,
-        statement,
-    )?;
-    let next = Memberships::new(alloc, memberships)?;
-    let mut changes = Batch::new(alloc);
-    push_memberships(alloc, catalogue, &next, &mut changes)?;
-    let change = SchemaChange::SetMemberships(next);
-    Ok(defined(Tag::GrantRole, None, changes, change))
+        MembershipStatement::Grant(statement),
+    )
 }
 
 /// Carries out REVOKE of roles for the current role: it sets the memberships, without those of the
@@ -66,17 +61,51 @@ pub fn revoke_role(
     ensures executes { Defines (IsCurrent current.now)
         (λ db users. revokes_role db users statement.now) catalogue.now result }
 {
-    let mut memberships = catalogue.memberships().to_vec(alloc)?;
-    revoke_roles(
+    carry_out(
         alloc,
-        catalogue.roles(),
-        &mut memberships,
+        catalogue,
         current,
-        statement,
-    )?;
-    let next = Memberships::new(alloc, memberships)?;
+        MembershipStatement::Revoke(statement),
+    )
+}
+
+/// Carries out a GRANT or a REVOKE for the current role.
+fn carry_out(
+    alloc: Global,
+    catalogue: &Catalogue,
+    current: &Name,
+    statement: MembershipStatement<'_>,
+) -> Result<Effect, Stop>
+    ensures memory { IfErr result FailsForMemory }
+    ensures executes { Defines (IsCurrent current.now) (run_of statement.entry) catalogue.now result }
+{
+    let next = memberships_after(alloc, catalogue, current, statement)?;
     let mut changes = Batch::new(alloc);
     push_memberships(alloc, catalogue, &next, &mut changes)?;
     let change = SchemaChange::SetMemberships(next);
-    Ok(defined(Tag::RevokeRole, None, changes, change))
+    Ok(defined(statement.tag(), None, changes, change))
+}
+
+/// The memberships that a statement of the current role sets.
+fn memberships_after(
+    alloc: Global,
+    catalogue: &Catalogue,
+    current: &Name,
+    statement: MembershipStatement<'_>,
+) -> Result<Memberships, Refusal>
+    ensures set { IfOk result (Sets current.now statement.entry catalogue.now) }
+    ensures refused { IfErr result (IsRefusedSo current.now statement.entry catalogue.now) }
+{
+    let roles = catalogue.roles();
+    let mut memberships = catalogue.memberships().to_vec(alloc)?;
+    match statement {
+        MembershipStatement::Grant(grant) => {
+            grant_roles(alloc, roles, &mut memberships, current, grant)?;
+            Ok(Memberships::new(alloc, memberships)?)
+        }
+        MembershipStatement::Revoke(revoke) => {
+            revoke_roles(alloc, roles, &mut memberships, current, revoke)?;
+            Ok(Memberships::new(alloc, memberships)?)
+        }
+    }
 }

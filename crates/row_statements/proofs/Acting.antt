@@ -1,31 +1,35 @@
 -- Who acts: the users of a plan are those of the databases that have its definitions.
-use Rattle.std.proofs.Common.{◌≡◌, List, [], ◌∷◌, ◌||◌, Bool, map, Bor, sym, ap, ◌∙◌, refl}
+use Rattle.std.proofs.Common.{◌≡◌, List, [], ◌∷◌, ◌||◌, Bool, map, ap, ◌∙◌, refl}
 use Rattle.std.proofs.Math.Path.{fun_ext}
 use Rattle.std.specs.Prelude.{bytes_eq}
 use Rattle.std.specs.List.{list_any}
 use Rattle.sql_ast.specs.declared.role.Membership.{Membership}
+use Rattle.sql_ast.specs.declared.statement.RowStatement.{RowStatement}
+use Rattle.sql_ast.specs.declared.statement.RowStatement.TheVariants as over_rows
 use Rattle.expressions.specs.declared.eval.Users.{Users}
 use Rattle.expressions.specs.Meaning.{UserNames}
 use Rattle.expressions.specs.Rows.{names_of}
 use Rattle.abstract_database.specs.Lists.{TheName, has_name}
-use Rattle.abstract_database.specs.Database.{Database}
 use Rattle.abstract_database.specs.Roles.{is_in}
-use Rattle.store.specs.Records.{Records}
 use Rattle.stored_database.specs.Definitions.{Definitions}
-use Rattle.stored_database.specs.Records.{Shows}
+use Rattle.planner.specs.declared.plans.Plan.{Plan}
+use Rattle.planner.specs.declared.plans.Plan.TheVariants as plan
+use Rattle.planner.specs.Plans.{IsPlanOf}
 use Rattle.planner.specs.Rights.{AreItsRoles}
-use Rattle.row_statements.specs.Users.{seen_users}
+use Rattle.row_statements.specs.Users.{roles_of, seen_users}
 
 -- ---- the roles of a plan
 
--- of the definitions that it was made of
-pub in_definitions : (d : Definitions) (role : TheName) (roles names : List TheName) → AreItsRoles d role roles → names ≡ roles → AreItsRoles d role names
-in_definitions d role roles names are same s = ap (has_name s) same ∙ are s
+its_roles : (d : Definitions) (role : TheName) (s : RowStatement) (p : Plan) → IsPlanOf d role s p → AreItsRoles d role (roles_of p)
+its_roles d role (over_rows.Select s) (plan.Select p) c = c.roles
+its_roles d role (over_rows.Insert s) (plan.Insert p) c = c.roles
+its_roles d role (over_rows.Update s) (plan.Update p) c = c.roles
+its_roles d role (over_rows.Delete s) (plan.Delete p) c = c.roles
+its_roles d role s p c = absurd c
 
--- of a database that has these definitions
-pub in_database : (records : Records) (d : Definitions) (db : Database) (role : TheName) (roles names : List TheName) → Shows records d db → AreItsRoles d role roles → names ≡ roles →
-    (s : TheName) → has_name s names ≡ is_in db.memberships role s
-in_database records d db role roles names shown are same s = in_definitions d role roles names are same s ∙ sym (ap (λ (x : Database). is_in x.memberships role s) shown.is)
+-- of the definitions that it was made of
+pub in_definitions : (d : Definitions) (role : TheName) (s : RowStatement) (p : Plan) (names : List TheName) → IsPlanOf d role s p → names ≡ roles_of p → (r : TheName) → has_name r names ≡ is_in d.memberships role r
+in_definitions d role s p names planned same r = ap (has_name r) same ∙ its_roles d role s p planned r
 
 -- ---- users
 

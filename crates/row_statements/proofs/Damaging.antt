@@ -7,33 +7,37 @@ use Rattle.sql_types.specs.Row.{Row}
 use Rattle.sql_types.specs.declared.state.Refusal.{Refusal}
 use Rattle.sql_types.specs.declared.state.SqlState.{SqlState}
 use Rattle.sql_ast.specs.Layout.{Layout}
-use Rattle.sql_ast.specs.declared.statement.Select.{Select}
+use Rattle.sql_ast.specs.declared.statement.RowStatement.{RowStatement}
+use Rattle.sql_ast.specs.declared.statement.RowStatement.TheVariants as over_rows
 use Rattle.store.specs.declared.fault.Fault.TheVariants.{Memory, Device, Damaged}
+use Rattle.store.specs.declared.stop.Stop.{Stop}
+use Rattle.store.specs.declared.stop.Stop.TheVariants.{Refused, Failed}
 use Rattle.store.specs.Records.{Records}
+use Rattle.store.specs.Stop.{IsStopBy}
 use Rattle.expressions.specs.Meaning.{UserNames}
 use Rattle.expressions.specs.Types.{TypedTerm}
 use Rattle.abstract_database.specs.Queries.{query}
 use Rattle.stored_database.specs.Definitions.{Definitions}
 use Rattle.key_ranges.specs.declared.range.KeyRange.{KeyRange}
 use Rattle.gathering.specs.Queries.{bound_of}
+use Rattle.planner.specs.declared.plans.Plan.TheVariants as plan
 use Rattle.planner.specs.declared.sources.Source.{Source}
 use Rattle.planner.specs.declared.select.SelectPlan.{SelectPlan}
 use Rattle.planner.specs.Fitting.{AreRowsOf}
-use Rattle.planner.specs.Plans.{IsCheckedSelect}
+use Rattle.planner.specs.Plans.{IsPlanOf}
 use Rattle.planner.proofs.Fitting.{products}
-use Rattle.store.specs.declared.stop.Stop.{Stop}
-use Rattle.store.specs.declared.stop.Stop.TheVariants.{Refused, Failed}
 use Rattle.table_rows.specs.declared.target.Target.{Target}
 use Rattle.table_rows.specs.HeldRows.{AreRecordsOf}
 use Rattle.table_rows.specs.Failures.{Answers, IsDamagedFor}
-use Rattle.table_rows.specs.Ranged.{records_found}
+use Rattle.table_rows.specs.Ranged.{records_found, FindsRows}
 use Rattle.executor.specs.Selected.{sources_of, FindRowsOfEach, CombinationsFitQuery}
 use Rattle.row_statements.specs.declared.ranges.RangedSource.{RangedSource}
-use Rattle.store.specs.Stop.{IsStopBy}
-use Rattle.row_statements.specs.Ranges.{range_where, ranges_among, AreRanged}
-use Rattle.row_statements.specs.Damage.{records_among, FindsRowsIn, FindRowsAmong, IsDamagedWhere, IsDamagedAmong}
+use Rattle.row_statements.specs.Ranges.{AreRanged}
+use Rattle.row_statements.specs.Damage.{records_among, FindsRowsIn, FindRowsAmong, IsDamagedAmong}
+use Rattle.row_statements.specs.Executed.{effect_by, answered}
 use Rattle.row_statements.specs.Targeted.{IsTargetOf, AreTargetsOf}
 use Rattle.row_statements.proofs.Meanings.{handed_on}
+use Rattle.row_statements.proofs.Targeting.{AreTargetsIn}
 
 -- ---- causes
 
@@ -61,26 +65,13 @@ same_records : (id : ℕ) (lent : Option (Bor KeyRange)) (records : Records) →
 same_records id None records = refl
 same_records id (Some range) records = refl
 
--- what is found in the range of a table is found by its target, which has this number, these columns and this range
-module _ (s : Source) (id : ℕ) (layout : Layout) (lent : Option (Bor KeyRange)) (range : Option KeyRange) (records : Records) where
-  lent_finds : (rows : List Row) → id ≡ s.table.now.id → layout ≡ s.table.now.definition.layout → option_copied lent ≡ range → FindsRowsIn records s range rows → AreRecordsOf id layout rows (records_found id lent records)
-  lent_finds rows same_id same_layout same_range found =
-      subst (λ (id : ℕ). AreRecordsOf id layout rows (records_found id lent records)) (sym same_id)
-      (subst (λ (layout : Layout). AreRecordsOf s.table.now.id layout rows (records_found s.table.now.id lent records)) (sym same_layout)
-      (subst (AreRecordsOf s.table.now.id s.table.now.definition.layout rows) (same_records s.table.now.id lent records)
-      (subst (λ (o : Option KeyRange). FindsRowsIn records s o rows) (sym same_range) found)))
-
-  -- ---- UPDATE and DELETE
-
-  pub damaged_where : (failure : Stop) (users : UserNames) (condition : Option TypedTerm) → id ≡ s.table.now.id → layout ≡ s.table.now.definition.layout → option_copied lent ≡ range → range ≡ range_where users s condition
-      → IsDamagedFor ((rows : List Row) → AreRecordsOf id layout rows (records_found id lent records) → ⊥) failure → IsDamagedFor (IsDamagedWhere records users s condition) failure
-  damaged_where (Refused code) users condition same_id same_layout same_range exact h = tt
-  damaged_where (Failed Memory) users condition same_id same_layout same_range exact h = tt
-  damaged_where (Failed Device) users condition same_id same_layout same_range exact h = tt
-  damaged_where (Failed Damaged) users condition same_id same_layout same_range exact h =
-      λ rows found. h rows (lent_finds rows same_id same_layout same_range (subst (λ (o : Option KeyRange). FindsRowsIn records s o rows) (sym exact) found))
-
--- ---- SELECT
+-- what is found in the range of a table is found by its target
+target_finds : (users : UserNames) (s : Source) (target : Target) (range : Option KeyRange) (records : Records) (rows : List Row) → IsTargetOf users s target → option_copied target.range ≡ range → FindsRowsIn records s range rows → FindsRows target records rows
+target_finds users s target range records rows is same_range found =
+    subst (λ (id : ℕ). AreRecordsOf id target.columns.now rows (records_found id target.range records)) (sym is.id)
+    (subst (λ (layout : Layout). AreRecordsOf s.table.now.id layout rows (records_found s.table.now.id target.range records)) (sym is.layout)
+    (subst (AreRecordsOf s.table.now.id s.table.now.definition.layout rows) (same_records s.table.now.id target.range records)
+    (subst (λ (o : Option KeyRange). FindsRowsIn records s o rows) (sym same_range) found)))
 
 -- what is found in the ranges of tables is found by their targets
 all_found : (users : UserNames) (tables : List Source) (conditions : List TypedTerm) (records : Records) (index : ℕ) (sources : List Source) (ranged : List RangedSource) (targets : List Target) (lists : List (List Row))
@@ -93,7 +84,7 @@ all_found users tables conditions records index (s ∷ sources) [] targets lists
 all_found users tables conditions records index (s ∷ sources) (r ∷ ranged) [] lists are of found = absurd of
 all_found users tables conditions records index (s ∷ sources) (r ∷ ranged) (t ∷ targets) [] are of found = absurd found
 all_found users tables conditions records index (s ∷ sources) (r ∷ ranged) (t ∷ targets) (rows ∷ lists) are of found = (
-  (let is = subst (λ (x : Source). IsTargetOf users x t) are.0 of.0.target_of in lent_finds s t.id t.columns.now t.range r.range records rows is.id is.layout of.0.range found.0),
+  target_finds users s t r.range records rows (subst (λ (x : Source). IsTargetOf users x t) are.0 of.0.target_of) of.0.range found.0,
   all_found users tables conditions records (index + 1) sources ranged targets lists are.2 of.1 found.1,
 )
 
@@ -106,24 +97,16 @@ all_fit records (s ∷ sources) [] lists found = absurd found
 all_fit records (s ∷ sources) (range ∷ ranges) [] found = absurd found
 all_fit records (s ∷ sources) (range ∷ ranges) (rows ∷ lists) found = (found.0.fit, all_fit records sources ranges lists found.1)
 
-module _ (records : Records) (d : Definitions) (users who : UserNames) (s : Select) (p : SelectPlan) (sources : List Source) (conditions : List TypedTerm) (ranged ranged_lent : List RangedSource) (targets lent : List Target) where
-  pub damaged_among : (failure : Stop) → IsCheckedSelect d users.current s p → who ≡ users → sources ≡ p.sources → conditions ≡ p.query.conditions → ranged_lent ≡ ranged → lent ≡ targets
-      → AreRanged who sources conditions 0 sources ranged → map (λ r. r.range) ranged ≡ ranges_among who sources conditions 0 sources → AreTargetsOf who ranged_lent targets
-      → ((lists : List (List Row)) → FindRowsOfEach records lent lists → CombinationsFitQuery who p.query lists
-      → (let r : Result (List Row) Stop = Err failure in Answers r (query (sources_of lent lists) who (bound_of p.query))))
-      → IsDamagedFor (IsDamagedAmong records users p.sources p.query.conditions) failure
-  damaged_among (Refused code) c who_is sources_are conditions_are ranged_are lent_are with_ranges exact are gives = tt
-  damaged_among (Failed Memory) c who_is sources_are conditions_are ranged_are lent_are with_ranges exact are gives = tt
-  damaged_among (Failed Device) c who_is sources_are conditions_are ranged_are lent_are with_ranges exact are gives = tt
-  damaged_among (Failed Damaged) c who_is sources_are conditions_are ranged_are lent_are with_ranges exact are gives =
-      subst (λ (u : UserNames). IsDamagedAmong records u p.sources p.query.conditions) who_is
-      (subst (λ (cs : List TypedTerm). IsDamagedAmong records who p.sources cs) conditions_are
-      (subst (λ (ss : List Source). IsDamagedAmong records who ss conditions) sources_are damaged))
-    where
-      damaged : IsDamagedAmong records who sources conditions
-      damaged lists found =
-          let here = subst (λ (ranges : List (Option KeyRange)). FindRowsAmong records sources ranges lists) (sym exact) found in
-          let of = subst (λ (rs : List RangedSource). AreTargetsOf who rs targets) ranged_are are in
-          let fit = subst (λ (ss : List Source). AreRowsOf (map (λ s. s.table.now) ss) lists) sources_are (all_fit records sources (map (λ r. r.range) ranged) lists here) in
-          gives lists (subst (λ (ts : List Target). FindRowsOfEach records ts lists) (sym lent_are) (all_found who sources conditions records 0 sources ranged targets lists with_ranges of here))
-          (products d users.current s p who lists c fit)
+module _ (records : Records) (d : Definitions) (users : UserNames) (p : SelectPlan) (targets : List Target) where
+  pub damaged_among : (r : Result (List Row) Stop) (s : RowStatement) → IsPlanOf d users.current s (plan.Select p) → AreTargetsIn users p targets
+      → ((lists : List (List Row)) → FindRowsOfEach records targets lists → CombinationsFitQuery users p.query lists → Answers r (query (sources_of targets lists) users (bound_of p.query)))
+      → IfErr (effect_by answered r) (IsDamagedFor (IsDamagedAmong records users p.sources p.query.conditions))
+  damaged_among (Ok rows) s c are gives = tt
+  damaged_among (Err (Refused code)) s c are gives = tt
+  damaged_among (Err (Failed Memory)) s c are gives = tt
+  damaged_among (Err (Failed Device)) s c are gives = tt
+  damaged_among (Err (Failed Damaged)) (over_rows.Select s) c are gives = λ lists found.
+      gives lists
+      (all_found users p.sources p.query.conditions records 0 p.sources are.of_plan.ranged targets lists are.safe are.of_plan.targets_of (subst (λ (ranges : List (Option KeyRange)). FindRowsAmong records p.sources ranges lists) (sym are.of_plan.ranges) found))
+      (products d users.current s p users lists c (all_fit records p.sources _ lists found))
+  damaged_among (Err (Failed Damaged)) s c are gives = absurd c

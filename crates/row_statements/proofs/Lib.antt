@@ -7,4 +7,4 @@ pub mod Carrying
 pub mod Querying
 pub mod Damaging
 pub mod Acting
-pub mod Reading
+pub mod Planned

@@ -1,5 +1,5 @@
 -- What a statement means, in the words of its plan and of what carries the plan out.
-use Rattle.std.proofs.Common.{◌≡◌, ◌⊎◌, ℕ, false, List, length, Option, Some, None, Result, Ok, Err, Bor, refl, ap, sym, ◌∙◌, subst, inl, inr}
+use Rattle.std.proofs.Common.{◌≡◌, ◌⊎◌, ℕ, List, Option, Some, None, Result, Ok, Err, Bor, refl, ap, sym, ◌∙◌, subst, inl, inr}
 use Rattle.std.specs.Option.{option_copied}
 use Rattle.std.specs.Result.{IsErrAnd}
 use Rattle.std.proofs.Math.Path.{fun_ext}
@@ -7,59 +7,55 @@ use Rattle.sql_types.specs.Row.{Row}
 use Rattle.sql_types.specs.declared.state.Refusal.{Refusal}
 use Rattle.sql_types.specs.declared.state.SqlState.{SqlState}
 use Rattle.sql_types.specs.declared.state.SqlState.TheVariants.{OutOfMemory}
-use Rattle.sql_types.specs.declared.answer.Answer.TheVariants as answer
-use Rattle.sql_types.specs.declared.tag.Tag.{Tag}
-use Rattle.sql_types.specs.declared.tag.Tag.TheVariants as tag
 use Rattle.sql_ast.specs.declared.privilege.Action.{Action}
-use Rattle.sql_ast.specs.declared.privilege.Action.TheVariants as action
-use Rattle.sql_ast.specs.declared.statement.Insert.{Insert}
-use Rattle.sql_ast.specs.declared.statement.Update.{Update}
-use Rattle.sql_ast.specs.declared.statement.Delete.{Delete}
+use Rattle.sql_ast.specs.declared.statement.RowStatement.{RowStatement}
+use Rattle.sql_ast.specs.declared.statement.RowStatement.TheVariants as over_rows
 use Rattle.sql_ast.specs.Layout.{Layout}
-use Rattle.sql_ast.specs.Read.{IsReadInsert}
 use Rattle.store.specs.declared.fault.Fault.TheVariants.{Memory, Device, Damaged}
-use Rattle.store.specs.Records.{Records, Changes, IsOrdered, applied}
+use Rattle.store.specs.declared.stop.Stop.{Stop}
+use Rattle.store.specs.declared.stop.Stop.TheVariants.{Refused, Failed}
+use Rattle.store.specs.Records.{Records}
+use Rattle.store.specs.Stop.{IsStopBy}
 use Rattle.expressions.specs.Meaning.{UserNames}
 use Rattle.expressions.specs.Stages.{◌>>=◌}
 use Rattle.expressions.specs.Types.{TypedTerm}
-use Rattle.abstract_database.specs.Lists.{TheName, Among}
-use Rattle.abstract_database.specs.Database.{Database, rows_named}
-use Rattle.abstract_database.specs.Definitions.{with_rows_of}
-use Rattle.abstract_database.specs.Guards.{Guard, existing_guard, new_guard}
-use Rattle.abstract_database.specs.Changes.{Changed, rows_inserted, rows_updated, rows_deleted}
-use Rattle.abstract_database.specs.Statements.{Effect, effect, counted, insert, update, delete, inserted, updated, deleted}
-use Rattle.stored_database.specs.Definitions.{TableDefinition, Definitions}
+use Rattle.abstract_database.specs.Lists.{Among}
+use Rattle.abstract_database.specs.Changes.{Changed}
+use Rattle.abstract_database.specs.Checks.{checked_insert, checked_update, checked_delete, checked_select}
+use Rattle.abstract_database.specs.Database.{Database}
+use Rattle.abstract_database.specs.Guards.{existing_guard, new_guard}
+use Rattle.abstract_database.specs.Statements.{Effect, Checked, inserts, updates, deletes, selects, exec_over_rows, checked_over_rows, performed}
+use Rattle.stored_database.specs.Definitions.{Definitions}
 use Rattle.stored_database.specs.Valid.{Describes}
 use Rattle.stored_database.specs.Records.{Shows}
 use Rattle.stored_database.proofs.Wholeness.{shown_described}
 use Rattle.guards.specs.Guards.{row_guard}
 use Rattle.guards.specs.declared.guard.Guard.{Guard as Formulas}
 use Rattle.policy_composer.specs.Guarding.{MeansGuard, existing_of, new_of}
+use Rattle.planner.specs.declared.plans.Plan.{Plan}
 use Rattle.planner.specs.declared.sources.Source.{Source}
-use Rattle.planner.specs.declared.insert.InsertPlan.{InsertPlan}
-use Rattle.planner.specs.declared.update.UpdatePlan.{UpdatePlan}
-use Rattle.planner.specs.declared.delete.DeletePlan.{DeletePlan}
 use Rattle.planner.specs.Answers.{IsRefusedBy}
 use Rattle.planner.specs.Changed.{where_of}
-use Rattle.planner.specs.Tables.{IsTableNamed}
-use Rattle.planner.specs.Plans.{IsCheckedInsert, IsCheckedUpdate, IsCheckedDelete}
-use Rattle.planner.specs.Inserted.{checked_of as checked_insert_of}
-use Rattle.planner.specs.Updated.{checked_of as checked_update_of}
-use Rattle.planner.specs.Deleted.{checked_of as checked_delete_of}
-use Rattle.store.specs.declared.stop.Stop.{Stop}
-use Rattle.store.specs.declared.stop.Stop.TheVariants.{Refused, Failed}
 use Rattle.table_rows.specs.declared.change.RowChanges.{RowChanges}
 use Rattle.table_rows.specs.declared.target.Target.{Target}
 use Rattle.table_rows.specs.HeldRows.{HoldsRows}
-use Rattle.table_rows.specs.Targets.{users_of, sees, admits, condition_in}
-use Rattle.table_rows.specs.NewRows.{MakesChanges, inserted as made_rows}
+use Rattle.table_rows.specs.NewRows.{MakesChanges}
+use Rattle.table_rows.specs.Targets.{sees, admits, condition_in}
 use Rattle.catalogue.specs.declared.effect.Effect.{Effect as TheEffect}
-use Rattle.catalogue.specs.declared.change.SchemaChange.{SchemaChange}
-use Rattle.catalogue.specs.Changes.{definitions_after}
-use Rattle.catalogue.specs.Executed.{IsMade, Executes}
-use Rattle.store.specs.Stop.{IsStopBy}
+use Rattle.catalogue.specs.Executed.{Executes}
 use Rattle.row_statements.specs.Targeted.{IsTargetOf}
-use Rattle.row_statements.proofs.Afterwards.{shown_after}
+
+-- ---- a statement is checked, and then performed
+
+done_then : {C : Type 0} (made : Result C SqlState) (checked : C → Checked) (go : Checked → Result Effect SqlState) → (made >>= λ c. go (checked c)) ≡ ((made >>= λ c. Ok (checked c)) >>= go)
+done_then (Ok c) checked go = refl
+done_then (Err code) checked go = refl
+
+pub staged : (db : Database) (users : UserNames) (s : RowStatement) → exec_over_rows db users s ≡ (checked_over_rows db users s >>= performed db users)
+staged db users (over_rows.Insert s) = done_then (checked_insert db users s) inserts (performed db users)
+staged db users (over_rows.Update s) = done_then (checked_update db users s) updates (performed db users)
+staged db users (over_rows.Delete s) = done_then (checked_delete db users s) deletes (performed db users)
+staged db users (over_rows.Select s) = done_then (checked_select db users s) selects (performed db users)
 
 -- ---- refusals
 
@@ -77,41 +73,14 @@ handed_on refusal Q (Ok x) is q = absurd is
 handed_on refusal Q (Err stop) is q = q stop is
 
 -- checks that refuse a statement refuse it as a whole, however the refusal is handed on
-pub plan_refused : {S C : Type 0} (checks : Database → UserNames → S → Result C SqlState) (go : Database → UserNames → C → Result Effect SqlState) (records : Records) (d : Definitions) (db : Database) (users : UserNames) (s : S) (refusal : Refusal)
-    (result : Result TheEffect Stop) → Shows records d db → IsErrAnd result (λ stop. IsStopBy refusal.0 stop) → IsRefusedBy checks d users.current s refusal → Executes records d result (checks db users s >>= go db users)
-plan_refused checks go records d db users s refusal result shown is by_checks = handed_on refusal (λ r. Executes records d r (checks db users s >>= go db users)) result is (λ stop h. with_stop stop h by_checks)
+pub plan_refused : (records : Records) (d : Definitions) (db : Database) (users : UserNames) (s : RowStatement) (refusal : Refusal) (result : Result TheEffect Stop)
+    → Shows records d db → IsErrAnd result (λ stop. IsStopBy refusal.0 stop) → IsRefusedBy checked_over_rows d users.current s refusal → Executes records d result (exec_over_rows db users s)
+plan_refused records d db users s refusal result shown is by_checks =
+    handed_on refusal (λ r. Executes records d r (exec_over_rows db users s)) result is (λ stop h. refused records d stop refusal.0 (exec_over_rows db users s) h (as_whole by_checks))
   where
-    with_stop : (stop : Stop) → IsStopBy refusal.0 stop → IsRefusedBy checks d users.current s refusal → Executes records d (Err stop) (checks db users s >>= go db users)
-    with_stop stop h (inl memory) = refused records d stop refusal.0 (checks db users s >>= go db users) h (inl memory)
-    with_stop stop h (inr e) = refused records d stop refusal.0 (checks db users s >>= go db users) h (inr (ap (λ r. r >>= go db users) (e db users (shown_described records d db shown) refl)))
-
--- ---- changes of rows
-
--- what is meant of a database where this is meant of the rows of a table
-abbrev pub of_rows : Tag → TheName → Database → Result Changed SqlState → Result Effect SqlState
-of_rows t name db changed = changed >>= λ c. Ok (counted t c.count (with_rows_of name c.rows db))
-
-pub led : (t : Tag) (records : Records) (d : Definitions) (db : Database) (name : TheName) (table : TableDefinition) (made : RowChanges) (effects : TheEffect) (rows : Result Changed SqlState) (meant : Result Effect SqlState)
-    → IsOrdered records → Shows records d db → IsTableNamed d name table → meant ≡ of_rows t table.definition.name db rows → MakesChanges table.id table.definition.layout records (Ok made) rows
-    → effects.answer ≡ answer.Done t (Some made.count) None → effects.changes ≡ made.changes → effects.schema ≡ None → IsMade records d effects meant
-led t records d db name table made effects rows meant o s named is makes answers changes stays =
-    let after = with_rows_of table.definition.name makes.0.rows db in
-    record {
-      after = after;
-      answered = is
-          ∙ ap (of_rows t table.definition.name db) makes.1
-          ∙ ap (λ (n : ℕ). let r : Result Effect SqlState = Ok (counted t n after) in r) (sym makes.2.count)
-          ∙ ap (λ a. let r : Result Effect SqlState = Ok (effect a after) in r) (sym answers);
-      leads = subst (λ (c : Option SchemaChange). Shows (applied effects.changes records) (definitions_after c d) after) (sym stays)
-          (subst (λ (cs : Changes). Shows (applied cs records) d after) (sym changes) (shown_after records made.changes d db name table makes.0.rows o s named makes.2.concern makes.2.held));
-    }
-
-pub not_led : (t : Tag) (records : Records) (d : Definitions) (db : Database) (table : TableDefinition) (failure : Stop) (rows : Result Changed SqlState) (meant : Result Effect SqlState)
-    → meant ≡ of_rows t table.definition.name db rows → MakesChanges table.id table.definition.layout records (Err failure) rows → Executes records d (Err failure) meant
-not_led t records d db table (Refused code) rows meant is makes = is ∙ ap (of_rows t table.definition.name db) makes
-not_led t records d db table (Failed Memory) rows meant is makes = tt
-not_led t records d db table (Failed Device) rows meant is makes = tt
-not_led t records d db table (Failed Damaged) rows meant is makes = makes
+    as_whole : IsRefusedBy checked_over_rows d users.current s refusal → (refusal.0 ≡ OutOfMemory) ⊎ (exec_over_rows db users s ≡ Err refusal.0)
+    as_whole (inl memory) = inl memory
+    as_whole (inr e) = inr (staged db users s ∙ ap (λ r. r >>= performed db users) (e db users (shown_described records d db shown) refl))
 
 -- ---- the target
 
@@ -145,42 +114,8 @@ pub condition_is : (lent : Option (Bor TypedTerm)) (own : Option TypedTerm) → 
 condition_is None own e = ap where_of (sym e)
 condition_is (Some typed) own e = ap where_of (sym e)
 
--- ---- DELETE
+-- ---- a plan that is carried out
 
-pub delete_meant : (d : Definitions) (db : Database) (users : UserNames) (s : Delete) (p : DeletePlan) (target : Target) (rows : List Row) → Describes d db → IsCheckedDelete d users.current s p → IsTargetOf users p.target target
-    → rows_named db p.target.table.now.definition.name ≡ rows → delete db users s ≡ of_rows tag.Delete p.target.table.now.definition.name db (rows_deleted (sees target) (users_of target) (checked_delete_of p) rows)
-delete_meant d db users s p target rows h c is are =
-    let name = p.target.table.now.definition.name in
-    ap (λ r. r >>= deleted db users) (c.plan db users h refl)
-    ∙ ap (λ (g : Guard). of_rows tag.Delete name db (rows_deleted g users (checked_delete_of p) (rows_named db name))) (sees_is users p.target target is d db h c.table.among action.Delete p.reads c.guard.existing)
-    ∙ ap (λ (u : UserNames). of_rows tag.Delete name db (rows_deleted (sees target) u (checked_delete_of p) (rows_named db name))) (sym is.who)
-    ∙ ap (λ (rs : List Row). of_rows tag.Delete name db (rows_deleted (sees target) (users_of target) (checked_delete_of p) rs)) are
-
--- ---- UPDATE
-
-pub update_meant : (d : Definitions) (db : Database) (users : UserNames) (s : Update) (p : UpdatePlan) (target : Target) (rows : List Row) → Describes d db → IsCheckedUpdate d users.current s p → IsTargetOf users p.target target
-    → rows_named db p.target.table.now.definition.name ≡ rows → update db users s ≡ of_rows tag.Update p.target.table.now.definition.name db (rows_updated (sees target) (admits target) (users_of target) (checked_update_of p) rows)
-update_meant d db users s p target rows h c is are =
-    let name = p.target.table.now.definition.name in
-    ap (λ r. r >>= updated db users) (c.plan db users h refl)
-    ∙ ap (λ (g : Guard). of_rows tag.Update name db (rows_updated g (new_guard db users p.target.table.now.definition action.Update p.reads) users (checked_update_of p) (rows_named db name))) (sees_is users p.target target is d db h c.table.among action.Update p.reads c.guard.existing)
-    ∙ ap (λ (g : Guard). of_rows tag.Update name db (rows_updated (sees target) g users (checked_update_of p) (rows_named db name))) (admits_is users p.target target is d db h c.table.among action.Update p.reads c.guard.new)
-    ∙ ap (λ (u : UserNames). of_rows tag.Update name db (rows_updated (sees target) (admits target) u (checked_update_of p) (rows_named db name))) (sym is.who)
-    ∙ ap (λ (rs : List Row). of_rows tag.Update name db (rows_updated (sees target) (admits target) (users_of target) (checked_update_of p) rs)) are
-
--- ---- INSERT
-
-new_count : (name : TheName) (db : Database) (n : ℕ) (r : Result (List Row) SqlState) → (r >>= λ rows. Ok (counted tag.Insert n (with_rows_of name rows db))) ≡ of_rows tag.Insert name db (r >>= λ after. Ok (record { rows = after; count = n }))
-new_count name db n (Ok rows) = refl
-new_count name db n (Err code) = refl
-
-pub insert_meant : (d : Definitions) (db : Database) (users : UserNames) (s : Insert) (p : InsertPlan) (target : Target) (rows : List Row) → Describes d db → IsReadInsert s → IsCheckedInsert d users.current s p → IsTargetOf users p.target target
-    → rows_named db p.target.table.now.definition.name ≡ rows → insert db users s ≡ of_rows tag.Insert p.target.table.now.definition.name db (made_rows (admits target) (users_of target) (checked_insert_of p) rows)
-insert_meant d db users s p target rows h read c is are =
-    let name = p.target.table.now.definition.name in
-    let checked = checked_insert_of p in
-    ap (λ r. r >>= inserted db users) (c.plan read.one_length db users h refl)
-    ∙ new_count name db (length checked.rows) (rows_inserted (new_guard db users checked.table action.Insert false) users checked (rows_named db name))
-    ∙ ap (λ (g : Guard). of_rows tag.Insert name db (made_rows g users checked (rows_named db name))) (admits_is users p.target target is d db h c.table.among action.Insert false c.guard.new)
-    ∙ ap (λ (u : UserNames). of_rows tag.Insert name db (made_rows (admits target) u checked (rows_named db name))) (sym is.who)
-    ∙ ap (λ (rs : List Row). of_rows tag.Insert name db (made_rows (admits target) (users_of target) checked rs)) are
+-- what is so of its kind and of the effect of its call
+pub of_kind : {p kind : Plan} {result made : Result TheEffect Stop} (P : Plan → Result TheEffect Stop → Type 0) → p ≡ kind → result ≡ made → P kind made → P p result
+of_kind {p} {kind} {result} {made} P is by h = subst (λ (x : Plan). P x result) (sym is) (subst (P kind) (sym by) h)

@@ -1,16 +1,16 @@
 -- SELECT, from its plan to its answer.
-use Rattle.std.proofs.Common.{◌≡◌, ℕ, ◌+◌, true, List, [], ◌∷◌, map, find, Option, Some, None, Result, Ok, Err, refl, ap, sym, ◌∙◌, subst, inl, inr}
+use Rattle.std.proofs.Common.{◌≡◌, ℕ, ◌+◌, true, List, [], ◌∷◌, map, find, Some, Result, Ok, Err, refl, ap, sym, ◌∙◌, subst, inl, inr}
+use Rattle.std.specs.Prelude.{IfOk}
 use Rattle.std.specs.List.{All}
 use Rattle.std.proofs.lemmas.List.Elements.{All-head, All-tail}
 use Rattle.sql_types.specs.Row.{Row}
 use Rattle.sql_types.specs.declared.state.SqlState.{SqlState}
-use Rattle.sql_types.specs.declared.answer.Answer.{Answer}
 use Rattle.sql_types.specs.declared.answer.Answer.TheVariants as answer
 use Rattle.sql_ast.specs.declared.privilege.Action.TheVariants as action
-use Rattle.sql_ast.specs.declared.statement.Select.{Select}
+use Rattle.sql_ast.specs.declared.statement.RowStatement.TheVariants as over_rows
 use Rattle.sql_ast.specs.declared.statement.TableReference.{TableReference}
 use Rattle.store.specs.declared.fault.Fault.TheVariants.{Memory, Device, Damaged}
-use Rattle.store.specs.Records.{Records, Changes, IsOrdered, applied}
+use Rattle.store.specs.Records.{Records, IsOrdered}
 use Rattle.expressions.specs.Meaning.{UserNames}
 use Rattle.expressions.specs.Types.{TypedTerm}
 use Rattle.expressions.specs.Stages.{◌>>=◌}
@@ -19,7 +19,7 @@ use Rattle.abstract_database.specs.Database.{Database, rows_named}
 use Rattle.abstract_database.specs.Guards.{Guard}
 use Rattle.abstract_database.specs.Queries.{Source as QuerySource, query, tables_in}
 use Rattle.abstract_database.specs.Whole.{Each}
-use Rattle.abstract_database.specs.Statements.{Effect, effect, select, selected, source_of as meant_source}
+use Rattle.abstract_database.specs.Statements.{Effect, effect, source_of as meant_source}
 use Rattle.abstract_database.proofs.ResultLemmas.{each_from}
 use Rattle.stored_database.specs.Definitions.{TableDefinition, Definitions}
 use Rattle.stored_database.specs.Valid.{Describes}
@@ -27,13 +27,13 @@ use Rattle.stored_database.specs.Records.{Shows}
 use Rattle.stored_database.proofs.Wholeness.{shown_described}
 use Rattle.catalogue.specs.Lookups.{is_definition_named}
 use Rattle.gathering.specs.Queries.{bound_of}
+use Rattle.planner.specs.declared.plans.Plan.TheVariants as plan
 use Rattle.planner.specs.declared.sources.Source.{Source}
 use Rattle.planner.specs.declared.select.SelectPlan.{SelectPlan}
 use Rattle.planner.specs.Fitting.{AreRowsOf}
 use Rattle.planner.specs.Sources.{IsGuardedFrom}
 use Rattle.planner.specs.Tables.{AreTablesOf, table_in, definitions_in}
 use Rattle.planner.specs.Selected.{tables_of_plan}
-use Rattle.planner.specs.Plans.{IsCheckedSelect}
 use Rattle.planner.proofs.Checking.{found_inside}
 use Rattle.planner.proofs.Fitting.{products}
 use Rattle.store.specs.declared.stop.Stop.{Stop}
@@ -41,17 +41,14 @@ use Rattle.store.specs.declared.stop.Stop.TheVariants.{Refused, Failed}
 use Rattle.table_rows.specs.declared.target.Target.{Target}
 use Rattle.table_rows.specs.Failures.{Answers}
 use Rattle.table_rows.specs.Targets.{sees}
-use Rattle.executor.specs.Selected.{sources_of, FindRowsOfEach, CombinationsFitQuery}
-use Rattle.catalogue.specs.declared.effect.Effect.{Effect as TheEffect}
-use Rattle.catalogue.specs.declared.change.SchemaChange.{SchemaChange}
-use Rattle.catalogue.specs.Changes.{definitions_after}
-use Rattle.catalogue.specs.Executed.{IsMade, Executes}
-use Rattle.row_statements.specs.declared.ranges.RangedSource.{RangedSource}
-use Rattle.row_statements.specs.Ranges.{AreRanged}
-use Rattle.row_statements.specs.Targeted.{AreTargetsOf}
+use Rattle.executor.specs.Selected.{sources_of, FindRowsOfEach, CombinationsFitQuery, AnswersRead}
+use Rattle.catalogue.specs.Executed.{Executes}
+use Rattle.row_statements.specs.Executed.{Performs, effect_by, answered}
+use Rattle.row_statements.specs.Reading.{AnswersPlanned}
 use Rattle.row_statements.proofs.Ranging.{AreOver, HoldTables, all_found, over, each_found, found_fit, same_answer}
 use Rattle.row_statements.proofs.Afterwards.{own_name, of_table}
 use Rattle.row_statements.proofs.Meanings.{held_there, sees_is}
+use Rattle.row_statements.proofs.Targeting.{AreTargetsIn}
 
 -- ---- the tables
 
@@ -106,54 +103,33 @@ module _ (records : Records) (d : Definitions) (db : Database) (users : UserName
 abbrev of_query : Database → Result (List Row) SqlState → Result Effect SqlState
 of_query db answered = answered >>= λ rows. Ok (effect (answer.Rows rows) db)
 
--- what is answered is what is meant
-pub record Selects (db : Database) (r : Result (List Row) Stop) (meant : Result Effect SqlState) : Type 0 where
-  pub rows : Result (List Row) SqlState
-  pub is : meant ≡ of_query db rows
-  pub answers : Answers r rows
+-- the rows that are meant are the answer
+select_done : (records : Records) (d : Definitions) (db : Database) (r : Result (List Row) Stop) (rows : Result (List Row) SqlState) → Shows records d db → Answers r rows → Executes records d (effect_by answered r) (of_query db rows)
+select_done records d db (Ok made) rows shown e = record { after = db; answered = ap (of_query db) e; leads = shown }
+select_done records d db (Err (Refused code)) rows shown e = ap (of_query db) e
+select_done records d db (Err (Failed Memory)) rows shown e = tt
+select_done records d db (Err (Failed Device)) rows shown e = tt
+select_done records d db (Err (Failed Damaged)) rows shown e = e
 
--- what a query answers of the rows that are found of tables
-abbrev AnswersQuery : Records → SelectPlan → Result (List Row) Stop → List Target → UserNames → Type 0
-AnswersQuery records p r targets users =
-    (lists : List (List Row)) → FindRowsOfEach records targets lists → CombinationsFitQuery users p.query lists → Answers r (query (sources_of targets lists) users (bound_of p.query))
-
-pub selects : (records : Records) (d : Definitions) (db : Database) (users who : UserNames) (s : Select) (p : SelectPlan) (sources : List Source) (conditions : List TypedTerm) (ranged ranged_lent : List RangedSource) (targets lent : List Target)
-    (r : Result (List Row) Stop) → IsOrdered records → Shows records d db → IsCheckedSelect d users.current s p → who ≡ users → sources ≡ p.sources → conditions ≡ p.query.conditions → ranged_lent ≡ ranged → lent ≡ targets
-    → AreRanged who sources conditions 0 sources ranged → AreTargetsOf who ranged_lent targets
-    → ((lists : List (List Row)) → FindRowsOfEach records lent lists → CombinationsFitQuery who p.query lists → Answers r (query (sources_of lent lists) who (bound_of p.query)))
-    → Selects db r (select db users s)
-selects records d db users who s p sources conditions ranged ranged_lent targets lent r o shown c who_is sources_are conditions_are ranged_are lent_are with_ranges are gives =
+pub selects : (records : Records) (users : UserNames) (p : SelectPlan) (targets : List Target) (r : Result (List Row) Stop) → IsOrdered records → AreTargetsIn users p targets
+    → ((lists : List (List Row)) → FindRowsOfEach records targets lists → CombinationsFitQuery users p.query lists → Answers r (query (sources_of targets lists) users (bound_of p.query)))
+    → Performs records users (plan.Select p) (effect_by answered r)
+selects records users p targets r o are gives d db (over_rows.Select s) shown c read =
     let h = shown_described records d db shown in
-    let ranged_here : AreRanged users p.sources p.query.conditions 0 p.sources ranged =
-    subst (λ (u : UserNames). AreRanged u p.sources p.query.conditions 0 p.sources ranged) who_is
-    (subst (λ (ss : List Source). AreRanged who ss p.query.conditions 0 ss ranged) sources_are (subst (λ (cs : List TypedTerm). AreRanged who sources cs 0 sources ranged) conditions_are with_ranges)) in
-    let are_here : AreTargetsOf users ranged targets = subst (λ (u : UserNames). AreTargetsOf u ranged targets) who_is (subst (λ (rs : List RangedSource). AreTargetsOf who rs targets) ranged_are are) in
-    let tables = over users p.sources p.query.conditions 0 p.sources ranged targets ranged_here are_here in
+    let tables = over users p.sources p.query.conditions 0 p.sources are.of_plan.ranged targets are.safe are.of_plan.targets_of in
     let own = of_tables records d db users shown h p.sources p.query.conditions 0 p.sources targets tables c.guards (found_each d (tables_in s.source) (tables_of_plan p) c.tables) c.tables.among in
-    let gives_here : AnswersQuery records p r targets users =
-    subst (λ (u : UserNames). AnswersQuery records p r targets u) who_is (subst (λ (ts : List Target). AnswersQuery records p r ts who) lent_are gives) in
     let found = all_found targets own.lists in
     let same : query (sources_of targets found) users (bound_of p.query) ≡ query (sources_of targets own.lists) users (bound_of p.query) =
     same_answer users p.sources p.query.conditions (bound_of p.query) refl records 0 [] p.sources targets own.lists refl (λ quiet. tt) (λ quiet. quiet) tables own.held in
-    record {
-      rows = query (sources_of targets own.lists) users (bound_of p.query);
-      is = ap (λ x. x >>= selected db users) (c.plan db users h refl) ∙ ap (λ (ss : List QuerySource). of_query db (query ss users (bound_of p.query))) own.are;
-      answers = subst (λ (m : Result (List Row) SqlState). Answers r m) same
-          (gives_here found (each_found users p.sources p.query.conditions records o 0 p.sources targets own.lists tables own.held)
-          (products d users.current s p users found c (found_fit users p.sources p.query.conditions 0 p.sources targets own.lists tables own.fit)));
-    }
+    subst (λ (ss : List QuerySource). Executes records d (effect_by answered r) (of_query db (query ss users (bound_of p.query)))) (sym own.are)
+    (select_done records d db r (query (sources_of targets own.lists) users (bound_of p.query)) shown
+    (subst (λ (m : Result (List Row) SqlState). Answers r m) same
+    (gives found (each_found users p.sources p.query.conditions records o 0 p.sources targets own.lists tables own.held)
+    (products d users.current s p users found c (found_fit users p.sources p.query.conditions 0 p.sources targets own.lists tables own.fit)))))
+selects records users p targets r o are gives d db s shown c read = absurd c
 
-pub select_done : (records : Records) (d : Definitions) (db : Database) (rows : List Row) (made : TheEffect) (meant : Result Effect SqlState)
-    → Shows records d db → Selects db (Ok rows) meant → made.answer ≡ answer.Rows rows → made.changes ≡ [] → made.schema ≡ None → IsMade records d made meant
-select_done records d db rows made meant shown m answers changes stays = record {
-  after = db;
-  answered = m.is ∙ ap (of_query db) m.answers ∙ ap (λ (a : Answer). let r : Result Effect SqlState = Ok (effect a db) in r) (sym answers);
-  leads = subst (λ (c : Option SchemaChange). Shows (applied made.changes records) (definitions_after c d) db) (sym stays)
-      (subst (λ (cs : Changes). Shows (applied cs records) d db) (sym changes) shown);
-}
-
-pub select_failed : (records : Records) (d : Definitions) (db : Database) (failure : Stop) (meant : Result Effect SqlState) → Selects db (Err failure) meant → Executes records d (Err failure) meant
-select_failed records d db (Refused code) meant m = m.is ∙ ap (of_query db) m.answers
-select_failed records d db (Failed Memory) meant m = tt
-select_failed records d db (Failed Device) meant m = tt
-select_failed records d db (Failed Damaged) meant m = m.answers
+-- what was read
+pub answers_planned : (records : Records) (users : UserNames) (p : SelectPlan) (targets : List Target) (r : Result (List Row) Stop) → AreTargetsIn users p targets → IfOk r (AnswersRead records targets users p.query)
+    → IfOk (effect_by answered r) (λ effect. AnswersPlanned records users p effect.answer)
+answers_planned records users p targets (Ok rows) are read = record { rows = rows; answered = refl; targets = targets; of_plan = are.of_plan; read = read }
+answers_planned records users p targets (Err stop) are read = tt

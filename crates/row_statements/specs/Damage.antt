@@ -1,21 +1,21 @@
 -- What a statement finds where it looks for rows: no record outside its ranges of keys makes it answer that the database is damaged.
-use Rattle.std.specs.Prelude.{ℕ, List, [], ◌∷◌, Option, Some, None}
+use Rattle.std.specs.Prelude.{ℕ, List, [], ◌∷◌, Option, Some, None, Result, IfErr}
 use Rattle.sql_types.specs.Row.{Row}
-use Rattle.sql_ast.specs.declared.statement.Select.{Select}
-use Rattle.sql_ast.specs.declared.statement.Update.{Update}
-use Rattle.sql_ast.specs.declared.statement.Delete.{Delete}
+use Rattle.sql_ast.specs.declared.statement.RowStatement.{RowStatement}
 use Rattle.expressions.specs.Meaning.{UserNames}
 use Rattle.expressions.specs.Types.{TypedTerm}
 use Rattle.store.specs.Records.{Records, entries_where, has_prefix}
+use Rattle.store.specs.declared.stop.Stop.{Stop}
 use Rattle.row_codec.specs.Rows.{row_prefix}
 use Rattle.stored_database.specs.Definitions.{Definitions}
+use Rattle.catalogue.specs.declared.effect.Effect.{Effect}
 use Rattle.key_ranges.specs.declared.range.KeyRange.{KeyRange}
 use Rattle.key_ranges.specs.Ranges.{records_in}
 use Rattle.planner.specs.declared.sources.Source.{Source}
-use Rattle.planner.specs.declared.select.SelectPlan.{SelectPlan}
-use Rattle.planner.specs.declared.update.UpdatePlan.{UpdatePlan}
-use Rattle.planner.specs.declared.delete.DeletePlan.{DeletePlan}
-use Rattle.planner.specs.Plans.{IsCheckedSelect, IsCheckedUpdate, IsCheckedDelete}
+use Rattle.planner.specs.declared.plans.Plan.{Plan}
+use Rattle.planner.specs.declared.plans.Plan.TheVariants as plan
+use Rattle.planner.specs.Plans.{IsPlanOf}
+use Rattle.table_rows.specs.Failures.{IsDamagedFor}
 use Rattle.table_rows.specs.HeldRows.{AreRecordsOf}
 use Rattle.row_statements.specs.Ranges.{range_where, ranges_among}
 
@@ -46,12 +46,17 @@ IsDamagedWhere records users s condition = (rows : List Row) → FindsRowsIn rec
 abbrev pub IsDamagedAmong : Records → UserNames → List Source → List TypedTerm → Type 0
 IsDamagedAmong records users sources conditions = (lists : List (List Row)) → FindRowsAmong records sources (ranges_among users sources conditions 0 sources) lists → ⊥
 
+-- where this plan looks, a record is of no row: of an INSERT nothing is said
+abbrev pub MeetsDamage : Records → UserNames → Plan → Type 0
+MeetsDamage records users (plan.Select p) = IsDamagedAmong records users p.sources p.query.conditions
+MeetsDamage records users (plan.Insert p) = Unit {0}
+MeetsDamage records users (plan.Update p) = IsDamagedWhere records users p.target p.condition
+MeetsDamage records users (plan.Delete p) = IsDamagedWhere records users p.target p.condition
+
+-- whatever statement it is a plan of, it stops for damage for this alone
+abbrev pub StopsForDamage : Records → UserNames → Plan → Result Effect Stop → Type 0
+StopsForDamage records users p result = (d : Definitions) (s : RowStatement) → IsPlanOf d users.current s p → IfErr result (IsDamagedFor (MeetsDamage records users p))
+
 -- there is a record of no row where a plan of the statement looks
-abbrev pub SelectFindsDamage : Records → Definitions → UserNames → Select → Type 0
-SelectFindsDamage records d users s = (p : SelectPlan) × IsCheckedSelect d users.current s p × IsDamagedAmong records users p.sources p.query.conditions
-
-abbrev pub UpdateFindsDamage : Records → Definitions → UserNames → Update → Type 0
-UpdateFindsDamage records d users s = (p : UpdatePlan) × IsCheckedUpdate d users.current s p × IsDamagedWhere records users p.target p.condition
-
-abbrev pub DeleteFindsDamage : Records → Definitions → UserNames → Delete → Type 0
-DeleteFindsDamage records d users s = (p : DeletePlan) × IsCheckedDelete d users.current s p × IsDamagedWhere records users p.target p.condition
+abbrev pub FindsDamage : Records → Definitions → UserNames → RowStatement → Type 0
+FindsDamage records d users s = (p : Plan) × IsPlanOf d users.current s p × MeetsDamage records users p

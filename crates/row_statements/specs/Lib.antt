@@ -1,4 +1,5 @@
 pub mod Users
+pub mod Executed
 pub mod Ranges
 pub mod Damage
 pub mod Targeted

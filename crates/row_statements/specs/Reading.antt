@@ -3,12 +3,14 @@ use Rattle.std.specs.Prelude.{◌≡◌, List, map}
 use Rattle.sql_types.specs.Row.{Row}
 use Rattle.sql_types.specs.declared.answer.Answer.{Answer}
 use Rattle.sql_types.specs.declared.answer.Answer.TheVariants.{Rows}
-use Rattle.sql_ast.specs.declared.statement.Select.{Select}
+use Rattle.sql_ast.specs.declared.statement.RowStatement.{RowStatement}
 use Rattle.expressions.specs.Meaning.{UserNames}
 use Rattle.store.specs.Records.{Records}
 use Rattle.stored_database.specs.Definitions.{Definitions}
 use Rattle.planner.specs.declared.select.SelectPlan.{SelectPlan}
-use Rattle.planner.specs.Plans.{IsCheckedSelect}
+use Rattle.planner.specs.declared.plans.Plan.{Plan}
+use Rattle.planner.specs.declared.plans.Plan.TheVariants as plan
+use Rattle.planner.specs.Plans.{IsPlanOf}
 use Rattle.table_rows.specs.declared.target.Target.{Target}
 use Rattle.executor.specs.Selected.{AnswersRead}
 use Rattle.row_statements.specs.declared.ranges.RangedSource.{RangedSource}
@@ -30,6 +32,11 @@ pub record AnswersPlanned (records : Records) (users : UserNames) (p : SelectPla
   pub of_plan : AreTargetsOfPlan users p targets
   pub read : AnswersRead records targets users p.query rows
 
+-- a plan of a SELECT is answered so
+abbrev pub AnswersBy : Records → UserNames → Plan → Answer → Type 0
+AnswersBy records users (plan.Select p) answer = AnswersPlanned records users p answer
+AnswersBy records users p answer = Unit {0}
+
 -- the answer is that of a plan of the statement
-abbrev pub SelectReads : Records → Definitions → UserNames → Select → Answer → Type 0
-SelectReads records d users s answer = (p : SelectPlan) × IsCheckedSelect d users.current s p × AnswersPlanned records users p answer
+abbrev pub ReadsFor : Records → Definitions → UserNames → RowStatement → Answer → Type 0
+ReadsFor records d users s answer = (p : Plan) × IsPlanOf d users.current s p × AnswersBy records users p answer

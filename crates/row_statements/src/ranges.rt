@@ -2,7 +2,7 @@
 ghost use Rattle.std.specs.Prelude.{◌≡◌, IfOk, IfSome, map};
 ghost use Rattle.std.specs.Option.{option_copied};
 ghost use Rattle.expressions.specs.Rows.{names_of};
-ghost use Rattle.row_statements.specs.Targeted.{IsRangedTargetOf};
+ghost use Rattle.row_statements.specs.Targeted.{IsRangedTargetOf, AreTargetsOf};
 ghost use Rattle.row_statements.specs.Ranges.{are_sources_quiet, range_left, range_where, ranges_among, AreRanged, IsRangeFor, IsRangeWhere};
 
 use expressions::eval::Users;
@@ -26,7 +26,7 @@ pub struct RangedSource<'a> {
 
 impl<'a> RangedSource<'a> {
     /// The table with its range for these users, as what carries a statement out takes it.
-    pub(crate) fn target(&'a self, users: &'a Users<'a>) -> Target<'a>
+    pub(crate) fn target<'b>(&'b self, users: &'b Users<'b>) -> Target<'b>
         ensures { IsRangedTargetOf (names_of users.now) self.now result }
     {
         Target {
@@ -103,6 +103,21 @@ pub fn ranged<'a>(
         ranged.push(RangedSource { source, range })?;
     }
     Ok(ranged)
+}
+
+// The tables of a plan with their ranges, as what carries it out takes them.
+pub(crate) fn targets<'a>(
+    alloc: Global,
+    tables: &'a [RangedSource<'a>],
+    users: &'a Users<'a>,
+) -> Result<Items<Target<'a>>, AllocError>
+    ensures { IfOk result (AreTargetsOf (names_of users.now) tables.now) }
+{
+    let mut targets = Items::new(alloc);
+    for table in tables {
+        targets.push(table.target(users))?;
+    }
+    Ok(targets)
 }
 
 // Whether no guard of these tables fails on any row.

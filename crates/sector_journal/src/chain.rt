@@ -4,13 +4,14 @@ ghost use Rattle.journal_chain.specs.Chain.{Part, Entry, Holds, IsWhole, Chains,
 ghost use Rattle.journal_chain.specs.Journal.{IsSound, IsJournal, IsGreatest};
 ghost use Rattle.journal_records.specs.Sectors.{sector_at};
 ghost use Rattle.journal_records.specs.Records.{parts_of};
-ghost use Rattle.sector_journal.specs.declared.journal.JournalFault.TheVariants as faults;
+ghost use Rattle.store.specs.declared.fault.Fault.TheVariants as faults;
 ghost use Rattle.sector_journal.specs.Reading.{region_of, part_under, entries_of, BeginsWith, AreWhole, IsNumberIn, IsRecordAt, IsReadAs};
 
-use crate::journal::{Journal, JournalFault, JournalRecord};
+use crate::journal::{Journal, JournalRecord};
 use journal_records::{JournalSector, PART_SIZE, SectorTag, part_bytes, read_sector};
 use sector_device::SECTOR_SIZE;
 use std::alloc::{AllocError, Global};
+use store::Fault;
 
 // Whether a tag is that of the part of this index of the record of another.
 fn is_part_of(found: SectorTag, tag: SectorTag, index: usize) -> bool
@@ -214,7 +215,7 @@ pub fn find_journal(
     root: u64,
     room: u16,
     sectors: &[[u8; SECTOR_SIZE]],
-) -> Result<Journal, JournalFault>
+) -> Result<Journal, Fault>
     requires { length sectors.now ≡ room }
     ensures read { IfOk result (λ journal. IsReadAs journal root room (region_of room sectors.now)) }
     ensures damaged { result ≡ Err faults.Damaged → (es : List Entry)
@@ -223,7 +224,7 @@ pub fn find_journal(
 {
     let chain = read_chain(alloc, root, room, sectors)?;
     if !are_sound(root, room, chain.end, sectors) {
-        return Err(JournalFault::Damaged);
+        return Err(Fault::Damaged);
     }
     Ok(Journal {
         records: chain.records,

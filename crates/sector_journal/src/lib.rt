@@ -8,7 +8,8 @@ mod reading;
 mod writing;
 
 pub use chain::find_journal;
-pub use journal::{Journal, JournalFault, JournalRecord};
+pub use journal::{Journal, JournalRecord};
 pub use reading::{read_journal, read_sectors};
 pub use sector_device::{Device, DeviceFault, SECTOR_SIZE};
+pub use store::Fault;
 pub use writing::append;

@@ -3,14 +3,15 @@ ghost use Rattle.std.specs.Prelude.{◌≡◌, ◌≤◌, ◌<◌, ◌+◌, [], 
 ghost use Rattle.sector_device.specs.Device.{KeepsHistory, HasFailed, IsSynced};
 ghost use Rattle.sector_device.specs.Page.{ReadsPage};
 ghost use Rattle.journal_chain.specs.Chain.{Entry};
-ghost use Rattle.sector_journal.specs.declared.journal.JournalFault.TheVariants as faults;
+ghost use Rattle.store.specs.declared.fault.Fault.TheVariants as faults;
 ghost use Rattle.sector_journal.specs.Journals.{region_in, HasJournal, HoldsJournal};
 ghost use Rattle.sector_journal.specs.Reading.{IsReadAs, entries_of};
 
 use crate::chain::find_journal;
-use crate::journal::{Journal, JournalFault};
+use crate::journal::Journal;
 use sector_device::{Device, DeviceFault, SECTOR_SIZE};
 use std::alloc::Global;
+use store::Fault;
 
 /// Reads sectors, one after the other, from `first` on. After an error nothing is said of `sectors`.
 pub fn read_sectors<D: Device>(
@@ -48,7 +49,7 @@ pub fn read_journal<D: Device>(
     start: u32,
     room: u16,
     root: u64,
-) -> Result<Journal, JournalFault>
+) -> Result<Journal, Fault>
     requires { start + room ≤ (D.state device.old).sectors }
     ensures history { KeepsHistory (D.state device.old) (D.state device.new) }
     ensures only_reads { (D.state device.old).faithful
@@ -64,6 +65,8 @@ pub fn read_journal<D: Device>(
 {
     let mut sectors = Vec::new(alloc);
     sectors.resize(room as usize, [0; SECTOR_SIZE])?;
-    read_sectors(device, start, &mut sectors)?;
+    let Ok(()) = read_sectors(device, start, &mut sectors) else {
+        return Err(Fault::Device);
+    };
     find_journal(alloc, root, room, &sectors)
 }

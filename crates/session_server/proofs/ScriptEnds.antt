@@ -17,7 +17,8 @@ use Rattle.stored_database.specs.Spellings.{spelled_in_second}
 use Rattle.server.specs.declared.server.Server.{Server}
 use Rattle.server.specs.Standing.{Represents, at_start}
 use Rattle.migration.specs.declared.fault.OpeningFault.{OpeningFault}
-use Rattle.migration.specs.declared.fault.OpeningFault.TheVariants as opening
+use Rattle.migration.specs.declared.fault.OpeningFault.TheVariants.{Read, Commit}
+use Rattle.store.specs.declared.fault.Fault.TheVariants as read
 use Rattle.opening.specs.Openings.{HasLooked, IsOpened, OnlyLooks}
 use Rattle.script_runs.specs.Closing.{StandsWithinLimit}
 use Rattle.script_runs.specs.declared.sink.Sink.{Ghosts as SinkGhosts}
@@ -43,12 +44,11 @@ no_device old new cause =
     ]
 
 -- the fault of opening a store in memory that is only read, and whose records stand for a database, is refused memory
-memory_alone : (f : OpeningFault) (old new : MemStore) → HasLooked (Err f) (memory_store_state old) (memory_store_state new) → f ≢ opening.Damaged → fault_of f ≡ fault.Memory
-memory_alone opening.Memory old new looked whole = refl
-memory_alone opening.Device old new looked whole = absurd (no_device old new looked.cause)
-memory_alone opening.Damaged old new looked whole = absurd (whole refl)
-memory_alone opening.Full old new looked whole = absurd looked
-memory_alone opening.Number old new looked whole = absurd looked
+memory_alone : (f : OpeningFault) (old new : MemStore) → HasLooked (Err f) (memory_store_state old) (memory_store_state new) → f ≢ Read read.Damaged → fault_of f ≡ fault.Memory
+memory_alone (Read read.Memory) old new looked whole = refl
+memory_alone (Read read.Device) old new looked whole = absurd (no_device old new looked.cause)
+memory_alone (Read read.Damaged) old new looked whole = absurd (whole refl)
+memory_alone (Commit fault) old new looked whole = absurd looked
 
 -- a new database is of the second spelling
 current_is : current ≡ Second

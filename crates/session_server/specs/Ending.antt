@@ -4,7 +4,6 @@ use Rattle.std.specs.Io.KnownBytes.{Appends}
 use Rattle.sector_device.specs.declared.system_cause.SystemCause.TheVariants.{Other}
 use Rattle.sector_device.specs.SystemCause.{cause_text}
 use Rattle.migration.specs.declared.fault.OpeningFault.{OpeningFault}
-use Rattle.migration.specs.declared.fault.OpeningFault.TheVariants as opening
 use Rattle.wire.specs.AnswerText.{newline}
 use Rattle.script_runs.specs.declared.run.ScriptEnd.{ScriptEnd}
 use Rattle.script_runs.specs.declared.run.ScriptEnd.TheVariants as end
@@ -13,6 +12,7 @@ use Rattle.connections.specs.declared.listener.Served.{Served}
 use Rattle.connections.specs.declared.listener.Served.TheVariants as served
 use Rattle.file_commands.specs.declared.fault.CommandFault.{CommandFault}
 use Rattle.file_commands.specs.declared.fault.CommandFault.TheVariants as command
+use Rattle.file_commands.specs.Faults.{of_records}
 use Rattle.session_server.specs.declared.ending.ProgramFault.{ProgramFault}
 use Rattle.session_server.specs.declared.ending.ProgramFault.TheVariants as fault
 use Rattle.session_server.specs.declared.ending.ScriptFault.TheVariants as script
@@ -23,14 +23,6 @@ use Rattle.session_server.specs.declared.ending.Ending.TheVariants as ending
 use Rattle.session_server.specs.declared.ending.Exit.{Exit}
 
 -- ---- how it ends
-
--- the fault of a store over which no server was opened
-abbrev pub fault_of : OpeningFault → ProgramFault
-fault_of opening.Memory = fault.Memory
-fault_of opening.Device = fault.Device Other
-fault_of opening.Damaged = fault.Damaged
-fault_of opening.Full = fault.Full
-fault_of opening.Number = fault.Number
 
 -- the fault of a command over a file
 abbrev pub fault_of_command : CommandFault → ProgramFault
@@ -45,6 +37,10 @@ fault_of_command command.Full = fault.Full
 fault_of_command command.Number = fault.Number
 fault_of_command (command.Net cause) = fault.Net cause
 fault_of_command command.Output = fault.Output
+
+-- the fault of a store over which no server was opened
+abbrev pub fault_of : OpeningFault → ProgramFault
+fault_of f = fault_of_command (of_records f)
 
 -- the end of a server
 abbrev pub ending_of_serving : Served → Ending

@@ -5,7 +5,8 @@ use Rattle.sql_types.specs.declared.answer.Answer.TheVariants.{Refused}
 use Rattle.sql_types.specs.declared.event.Event.{Event}
 use Rattle.sql_types.specs.declared.state.SqlState.TheVariants.{OutOfMemory}
 use Rattle.migration.specs.declared.fault.OpeningFault.{OpeningFault}
-use Rattle.migration.specs.declared.fault.OpeningFault.TheVariants.{Damaged}
+use Rattle.migration.specs.declared.fault.OpeningFault.TheVariants.{Read}
+use Rattle.store.specs.declared.fault.Fault.TheVariants.{Damaged}
 use Rattle.store.specs.declared.memory.MemStore.{MemStore}
 use Rattle.store.specs.Memory.{new_state}
 use Rattle.store.specs.MemoryStore.{memory_store_state}
@@ -39,7 +40,7 @@ pub record IsNotOpened {S K : Type 0} (state : S → StoreState) (store : S) (be
   pub same : (state store).sound → (state store).has_failed ≡ false → (db : Database) → Stands (stored (state store)) db
       → KeepsDatabase db (Err fault) (state store) (state left)
   pub cause : (state store).sound → HasOpeningCause fault (state store) (state left)
-  pub damaged : (state store).sound → (db : Database) → Stands (stored (state store)) db → fault ≢ Damaged
+  pub damaged : (state store).sound → (db : Database) → Stands (stored (state store)) db → fault ≢ Read Damaged
   pub unwritten : after ≡ before
   pub ends : e ≡ ending.Fault (fault_of fault)
 

@@ -177,37 +177,31 @@ impl fmt::Display for Subject<'_> {
     }
 }
 
-impl From<OpeningFault> for ProgramFault {
-    ghost from_gives = { λ fault given. given ≡ fault_of fault };
-
-    fn from(fault: OpeningFault) -> ProgramFault {
-        match fault {
-            OpeningFault::Memory => ProgramFault::Memory,
-            OpeningFault::Device => ProgramFault::Device(SystemCause::Other),
-            OpeningFault::Damaged => ProgramFault::Damaged,
-            OpeningFault::Full => ProgramFault::Full,
-            OpeningFault::Number => ProgramFault::Number,
-        }
-    }
-}
-
 impl From<CommandFault> for ProgramFault {
     ghost from_gives = { λ fault given. given ≡ fault_of_command fault };
 
     fn from(fault: CommandFault) -> ProgramFault {
         match fault {
+            CommandFault::Device(cause) => ProgramFault::Device(cause),
+            CommandFault::Net(cause) => ProgramFault::Net(cause),
             CommandFault::Exists => ProgramFault::Exists,
             CommandFault::InUse => ProgramFault::InUse,
             CommandFault::Memory => ProgramFault::Memory,
-            CommandFault::Device(cause) => ProgramFault::Device(cause),
             CommandFault::WrongSize => ProgramFault::WrongSize,
             CommandFault::NotADatabase => ProgramFault::NotADatabase,
             CommandFault::Damaged => ProgramFault::Damaged,
             CommandFault::Full => ProgramFault::Full,
             CommandFault::Number => ProgramFault::Number,
-            CommandFault::Net(cause) => ProgramFault::Net(cause),
             CommandFault::Output => ProgramFault::Output,
         }
+    }
+}
+
+impl From<OpeningFault> for ProgramFault {
+    ghost from_gives = { λ fault given. given ≡ fault_of fault };
+
+    fn from(fault: OpeningFault) -> ProgramFault {
+        ProgramFault::from(CommandFault::from(fault))
     }
 }
 

@@ -1,4 +1,5 @@
 mod Within
+mod Walks
 mod Second
 mod Apart
 pub mod Table

@@ -1,7 +1,7 @@
 -- Tokens spell at most one command.
 use Rattle.std.proofs.Common.{◌≡◌, ℕ, inl, inr, List, [], ◌∷◌, None, length, refl, ap, subst, sym, ◌∙◌}
-use Rattle.std.specs.Prelude.{true, false, ◌||◌, nat_eq}
-use Rattle.std.proofs.lemmas.Bool.{or_cases, eqb-true}
+use Rattle.std.specs.Prelude.{true, ◌&&◌, ◌||◌, nat_eq}
+use Rattle.std.proofs.lemmas.Bool.{and_parts, or_cases, eqb-true}
 use denote.Enum.Bare.{tag_one}
 use Rattle.sql_lexer.specs.Lexeme.{Lexeme, kind_at}
 use Rattle.sql_ast.specs.declared.statement.Statement.{Statement}
@@ -13,19 +13,40 @@ use Rattle.sql_commands.specs.declared.command.Command.TheVariants as production
 use Rattle.sql_commands.specs.Commands.{phrase_of}
 use Rattle.sql_commands.specs.Statements.{IsEnd, EndsAt, SpellsAs}
 use Rattle.sql_commands.proofs.Apart.{told_apart, never_both}
-use Rattle.sql_commands.proofs.Table.{all_determined, place, alike, settled, command_ends}
+use Rattle.sql_commands.proofs.Table.{all_determined, place, is_pair, alike, settled, command_ends}
 use Rattle.sql_commands.proofs.Alike.{grants, revokes, admin_options, counts}
 
-not_alike : (source : List ℕ) (a b : Command) (ts : List Lexeme) (i m n : ℕ) (r s : Statement) → alike a b ≡ true → Spells ts (phrase_of source a) i m r → Spells ts (phrase_of source b) i n s → IsEnd ts m → IsEnd ts n → ⊥
-not_alike source production.GrantRole production.Grant ts i m n r s h d e u t = grants ts i m n r s d e
-not_alike source production.Grant production.GrantRole ts i m n r s h d e u t = grants ts i n m s r e d
-not_alike source production.RevokeRole production.RevokeAdminOption ts i m n r s h d e u t = admin_options ts i m n r s d e
-not_alike source production.RevokeAdminOption production.RevokeRole ts i m n r s h d e u t = admin_options ts i n m s r e d
-not_alike source production.RevokeRole production.Revoke ts i m n r s h d e u t = revokes ts i m n r s d e
-not_alike source production.Revoke production.RevokeRole ts i m n r s h d e u t = revokes ts i n m s r e d
-not_alike source production.Select production.SelectCount ts i m n r s h d e u t = counts ts i m n r s d u e
-not_alike source production.SelectCount production.Select ts i m n r s h d e u t = counts ts i n m s r e t d
-not_alike source _ _ ts i m n r s h d e u t = let g : false ≡ true = h in cc
+same : (a b : Command) → nat_eq (place a) (place b) ≡ true → a ≡ b
+same a b h = tag_one commands.the_type tt a b (eqb-true (place a) (place b) h)
+
+-- no tokens spell both commands up to an end
+abbrev NeverBoth : List ℕ → Command → Command → Type 0
+NeverBoth source a b = (ts : List Lexeme) (i m n : ℕ) (r s : Statement) → Spells ts (phrase_of source a) i m r → Spells ts (phrase_of source b) i n s → IsEnd ts m → IsEnd ts n → ⊥
+
+never_pair : (source : List ℕ) (x y a b : Command) → NeverBoth source x y → is_pair x y a b ≡ true → NeverBoth source a b
+never_pair source x y a b never h = elim (or_cases (nat_eq (place a) (place x) && nat_eq (place b) (place y)) (nat_eq (place a) (place y) && nat_eq (place b) (place x)) h) [
+  | inl g ↦ (let v = and_parts (nat_eq (place a) (place x)) (nat_eq (place b) (place y)) g in
+      subst (λ (c : Command). NeverBoth source c b) (sym (same a x v.0)) (subst (λ (c : Command). NeverBoth source x c) (sym (same b y v.1)) never))
+  | inr g ↦ (let v = and_parts (nat_eq (place a) (place y)) (nat_eq (place b) (place x)) g in
+      subst (λ (c : Command). NeverBoth source c b) (sym (same a y v.0)) (subst (λ (c : Command). NeverBoth source y c) (sym (same b x v.1)) (λ ts i m n r s d e u t. never ts i n m s r e d t u)))
+]
+
+not_alike : (source : List ℕ) (a b : Command) → alike a b ≡ true → NeverBoth source a b
+not_alike source a b h =
+    let role = is_pair production.GrantRole production.Grant a b in
+    let admin = is_pair production.RevokeRole production.RevokeAdminOption a b in
+    let revoke = is_pair production.RevokeRole production.Revoke a b in
+    let count = is_pair production.Select production.SelectCount a b in
+    elim (or_cases (role || admin || revoke) count h) [
+      | inl g ↦ elim (or_cases (role || admin) revoke g) [
+        | inl f ↦ elim (or_cases role admin f) [
+          | inl p ↦ never_pair source production.GrantRole production.Grant a b (λ ts i m n r s d e u t. grants ts i m n r s d e) p
+          | inr p ↦ never_pair source production.RevokeRole production.RevokeAdminOption a b (λ ts i m n r s d e u t. admin_options ts i m n r s d e) p
+        ]
+        | inr p ↦ never_pair source production.RevokeRole production.Revoke a b (λ ts i m n r s d e u t. revokes ts i m n r s d e) p
+      ]
+      | inr p ↦ never_pair source production.Select production.SelectCount a b (λ ts i m n r s d e u t. counts ts i m n r s d u e) p
+    ]
 
 same_command : (source : List ℕ) (a b : Command) (ts : List Lexeme) (i m n : ℕ) (r s : Statement) → a ≡ b → Spells ts (phrase_of source a) i m r → Spells ts (phrase_of source b) i n s → IsEnd ts m → IsEnd ts n → (a ≡ b) × (m ≡ n) × (r ≡ s)
 same_command source a b ts i m n r s p d e u t =
@@ -35,8 +56,8 @@ same_command source a b ts i m n r s p d e u t =
 pub one_command : (source : List ℕ) (a b : Command) (ts : List Lexeme) (i m n : ℕ) (r s : Statement) → Spells ts (phrase_of source a) i m r → Spells ts (phrase_of source b) i n s → IsEnd ts m → IsEnd ts n → (a ≡ b) × (m ≡ n) × (r ≡ s)
 one_command source a b ts i m n r s d e u t = elim (or_cases (nat_eq (place a) (place b) || alike a b) (told_apart (phrase_of source a) (phrase_of source b)) (settled source a b)) [
   | inl h ↦ elim (or_cases (nat_eq (place a) (place b)) (alike a b) h) [
-    | inl g ↦ same_command source a b ts i m n r s (tag_one commands.the_type tt a b (eqb-true (place a) (place b) g)) d e u t
-    | inr g ↦ absurd (not_alike source a b ts i m n r s g d e u t)
+    | inl g ↦ same_command source a b ts i m n r s (same a b g) d e u t
+    | inr g ↦ absurd (not_alike source a b g ts i m n r s d e u t)
   ]
   | inr h ↦ absurd (never_both (phrase_of source a) (phrase_of source b) ts i m n r s (all_determined source a) (all_determined source b) h d e)
 ]

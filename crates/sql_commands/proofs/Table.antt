@@ -22,17 +22,17 @@ use Rattle.sql_commands.proofs.Apart.{told_apart}
 abbrev pub place : Command → ℕ
 place c = tag_of commands.the_type c
 
+-- two commands are these two, in either order
+abbrev pub is_pair : Command → Command → Command → Command → Bool
+is_pair x y a b = nat_eq (place a) (place x) && nat_eq (place b) (place y) || nat_eq (place a) (place y) && nat_eq (place b) (place x)
+
 -- the pairs that no two tokens tell apart
 abbrev pub alike : Command → Command → Bool
-alike production.GrantRole production.Grant = true
-alike production.Grant production.GrantRole = true
-alike production.RevokeRole production.RevokeAdminOption = true
-alike production.RevokeAdminOption production.RevokeRole = true
-alike production.RevokeRole production.Revoke = true
-alike production.Revoke production.RevokeRole = true
-alike production.Select production.SelectCount = true
-alike production.SelectCount production.Select = true
-alike _ _ = false
+alike a b =
+    is_pair production.GrantRole production.Grant a b
+    || is_pair production.RevokeRole production.RevokeAdminOption a b
+    || is_pair production.RevokeRole production.Revoke a b
+    || is_pair production.Select production.SelectCount a b
 
 -- one command, or a pair of those, or told apart by two tokens
 abbrev pub is_settled : List ℕ → Command → Command → Bool

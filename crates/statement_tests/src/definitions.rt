@@ -40,7 +40,7 @@ use sql_types::state::SqlState;
 use sql_types::try_copy::TryCopy;
 use std::alloc::{AllocError, Global};
 use std::io::Write;
-use store::{Fault, MemStore, Stop, Store};
+use store::{Batch, Fault, MemStore, Stop, Store};
 use stored_rows::check_rows;
 use table_statements::{alter_table, create_table, drop_table};
 
@@ -122,10 +122,20 @@ impl DefinedDatabase {
         let Some((roles, text)) = line.split_once(": ") else {
             bail!("a line is no statement");
         };
-        if let Some(role) = roles.strip_prefix("may ") {
-            let role = name_of(alloc, role)?;
-            return Ok(push_asked(alloc, &self.catalogue, &role, text, out)?);
+        match roles.strip_prefix("may ") {
+            Some(role) => self.ask(alloc, role, text, out),
+            None => self.issue(alloc, roles, text, out),
         }
+    }
+
+    /// Appends whether the role of a name may issue a statement.
+    fn ask(&self, alloc: Global, role: &str, text: &str, out: &mut String) -> Result<()> {
+        let role = name_of(alloc, role)?;
+        Ok(push_asked(alloc, &self.catalogue, &role, text, out)?)
+    }
+
+    /// Carries out a statement that roles of these names issue, and appends what it comes to.
+    fn issue(&mut self, alloc: Global, roles: &str, text: &str, out: &mut String) -> Result<()> {
         let issuer = read_issuer(alloc, roles)?;
         Ok(self.carry_out(alloc, &issuer, text, out)?)
     }
@@ -169,12 +179,33 @@ impl DefinedDatabase {
             changes,
             schema,
         } = effect;
-        let digest = match schema {
-            Some(change) => digest_of(alloc, &changed(alloc, &self.catalogue, change)?)?,
-            None => self.digest,
-        };
-        self.store.commit(&changes)?;
-        Ok((word_of(&answer), digest))
+        self.commit(alloc, word_of(&answer), &changes, schema)
+    }
+
+    /// Commits what a statement changes: this word for its answer, and the digest of the definitions
+    /// that should be there after it.
+    fn commit(
+        &mut self,
+        alloc: Global,
+        word: &'static str,
+        changes: &Batch,
+        schema: Option<SchemaChange>,
+    ) -> Result<(&'static str, u64), Fault> {
+        let digest = self.prepared_digest(alloc, schema)?;
+        self.store.commit(changes)?;
+        Ok((word, digest))
+    }
+
+    /// The digest of the definitions with a change, if there is one.
+    fn prepared_digest(
+        &self,
+        alloc: Global,
+        schema: Option<SchemaChange>,
+    ) -> Result<u64, AllocError> {
+        match schema {
+            Some(change) => digest_with(alloc, &self.catalogue, change),
+            None => Ok(self.digest),
+        }
     }
 
     /// Counts a statement after which the store should hold the definitions of a digest, and says
@@ -192,9 +223,18 @@ impl DefinedDatabase {
 /// The definitions that a store holds, whose rows are checked too, and their digest.
 fn loaded(alloc: Global, store: &mut MemStore) -> Result<(Catalogue, u64), Fault> {
     let catalogue = load(alloc, store)?;
-    check_rows(alloc, store, &catalogue)?;
-    let digest = digest_of(alloc, &catalogue)?;
+    let digest = checked_digest(alloc, store, &catalogue)?;
     Ok((catalogue, digest))
+}
+
+/// Checks the rows of a store, and gives the digest of its catalogue.
+fn checked_digest(
+    alloc: Global,
+    store: &mut MemStore,
+    catalogue: &Catalogue,
+) -> Result<u64, Fault> {
+    check_rows(alloc, store, catalogue)?;
+    Ok(digest_of(alloc, catalogue)?)
 }
 
 /// The roles of an issuer, which a blank parts: that of the session stands first.
@@ -218,6 +258,16 @@ fn digest_of(alloc: Global, catalogue: &Catalogue) -> Result<u64, AllocError> {
 fn push_all(alloc: Global, catalogue: &Catalogue, out: &mut String) -> Result<(), AllocError> {
     push_definitions(out, catalogue)?;
     push_rights(alloc, catalogue, out)
+}
+
+/// The digest of the definitions with a change made in them.
+fn digest_with(
+    alloc: Global,
+    catalogue: &Catalogue,
+    change: SchemaChange,
+) -> Result<u64, AllocError> {
+    let changed = changed(alloc, catalogue, change)?;
+    digest_of(alloc, &changed)
 }
 
 /// A copy of the definitions with a change made in it.

@@ -10,13 +10,32 @@ use std::alloc::{AllocError, Global};
 /// Appends the sections in the layout that a line names.
 pub fn follow(alloc: Global, line: &str, out: &mut String) -> Result<()> {
     let sections = sections(alloc)?;
-    let text = match line {
-        "text" => render_text(alloc, sections.as_slice())?,
-        "json" => render_json(alloc, sections.as_slice())?,
+    push_laid_out(alloc, line, sections.as_slice(), out)
+}
+
+fn push_laid_out(
+    alloc: Global,
+    line: &str,
+    sections: &[Section<'_>],
+    out: &mut String,
+) -> Result<()> {
+    let text = laid_out(alloc, line, sections)?;
+    push_counted(text.as_str(), out)
+}
+
+/// The sections in the layout that a line names.
+fn laid_out(alloc: Global, line: &str, sections: &[Section<'_>]) -> Result<String> {
+    match line {
+        "text" => Ok(render_text(alloc, sections)?),
+        "json" => Ok(render_json(alloc, sections)?),
         _ => bail!("there is no such layout"),
-    };
-    writeln!(out, "rows {}", text.as_str().lines().count())?;
-    out.push_str(text.as_str())?;
+    }
+}
+
+/// Appends how many lines a text has, and the text.
+fn push_counted(text: &str, out: &mut String) -> Result<()> {
+    writeln!(out, "rows {}", text.lines().count())?;
+    out.push_str(text)?;
     Ok(())
 }
 

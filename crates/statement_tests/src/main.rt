@@ -18,7 +18,7 @@ use crate::records::StoredRecords;
 use crate::rows::OpenDatabase;
 use anyhow::{Result, bail};
 use std::alloc::Global;
-use std::io::{BufWriter, Input, Write};
+use std::io::{self, BufWriter, Input, Write};
 
 /// What the lines are about.
 #[derive(Clone, Copy)]
@@ -41,8 +41,13 @@ struct StatementTests {
 
 fn main(rt: HostRuntime) -> Result<()> {
     let mut tests = StatementTests::new(rt.alloc())?;
+    run(&rt, &mut tests)
+}
+
+/// Does what the lines of standard input say, and writes to standard output what comes of them.
+fn run(rt: &HostRuntime, tests: &mut StatementTests) -> Result<()> {
     let mut out = BufWriter::new(rt.alloc(), rt.stdout())?;
-    follow_lines(&rt, rt.alloc(), &mut tests, &mut out)
+    follow_lines(rt, rt.alloc(), tests, &mut out)
 }
 
 /// Does what the lines of standard input say, and writes what comes of them.
@@ -53,12 +58,22 @@ fn follow_lines<R: Input, W: Write>(
     out: &mut W,
 ) -> Result<()> {
     for line in rt.lines(alloc) {
-        let line = line?;
-        tests.follow(alloc, line.as_str(), out)?;
+        follow_line(alloc, line, tests, out)?;
     }
     tests.end(out)?;
     out.flush()?;
     Ok(())
+}
+
+/// Does what a line says that was read, and writes what comes of it.
+fn follow_line<W: Write>(
+    alloc: Global,
+    line: io::Result<String>,
+    tests: &mut StatementTests,
+    out: &mut W,
+) -> Result<()> {
+    let line = line?;
+    tests.follow(alloc, line.as_str(), out)
 }
 
 impl StatementTests {
@@ -92,15 +107,26 @@ impl StatementTests {
         out: &mut W,
     ) -> Result<()> {
         let mut told = String::new(alloc);
-        match part {
-            StatementPart::Layouts => layouts::follow(alloc, line, &mut told)?,
-            StatementPart::Texts => texts::follow(alloc, line, &mut told)?,
-            StatementPart::Records => self.records.follow(line, &mut told)?,
-            StatementPart::Definitions => self.definitions.run_line(alloc, line, &mut told)?,
-            StatementPart::Rows => (),
-        }
+        self.push_told(alloc, part, line, &mut told)?;
         out.write_all(told.as_bytes())?;
         Ok(())
+    }
+
+    /// Does what a line of a part other than `rows` says, and appends what comes of it.
+    fn push_told(
+        &mut self,
+        alloc: Global,
+        part: StatementPart,
+        line: &str,
+        out: &mut String,
+    ) -> Result<()> {
+        match part {
+            StatementPart::Layouts => layouts::follow(alloc, line, out),
+            StatementPart::Texts => Ok(texts::follow(alloc, line, out)?),
+            StatementPart::Records => self.records.follow(line, out),
+            StatementPart::Definitions => self.definitions.run_line(alloc, line, out),
+            StatementPart::Rows => Ok(()),
+        }
     }
 
     /// Ends the part that is there, and begins the one of this name.

@@ -36,7 +36,7 @@ use crate::records::variants::push_variants;
 use anyhow::{Result, bail};
 use catalogue_loading::load;
 use std::alloc::{AllocError, Global};
-use store::{Batch, Fault, MemStore, Store};
+use store::{Batch, Entry, Fault, MemStore, Store};
 
 /// The records of a new database with changes.
 #[derive(Drop)]
@@ -77,7 +77,11 @@ impl StoredRecords {
     /// Puts a record, or removes one.
     fn change(&mut self, word: &str, text: &str) -> Result<()> {
         let record = record_of(self.alloc, text)?;
-        let other = if word == "put" { Some(&record) } else { None };
+        self.change_record(word, &record)
+    }
+
+    fn change_record(&mut self, word: &str, record: &Entry) -> Result<()> {
+        let other = if word == "put" { Some(record) } else { None };
         if !replace(&mut self.changes, record.key(), other)? {
             bail!("no store takes a record of this size");
         }
@@ -86,12 +90,17 @@ impl StoredRecords {
 
     /// Appends whether the records stand for a database.
     fn check(&self, out: &mut String) -> Result<()> {
-        let mut lines = String::new(self.alloc);
-        match tell(self.alloc, &self.changes, &mut lines)? {
+        match self.condition()? {
             Condition::Whole => out.push_str("whole\n")?,
             condition => out.push_str(condition.damage())?,
         }
         Ok(())
+    }
+
+    /// Whether the records stand for a database.
+    fn condition(&self) -> Result<Condition> {
+        let mut lines = String::new(self.alloc);
+        tell(self.alloc, &self.changes, &mut lines)
     }
 
     /// Appends the database for which the records stand.
@@ -104,25 +113,42 @@ impl StoredRecords {
     /// Appends what the database gains by a record.
     fn try_record(&self, text: &str, out: &mut String) -> Result<()> {
         let record = record_of(self.alloc, text)?;
+        self.try_entry(&record, out)
+    }
+
+    fn try_entry(&self, record: &Entry, out: &mut String) -> Result<()> {
         let mut before = String::new(self.alloc);
         tell(self.alloc, &self.changes, &mut before)?;
+        self.push_after(record, before.as_str(), out)
+    }
+
+    /// Appends the lines of the database with a record that were not there before.
+    fn push_after(&self, record: &Entry, before: &str, out: &mut String) -> Result<()> {
         let mut after = String::new(self.alloc);
         let condition = tell_other(
             self.alloc,
             &self.changes,
             record.key(),
-            Some(&record),
+            Some(record),
             &mut after,
         )?;
-        push_gained(out, before.as_str(), after.as_str())?;
-        out.push_str(condition.damage())?;
-        Ok(())
+        Ok(push_tried(out, before, after.as_str(), condition)?)
     }
 
     /// Appends what the catalogue of the records answers.
     fn answer(&self, word: &str, text: &str, out: &mut String) -> Result<()> {
         let mut store = store_with(self.alloc, &self.changes)?;
-        match load(self.alloc, &mut store) {
+        self.answer_from(&mut store, word, text, out)
+    }
+
+    fn answer_from(
+        &self,
+        store: &mut MemStore,
+        word: &str,
+        text: &str,
+        out: &mut String,
+    ) -> Result<()> {
+        match load(self.alloc, store) {
             Ok(catalogue) => push_answer(self.alloc, &catalogue, word, text, out),
             Err(Fault::Damaged) => Ok(out.push_str(Condition::Damaged.damage())?),
             Err(_) => bail!("no definitions were loaded"),
@@ -134,11 +160,27 @@ impl StoredRecords {
 pub fn put_record(alloc: Global, store: &mut MemStore, text: &str) -> Result<()> {
     let record = record_of(alloc, text)?;
     let mut changes = Batch::new(alloc);
-    if !put(&mut changes, record.key(), record.value())? {
+    commit_record(store, &mut changes, &record)
+}
+
+/// Adds a record to changes, and commits them.
+fn commit_record(store: &mut MemStore, changes: &mut Batch, record: &Entry) -> Result<()> {
+    if !put(changes, record.key(), record.value())? {
         bail!("no store takes a record of this size");
     }
-    store.commit(&changes)?;
+    store.commit(changes)?;
     Ok(())
+}
+
+/// Appends the lines of a text that another one does not have, and what is damaged.
+fn push_tried(
+    out: &mut String,
+    before: &str,
+    after: &str,
+    condition: Condition,
+) -> Result<(), AllocError> {
+    push_gained(out, before, after)?;
+    out.push_str(condition.damage())
 }
 
 /// Appends the lines of a text that another one does not have.

@@ -113,17 +113,7 @@ impl OpenDatabase {
     ) -> Result<()> {
         let role = role_of(self.sessions.as_slice(), session)?;
         match parse(alloc, text) {
-            Ok(statement) => match &statement {
-                Statement::OnDatabase(statement) => write_asked(
-                    alloc,
-                    &mut self.store,
-                    role,
-                    statement,
-                    asked,
-                    out,
-                ),
-                Statement::OfSession(_) => bail!("a statement concerns its session"),
-            },
+            Ok(statement) => run_parsed(alloc, &mut self.store, role, &statement, asked, out),
             Err(refusal) => write_refused(refusal.0, asked, out),
         }
     }
@@ -146,6 +136,21 @@ fn role_of<'s>(sessions: &'s [TestSession], name: &str) -> Result<&'s Name> {
     {
         Some(session) => Ok(&session.role),
         None => bail!("a session is not open"),
+    }
+}
+
+/// Writes what is asked of a statement that concerns the database of a store.
+fn run_parsed<W: Write>(
+    alloc: Global,
+    store: &mut MemStore,
+    role: &Name,
+    statement: &Statement,
+    asked: Asked,
+    out: &mut W,
+) -> Result<()> {
+    match statement {
+        Statement::OnDatabase(statement) => write_asked(alloc, store, role, statement, asked, out),
+        Statement::OfSession(_) => bail!("a statement concerns its session"),
     }
 }
 

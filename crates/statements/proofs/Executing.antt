@@ -7,16 +7,11 @@ use Rattle.sql_ast.specs.declared.statement.DatabaseStatement.TheVariants as on_
 use Rattle.sql_ast.specs.declared.statement.DefiningStatement.{DefiningStatement}
 use Rattle.sql_ast.specs.declared.statement.DefiningStatement.TheVariants as defining
 use Rattle.sql_ast.specs.declared.statement.RowStatement.{RowStatement}
-use Rattle.sql_ast.specs.declared.statement.RowStatement.TheVariants as over_rows
 use Rattle.sql_ast.specs.declared.statement.CreateTable.{CreateTable}
 use Rattle.sql_ast.specs.declared.statement.DropTable.{DropTable}
 use Rattle.sql_ast.specs.declared.statement.CreatePolicy.{CreatePolicy}
 use Rattle.sql_ast.specs.declared.statement.Grant.{Grant}
-use Rattle.sql_ast.specs.declared.statement.Insert.{Insert}
-use Rattle.sql_ast.specs.declared.statement.Update.{Update}
-use Rattle.sql_ast.specs.declared.statement.Delete.{Delete}
-use Rattle.sql_ast.specs.declared.statement.Select.{Select}
-use Rattle.sql_ast.specs.Read.{IsReadCreateTable, IsReadCreatePolicy, IsReadGrant, IsReadInsert, IsReadUpdate}
+use Rattle.sql_ast.specs.Read.{IsReadCreateTable, IsReadCreatePolicy, IsReadGrant}
 use Rattle.expr_parser.specs.Written.{IsAsWritten}
 use Rattle.expressions.specs.Meaning.{UserNames}
 use Rattle.store.specs.Records.{IsOrdered}
@@ -26,10 +21,11 @@ use Rattle.store.specs.declared.stop.Stop.{Stop}
 use Rattle.abstract_database.specs.Lists.{TheName}
 use Rattle.abstract_database.specs.Database.{Database}
 use Rattle.abstract_database.specs.Statements as meaning
-use Rattle.abstract_database.specs.Whole.{IsRoleOf, AreRolesOf}
+use Rattle.abstract_database.specs.Whole.{IsRoleOf}
 use Rattle.stored_database.specs.Definitions.{Definitions}
 use Rattle.stored_database.specs.Records.{Shows}
 use Rattle.catalogue_changes.specs.Carried.{IsCurrent, AreUsers}
+use Rattle.row_statements.specs.Executed.{WritesAsRead}
 use Rattle.row_statements.specs.Users.{seen_users}
 use Rattle.catalogue.specs.declared.effect.Effect.{Effect}
 use Rattle.catalogue.specs.Executed.{Executes, Defines}
@@ -87,23 +83,8 @@ module _ (s : StoreState) (d : Definitions) (role login : TheName) where
       IsExecuted result (on_database.Defining all)
   drop_table result all x is h = subst (λ (y : DefiningStatement). IsExecuted result (on_database.Defining y)) (sym is) (λ sound db shown may. h sound db (seen_users db.memberships role login) shown refl)
 
-  module _ (result : Result Effect Stop) (all : RowStatement) where
-    pub insert : (x : Insert) → all ≡ (over_rows.Insert x) →
-        (s.sound → (db : Database) → Shows s.map d db → AreRolesOf db (seen_users db.memberships role login) → IsReadInsert x → Executes s.map d result (meaning.insert db (seen_users db.memberships role login) x)) →
-        IsExecuted result (on_database.OverRows all)
-    insert x is h = subst (λ (y : RowStatement). IsExecuted result (on_database.OverRows y)) (sym is) (λ sound db shown may. h sound db shown may.roles may.read)
-
-    pub update : (x : Update) → all ≡ (over_rows.Update x) →
-        (s.sound → (db : Database) → Shows s.map d db → AreRolesOf db (seen_users db.memberships role login) → IsReadUpdate x → Executes s.map d result (meaning.update db (seen_users db.memberships role login) x)) →
-        IsExecuted result (on_database.OverRows all)
-    update x is h = subst (λ (y : RowStatement). IsExecuted result (on_database.OverRows y)) (sym is) (λ sound db shown may. h sound db shown may.roles may.read)
-
-    pub delete : (x : Delete) → all ≡ (over_rows.Delete x) →
-        (s.sound → (db : Database) → Shows s.map d db → Executes s.map d result (meaning.delete db (seen_users db.memberships role login) x)) →
-        IsExecuted result (on_database.OverRows all)
-    delete x is h = subst (λ (y : RowStatement). IsExecuted result (on_database.OverRows y)) (sym is) (λ sound db shown may. h sound db shown)
-
-    pub select : (x : Select) → all ≡ (over_rows.Select x) →
-        (s.sound → (db : Database) → Shows s.map d db → Executes s.map d result (meaning.select db (seen_users db.memberships role login) x)) →
-        IsExecuted result (on_database.OverRows all)
-    select x is h = subst (λ (y : RowStatement). IsExecuted result (on_database.OverRows y)) (sym is) (λ sound db shown may. h sound db shown)
+  -- the rows of a statement as the parser reads it, by roles that there are
+  pub over_rows : (result : Result Effect Stop) (all : DatabaseStatement) (x : RowStatement) → all ≡ (on_database.OverRows x)
+      → (s.sound → (db : Database) → Shows s.map d db → WritesAsRead db (seen_users db.memberships role login) x → Executes s.map d result (meaning.exec_over_rows db (seen_users db.memberships role login) x))
+      → IsExecuted result all
+  over_rows result all x is h = subst (IsExecuted result) (sym is) (λ sound db shown may. h sound db shown (λ writes. (may.roles, may.read)))

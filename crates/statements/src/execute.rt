@@ -13,9 +13,8 @@ use catalogue::effect::Effect;
 use policy_statements::{create_policy, drop_policy};
 use privilege_statements::{grant, revoke};
 use role_statements::{create_role, drop_role, grant_role, revoke_role};
-use row_statements::{delete_rows, insert_rows, select_rows, update_rows};
 use server::execute::Execute;
-use sql_ast::statement::{DatabaseStatement, DefiningStatement, RowStatement};
+use sql_ast::statement::{DatabaseStatement, DefiningStatement};
 use sql_types::name::Name;
 use std::alloc::Global;
 use store::{Map, Stop};
@@ -36,40 +35,13 @@ impl Execute for Statements {
         statement: &DatabaseStatement,
     ) -> Result<Effect, Stop> {
         match statement {
-            DatabaseStatement::OverRows(statement) => execute_over_rows(
-                alloc, map, catalogue, current, session, statement,
-            ),
-            DatabaseStatement::Defining(statement) => define(
-                alloc, map, catalogue, current, session, statement,
-            ),
+            DatabaseStatement::OverRows(statement) => {
+                row_statements::execute(alloc, map, catalogue, current, session, statement)
+            }
+            DatabaseStatement::Defining(statement) => {
+                define(alloc, map, catalogue, current, session, statement)
+            }
         }
-    }
-}
-
-// A statement over rows, carried out as `execute` says.
-fn execute_over_rows<M: Map>(
-    alloc: Global,
-    map: &mut M,
-    catalogue: &Catalogue,
-    current: &Name,
-    session: &Name,
-    statement: &RowStatement,
-) -> Result<Effect, Stop>
-    ensures preserved { M.preserved map.old map.new }
-    ensures read { ReadsMap result (M.state map.old) (M.state map.new) }
-    ensures executes { (M.state map.old).sound → (db : Database)
-        → Shows (M.state map.old).map catalogue.now db
-        → MayExecute db (users_named current.now session.now)
-        (TheDatabaseStatement.OverRows statement.now)
-        → Executes (M.state map.old).map catalogue.now result
-        (exec db (users_named current.now session.now)
-        (TheDatabaseStatement.OverRows statement.now)) }
-{
-    match statement {
-        RowStatement::Insert(s) => insert_rows(alloc, map, catalogue, current, session, s),
-        RowStatement::Update(s) => update_rows(alloc, map, catalogue, current, session, s),
-        RowStatement::Delete(s) => delete_rows(alloc, map, catalogue, current, session, s),
-        RowStatement::Select(s) => select_rows(alloc, map, catalogue, current, session, s),
     }
 }
 

@@ -111,10 +111,11 @@ fn do_all(
 
 /// What the first word of a line begins.
 fn begun(alloc: Global, first: Word<'_>) -> Result<Case, AllocError> {
-    let mut device = None;
-    if first.name == "device" && first.first <= MAX_MEMORY_PAGES {
-        device = Some(MemDevice::new(alloc, first.first)?);
-    }
+    let device = if first.name == "device" && first.first <= MAX_MEMORY_PAGES {
+        Some(MemDevice::new(alloc, first.first)?)
+    } else {
+        None
+    };
     Ok(Case {
         device,
         array: None,

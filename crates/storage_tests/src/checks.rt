@@ -5,7 +5,7 @@ mod files;
 mod journal_parts;
 mod journals;
 mod laws;
-mod require;
+pub mod require;
 
 use anyhow::{Result, bail};
 use std::alloc::{AllocError, Global};

@@ -1,11 +1,11 @@
 //! Stops stores with a journal, and makes calls of their devices fail, again and again, and tells how often that was done and how
 //! often something else was found than was to be found.
 //!
-//! A line is a trial by itself; one whose first word is `#` is printed as it is. The first word names the trial, the others make a
+//! A line is a test by itself; one whose first word is `#` is printed as it is. The first word names the test, the others make a
 //! script: `put:KEY:VALUE`, `remove:KEY` and `rise:FROM:TO:VALUE` as in the part `stores`, and `commit` behind each batch. `on`
-//! and `off` between two batches turn the journal on and off, in the trials that know of steps. In the
+//! and `off` between two batches turn the journal on and off, in the tests that know of steps. In the
 //! life n of a device, from 0 on, all bytes of values are n more. Each store lies on a device of 64 pages, and is made new with
-//! the record of the role root, unless it says otherwise. A trial answers what was counted, or, with the word `uncounted` before
+//! the record of the role root, unless it says otherwise. A test answers what was counted, or, with the word `uncounted` before
 //! the script, only how often there was a disagreement, of which a line tells each one.
 //!
 //! - `stops:CACHE:LIVES:EVERY`: each commit of the script is stopped after each count of its sector writes. The device starts again
@@ -52,18 +52,18 @@ mod script;
 mod stops;
 mod switches;
 mod tally;
-mod trial_stores;
+mod test_stores;
 mod turning;
 mod wanted;
 
 use crate::journals::script::BatchScript;
-use crate::journals::tally::TrialTally;
+use crate::journals::tally::TestTally;
 use crate::stores::call::{CallWords, number_in};
 use anyhow::{Result, bail};
 use kv_store::MAX_CACHE_PAGES;
 use std::alloc::Global;
 
-/// Makes the trial of a line, and appends what came of it.
+/// Runs the test of a line, and appends what came of it.
 pub fn follow(alloc: Global, tries_all: bool, line: &str, out: &mut String) -> Result<()> {
     let (word, rest) = line.split_once(' ').unwrap_or((line, ""));
     let first = CallWords::new(alloc, word);
@@ -79,7 +79,7 @@ pub fn follow(alloc: Global, tries_all: bool, line: &str, out: &mut String) -> R
     }
 }
 
-/// Makes the trial that a word names with the script behind it, and appends what came of it.
+/// Runs the test that a word names with the script behind it, and appends what came of it.
 fn follow_script(
     first: &CallWords<'_>,
     tries_all: bool,
@@ -95,18 +95,29 @@ fn follow_script(
         None => (rest, true),
     };
     let script = BatchScript::new(first.alloc, cache, words)?;
-    let mut tally = TrialTally::new(first.alloc);
-    make_trial(first, tries_all, &script, &mut tally)?;
+    follow_counted(first, tries_all, &script, is_counted, out)
+}
+
+/// Runs the test that a word names with a script, and appends what came of it.
+fn follow_counted(
+    first: &CallWords<'_>,
+    tries_all: bool,
+    script: &BatchScript,
+    is_counted: bool,
+    out: &mut String,
+) -> Result<()> {
+    let mut tally = TestTally::new(first.alloc);
+    run_test(first, tries_all, script, &mut tally)?;
     tally.push(first, is_counted, out)?;
     Ok(())
 }
 
-/// Makes the trial that a word names with a script.
-fn make_trial(
+/// Runs the test that a word names with a script.
+fn run_test(
     first: &CallWords<'_>,
     tries_all: bool,
     script: &BatchScript,
-    tally: &mut TrialTally,
+    tally: &mut TestTally,
 ) -> Result<()> {
     match first.name {
         "stops" => {
@@ -119,7 +130,7 @@ fn make_trial(
         "switches" => switches::stop_switches(script, every_of(tries_all, first.second), tally),
         "failing_switches" => failing_switches::fail_switches(script, tally),
         "again" => again::step_again(script, tally),
-        _ => bail!("there is no such trial"),
+        _ => bail!("there is no such test"),
     }
 }
 

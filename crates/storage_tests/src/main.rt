@@ -16,6 +16,7 @@ mod stores;
 use crate::images::AlteredImages;
 use crate::stores::Stores;
 use anyhow::{Result, bail};
+use std::alloc::Global;
 use std::env;
 use std::io::{BufWriter, Write};
 
@@ -41,15 +42,8 @@ struct StorageTests {
 
 fn main(rt: HostRuntime) -> Result<()> {
     let tries_all = tries_all(&rt)?;
-    let mut tests = StorageTests {
-        part: StoragePart::Checks,
-        tries_all,
-        images: AlteredImages::new(rt.alloc(), tries_all),
-        script: String::new(rt.alloc()),
-        stores: Stores::new(rt.alloc())?,
-    };
-    let mut out = BufWriter::new(rt.alloc(), rt.stdout())?;
-    follow_lines(&rt, &mut tests, &mut out)
+    let mut tests = StorageTests::new(rt.alloc(), tries_all)?;
+    follow(&rt, &mut tests)
 }
 
 /// Whether the first word on the command line is `all`.
@@ -60,14 +54,37 @@ fn tries_all(rt: &HostRuntime) -> Result<bool> {
     }
 }
 
+/// Does what the lines of standard input say, and writes what came of them to standard output.
+fn follow(rt: &HostRuntime, tests: &mut StorageTests) -> Result<()> {
+    let mut out = BufWriter::new(rt.alloc(), rt.stdout())?;
+    follow_lines(rt, tests, &mut out)?;
+    end(rt, tests, &mut out)
+}
+
 /// Does what the lines of standard input say, and writes what came of them.
 fn follow_lines<W: Write>(rt: &HostRuntime, tests: &mut StorageTests, out: &mut W) -> Result<()> {
     for line in rt.lines(rt.alloc()) {
         let line = line?;
-        let mut told = String::new(rt.alloc());
-        tests.follow(rt, line.as_str(), &mut told)?;
-        out.write_all(told.as_bytes())?;
+        follow_line(rt, tests, line.as_str(), out)?;
     }
+    Ok(())
+}
+
+/// Does what a line says, and writes what came of it.
+fn follow_line<W: Write>(
+    rt: &HostRuntime,
+    tests: &mut StorageTests,
+    line: &str,
+    out: &mut W,
+) -> Result<()> {
+    let mut told = String::new(rt.alloc());
+    tests.follow(rt, line, &mut told)?;
+    out.write_all(told.as_bytes())?;
+    Ok(())
+}
+
+/// Ends the part that is there at the end of the lines, and writes what came of it.
+fn end<W: Write>(rt: &HostRuntime, tests: &mut StorageTests, out: &mut W) -> Result<()> {
     let mut told = String::new(rt.alloc());
     tests.stores.end(&mut told)?;
     out.write_all(told.as_bytes())?;
@@ -76,6 +93,18 @@ fn follow_lines<W: Write>(rt: &HostRuntime, tests: &mut StorageTests, out: &mut 
 }
 
 impl StorageTests {
+    /// The part of checks, and nothing that lines left.
+    fn new(alloc: Global, tries_all: bool) -> Result<StorageTests> {
+        let stores = Stores::new(alloc)?;
+        Ok(StorageTests {
+            part: StoragePart::Checks,
+            tries_all,
+            images: AlteredImages::new(alloc, tries_all),
+            script: String::new(alloc),
+            stores,
+        })
+    }
+
     /// Begins a part, or does what a line of the one that is there says. Appends what came of it.
     fn follow(&mut self, rt: &HostRuntime, line: &str, out: &mut String) -> Result<()> {
         match (line.strip_prefix("part "), self.part) {

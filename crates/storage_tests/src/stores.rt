@@ -34,7 +34,7 @@ pub mod call;
 mod callee;
 pub mod devices;
 pub mod map_calls;
-mod records;
+pub mod records;
 pub mod table;
 mod tree_calls;
 mod trees;
@@ -127,9 +127,14 @@ fn push_faults(out: &mut String) -> Result<(), AllocError> {
         StoreFault::Device,
         StoreFault::Number,
     ] {
-        let read = Fault::from(fault);
-        writeln!(out, "of a store: {fault}")?;
-        writeln!(out, "of a read: {read}")?;
+        push_fault(out, fault)?;
     }
     writeln!(out, "of a read: {}", Fault::Damaged)
+}
+
+/// Appends the text of a fault of a store, and that of the fault of a read that it is.
+fn push_fault(out: &mut String, fault: StoreFault) -> Result<(), AllocError> {
+    let read = Fault::from(fault);
+    writeln!(out, "of a store: {fault}")?;
+    writeln!(out, "of a read: {read}")
 }

@@ -10,11 +10,21 @@ pub const LENGTH: usize = 262_144;
 
 /// What a device of 64 pages holds, the script that is asked of the server over it, and whether the openings of it are stopped
 /// and fail.
-#[derive(Drop)]
 pub struct DeviceImage {
     pub bytes: Vec<u8>,
     pub script: String,
     pub is_stopped: bool,
+}
+
+// Written and not derived: where a value is dropped this is one call, and not its parts one by one.
+impl Drop for DeviceImage {
+    fn drop(self) {
+        let DeviceImage {
+            bytes: _,
+            script: _,
+            is_stopped: _,
+        } = self;
+    }
 }
 
 impl DeviceImage {
@@ -25,16 +35,36 @@ impl DeviceImage {
             script: String::new(alloc),
             is_stopped: false,
         };
+        image.follow_file(rt, alloc, name)?;
+        Ok(image)
+    }
+
+    /// The bytes.
+    pub fn into_bytes(self) -> Vec<u8> {
+        let DeviceImage {
+            bytes,
+            script: _,
+            is_stopped: _,
+        } = self;
+        bytes
+    }
+
+    /// Does what the file `NAME.image` says.
+    fn follow_file(&mut self, rt: &HostRuntime, alloc: Global, name: &str) -> io::Result<()> {
         let text = text_of(rt, alloc, name, ".image")?;
         if let ("from", rest) = word_in(text.as_str()) {
-            let before = rest.lines().next().unwrap_or("");
-            let text = text_of(rt, alloc, before, ".image")?;
-            image.follow(alloc, text.as_str())?;
-            image.is_stopped = false;
-            image.script.clear();
+            self.begin_with(rt, alloc, rest.lines().next().unwrap_or(""))?;
         }
-        image.follow(alloc, text.as_str())?;
-        Ok(image)
+        self.follow(alloc, text.as_str())
+    }
+
+    /// Begins with the bytes that the file `NAME.image` tells.
+    fn begin_with(&mut self, rt: &HostRuntime, alloc: Global, name: &str) -> io::Result<()> {
+        let text = text_of(rt, alloc, name, ".image")?;
+        self.follow(alloc, text.as_str())?;
+        self.is_stopped = false;
+        self.script.clear();
+        Ok(())
     }
 
     /// Does what lines say.

@@ -16,8 +16,8 @@ use crate::files::text_of;
 use crate::orders::{make_database, printed_for_order, told_for_order};
 use crate::reports::report;
 use commands::command::Order;
-use std::alloc::Global;
-use std::fs::OpenOptions;
+use std::alloc::{AllocError, Global};
+use std::fs::{File, OpenOptions};
 use std::io::Write;
 use std::net::{Ipv4Addr, SocketAddr, TcpListener};
 use std::{fs, io};
@@ -50,17 +50,23 @@ fn give_hindered(
     let (what, rest) = word_in(line);
     let (name, hindrance) = word_in(rest);
     let expected = text_of(rt, alloc, name, ".expected")?;
-    make_database(rt, alloc, FILE)?;
-    let printed = printed_if_hindered(rt, alloc, hindrance);
-    fs::remove_file(rt, FILE)?;
+    let printed = printed_over_new(rt, alloc, hindrance)?;
     report(
         rt,
         what,
         name,
         expected.as_str(),
-        printed?.as_str(),
+        printed.as_str(),
         differing,
     )
+}
+
+/// What is printed for the order that something hinders, over a new database, which is then removed.
+fn printed_over_new(rt: &HostRuntime, alloc: Global, hindrance: &str) -> io::Result<String> {
+    make_database(rt, alloc, FILE)?;
+    let printed = printed_if_hindered(rt, alloc, hindrance);
+    fs::remove_file(rt, FILE)?;
+    printed
 }
 
 /// What is printed for the order that something hinders, over the new database.
@@ -94,7 +100,7 @@ fn check_altered(rt: &HostRuntime, alloc: Global, word: &str, rest: &str) -> io:
 
 /// What `check` prints where its file holds what another file tells.
 fn check_image(rt: &HostRuntime, alloc: Global, name: &str) -> io::Result<String> {
-    let mut bytes = DeviceImage::read(rt, alloc, name)?.bytes;
+    let mut bytes = DeviceImage::read(rt, alloc, name)?.into_bytes();
     bytes.resize(LENGTH, 0)?;
     check_bytes(rt, alloc, bytes.as_slice())
 }
@@ -103,6 +109,11 @@ fn check_image(rt: &HostRuntime, alloc: Global, name: &str) -> io::Result<String
 fn serve_on_a_bound_port(rt: &HostRuntime, alloc: Global, file: &str) -> io::Result<String> {
     let listener = TcpListener::bind(rt, SocketAddr::from((Ipv4Addr::LOCALHOST, 0)))?;
     let port = listener.local_addr()?.port();
+    serve_on_port(rt, alloc, file, port)
+}
+
+/// What `serve` of a file prints on a port, in the place of which stands `PORT`.
+fn serve_on_port(rt: &HostRuntime, alloc: Global, file: &str, port: u16) -> io::Result<String> {
     let order = Order::Serve {
         file,
         port,
@@ -110,8 +121,13 @@ fn serve_on_a_bound_port(rt: &HostRuntime, alloc: Global, file: &str) -> io::Res
         idle: None,
     };
     let printed = printed_for_order(rt, alloc, &order)?;
+    Ok(without_port(alloc, printed.as_str(), port)?)
+}
+
+/// A text with `PORT` in the place of a port.
+fn without_port(alloc: Global, text: &str, port: u16) -> Result<String, AllocError> {
     let place = format!(in alloc; ":{port}:")?;
-    Ok(printed.as_str().replace(alloc, place.as_str(), ":PORT:")?)
+    text.replace(alloc, place.as_str(), ":PORT:")
 }
 
 /// What `run --memory` prints where its output fails.
@@ -125,11 +141,16 @@ fn run_to_a_failing_output(rt: &HostRuntime, alloc: Global) -> io::Result<String
 
 /// What `check` prints where its file is locked.
 fn check_a_locked_file(rt: &HostRuntime, alloc: Global) -> io::Result<String> {
-    let mut options = OpenOptions::new();
-    options.read(true).write(true);
-    let file = options.open(rt, FILE)?;
+    let file = open_database(rt)?;
     file.try_lock()?;
     printed_for_order(rt, alloc, &Order::Check { file: FILE })
+}
+
+/// The file of the database, which is read and written.
+fn open_database(rt: &HostRuntime) -> io::Result<File> {
+    let mut options = OpenOptions::new();
+    options.read(true).write(true);
+    options.open(rt, FILE)
 }
 
 /// A standard output that takes nothing.

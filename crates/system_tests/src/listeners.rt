@@ -20,21 +20,66 @@ pub fn sent_back(
     store: StoreKind,
     lines: &str,
 ) -> io::Result<String> {
-    let listener = TcpListener::bind(rt, SocketAddr::from((Ipv4Addr::LOCALHOST, 0)))?;
-    let mut client = TcpStream::connect(rt, listener.local_addr()?)?;
-    for line in lines.lines() {
-        client.write_all(bytes_of(alloc, line)?.as_slice())?;
-    }
-    client.shutdown(Shutdown::Write)?;
-    let mut listener = SystemListener::new(rt, alloc, listener, None);
-    let served = serve_one(alloc, store, &mut listener)?;
     let mut bytes = Vec::new(alloc);
-    client.read_to_end(&mut bytes)?;
-    let mut text = text_of_frames(alloc, bytes.as_slice())?;
+    let served = serve_client(rt, alloc, store, lines, &mut bytes)?;
+    told_of(alloc, bytes.as_slice(), served)
+}
+
+/// The text of frames, with a last line where the listener did not serve the one connection.
+fn told_of(alloc: Global, bytes: &[u8], served: Served) -> io::Result<String> {
+    let mut text = text_of_frames(alloc, bytes)?;
     if served != Served::Done {
         writeln!(text, "{served:?}")?;
     }
     Ok(text)
+}
+
+/// Serves a client that sends the bytes of each line and then no more, and adds what it is sent back.
+fn serve_client(
+    rt: &HostRuntime,
+    alloc: Global,
+    store: StoreKind,
+    lines: &str,
+    bytes: &mut Vec<u8>,
+) -> io::Result<Served> {
+    let listener = TcpListener::bind(rt, SocketAddr::from((Ipv4Addr::LOCALHOST, 0)))?;
+    let mut client = sending_client(rt, alloc, listener.local_addr()?, lines)?;
+    let mut listener = SystemListener::new(rt, alloc, listener, None);
+    serve_and_read(alloc, store, &mut listener, &mut client, bytes)
+}
+
+/// A client that is connected to an address, and has sent the bytes of each line and then no more.
+fn sending_client(
+    rt: &HostRuntime,
+    alloc: Global,
+    address: SocketAddr,
+    lines: &str,
+) -> io::Result<TcpStream> {
+    let mut client = TcpStream::connect(rt, address)?;
+    send_lines(alloc, lines, &mut client)?;
+    client.shutdown(Shutdown::Write)?;
+    Ok(client)
+}
+
+/// Sends the bytes of each line.
+fn send_lines(alloc: Global, lines: &str, client: &mut TcpStream) -> io::Result<()> {
+    for line in lines.lines() {
+        client.write_all(bytes_of(alloc, line)?.as_slice())?;
+    }
+    Ok(())
+}
+
+/// Serves one connection of a listener over a new database in a store, and adds what its client is sent back.
+fn serve_and_read<L: Listen>(
+    alloc: Global,
+    store: StoreKind,
+    listener: &mut L,
+    client: &mut TcpStream,
+    bytes: &mut Vec<u8>,
+) -> io::Result<Served> {
+    let served = serve_one(alloc, store, listener)?;
+    client.read_to_end(bytes)?;
+    Ok(served)
 }
 
 /// Serves one connection of a listener over a new database in a store.

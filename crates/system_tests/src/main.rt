@@ -14,7 +14,7 @@
 //! hinders, files that were altered among them, as `hindered_orders` tells, and a server what no script can show. Devices whose
 //! bytes stand in files `NAME.image` are opened, as `opened_images` tells, those of an earlier format among them.
 //!
-//! At last the whole server is stopped, and calls of its device fail, as `stops` tells: a part of these trials is tried. With
+//! At last the whole server is stopped, and calls of its device fail, as `stops` tells: a part of these tests is tried. With
 //! the word `all` nothing else is tried, and all of them are. With the word `memory` nothing is tried but openings of devices of
 //! an earlier format, once more where memory is refused: `rt try --fail-alloc N -- memory` prints the same for each N where the
 //! request that is refused is one of an opening.
@@ -55,7 +55,7 @@ use std::{env, io};
 
 /// What is done with a file of the folder.
 #[derive(Clone, Copy)]
-enum Trial {
+enum Test {
     /// A script is run over a store.
     Script(StoreKind),
     /// A script with long lines is run over a store.
@@ -69,36 +69,36 @@ enum Trial {
 }
 
 /// What is done with the files of each ending: what a line begins with, and what is tried.
-const SCRIPTS: [(&str, Trial); 2] = [
-    ("memory", Trial::Script(StoreKind::Memory)),
-    ("pages", Trial::Script(StoreKind::Pages(PAGES))),
+const SCRIPTS: [(&str, Test); 2] = [
+    ("memory", Test::Script(StoreKind::Memory)),
+    ("pages", Test::Script(StoreKind::Pages(PAGES))),
 ];
 
-const LONG_SCRIPTS: [(&str, Trial); 2] = [
-    ("memory", Trial::LongScript(StoreKind::Memory)),
-    ("pages", Trial::LongScript(StoreKind::Pages(PAGES))),
+const LONG_SCRIPTS: [(&str, Test); 2] = [
+    ("memory", Test::LongScript(StoreKind::Memory)),
+    ("pages", Test::LongScript(StoreKind::Pages(PAGES))),
 ];
 
-const SMALL_SCRIPTS: [(&str, Trial); 1] = [(
+const SMALL_SCRIPTS: [(&str, Test); 1] = [(
     "64 pages",
-    Trial::LongScript(StoreKind::Pages(SMALL_PAGES)),
+    Test::LongScript(StoreKind::Pages(SMALL_PAGES)),
 )];
 
-const FRAMES_IN_MEMORY: [(&str, Trial); 1] = [(
+const FRAMES_IN_MEMORY: [(&str, Test); 1] = [(
     "listener over memory",
-    Trial::Frames(StoreKind::Memory),
+    Test::Frames(StoreKind::Memory),
 )];
 
-const FRAMES_IN_PAGES: [(&str, Trial); 1] = [(
+const FRAMES_IN_PAGES: [(&str, Test); 1] = [(
     "listener over pages",
-    Trial::Frames(StoreKind::Pages(PAGES)),
+    Test::Frames(StoreKind::Pages(PAGES)),
 )];
 
-const WORDS: [(&str, Trial); 1] = [("words", Trial::Words)];
+const WORDS: [(&str, Test); 1] = [("words", Test::Words)];
 
-const IMAGES: [(&str, Trial); 1] = [("image", Trial::Image)];
+const IMAGES: [(&str, Test); 1] = [("image", Test::Image)];
 
-impl Trial {
+impl Test {
     /// What is printed for the file of a name.
     fn printed(
         self,
@@ -107,36 +107,35 @@ impl Trial {
         name: &str,
         ending: &str,
     ) -> io::Result<String> {
-        if matches!(self, Trial::Words) {
-            return printed_for(rt, alloc, name);
-        }
-        if matches!(self, Trial::Image) {
-            return printed_of(rt, alloc, name);
-        }
-        let text = text_of(rt, alloc, name, ending)?;
         match self {
-            Trial::Script(store) => printed_by(alloc, store, text.as_str()),
-            Trial::LongScript(store) => printed_by(
-                alloc,
-                store,
-                expanded(alloc, text.as_str())?.as_str(),
-            ),
-            Trial::Frames(store) => sent_back(rt, alloc, store, text.as_str()),
-            _ => Ok(text),
+            Test::Script(store) => {
+                printed_by(alloc, store, text_of(rt, alloc, name, ending)?.as_str())
+            }
+            Test::LongScript(store) => {
+                printed_by(alloc, store, expanded_of(rt, alloc, name, ending)?.as_str())
+            }
+            Test::Frames(store) => {
+                sent_back(rt, alloc, store, text_of(rt, alloc, name, ending)?.as_str())
+            }
+            Test::Words => printed_for(rt, alloc, name),
+            Test::Image => printed_of(rt, alloc, name),
         }
     }
 
     /// What is expected for the file of a name.
     fn expected(self, rt: &HostRuntime, alloc: Global, name: &str) -> io::Result<String> {
         match self {
-            Trial::Image => text_of(rt, alloc, name, ".opened"),
-            Trial::LongScript(_) => {
-                let text = text_of(rt, alloc, name, ".expected")?;
-                Ok(expanded(alloc, text.as_str())?)
-            }
+            Test::Image => text_of(rt, alloc, name, ".opened"),
+            Test::LongScript(_) => expanded_of(rt, alloc, name, ".expected"),
             _ => text_of(rt, alloc, name, ".expected"),
         }
     }
+}
+
+/// The text of the file of a name and an ending, in which `{N*X}` stands for N times X.
+fn expanded_of(rt: &HostRuntime, alloc: Global, name: &str, ending: &str) -> io::Result<String> {
+    let text = text_of(rt, alloc, name, ending)?;
+    Ok(expanded(alloc, text.as_str())?)
 }
 
 fn main(rt: HostRuntime) -> io::Result<ExitCode> {
@@ -188,12 +187,12 @@ fn try_files(
     rt: &HostRuntime,
     alloc: Global,
     ending: &str,
-    trials: &[(&str, Trial)],
+    tests: &[(&str, Test)],
     differing: &mut u64,
 ) -> io::Result<()> {
     for name in &names_of(rt, alloc, ending)? {
-        for (what, trial) in trials {
-            try_file(rt, alloc, what, *trial, name.as_str(), ending, differing)?;
+        for (what, test) in tests {
+            try_file(rt, alloc, what, *test, name.as_str(), ending, differing)?;
         }
     }
     Ok(())
@@ -204,13 +203,13 @@ fn try_file(
     rt: &HostRuntime,
     alloc: Global,
     what: &str,
-    trial: Trial,
+    test: Test,
     name: &str,
     ending: &str,
     differing: &mut u64,
 ) -> io::Result<()> {
-    let expected = trial.expected(rt, alloc, name)?;
-    let printed = trial.printed(rt, alloc, name, ending)?;
+    let expected = test.expected(rt, alloc, name)?;
+    let printed = test.printed(rt, alloc, name, ending)?;
     report(
         rt,
         what,

@@ -10,13 +10,13 @@
 use crate::device_images::DeviceImage;
 use crate::events::events_of;
 use crate::files::{names_of, text_of};
-use crate::stops::fault::TrialFault;
+use crate::stops::fault::TestFault;
 use crate::stops::images::Image;
-use crate::stops::servers::{
-    CACHE_PAGES, DeviceServer, NotOpened, find_on, open_device, open_or_hand_back,
-};
+use crate::stops::servers::{DeviceServer, find_on, open_and_end, open_device};
 use crate::stops::talks::texts_of;
-use std::alloc::Global;
+use sector_device::MemDevice;
+use sql_types::event::Event;
+use std::alloc::{AllocError, Global};
 use std::io;
 
 /// What is printed of the device of which the file `NAME.image` tells.
@@ -29,43 +29,64 @@ pub fn printed_of(rt: &HostRuntime, alloc: Global, name: &str) -> io::Result<Str
 }
 
 /// What is printed of a device.
-fn opened_twice(alloc: Global, image: &DeviceImage) -> Result<String, TrialFault> {
+fn opened_twice(alloc: Global, image: &DeviceImage) -> Result<String, TestFault> {
     let mut out = String::new(alloc);
-    let first = Image::of_bytes(alloc, image.bytes.as_slice())?;
-    let (second, _) = open_once(alloc, &first, &mut out)?;
-    let (third, is_opened) = open_once(alloc, &second, &mut out)?;
-    if is_opened {
-        tell_contents(alloc, &third, &mut out)?;
-        tell_answers(alloc, &third, image.script.as_str(), &mut out)?;
-    }
+    tell_openings(alloc, image, &mut out)?;
     Ok(out)
+}
+
+/// Opens a device twice, and tells of it and of what it then holds.
+fn tell_openings(alloc: Global, image: &DeviceImage, out: &mut String) -> Result<(), TestFault> {
+    let (after, is_opened) = open_second(alloc, image.bytes.as_slice(), out)?;
+    if is_opened {
+        tell_contents(alloc, &after, out)?;
+        tell_answers(alloc, &after, image.script.as_str(), out)?;
+    }
+    Ok(())
+}
+
+/// Opens a server on a device that has these bytes, and tells of it. Answers what the device then holds.
+fn open_first(alloc: Global, bytes: &[u8], out: &mut String) -> Result<Image, TestFault> {
+    let image = Image::of_bytes(alloc, bytes)?;
+    let (after, _) = open_once(alloc, &image, out)?;
+    Ok(after)
+}
+
+/// Opens a server twice on a device that has these bytes, and tells of it. Answers what the device then holds, and whether the
+/// second server was opened.
+fn open_second(alloc: Global, bytes: &[u8], out: &mut String) -> Result<(Image, bool), TestFault> {
+    let image = open_first(alloc, bytes, out)?;
+    open_once(alloc, &image, out)
 }
 
 /// Opens a server on a device that holds this, and tells of it. Answers what the device then holds, and whether a server was
 /// opened.
-fn open_once(alloc: Global, image: &Image, out: &mut String) -> Result<(Image, bool), TrialFault> {
-    let (device, is_opened) = match open_or_hand_back(alloc, image.running(alloc)?, CACHE_PAGES) {
-        Ok(server) => {
-            out.push_str("opened")?;
-            (server.end(), true)
-        }
-        Err(NotOpened { device, fault }) => {
-            fault.tell(out)?;
-            (device, false)
-        }
-    };
+fn open_once(alloc: Global, image: &Image, out: &mut String) -> Result<(Image, bool), TestFault> {
+    let (device, refusal) = open_and_end(alloc, image.running(alloc)?);
     let after = Image::of(alloc, device)?;
-    let is_same = after.has_content_of(image);
+    tell_opening(refusal, after.has_content_of(image), out)?;
+    Ok((after, refusal.is_none()))
+}
+
+/// Tells what an opening came to, and whether it left the same bytes.
+fn tell_opening(
+    refusal: Option<TestFault>,
+    is_same: bool,
+    out: &mut String,
+) -> Result<(), AllocError> {
+    match refusal {
+        None => out.push_str("opened")?,
+        Some(fault) => fault.tell(out)?,
+    }
     out.push_str(if is_same {
         ", the same bytes\n"
     } else {
         ", other bytes\n"
-    })?;
-    Ok((after, is_opened))
+    })
 }
 
 /// Tells what a device holds: the number of the last commit, the format, and the bytes of the records with their digest.
-fn tell_contents(alloc: Global, image: &Image, out: &mut String) -> Result<(), TrialFault> {
+fn tell_contents(alloc: Global, image: &Image, out: &mut String) -> Result<(), TestFault> {
     let found = find_on(alloc, image.running(alloc)?)?;
     let (number, format, length) = (found.number, found.format, found.records.len());
     let digest = digest_of(found.records.as_slice());
@@ -93,13 +114,23 @@ fn tell_answers(
     image: &Image,
     script: &str,
     out: &mut String,
-) -> Result<(), TrialFault> {
-    let events = events_of(alloc, script)?;
-    let mut server = open_device(alloc, image.running(alloc)?)?;
-    for text in &texts_of(alloc, &mut server, events.as_slice())? {
+) -> Result<(), TestFault> {
+    for text in &answers_on(alloc, image, script)? {
         out.push_str(text.as_str())?;
     }
     Ok(())
+}
+
+/// The texts of the answers of a server on a device that holds this to the lines of a script.
+fn answers_on(alloc: Global, image: &Image, script: &str) -> Result<Vec<String>, TestFault> {
+    let events = events_of(alloc, script)?;
+    texts_on(alloc, image, events.as_slice())
+}
+
+/// The texts of the answers of a server on a device that holds this to events.
+fn texts_on(alloc: Global, image: &Image, events: &[Event]) -> Result<Vec<String>, TestFault> {
+    let mut server = open_device(alloc, image.running(alloc)?)?;
+    texts_of(alloc, &mut server, events)
 }
 
 /// Opens each device of which a file of the folder tells that its openings are stopped, and once more where memory is refused.
@@ -107,13 +138,24 @@ fn tell_answers(
 /// refused: each that ends well prints the same.
 pub fn open_again(rt: &HostRuntime, alloc: Global) -> io::Result<()> {
     for name in &names_of(rt, alloc, ".image")? {
-        let image = DeviceImage::read(rt, alloc, name.as_str())?;
-        if image.is_stopped {
-            let expected = text_of(rt, alloc, name.as_str(), ".opened")?;
-            print_again(rt, alloc, name.as_str(), &image, expected.as_str())?;
-        }
+        open_image_again(rt, alloc, name.as_str())?;
     }
     Ok(())
+}
+
+/// Opens the device of which the file `NAME.image` tells, if it tells that openings are stopped, and prints the line of it.
+fn open_image_again(rt: &HostRuntime, alloc: Global, name: &str) -> io::Result<()> {
+    let image = DeviceImage::read(rt, alloc, name)?;
+    if image.is_stopped {
+        print_as_expected(rt, alloc, name, image.bytes.as_slice())?;
+    }
+    Ok(())
+}
+
+/// Opens a device with these bytes, and prints the line of it.
+fn print_as_expected(rt: &HostRuntime, alloc: Global, name: &str, bytes: &[u8]) -> io::Result<()> {
+    let expected = text_of(rt, alloc, name, ".opened")?;
+    print_again(rt, alloc, name, bytes, expected.as_str())
 }
 
 /// Opens a device as above, and prints the line of it.
@@ -121,31 +163,44 @@ fn print_again(
     rt: &HostRuntime,
     alloc: Global,
     name: &str,
-    image: &DeviceImage,
+    bytes: &[u8],
     expected: &str,
 ) -> io::Result<()> {
     let expected = expected.lines().nth(2).unwrap_or("");
-    match contents_at_last(alloc, image) {
+    match contents_at_last(alloc, bytes) {
         Ok(contents) if contents.as_str().trim_end() == expected => {
             println!(rt; "{name}: as expected")
         }
         Ok(contents) => println!(rt; "{name}: {contents}"),
-        Err(TrialFault::Memory) => Err(io::Error::from(io::ErrorKind::OutOfMemory)),
+        Err(TestFault::Memory) => Err(io::Error::from(io::ErrorKind::OutOfMemory)),
         Err(fault) => println!(rt; "{name}: {fault:?}"),
     }
 }
 
 /// What a device holds once it is opened, where memory is refused to one opening at most.
-fn contents_at_last(alloc: Global, image: &DeviceImage) -> Result<String, TrialFault> {
-    let first = Image::of_bytes(alloc, image.bytes.as_slice())?;
-    let device = match open_or_hand_back(alloc, first.running(alloc)?, CACHE_PAGES) {
-        Ok(server) => server.end(),
-        Err(NotOpened { device, fault }) if fault.is_memory() => {
-            open_device(alloc, device)?.end()
-        }
-        Err(NotOpened { fault, .. }) => return Err(fault),
-    };
+fn contents_at_last(alloc: Global, bytes: &[u8]) -> Result<String, TestFault> {
+    let left = left_at_last(alloc, bytes)?;
     let mut out = String::new(alloc);
-    tell_contents(alloc, &Image::of(alloc, device)?, &mut out)?;
+    tell_contents(alloc, &left, &mut out)?;
     Ok(out)
+}
+
+/// What a device that has these bytes holds once it is opened, where memory is refused to one opening at most.
+fn left_at_last(alloc: Global, bytes: &[u8]) -> Result<Image, TestFault> {
+    let (device, refusal) = open_and_end(alloc, device_of(alloc, bytes)?);
+    match refusal {
+        None => Image::of(alloc, device),
+        Some(fault) => {
+            if fault.is_memory() {
+                Image::of(alloc, open_device(alloc, device)?.end())
+            } else {
+                Err(fault)
+            }
+        }
+    }
+}
+
+/// A device that has these bytes, and zeros behind them.
+fn device_of(alloc: Global, bytes: &[u8]) -> Result<MemDevice, TestFault> {
+    Image::of_bytes(alloc, bytes)?.running(alloc)
 }

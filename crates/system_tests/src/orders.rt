@@ -13,9 +13,20 @@ use std::io::Write;
 /// What the program prints for an order: first on standard output, then the exit status, then on standard error.
 pub fn printed_for_order(rt: &HostRuntime, alloc: Global, order: &Order<'_>) -> io::Result<String> {
     let mut out = Vec::new(alloc);
-    let told = told_for_order(rt, alloc, order, &mut out)?;
-    out.extend_from_slice(told.as_bytes())?;
+    print_for_order(rt, alloc, order, &mut out)?;
     Ok(String::from_utf8_lossy(alloc, out.as_slice())?)
+}
+
+/// Adds what the program prints for an order.
+fn print_for_order(
+    rt: &HostRuntime,
+    alloc: Global,
+    order: &Order<'_>,
+    out: &mut Vec<u8>,
+) -> io::Result<()> {
+    let told = told_for_order(rt, alloc, order, out)?;
+    out.extend_from_slice(told.as_bytes())?;
+    Ok(())
 }
 
 /// The exit status for an order whose output goes to a writer, and then what is printed on standard error.
@@ -26,11 +37,22 @@ pub fn told_for_order<W: Write>(
     out: &mut W,
 ) -> io::Result<String> {
     let mut err = Vec::new(alloc);
+    let status = status_for_order(rt, alloc, order, out, &mut err)?;
+    Ok(after_status(alloc, status, err.as_slice())?)
+}
+
+/// The exit status for an order whose output goes to a writer, and its messages to another.
+fn status_for_order<W: Write>(
+    rt: &HostRuntime,
+    alloc: Global,
+    order: &Order<'_>,
+    out: &mut W,
+    err: &mut Vec<u8>,
+) -> io::Result<u8> {
+    let mut system = RealSystem::start(rt, alloc)?;
     let decider = Decider::new(Statements);
     let mut sink = TextSink::new(out);
-    let mut system = RealSystem::start(rt, alloc)?;
-    let status = perform(&mut system, alloc, decider, order, &mut sink, &mut err).status;
-    Ok(after_status(alloc, status, err.as_slice())?)
+    Ok(perform(&mut system, alloc, decider, order, &mut sink, err).status)
 }
 
 /// A line of the exit status, and then what is printed on standard error.

@@ -23,7 +23,7 @@
 //!   it is no database or the whole one, and this alone once the copy is answered. What was copied stays as it was.
 //! - Bad frames, given whole and byte by byte, are answered by 08P01 for session 0, and nothing after them is.
 //!
-//! A line tells each disagreement. A part of the trials is the same in each run.
+//! A line tells each disagreement. A part of the tests is the same in each run.
 
 mod bad_frames;
 mod choices;
@@ -45,14 +45,14 @@ use crate::files::{names_of, text_of};
 use crate::stops::bad_frames::send_bad_frames;
 use crate::stops::commits::ScriptEvent;
 use crate::stops::copies::stop_copies;
-use crate::stops::fault::TrialFault;
+use crate::stops::fault::TestFault;
 use crate::stops::images::Image;
 use crate::stops::openings::{Opening, hinder_migration};
 use crate::stops::parts::Parts;
-use crate::stops::places::TrialPlace;
+use crate::stops::places::TestPlace;
 use crate::stops::scripts::Script;
 use crate::stops::servers::{CACHE_PAGES, DeviceServer, open_new};
-use crate::stops::tallies::{Kind, Trials};
+use crate::stops::tallies::{Kind, Tests};
 use crate::stops::work::{Hindrance, hinder_each};
 use std::alloc::Global;
 use std::io;
@@ -82,43 +82,38 @@ const COPIED: (&str, usize) = ("forty_commits", 7);
 /// How many pages the server keeps where calls fail.
 const CACHES: [usize; 2] = [1, CACHE_PAGES];
 
-/// Tries a part of each kind of trial, or all of it, and counts what goes otherwise than expected.
+/// Tries a part of each kind of test, or all of it, and counts what goes otherwise than expected.
 pub fn try_stops(
     rt: &HostRuntime,
     alloc: Global,
     all: bool,
     differing: &mut u64,
 ) -> io::Result<()> {
-    let mut trials = Trials::new(alloc, all);
-    if let Err(fault) = try_all(rt, alloc, all, &mut trials) {
+    let mut tests = Tests::new(alloc, all);
+    if let Err(fault) = try_all(rt, alloc, all, &mut tests) {
         *differing = differing.saturating_add(1);
         println!(rt; "stops end early: {fault:?}")?;
     }
-    *differing = differing.saturating_add(trials.disagreements());
-    trials.print_sums(rt)
+    *differing = differing.saturating_add(tests.disagreements());
+    tests.print_sums(rt)
 }
 
-/// Tries a part of each kind of trial, or all of it.
-fn try_all(
-    rt: &HostRuntime,
-    alloc: Global,
-    all: bool,
-    trials: &mut Trials,
-) -> Result<(), TrialFault> {
+/// Tries a part of each kind of test, or all of it.
+fn try_all(rt: &HostRuntime, alloc: Global, all: bool, tests: &mut Tests) -> Result<(), TestFault> {
     for (name, part) in STOPPED {
-        stop_commits(rt, alloc, name, trials.parts.step(part), trials)?;
+        stop_commits(rt, alloc, name, tests.parts.step(part), tests)?;
     }
     for (name, part) in FAILING {
-        fail_script(rt, alloc, name, trials.parts.step(part), trials)?;
+        fail_script(rt, alloc, name, tests.parts.step(part), tests)?;
     }
-    hinder_migrations(rt, alloc, all, trials)?;
-    copy_last(rt, alloc, trials)?;
-    send_bad_frames(alloc, trials)?;
-    Ok(trials.close(rt, "bad frames")?)
+    hinder_migrations(rt, alloc, all, tests)?;
+    copy_last(rt, alloc, tests)?;
+    send_bad_frames(alloc, tests)?;
+    Ok(tests.close(rt, "bad frames")?)
 }
 
 /// The script in the file `NAME.stopped`.
-fn read_script(rt: &HostRuntime, alloc: Global, name: &str) -> Result<Script, TrialFault> {
+fn read_script(rt: &HostRuntime, alloc: Global, name: &str) -> Result<Script, TestFault> {
     let text = text_of(rt, alloc, name, ".stopped")?;
     Script::from_text(alloc, text.as_str())
 }
@@ -129,14 +124,14 @@ fn stop_commits(
     alloc: Global,
     name: &str,
     every: usize,
-    trials: &mut Trials,
-) -> Result<(), TrialFault> {
+    tests: &mut Tests,
+) -> Result<(), TestFault> {
     let script = read_script(rt, alloc, name)?;
     let mut left: usize = 0;
     for index in 0..script.talk.events.len() {
         if script.changes_map(index)? {
             if left == 0 {
-                stop_commit(rt, alloc, name, &script, index, trials)?;
+                stop_commit(rt, alloc, name, &script, index, tests)?;
                 left = every;
             }
             left = left.saturating_sub(1);
@@ -152,18 +147,18 @@ fn stop_commit(
     name: &str,
     script: &Script,
     index: usize,
-    trials: &mut Trials,
-) -> Result<(), TrialFault> {
+    tests: &mut Tests,
+) -> Result<(), TestFault> {
     let event = ScriptEvent {
         script,
         index,
         cache: CACHE_PAGES,
     };
-    let place = TrialPlace::after(index);
-    hinder_each(alloc, &event, Kind::Stops, Hindrance::Stop, place, trials)?;
+    let place = TestPlace::after(index);
+    hinder_each(alloc, &event, Kind::Stops, Hindrance::Stop, place, tests)?;
     print!(rt; "{name}: event {}: ", index.saturating_add(1))?;
-    trials.print_stops_and_openings(rt)?;
-    Ok(trials.close(rt, name)?)
+    tests.print_stops_and_openings(rt)?;
+    Ok(tests.close(rt, name)?)
 }
 
 /// Fails each call of the events of a script, if it has one, or of one of `every` of them, and each call of an opening at its end.
@@ -172,20 +167,43 @@ fn fail_script(
     alloc: Global,
     name: &str,
     every: usize,
-    trials: &mut Trials,
-) -> Result<(), TrialFault> {
+    tests: &mut Tests,
+) -> Result<(), TestFault> {
     let script = read_script(rt, alloc, name)?;
     if script.talk.events.is_empty() {
         return Ok(());
     }
     for cache in CACHES {
-        fail_events(alloc, &script, cache, every, trials)?;
-        fail_last_openings(alloc, &script, cache, trials)?;
-        let place = format!(in alloc; "{name}: cache of {cache} pages: ")?;
-        trials.print_failures_and_openings(rt, place.as_str())?;
-        trials.close(rt, name)?;
+        fail_calls(alloc, &script, cache, every, tests)?;
+        print_failures(rt, alloc, name, cache, tests)?;
     }
     Ok(())
+}
+
+/// Fails each call of the events of a script, or of one of `every` of them, and each call of an opening at its end, of a server
+/// that keeps so many pages.
+fn fail_calls(
+    alloc: Global,
+    script: &Script,
+    cache: usize,
+    every: usize,
+    tests: &mut Tests,
+) -> Result<(), TestFault> {
+    fail_events(alloc, script, cache, every, tests)?;
+    fail_last_openings(alloc, script, cache, tests)
+}
+
+/// Prints the lines of the calls that failed, of a server that keeps so many pages.
+fn print_failures(
+    rt: &HostRuntime,
+    alloc: Global,
+    name: &str,
+    cache: usize,
+    tests: &mut Tests,
+) -> Result<(), TestFault> {
+    let place = format!(in alloc; "{name}: cache of {cache} pages: ")?;
+    tests.print_failures_and_openings(rt, place.as_str())?;
+    Ok(tests.close(rt, name)?)
 }
 
 /// Fails each call of the events of a script, or of one of `every` of them, of a server that keeps so many pages.
@@ -194,17 +212,17 @@ fn fail_events(
     script: &Script,
     cache: usize,
     every: usize,
-    trials: &mut Trials,
-) -> Result<(), TrialFault> {
+    tests: &mut Tests,
+) -> Result<(), TestFault> {
     for index in (0..script.talk.events.len()).step_by(every.max(1)) {
         let event = ScriptEvent {
             script,
             index,
             cache,
         };
-        let place = TrialPlace::after(index);
+        let place = TestPlace::after(index);
         let (kind, hindrance) = (Kind::Failures, Hindrance::Failure);
-        hinder_each(alloc, &event, kind, hindrance, place, trials)?;
+        hinder_each(alloc, &event, kind, hindrance, place, tests)?;
     }
     Ok(())
 }
@@ -214,8 +232,8 @@ fn fail_last_openings(
     alloc: Global,
     script: &Script,
     cache: usize,
-    trials: &mut Trials,
-) -> Result<(), TrialFault> {
+    tests: &mut Tests,
+) -> Result<(), TestFault> {
     let last = script.talk.events.len();
     let image = image_at_end(alloc, script)?;
     let opening = Opening {
@@ -225,13 +243,13 @@ fn fail_last_openings(
         last,
         cache,
     };
-    let place = TrialPlace::after(last);
+    let place = TestPlace::after(last);
     let (kind, hindrance) = (Kind::Openings, Hindrance::Failure);
-    hinder_each(alloc, &opening, kind, hindrance, place, trials)
+    hinder_each(alloc, &opening, kind, hindrance, place, tests)
 }
 
 /// What a device holds after all events of a script.
-fn image_at_end(alloc: Global, script: &Script) -> Result<Image, TrialFault> {
+fn image_at_end(alloc: Global, script: &Script) -> Result<Image, TestFault> {
     let mut server = open_new(alloc, CACHE_PAGES)?;
     let count = script.talk.events.len();
     script.talk.give_first(alloc, count, &mut server)?;
@@ -243,29 +261,62 @@ fn hinder_migrations(
     rt: &HostRuntime,
     alloc: Global,
     all: bool,
-    trials: &mut Trials,
-) -> Result<(), TrialFault> {
+    tests: &mut Tests,
+) -> Result<(), TestFault> {
     for name in &names_of(rt, alloc, ".image")? {
-        let image = DeviceImage::read(rt, alloc, name.as_str())?;
-        if image.is_stopped {
-            trials.parts = Parts::new(all);
-            hinder_migration(alloc, &image, trials)?;
-            print!(rt; "{name}: migration: ")?;
-            trials.print_stops_and_openings(rt)?;
-            let source = Image::of_bytes(alloc, image.bytes.as_slice())?;
-            stop_copies(alloc, &source, 1, trials)?;
-            trials.close(rt, name.as_str())?;
-        }
+        hinder_image(rt, alloc, name.as_str(), all, tests)?;
     }
     Ok(())
 }
 
+/// Stops and fails openings of the device of which the file `NAME.image` tells, if it tells that, and stops copies.
+fn hinder_image(
+    rt: &HostRuntime,
+    alloc: Global,
+    name: &str,
+    all: bool,
+    tests: &mut Tests,
+) -> Result<(), TestFault> {
+    let image = DeviceImage::read(rt, alloc, name)?;
+    if image.is_stopped {
+        tests.parts = Parts::new(all);
+        hinder_stopped(rt, alloc, name, image.bytes.as_slice(), tests)?;
+    }
+    Ok(())
+}
+
+/// Stops openings that migrate a device with these bytes, fails calls of them, stops copies of its database, and prints the line.
+fn hinder_stopped(
+    rt: &HostRuntime,
+    alloc: Global,
+    name: &str,
+    bytes: &[u8],
+    tests: &mut Tests,
+) -> Result<(), TestFault> {
+    hinder_migration(alloc, bytes, tests)?;
+    print!(rt; "{name}: migration: ")?;
+    tests.print_stops_and_openings(rt)?;
+    copy_bytes(alloc, bytes, tests)?;
+    Ok(tests.close(rt, name)?)
+}
+
+/// Stops copies of the database of a device with these bytes.
+fn copy_bytes(alloc: Global, bytes: &[u8], tests: &mut Tests) -> Result<(), TestFault> {
+    let source = Image::of_bytes(alloc, bytes)?;
+    stop_copies(alloc, &source, 1, tests)
+}
+
 /// Stops copies of the database at the end of a script.
-fn copy_last(rt: &HostRuntime, alloc: Global, trials: &mut Trials) -> Result<(), TrialFault> {
+fn copy_last(rt: &HostRuntime, alloc: Global, tests: &mut Tests) -> Result<(), TestFault> {
     let (name, part) = COPIED;
+    let source = image_of_script(rt, alloc, name)?;
+    let every = tests.parts.step(part) as u64;
+    stop_copies(alloc, &source, every, tests)?;
+    Ok(tests.close(rt, name)?)
+}
+
+/// What a device holds after all events of the script in the file `NAME.stopped`.
+fn image_of_script(rt: &HostRuntime, alloc: Global, name: &str) -> Result<Image, TestFault> {
     let script = read_script(rt, alloc, name)?;
-    let source = image_at_end(alloc, &script)?;
-    let every = trials.parts.step(part) as u64;
-    stop_copies(alloc, &source, every, trials)?;
-    Ok(trials.close(rt, name)?)
+    image_at_end(alloc, &script)
 }

@@ -13,7 +13,7 @@ use statements::Statements;
 use std::alloc::Global;
 use std::io;
 use std::io::Write;
-use store::{Entry, MemStore};
+use store::{Entry, MemStore, Store};
 
 /// The name of the superuser of each new database.
 pub const ADMIN: &str = "root";
@@ -38,16 +38,44 @@ pub enum StoreKind {
 /// What a script prints over a new database whose one role is the superuser `ADMIN`: its answers, and where it does not end well
 /// the message and a line `status N`.
 pub fn printed_by(alloc: Global, store: StoreKind, script: &str) -> io::Result<String> {
-    let (mut out, mut err) = (Vec::new(alloc), Vec::new(alloc));
-    let status = match store {
-        StoreKind::Memory => run_in_memory(alloc, script, &mut out, &mut err)?,
-        StoreKind::Pages(pages) => run_in_pages(alloc, pages, script, &mut out, &mut err)?,
-    };
-    out.extend_from_slice(err.as_slice())?;
+    let mut out = Vec::new(alloc);
+    run_and_tell(alloc, store, script, &mut out)?;
+    Ok(String::from_utf8_lossy(alloc, out.as_slice())?)
+}
+
+/// Runs a script over a new database, and then tells how it ended.
+fn run_and_tell(
+    alloc: Global,
+    store: StoreKind,
+    script: &str,
+    out: &mut Vec<u8>,
+) -> io::Result<()> {
+    let mut err = Vec::new(alloc);
+    let status = run_in(alloc, store, script, out, &mut err)?;
+    tell_ending(status, err.as_slice(), out)
+}
+
+/// Tells the message of an ending, and its exit status, where it is no good one.
+fn tell_ending(status: u8, err: &[u8], out: &mut Vec<u8>) -> io::Result<()> {
+    out.extend_from_slice(err)?;
     if status != 0 {
         writeln!(out, "status {status}")?;
     }
-    Ok(String::from_utf8_lossy(alloc, out.as_slice())?)
+    Ok(())
+}
+
+/// Runs a script over a new database, and answers the exit status.
+fn run_in(
+    alloc: Global,
+    store: StoreKind,
+    script: &str,
+    out: &mut Vec<u8>,
+    err: &mut Vec<u8>,
+) -> io::Result<u8> {
+    match store {
+        StoreKind::Memory => run_in_memory(alloc, script, out, err),
+        StoreKind::Pages(pages) => run_in_pages(alloc, pages, script, out, err),
+    }
 }
 
 /// Runs a script over a new database in memory, and answers the exit status.
@@ -57,8 +85,8 @@ fn run_in_memory(
     out: &mut Vec<u8>,
     err: &mut Vec<u8>,
 ) -> io::Result<u8> {
-    let decider = Decider::new(Statements);
     let read = Ok(String::from_str(alloc, script)?.into_bytes());
+    let decider = Decider::new(Statements);
     let mut sink = TextSink::new(out);
     Ok(run_for(alloc, decider, ADMIN, read, SCRIPT, &mut sink, err).status)
 }
@@ -72,9 +100,20 @@ fn run_in_pages(
     err: &mut Vec<u8>,
 ) -> io::Result<u8> {
     let store = new_in_pages(alloc, pages)?;
+    Ok(run_over(alloc, store, script, out, err))
+}
+
+/// Runs a script over a store, and answers the exit status.
+fn run_over<S: Store + Drop>(
+    alloc: Global,
+    store: S,
+    script: &str,
+    out: &mut Vec<u8>,
+    err: &mut Vec<u8>,
+) -> u8 {
     let mut sink = TextSink::new(out);
     let run = run_script_over(alloc, store, Decider::new(Statements), script, &mut sink);
-    Ok(exit_with(run.ending, SCRIPT, err).status)
+    exit_with(run.ending, SCRIPT, err).status
 }
 
 /// A new database in memory.
@@ -96,10 +135,15 @@ pub fn new_in_pages(alloc: Global, pages: u32) -> io::Result<PageStore<MemDevice
 /// A device of so many pages with a new database: the record of its one role, which is a superuser (1) and may log in (2).
 pub fn new_device(alloc: Global, pages: u32) -> io::Result<MemDevice> {
     let mut device = MemDevice::new(alloc, pages.min(PAGES))?;
+    format_new(alloc, &mut device)?;
+    Ok(device)
+}
+
+/// Formats a device, with the record of the superuser.
+fn format_new(alloc: Global, device: &mut MemDevice) -> io::Result<()> {
     let mut first = Entry::new(alloc);
     first.set(b"\x01root", &[3])?;
-    format_with(alloc, &mut device, &first)?;
-    Ok(device)
+    format_with(alloc, device, &first)
 }
 
 /// Formats a device, where a record is its first.

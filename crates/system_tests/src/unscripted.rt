@@ -27,17 +27,25 @@ stopped: false
 /// Gives events that no script requests, and writes an answer that none is given. Prints a line for each, and counts those of
 /// which something else comes than is expected.
 pub fn check_unscripted(rt: &HostRuntime, alloc: Global, differing: &mut u64) -> io::Result<()> {
-    let mut server = open_server(alloc, new_in_memory(alloc)?)?;
-    let given = answered_by(alloc, &mut server)?;
-    let given = given.as_str();
+    check_sessions(rt, alloc, differing)?;
+    check_largest_count(rt, alloc, differing)
+}
+
+/// Gives the events, and prints the line of them.
+fn check_sessions(rt: &HostRuntime, alloc: Global, differing: &mut u64) -> io::Result<()> {
+    let given = answered_in_memory(alloc)?;
     report(
         rt,
         "at once",
         "sessions_7_and_3",
         ANSWERED,
-        given,
+        given.as_str(),
         differing,
-    )?;
+    )
+}
+
+/// Writes the answer with the largest count, and prints the line of it.
+fn check_largest_count(rt: &HostRuntime, alloc: Global, differing: &mut u64) -> io::Result<()> {
     let counted = text_of_answers(alloc, &[inserted(u64::MAX)])?;
     let expected = "ok INSERT 18446744073709551615\n";
     report(
@@ -60,24 +68,51 @@ fn inserted(count: u64) -> Answer {
 }
 
 /// What a server over a new database answers the events, and which sessions they leave.
+fn answered_in_memory(alloc: Global) -> io::Result<String> {
+    let mut server = open_server(alloc, new_in_memory(alloc)?)?;
+    answered_by(alloc, &mut server)
+}
+
+/// What a server over a new database answers the events, and which sessions they leave.
 fn answered_by<S: Store>(alloc: Global, server: &mut ServerOver<S>) -> io::Result<String> {
+    let mut text = answers_of(alloc, server)?;
+    tell_sessions(server, &mut text)?;
+    Ok(text)
+}
+
+/// What a server over a new database answers the events.
+fn answers_of<S: Store>(alloc: Global, server: &mut ServerOver<S>) -> io::Result<String> {
     let events = listed_events(alloc)?;
     let mut answers = Vec::new(alloc);
     run_events(server, events.as_slice(), &mut answers)?;
-    let mut text = text_of_answers(alloc, answers.as_slice())?;
+    text_of_answers(alloc, answers.as_slice())
+}
+
+/// Tells the sessions of a server, and whether it has stopped.
+fn tell_sessions<S: Store>(server: &ServerOver<S>, text: &mut String) -> Result<(), AllocError> {
     let (first, second) = (server.session_at(0), server.session_at(1));
     writeln!(text, "sessions: {first:?}, {second:?}")?;
-    writeln!(text, "stopped: {}", server.has_stopped())?;
-    Ok(text)
+    writeln!(text, "stopped: {}", server.has_stopped())
 }
 
 /// The events that open the sessions 7 and 3, ask nothing in session 3 but in the longest text of comments, and close session 7.
 fn listed_events(alloc: Global) -> Result<Vec<Event>, AllocError> {
-    let comments = expanded(alloc, "{21845*--\n}")?;
     let mut events = Vec::new(alloc);
+    add_listed(alloc, &mut events)?;
+    Ok(events)
+}
+
+/// Adds these events.
+fn add_listed(alloc: Global, events: &mut Vec<Event>) -> Result<(), AllocError> {
     events.push(opening_of(alloc, 7, ADMIN)?)?;
     events.push(opening_of(alloc, 3, ADMIN)?)?;
-    events.push(statement_of(alloc, 3, comments.as_str())?)?;
+    events.push(comments_of(alloc, 3)?)?;
     events.push(Event::Close { session: 7 })?;
-    Ok(events)
+    Ok(())
+}
+
+/// The event that a session gives the longest text of comments.
+fn comments_of(alloc: Global, session: u32) -> Result<Event, AllocError> {
+    let comments = expanded(alloc, "{21845*--\n}")?;
+    statement_of(alloc, session, comments.as_str())
 }

@@ -44,15 +44,43 @@ pub fn push_rights(
     catalogue: &Catalogue,
     out: &mut String,
 ) -> Result<(), AllocError> {
-    let mut tables = Vec::new(alloc);
-    for table in catalogue.tables() {
-        let actions = actions_on(alloc, table)?;
-        tables.push(AskedTable { table, actions })?;
-    }
+    let tables = asked_tables(alloc, catalogue.tables())?;
+    push_rights_on(alloc, catalogue, tables.as_slice(), out)
+}
+
+/// Appends of each role which roles it is in, and what it may do with these tables.
+fn push_rights_on(
+    alloc: Global,
+    catalogue: &Catalogue,
+    tables: &[AskedTable<'_>],
+    out: &mut String,
+) -> Result<(), AllocError> {
     for role in catalogue.roles() {
         push_above(alloc, catalogue, &role.name, out)?;
-        push_tables(alloc, catalogue, &role.name, tables.as_slice(), out)?;
+        push_tables(alloc, catalogue, &role.name, tables, out)?;
     }
+    Ok(())
+}
+
+/// Each table with what is asked of it.
+fn asked_tables(
+    alloc: Global,
+    tables: &[TableDefinition],
+) -> Result<Vec<AskedTable<'_>>, AllocError> {
+    let mut asked = Vec::new(alloc);
+    for table in tables {
+        push_asked_table(alloc, table, &mut asked)?;
+    }
+    Ok(asked)
+}
+
+fn push_asked_table<'c>(
+    alloc: Global,
+    table: &'c TableDefinition,
+    asked: &mut Vec<AskedTable<'c>>,
+) -> Result<(), AllocError> {
+    let actions = actions_on(alloc, table)?;
+    asked.push(AskedTable { table, actions })?;
     Ok(())
 }
 
@@ -60,13 +88,20 @@ pub fn push_rights(
 fn actions_on(alloc: Global, table: &TableDefinition) -> Result<Vec<AskedAction<'_>>, AllocError> {
     let mut actions = Vec::new(alloc);
     for action in &ACTIONS {
-        let statements = statements_for(alloc, *action, table)?;
-        actions.push(AskedAction {
-            action: *action,
-            statements,
-        })?;
+        push_asked_action(alloc, *action, table, &mut actions)?;
     }
     Ok(actions)
+}
+
+fn push_asked_action<'c>(
+    alloc: Global,
+    action: Action,
+    table: &'c TableDefinition,
+    actions: &mut Vec<AskedAction<'c>>,
+) -> Result<(), AllocError> {
+    let statements = statements_for(alloc, action, table)?;
+    actions.push(AskedAction { action, statements })?;
+    Ok(())
 }
 
 /// The statements over a table for an action: for each column, or where it is of whole rows, one.
@@ -76,15 +111,24 @@ fn statements_for(
     table: &TableDefinition,
 ) -> Result<Vec<(&str, Statement)>, AllocError> {
     let mut statements = Vec::new(alloc);
+    push_statements(alloc, action, table, &mut statements)?;
+    Ok(statements)
+}
+
+fn push_statements<'c>(
+    alloc: Global,
+    action: Action,
+    table: &'c TableDefinition,
+    statements: &mut Vec<(&'c str, Statement)>,
+) -> Result<(), AllocError> {
     let name = table.name().as_str();
     if action == Action::Delete {
-        push_statement(alloc, action, name, "", &mut statements)?;
-        return Ok(statements);
+        return push_statement(alloc, action, name, "", statements);
     }
     for column in table.columns().as_slice() {
-        push_statement(alloc, action, name, column.name.as_str(), &mut statements)?;
+        push_statement(alloc, action, name, column.name.as_str(), statements)?;
     }
-    Ok(statements)
+    Ok(())
 }
 
 /// Adds the statement that needs an action on a column.
@@ -96,7 +140,16 @@ fn push_statement<'c>(
     statements: &mut Vec<(&'c str, Statement)>,
 ) -> Result<(), AllocError> {
     let text = text_of(alloc, action, table, column)?;
-    if let Ok(statement) = parse(alloc, text.as_str()) {
+    push_parsed(alloc, text.as_str(), column, statements)
+}
+
+fn push_parsed<'c>(
+    alloc: Global,
+    text: &str,
+    column: &'c str,
+    statements: &mut Vec<(&'c str, Statement)>,
+) -> Result<(), AllocError> {
+    if let Ok(statement) = parse(alloc, text) {
         statements.push((column, statement))?;
     }
     Ok(())
@@ -105,13 +158,22 @@ fn push_statement<'c>(
 /// The text of a statement that needs an action on a column.
 fn text_of(alloc: Global, action: Action, table: &str, column: &str) -> Result<String, AllocError> {
     let mut text = String::new(alloc);
-    match action {
-        Action::Select => write!(text, "SELECT {column} FROM {table}")?,
-        Action::Insert => write!(text, "INSERT INTO {table} ({column}) VALUES (NULL)")?,
-        Action::Update => write!(text, "UPDATE {table} SET {column} = NULL")?,
-        Action::Delete => write!(text, "DELETE FROM {table}")?,
-    }
+    push_text(action, table, column, &mut text)?;
     Ok(text)
+}
+
+fn push_text(
+    action: Action,
+    table: &str,
+    column: &str,
+    out: &mut String,
+) -> Result<(), AllocError> {
+    match action {
+        Action::Select => write!(out, "SELECT {column} FROM {table}"),
+        Action::Insert => write!(out, "INSERT INTO {table} ({column}) VALUES (NULL)"),
+        Action::Update => write!(out, "UPDATE {table} SET {column} = NULL"),
+        Action::Delete => write!(out, "DELETE FROM {table}"),
+    }
 }
 
 /// Appends the roles that a role is in.
@@ -122,12 +184,17 @@ fn push_above(
     out: &mut String,
 ) -> Result<(), AllocError> {
     let above = closure(alloc, catalogue.memberships(), role)?;
-    out.push_str(role.as_str())?;
-    push_those_in(catalogue.roles(), &above, out)
+    push_those_in(role, catalogue.roles(), &above, out)
 }
 
-/// Appends those of the roles that a set has, and ends the line.
-fn push_those_in(roles: &[Role], set: &RoleSet<'_>, out: &mut String) -> Result<(), AllocError> {
+/// Appends a role, and those of the roles that a set has, and ends the line.
+fn push_those_in(
+    role: &Name,
+    roles: &[Role],
+    set: &RoleSet<'_>,
+    out: &mut String,
+) -> Result<(), AllocError> {
+    out.push_str(role.as_str())?;
     out.push_str(" is in")?;
     for role in roles {
         if set.contains(&role.name) {
@@ -178,12 +245,21 @@ fn push_action(
     out: &mut String,
 ) -> Result<(), AllocError> {
     let columns = allowed_columns(alloc, catalogue, role, asked, out)?;
+    push_allowed(asked, columns.as_slice(), out)
+}
+
+/// Appends an action with those of its columns that a role has it on.
+fn push_allowed(
+    asked: &AskedAction<'_>,
+    columns: &[&str],
+    out: &mut String,
+) -> Result<(), AllocError> {
     if columns.is_empty() {
         return Ok(());
     }
     push_word(out, action_word(asked.action))?;
     if columns.len() < asked.statements.len() {
-        push_list(columns.as_slice(), out)?;
+        push_list(columns, out)?;
     }
     Ok(())
 }

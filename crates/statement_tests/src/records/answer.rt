@@ -22,11 +22,34 @@ pub fn push_answer(
     let (first, second) = text.split_once(' ').unwrap_or((text, ""));
     let first = name_of(alloc, first)?;
     match word {
-        "find" => push_found(catalogue, &first, &name_of(alloc, second)?, out)?,
-        "row" => push_row_of(alloc, catalogue, &first, &record_of(alloc, second)?, out)?,
+        "find" => find(alloc, catalogue, &first, second, out),
+        "row" => find_row(alloc, catalogue, &first, second, out),
         _ => bail!("a line is no case"),
     }
-    Ok(())
+}
+
+/// Appends what a catalogue has by a name and another one.
+fn find(
+    alloc: Global,
+    catalogue: &Catalogue,
+    name: &Name,
+    other: &str,
+    out: &mut String,
+) -> Result<()> {
+    let other = name_of(alloc, other)?;
+    Ok(push_found(catalogue, name, &other, out)?)
+}
+
+/// Appends the row of the table of a name that the record of a text spells.
+fn find_row(
+    alloc: Global,
+    catalogue: &Catalogue,
+    name: &Name,
+    record: &str,
+    out: &mut String,
+) -> Result<()> {
+    let record = record_of(alloc, record)?;
+    Ok(push_row_of(alloc, catalogue, name, &record, out)?)
 }
 
 /// Appends the role and the table of a name, and its member and its policy of the other name, or `none`.

@@ -80,10 +80,21 @@ pub fn tell_other(
     out: &mut String,
 ) -> Result<Condition> {
     let mut changes = changes.try_copy(alloc)?;
-    if !replace(&mut changes, key, other)? {
+    tell_replaced(alloc, &mut changes, key, other, out)
+}
+
+/// Puts another record, or none, in place of the one of a key, and appends the database of the records.
+fn tell_replaced(
+    alloc: Global,
+    changes: &mut Batch,
+    key: &[u8],
+    other: Option<&Entry>,
+    out: &mut String,
+) -> Result<Condition> {
+    if !replace(changes, key, other)? {
         return Ok(Condition::Damaged);
     }
-    tell(alloc, &changes, out)
+    tell(alloc, changes, out)
 }
 
 /// Appends the database that a store holds, where it holds one.

@@ -20,10 +20,15 @@ pub fn push_rows(
     table: &TableDefinition,
     store: &mut MemStore,
 ) -> Result<(), Fault> {
+    let mut cursor = cursor_over(alloc, table)?;
+    push_rows_from(alloc, out, table, store, &mut cursor)
+}
+
+/// A cursor before the records of the rows of a table.
+fn cursor_over(alloc: Global, table: &TableDefinition) -> Result<Cursor, AllocError> {
     let mut prefix = Vec::new(alloc);
     push_row_prefix(&mut prefix, table.id())?;
-    let mut cursor = Cursor::over(alloc, prefix.as_slice())?;
-    push_rows_from(alloc, out, table, store, &mut cursor)
+    Cursor::over(alloc, prefix.as_slice())
 }
 
 /// Appends the rows of a table to which a cursor comes.
@@ -79,9 +84,28 @@ fn push_values(
     let name = table.name().as_str();
     write!(out, "row of {name}:")?;
     push_each(out, values)?;
+    push_key(alloc, out, table, values)?;
+    push_others(alloc, out, table.columns(), values)
+}
+
+fn push_key(
+    alloc: Global,
+    out: &mut String,
+    table: &TableDefinition,
+    values: &[Value],
+) -> Result<(), AllocError> {
     let key = written_key(alloc, table, values)?;
-    let others = written_others(alloc, table.columns(), values)?;
-    writeln!(out, " as {key}/{others}")
+    write!(out, " as {key}")
+}
+
+fn push_others(
+    alloc: Global,
+    out: &mut String,
+    columns: &Columns,
+    values: &[Value],
+) -> Result<(), AllocError> {
+    let others = written_others(alloc, columns, values)?;
+    writeln!(out, "/{others}")
 }
 
 fn push_each(out: &mut String, values: &[Value]) -> Result<(), AllocError> {

@@ -4,14 +4,25 @@ use crate::records::loading::{Condition, store_with, tell_other};
 use anyhow::Result;
 use md5::{Digest, Md5};
 use std::alloc::{AllocError, Global};
-use store::{Batch, Cursor, Entry};
+use store::{Batch, Cursor, Entry, MemStore};
 
 /// Appends for each record of a store with changes what comes of each change of it.
 pub fn push_variants(alloc: Global, changes: &Batch, out: &mut String) -> Result<()> {
     let mut store = store_with(alloc, changes)?;
     let mut cursor = Cursor::over(alloc, &[])?;
+    push_lines(alloc, changes, &mut store, &mut cursor, out)
+}
+
+/// Appends for each record to which a cursor comes what comes of each change of it.
+fn push_lines(
+    alloc: Global,
+    changes: &Batch,
+    store: &mut MemStore,
+    cursor: &mut Cursor,
+    out: &mut String,
+) -> Result<()> {
     for _ in 0..u64::MAX {
-        if !cursor.advance(&mut store)? {
+        if !cursor.advance(store)? {
             return Ok(());
         }
         let record = cursor.entry();
@@ -36,8 +47,7 @@ struct Variants<'a> {
 impl<'a> Variants<'a> {
     /// Appends the outcomes of the changes of the record: of its key, of its value, and of the record left out.
     fn push_line(&self, out: &mut String) -> Result<()> {
-        let key = hex::encode(self.alloc, self.record.key())?;
-        write!(out, "{key}:")?;
+        self.push_key(out)?;
         self.push_part(self.record.key(), 0, out)?;
         out.push_str(" /")?;
         self.push_part(self.record.value(), self.record.key().len(), out)?;
@@ -45,6 +55,12 @@ impl<'a> Variants<'a> {
         self.push_outcome(None, out)?;
         out.push_str("\n")?;
         Ok(())
+    }
+
+    /// Appends the key of the record in hexadecimal digits.
+    fn push_key(&self, out: &mut String) -> Result<(), AllocError> {
+        let key = hex::encode(self.alloc, self.record.key())?;
+        write!(out, "{key}:")
     }
 
     /// Appends the outcomes of the changes of a part of the record, which begins at an index.
@@ -59,10 +75,15 @@ impl<'a> Variants<'a> {
     fn push_byte(&self, byte: u8, at: usize, out: &mut String) -> Result<()> {
         out.push_str(" ")?;
         for other in others(byte) {
-            let variant = variant(self.alloc, self.record, at, other)?;
-            self.push_outcome(Some(&variant), out)?;
+            self.push_variant(at, other, out)?;
         }
         Ok(())
+    }
+
+    /// Appends the outcome of the record with another byte, or none, in place of the one at an index.
+    fn push_variant(&self, at: usize, other: Option<u8>, out: &mut String) -> Result<()> {
+        let variant = variant(self.alloc, self.record, at, other)?;
+        self.push_outcome(Some(&variant), out)
     }
 
     /// Appends the outcome of the records with another one, or none, in place of the record.

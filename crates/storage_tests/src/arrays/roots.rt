@@ -13,14 +13,20 @@ pub fn push_root(
     words: &str,
     out: &mut String,
 ) -> Result<(), AllocError> {
-    let mut maps = Vec::new(alloc);
-    for word in words.split(' ') {
-        maps.push(word.parse().unwrap_or(0))?;
-    }
+    let maps = maps_in(alloc, words)?;
     match root_of(number, pages, maps.as_slice()) {
         Some(root) => push_bytes(out, &root.bytes()),
         None => out.push_str(" none"),
     }
+}
+
+/// The map pages that words name.
+fn maps_in(alloc: Global, words: &str) -> Result<Vec<u32>, AllocError> {
+    let mut maps = Vec::new(alloc);
+    for word in words.split(' ') {
+        maps.push(word.parse().unwrap_or(0))?;
+    }
+    Ok(maps)
 }
 
 /// The root of a number, on a device of so many pages, with these map pages.

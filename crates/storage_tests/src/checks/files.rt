@@ -69,11 +69,25 @@ fn is_full_of<D: Device>(pages: &mut CowPages<D>, page: u32, byte: u8) -> bool {
 /// Fills sector 3 of a new file of three pages with eights. No second file is made there, and a device that is opened reads them.
 pub fn lie_in_order(rt: &HostRuntime, path: &str) -> Result<()> {
     fill_sector_3(&mut FileDevice::make(rt, path, 3)?)?;
+    check_bytes(rt, path)?;
+    require(is_there(FileDevice::make(rt, path, 3)), "made again")?;
+    check_sector_3(&mut FileDevice::open(rt, path)?)
+}
+
+// Whether a device was not made, since the file exists.
+fn is_there(made: Result<FileDevice, FileFault>) -> bool {
+    matches!(made, Err(FileFault::Exists))
+}
+
+// Sees whether the bytes of a file are those of three pages, of which sector 3 is full of eights.
+fn check_bytes(rt: &HostRuntime, path: &str) -> Result<()> {
     let bytes = fs::read(rt, path)?;
-    require(has_sector_3(bytes.as_slice()), "other bytes")?;
-    let again = FileDevice::make(rt, path, 3);
-    require(matches!(again, Err(FileFault::Exists)), "made again")?;
-    let content = content_of(&mut FileDevice::open(rt, path)?, 3)?;
+    require(has_sector_3(bytes.as_slice()), "other bytes")
+}
+
+// Sees whether sector 3 of a device is full of eights.
+fn check_sector_3(device: &mut FileDevice) -> Result<()> {
+    let content = content_of(device, 3)?;
     require(content == [8; SECTOR_SIZE], "another content")
 }
 
@@ -137,11 +151,16 @@ const LENGTHS: [(u64, u32); 5] = [
 pub fn has_whole_pages(rt: &HostRuntime, path: &str) -> Result<()> {
     drop(FileDevice::make(rt, path, 2)?);
     for (length, sectors) in LENGTHS {
-        set_length(rt, path, length)?;
-        let found = FileDevice::open(rt, path)?.sectors();
-        require(found == sectors, "other sectors")?;
+        check_length(rt, path, length, sectors)?;
     }
     Ok(())
+}
+
+// Sees whether a file of a length has so many sectors.
+fn check_length(rt: &HostRuntime, path: &str, length: u64, sectors: u32) -> Result<()> {
+    set_length(rt, path, length)?;
+    let found = FileDevice::open(rt, path)?.sectors();
+    require(found == sectors, "other sectors")
 }
 
 /// A device over a file that is opened to be read alone refuses to be written, and is read.
@@ -149,22 +168,26 @@ pub fn is_only_read(rt: &HostRuntime, path: &str) -> Result<()> {
     drop(FileDevice::make(rt, path, 1)?);
     let file = SystemFile::opened(File::open(rt, path)?);
     let mut device = FileDevice::stand_over(file)?;
-    require(put(&mut device, 0, 1).is_err(), "written")?;
+    check_only_read(&mut device)
+}
+
+// Sees whether the first sector of a device is not written, and read.
+fn check_only_read(device: &mut FileDevice) -> Result<()> {
+    require(put(device, 0, 1).is_err(), "written")?;
     require(device.failures() == 1, "other failures")?;
-    let content = content_of(&mut device, 0)?;
+    let content = content_of(device, 0)?;
     require(content == [0; SECTOR_SIZE], "other bytes")
 }
 
 /// No file is made in a folder that is not there, and none is opened that is not.
 pub fn finds_none(rt: &HostRuntime) -> Result<()> {
     let made = FileDevice::make(rt, "no_such_folder.test/db", 1);
-    require(
-        matches!(made, Err(FileFault::Device(SystemCause::NotFound))),
-        "made",
-    )?;
+    require(is_not_found(made), "made")?;
     let found = FileDevice::open(rt, "no_such_file.test");
-    require(
-        matches!(found, Err(FileFault::Device(SystemCause::NotFound))),
-        "opened",
-    )
+    require(is_not_found(found), "opened")
+}
+
+// Whether there is no device, since there is no file.
+fn is_not_found(answer: Result<FileDevice, FileFault>) -> bool {
+    matches!(answer, Err(FileFault::Device(SystemCause::NotFound)))
 }

@@ -21,16 +21,26 @@ fn bytes_of(alloc: Global, batch: &Batch) -> Result<Vec<u8>, AllocError> {
 }
 
 pub fn a_batch_by_the_byte(alloc: Global) -> Result<()> {
+    let bytes = bytes_of(alloc, &two_changes(alloc)?)?;
+    check_two_changes(alloc, &bytes)
+}
+
+// A batch that puts a value and removes a key.
+fn two_changes(alloc: Global) -> Result<Batch> {
     let mut batch = Batch::new(alloc);
     add_change(&mut batch, b"k", Some(b"v1"))?;
     add_change(&mut batch, b"z", None)?;
-    let bytes = bytes_of(alloc, &batch)?;
+    Ok(batch)
+}
+
+// Sees whether the bytes of that batch are as they are to be.
+fn check_two_changes(alloc: Global, bytes: &[u8]) -> Result<()> {
     require(bytes.len() == PART_SIZE, "it has one part")?;
     require(
         bytes.starts_with(b"\x01\x00\x01\x00\x02kv1\x02\x00\x01z\x00\x00"),
         "a put, a removal, and zeros",
     )?;
-    require(is_batch(alloc, &bytes)?, "it is read again")?;
+    require(is_batch(alloc, bytes)?, "it is read again")?;
     one_batch();
     Ok(())
 }

@@ -3,8 +3,9 @@ use crate::checks::require::require;
 use anyhow::Result;
 use journal_records::{PART_SIZE, write_sectors};
 use sector_device::{Device, MemDevice, SECTOR_SIZE};
-use sector_journal::{JournalFault, append, read_journal};
+use sector_journal::{append, read_journal};
 use std::alloc::{AllocError, Global};
+use store::Fault;
 
 // What the journal of a root has: how many records, the greatest number, and how many sectors its records take.
 #[derive(Clone, Copy)]
@@ -21,7 +22,7 @@ fn found(alloc: Global, device: &mut MemDevice, root: u64) -> FoundJournal {
     }
     match read_journal(device, alloc, 2, 6, root) {
         Ok(journal) => FoundJournal::Records(journal.records.len(), journal.top, journal.end),
-        Err(JournalFault::Damaged) => FoundJournal::Damaged,
+        Err(Fault::Damaged) => FoundJournal::Damaged,
         Err(_) => FoundJournal::Failed,
     }
 }

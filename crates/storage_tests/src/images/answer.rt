@@ -22,7 +22,8 @@ type ImageDevice = FileDevice<MemFile>;
 
 /// What the store says of an image.
 pub fn answer_to(alloc: Global, image: &[u8]) -> ImageAnswer {
-    contents_of(alloc, store_over(alloc, image)?)
+    let mut store = store_over(alloc, image)?;
+    contents_of(alloc, &mut store)
 }
 
 /// The store on an image.
@@ -43,15 +44,19 @@ fn device_over(alloc: Global, image: &[u8]) -> Result<ImageDevice, OpenFault> {
 }
 
 /// The records of a store that a cursor comes to.
-fn contents_of(alloc: Global, store: PageStore<ImageDevice>) -> ImageAnswer {
-    let mut store = store;
+fn contents_of(alloc: Global, store: &mut PageStore<ImageDevice>) -> ImageAnswer {
     let mut cursor = Cursor::over(alloc, &[])?;
+    contents_from(&mut cursor, store)
+}
+
+/// The records of a store that are left to a cursor.
+fn contents_from(cursor: &mut Cursor, store: &mut PageStore<ImageDevice>) -> ImageAnswer {
     let mut contents = Contents {
         records: 0,
         digest: 1,
     };
     for _ in 0..u32::MAX {
-        match advance(&mut cursor, &mut store) {
+        match advance(cursor, store) {
             Ok(true) => add(&mut contents, cursor.entry().key(), cursor.entry().value()),
             Ok(false) => return Ok(contents),
             Err(StoreFault::Memory) => return Err(OpenFault::Memory),

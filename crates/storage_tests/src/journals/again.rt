@@ -1,9 +1,9 @@
 //! Openings, commits, and journals turned on and off, that are refused memory.
 
-use crate::journals::devices::{JournalSwitch, SwitchAnswer, TrialDevice};
+use crate::journals::devices::{JournalSwitch, SwitchAnswer, TestDevice};
 use crate::journals::script::{BatchScript, ScriptStep};
-use crate::journals::tally::TrialTally;
-use crate::journals::trial_stores::{TrialStore, new_device, opened};
+use crate::journals::tally::TestTally;
+use crate::journals::test_stores::{TestStore, new_device, opened};
 use crate::journals::wanted::new_memory;
 use crate::stores::map_calls;
 use anyhow::{Result, bail};
@@ -12,15 +12,37 @@ use store::{Batch, MemStore, StoreFault};
 
 /// Makes the steps of a script, each again that is refused memory, and sees that nothing has changed by the first. At last the
 /// device is opened once more.
-pub fn step_again(script: &BatchScript, tally: &mut TrialTally) -> Result<()> {
-    let mut store = opened_again(script, new_device(script.alloc, true)?)?;
+pub fn step_again(script: &BatchScript, tally: &mut TestTally) -> Result<()> {
+    let store = opened_again(script, new_device(script.alloc, true)?)?;
     let mut memory = new_memory(script.alloc)?;
+    let device = after_steps(script, store, &mut memory, tally)?;
+    look_at_last(script, device, &mut memory, tally)
+}
+
+/// The device of a store after all steps.
+fn after_steps(
+    script: &BatchScript,
+    store: TestStore,
+    memory: &mut MemStore,
+    tally: &mut TestTally,
+) -> Result<TestDevice> {
+    let mut store = store;
     for step in &script.steps {
         tally.count_first();
-        store = stepped(script, store, &mut memory, *step, tally)?;
+        store = stepped(script, store, memory, *step, tally)?;
     }
-    let mut store = opened_again(script, store.into_device())?;
-    look(&mut store, &mut memory, tally)?;
+    Ok(store.into_device())
+}
+
+/// Opens a device at the end of a script, and looks at it.
+fn look_at_last(
+    script: &BatchScript,
+    device: TestDevice,
+    memory: &mut MemStore,
+    tally: &mut TestTally,
+) -> Result<()> {
+    let mut store = opened_again(script, device)?;
+    look(&mut store, memory, tally)?;
     tally.count_second();
     Ok(())
 }
@@ -28,19 +50,13 @@ pub fn step_again(script: &BatchScript, tally: &mut TrialTally) -> Result<()> {
 /// A store after one more step.
 fn stepped(
     script: &BatchScript,
-    store: TrialStore,
+    store: TestStore,
     memory: &mut MemStore,
     step: ScriptStep,
-    tally: &mut TrialTally,
-) -> Result<TrialStore> {
-    let mut store = store;
+    tally: &mut TestTally,
+) -> Result<TestStore> {
     match step {
-        ScriptStep::Commit(index) => {
-            let batch = script.batch(index, 0)?;
-            commit(&mut store, memory, &batch, tally)?;
-            map_calls::commit(memory, &batch)?;
-            Ok(store)
-        }
+        ScriptStep::Commit(index) => committed(script, store, memory, index, tally),
         ScriptStep::Turn(switch) => {
             let device = turned_again(script, store.into_device(), switch, tally);
             opened_again(script, device)
@@ -48,9 +64,36 @@ fn stepped(
     }
 }
 
+/// A store after the commit of an index, which the store in memory has too.
+fn committed(
+    script: &BatchScript,
+    store: TestStore,
+    memory: &mut MemStore,
+    index: usize,
+    tally: &mut TestTally,
+) -> Result<TestStore> {
+    let mut store = store;
+    commit_both(script, &mut store, memory, index, tally)?;
+    Ok(store)
+}
+
+/// Makes the commit of an index in a store, again where it is refused memory, and in the store in memory.
+fn commit_both(
+    script: &BatchScript,
+    store: &mut TestStore,
+    memory: &mut MemStore,
+    index: usize,
+    tally: &mut TestTally,
+) -> Result<()> {
+    let batch = script.batch(index, 0)?;
+    commit(store, memory, &batch, tally)?;
+    map_calls::commit(memory, &batch)?;
+    Ok(())
+}
+
 /// The store on a device, which is opened again where that is refused memory.
-fn opened_again(script: &BatchScript, device: TrialDevice) -> Result<TrialStore> {
-    match TrialStore::open(script, device) {
+fn opened_again(script: &BatchScript, device: TestDevice) -> Result<TestStore> {
+    match TestStore::open(script, device) {
         Ok(store) => Ok(store),
         Err((device, OpenFault::Memory)) => opened(script, device),
         Err((_, fault)) => bail!("not opened: {fault:?}"),
@@ -60,10 +103,10 @@ fn opened_again(script: &BatchScript, device: TrialDevice) -> Result<TrialStore>
 /// A device whose journal is turned on or off, again where that is refused memory.
 fn turned_again(
     script: &BatchScript,
-    device: TrialDevice,
+    device: TestDevice,
     switch: JournalSwitch,
-    tally: &mut TrialTally,
-) -> TrialDevice {
+    tally: &mut TestTally,
+) -> TestDevice {
     let (device, answer) = switch.turn(script.alloc, device);
     if !matches!(&answer, SwitchAnswer::Memory) {
         tally.disagree(
@@ -79,11 +122,11 @@ fn turned_again(
 
 /// Makes a commit, and again where it is refused memory. The store in memory does not have it yet.
 fn commit(
-    store: &mut TrialStore,
+    store: &mut TestStore,
     memory: &mut MemStore,
     batch: &Batch,
-    tally: &mut TrialTally,
-) -> Result<()> {
+    tally: &mut TestTally,
+) -> Result<(), StoreFault> {
     let number = store.number();
     let answer = store.commit(batch);
     if answer != Err(StoreFault::Memory) {
@@ -99,9 +142,9 @@ fn commit(
 
 /// Sees that a store has the records of one in memory, again where it is refused memory.
 fn look(
-    store: &mut TrialStore,
+    store: &mut TestStore,
     memory: &mut MemStore,
-    tally: &mut TrialTally,
+    tally: &mut TestTally,
 ) -> Result<(), StoreFault> {
     let found = match store.has(memory) {
         Err(StoreFault::Memory) => store.has(memory)?,

@@ -1,4 +1,4 @@
-//! Devices of a trial, and what they hold.
+//! Devices of a test, and what they hold.
 
 use crate::journals::logged::LoggedDevice;
 use journal_switches::{SwitchFault, turn_off, turn_on};
@@ -10,8 +10,8 @@ use store::StoreFault;
 /// How many pages a device has.
 pub const PAGES: u32 = 64;
 
-/// A device of a trial.
-pub type TrialDevice = Guarded<LoggedDevice<MemDevice>>;
+/// A device of a test.
+pub type TestDevice = Guarded<LoggedDevice<MemDevice>>;
 
 /// What is to happen to a device.
 #[derive(Clone, Copy)]
@@ -26,7 +26,7 @@ pub enum DeviceEvent {
 
 impl DeviceEvent {
     /// Lets it happen to a device.
-    pub fn prepare(self, device: &TrialDevice) {
+    pub fn prepare(self, device: &TestDevice) {
         let memory = &device.device().device;
         match self {
             DeviceEvent::Stop(writes) => memory.stop_after(writes),
@@ -72,13 +72,13 @@ impl JournalSwitch {
     }
 
     /// Turns the journal of the store on a device on or off, and hands the device back.
-    pub fn turn(self, alloc: Global, device: TrialDevice) -> (TrialDevice, SwitchAnswer) {
+    pub fn turn(self, alloc: Global, device: TestDevice) -> (TestDevice, SwitchAnswer) {
         let (device, answer) = self.turned(alloc, device);
         (device, switch_answer(answer))
     }
 
     /// What turning it on or off answers.
-    fn turned(self, alloc: Global, device: TrialDevice) -> (TrialDevice, Result<u64, SwitchFault>) {
+    fn turned(self, alloc: Global, device: TestDevice) -> (TestDevice, Result<u64, SwitchFault>) {
         match self {
             JournalSwitch::On => turn_on(alloc, device),
             JournalSwitch::Off => turn_off(alloc, device),

@@ -1,10 +1,10 @@
 //! Commits of which a call of the device fails.
 
 use crate::journals::devices::DeviceEvent;
-use crate::journals::images::TrialImage;
+use crate::journals::images::TestImage;
 use crate::journals::script::BatchScript;
-use crate::journals::tally::TrialTally;
-use crate::journals::trial_stores::{TrialStore, new_device, opened};
+use crate::journals::tally::TestTally;
+use crate::journals::test_stores::{TestStore, commit_first, new_device, opened};
 use crate::journals::wanted::wanted_first;
 use anyhow::Result;
 use store::StoreFault;
@@ -13,7 +13,7 @@ use store::StoreFault;
 const MAX_CALLS: u64 = 1_024;
 
 /// Makes each call fail that a commit of a script makes.
-pub fn fail_commits(script: &BatchScript, tally: &mut TrialTally) -> Result<()> {
+pub fn fail_commits(script: &BatchScript, tally: &mut TestTally) -> Result<()> {
     for index in 0..script.len() {
         fail_calls(script, index, tally)?;
     }
@@ -21,7 +21,7 @@ pub fn fail_commits(script: &BatchScript, tally: &mut TrialTally) -> Result<()> 
 }
 
 /// Makes each call of a commit fail, before it is carried out or after.
-fn fail_calls(script: &BatchScript, index: usize, tally: &mut TrialTally) -> Result<()> {
+fn fail_calls(script: &BatchScript, index: usize, tally: &mut TestTally) -> Result<()> {
     for calls in 0..MAX_CALLS {
         let passes = fail_call(script, index, DeviceEvent::Failure(calls), tally)?;
         if fail_call(script, index, DeviceEvent::LateFailure(calls), tally)? && passes {
@@ -36,10 +36,26 @@ fn fail_call(
     script: &BatchScript,
     index: usize,
     event: DeviceEvent,
-    tally: &mut TrialTally,
+    tally: &mut TestTally,
 ) -> Result<bool> {
     let mut store = opened(script, new_device(script.alloc, true)?)?;
     commit_first(script, &mut store, index, tally)?;
+    if commit_failing(script, &mut store, index, event, tally)? {
+        return Ok(true);
+    }
+    check_restarts(script, index, store, tally)?;
+    Ok(false)
+}
+
+/// Makes a commit of which a call fails, and sees that a store that has failed makes no more calls. Answers whether the commit
+/// makes no more calls than those before that one.
+fn commit_failing(
+    script: &BatchScript,
+    store: &mut TestStore,
+    index: usize,
+    event: DeviceEvent,
+    tally: &mut TestTally,
+) -> Result<bool> {
     let failures = store.failures();
     store.prepare(event);
     let answer = store.commit(&script.batch(index, 0)?);
@@ -55,33 +71,28 @@ fn fail_call(
     tally.disagree(is_closed, "a call is answered after a failure");
     let is_quiet = store.failures() == failures.saturating_add(1);
     tally.disagree(is_quiet, "a call is made after a failure");
-    check_restarts(script, index, store, tally)?;
     Ok(false)
-}
-
-/// Makes so many commits, the first ones.
-fn commit_first(
-    script: &BatchScript,
-    store: &mut TrialStore,
-    commits: usize,
-    tally: &mut TrialTally,
-) -> Result<()> {
-    for index in 0..commits {
-        let answer = store.commit(&script.batch(index, 0)?);
-        tally.disagree(answer.is_ok(), "a commit is not made");
-    }
-    Ok(())
 }
 
 /// Sees what the device has, as it is and started again.
 fn check_restarts(
     script: &BatchScript,
     index: usize,
-    store: TrialStore,
-    tally: &mut TrialTally,
+    store: TestStore,
+    tally: &mut TestTally,
 ) -> Result<()> {
-    let image = TrialImage::of(script.alloc, store.into_device())?;
-    check(script, index, &image, tally)?;
+    let image = TestImage::of(script.alloc, store.into_device())?;
+    check_image(script, index, &image, tally)
+}
+
+/// Sees what a device has, as it is and started again by each choice of its unsynced sectors.
+fn check_image(
+    script: &BatchScript,
+    index: usize,
+    image: &TestImage,
+    tally: &mut TestTally,
+) -> Result<()> {
+    check(script, index, image, tally)?;
     for choice in &image.choices()? {
         check(script, index, &image.restarted(*choice)?, tally)?;
     }
@@ -92,8 +103,8 @@ fn check_restarts(
 fn check(
     script: &BatchScript,
     index: usize,
-    image: &TrialImage,
-    tally: &mut TrialTally,
+    image: &TestImage,
+    tally: &mut TestTally,
 ) -> Result<()> {
     tally.count_second();
     let mut store = opened(script, image.device()?)?;
@@ -104,7 +115,7 @@ fn check(
 }
 
 /// Whether a store has the records after so many commits.
-pub fn has(script: &BatchScript, store: &mut TrialStore, commits: usize) -> Result<bool> {
+pub fn has(script: &BatchScript, store: &mut TestStore, commits: usize) -> Result<bool> {
     let mut wanted = wanted_first(script, commits)?;
     Ok(store.has(&mut wanted)?)
 }

@@ -1,7 +1,7 @@
 //! Devices that are full.
 
 use crate::journals::script::BatchScript;
-use crate::journals::trial_stores::{TrialStore, new_device, opened};
+use crate::journals::test_stores::{TestStore, new_device, opened};
 use crate::journals::wanted::new_memory;
 use crate::stores::call::{CallWords, number_in};
 use crate::stores::map_calls::commit;
@@ -16,7 +16,7 @@ const CHANGED: u32 = 7;
 
 /// A store, and one in memory that has what it answered to have.
 struct Filled {
-    store: TrialStore,
+    store: TestStore,
     memory: MemStore,
 }
 
@@ -38,6 +38,11 @@ impl Filled {
             store,
             memory: new_memory(script.alloc)?,
         })
+    }
+
+    /// Whether all that was taken is there.
+    fn is_same(&mut self) -> Result<bool, StoreFault> {
+        self.store.has(&mut self.memory)
     }
 
     /// Makes a commit. Answers whether there was room for it.
@@ -64,26 +69,36 @@ struct StorePair {
 
 /// Fills the two stores that a line names, changes rows of them in so many rounds, and appends what came of it.
 pub fn fill(call: &CallWords<'_>, out: &mut String) -> Result<()> {
-    let script = BatchScript::new(call.alloc, DEFAULT_CACHE_PAGES, "")?;
-    let mut pair = StorePair {
-        alloc: call.alloc,
-        journaled: Filled::new(&script, true)?,
-        plain: Filled::new(&script, false)?,
-        size: number_in(call.second) as usize,
-    };
-    let rows = pair.fill()?;
-    let alone = pair.change(number_in(call.first), rows)?;
-    let is_same = pair.journaled.store.has(&mut pair.journaled.memory)?
-        && pair.plain.store.has(&mut pair.plain.memory)?;
-    let word = call.word;
-    writeln!(
-        out,
-        "{word}: full {alone} times where the other is not, all that was taken is there: {is_same}"
-    )?;
-    Ok(())
+    let mut pair = StorePair::new(call.alloc, number_in(call.second) as usize)?;
+    pair.fill_and_change(call, out)
 }
 
 impl StorePair {
+    /// Two new stores, whose rows are to have so many bytes.
+    fn new(alloc: Global, size: usize) -> Result<StorePair> {
+        let script = BatchScript::new(alloc, DEFAULT_CACHE_PAGES, "")?;
+        let journaled = Filled::new(&script, true)?;
+        Ok(StorePair {
+            alloc,
+            journaled,
+            plain: Filled::new(&script, false)?,
+            size,
+        })
+    }
+
+    /// Fills the stores, changes rows of them in so many rounds as a call says, and appends what came of it.
+    fn fill_and_change(&mut self, call: &CallWords<'_>, out: &mut String) -> Result<()> {
+        let rows = self.fill()?;
+        let alone = self.change(number_in(call.first), rows)?;
+        let is_same = self.journaled.is_same()? && self.plain.is_same()?;
+        let word = call.word;
+        writeln!(
+            out,
+            "{word}: full {alone} times where the other is not, all that was taken is there: {is_same}"
+        )?;
+        Ok(())
+    }
+
     /// Puts rows until one of the stores is full. How many both have.
     fn fill(&mut self) -> Result<u32> {
         for row in 0..u32::MAX {
@@ -113,10 +128,21 @@ impl StorePair {
 
     /// Puts a row in both stores. Whether the one without a journal takes it, and whether the other does.
     fn put(&mut self, row: u32, byte: u8) -> Result<(bool, bool)> {
-        let mut batch = Batch::new(self.alloc);
+        let batch = self.row_batch(row, byte)?;
+        self.commit(&batch)
+    }
+
+    /// A batch that puts a row.
+    fn row_batch(&self, row: u32, byte: u8) -> Result<Batch> {
         let value = vec![in self.alloc; byte; self.size]?;
+        let mut batch = Batch::new(self.alloc);
         add_change(&mut batch, &key_of(row), Some(value.as_slice()))?;
-        Ok((self.plain.commit(&batch)?, self.journaled.commit(&batch)?))
+        Ok(batch)
+    }
+
+    /// Commits a batch in both stores. Whether the one without a journal takes it, and whether the other does.
+    fn commit(&mut self, batch: &Batch) -> Result<(bool, bool)> {
+        Ok((self.plain.commit(batch)?, self.journaled.commit(batch)?))
     }
 }
 

@@ -1,10 +1,10 @@
-//! What devices of a trial hold.
+//! What devices of a test hold.
 
-use crate::journals::devices::{PAGES, TrialDevice};
+use crate::journals::devices::{PAGES, TestDevice};
 use crate::journals::logged::{LoggedDevice, SECTORS};
 use crate::sectors::{content_of, put};
 use anyhow::{Result, bail};
-use sector_device::{Device, Guarded, MemDevice, SECTOR_SIZE};
+use sector_device::{Device, DeviceFault, Guarded, MemDevice, SECTOR_SIZE};
 use std::alloc::{AllocError, Global};
 
 /// Which unsynced sectors have their last content after a stop: none, all, those of even or of odd number, or a single one.
@@ -40,41 +40,32 @@ struct HeldSector {
 }
 
 /// What a device holds.
-pub struct TrialImage {
+pub struct TestImage {
     alloc: Global,
     sectors: Vec<HeldSector>,
 }
 
 // Written and not derived: where a value is dropped this is one call, and not its parts one by one.
-impl Drop for TrialImage {
+impl Drop for TestImage {
     fn drop(self) {
-        let TrialImage {
+        let TestImage {
             alloc: _,
             sectors: _,
         } = self;
     }
 }
 
-impl TrialImage {
+impl TestImage {
     /// What a device holds. It is started again for that.
-    pub fn of(alloc: Global, device: TrialDevice) -> Result<TrialImage> {
+    pub fn of(alloc: Global, device: TestDevice) -> Result<TestImage> {
         let logged = device.into_device();
         let unsynced = logged.unsynced;
         let mut device = logged.into_device();
         // calls pass again
         device.stop_after(u64::MAX);
         let mut sectors = Vec::new(alloc);
-        for number in 0..SECTORS {
-            let last = content_of(&mut device, number)?;
-            sectors.push(HeldSector {
-                number,
-                is_unsynced: unsynced[number as usize],
-                synced: last,
-                last,
-            })?;
-        }
-        take_synced(&mut device, &mut sectors)?;
-        Ok(TrialImage { alloc, sectors })
+        take_sectors(&mut device, &unsynced, &mut sectors)?;
+        Ok(TestImage { alloc, sectors })
     }
 
     /// Which choices there are of the unsynced sectors. Where none is unsynced, all choices are one.
@@ -100,7 +91,7 @@ impl TrialImage {
     }
 
     /// What the device holds after a stop.
-    pub fn restarted(&self, choice: SectorChoice) -> Result<TrialImage, AllocError> {
+    pub fn restarted(&self, choice: SectorChoice) -> Result<TestImage, AllocError> {
         let mut sectors = self.sectors.clone()?;
         for held in sectors.iter_mut() {
             if choice.is_new(held.number) {
@@ -110,7 +101,7 @@ impl TrialImage {
             }
             held.is_unsynced = false;
         }
-        Ok(TrialImage {
+        Ok(TestImage {
             alloc: self.alloc,
             sectors,
         })
@@ -127,16 +118,22 @@ impl TrialImage {
     }
 
     /// A device that holds this: what is unsynced is unsynced still.
-    pub fn device(&self) -> Result<TrialDevice> {
+    pub fn device(&self) -> Result<TestDevice> {
         let mut device = MemDevice::new(self.alloc, PAGES)?;
+        self.put_on(&mut device)?;
+        Ok(Guarded::new(LoggedDevice::new(device)))
+    }
+
+    /// Writes the contents at the last sync to a device, syncs it, and writes the last ones.
+    fn put_on(&self, device: &mut MemDevice) -> Result<(), DeviceFault> {
         for held in &self.sectors {
-            put(&mut device, held.number, &held.synced)?;
+            put(device, held.number, &held.synced)?;
         }
         device.sync()?;
         for held in &self.sectors {
-            put(&mut device, held.number, &held.last)?;
+            put(device, held.number, &held.last)?;
         }
-        Ok(Guarded::new(LoggedDevice::new(device)))
+        Ok(())
     }
 }
 
@@ -145,6 +142,24 @@ impl HeldSector {
     fn is_idle(&self) -> bool {
         !self.is_unsynced && self.synced == [0; SECTOR_SIZE] && self.last == [0; SECTOR_SIZE]
     }
+}
+
+/// Takes the sectors of a device that say something, of which these were written since the last sync.
+fn take_sectors(
+    device: &mut MemDevice,
+    unsynced: &[bool],
+    sectors: &mut Vec<HeldSector>,
+) -> Result<()> {
+    for number in 0..SECTORS {
+        let last = content_of(device, number)?;
+        sectors.push(HeldSector {
+            number,
+            is_unsynced: unsynced.get(number as usize).copied().unwrap_or(false),
+            synced: last,
+            last,
+        })?;
+    }
+    take_synced(device, sectors)
 }
 
 /// Starts a device again with all sectors as they were at the last sync, and takes the contents that they had there.

@@ -1,11 +1,11 @@
 //! Openings of which a call of the device fails.
 
-use crate::journals::devices::{DeviceEvent, TrialDevice};
+use crate::journals::devices::{DeviceEvent, TestDevice};
 use crate::journals::failing::has;
-use crate::journals::images::TrialImage;
+use crate::journals::images::TestImage;
 use crate::journals::script::BatchScript;
-use crate::journals::tally::TrialTally;
-use crate::journals::trial_stores::{TrialStore, new_device, opened};
+use crate::journals::tally::TestTally;
+use crate::journals::test_stores::{TestStore, new_device, opened};
 use anyhow::Result;
 use kv_store::OpenFault;
 use sector_device::Device;
@@ -14,39 +14,55 @@ use sector_device::Device;
 const MAX_CALLS: u64 = 2_048;
 
 /// Makes each call of an opening fail, behind each commit of a script.
-pub fn fail_openings(script: &BatchScript, tally: &mut TrialTally) -> Result<()> {
+pub fn fail_openings(script: &BatchScript, tally: &mut TestTally) -> Result<()> {
     for commits in 0..script.len().saturating_add(1) {
-        let image = image_after(script, commits)?;
-        for calls in 0..MAX_CALLS {
-            if fail_opening(script, &image, commits, calls, tally)? {
-                break;
-            }
+        fail_calls(script, &image_after(script, commits)?, commits, tally)?;
+    }
+    Ok(())
+}
+
+/// Makes each call of an opening fail, behind so many commits.
+fn fail_calls(
+    script: &BatchScript,
+    image: &TestImage,
+    commits: usize,
+    tally: &mut TestTally,
+) -> Result<()> {
+    for calls in 0..MAX_CALLS {
+        if fail_opening(script, image, commits, calls, tally)? {
+            return Ok(());
         }
     }
     Ok(())
 }
 
 /// What a device holds on which so many commits were made.
-fn image_after(script: &BatchScript, commits: usize) -> Result<TrialImage> {
+fn image_after(script: &BatchScript, commits: usize) -> Result<TestImage> {
     let mut store = opened(script, new_device(script.alloc, true)?)?;
+    make_first(script, &mut store, commits)?;
+    TestImage::of(script.alloc, store.into_device())
+}
+
+/// Makes so many commits, the first ones, none of which may fail.
+fn make_first(script: &BatchScript, store: &mut TestStore, commits: usize) -> Result<()> {
     for index in 0..commits {
         store.commit(&script.batch(index, 0)?)?;
     }
-    TrialImage::of(script.alloc, store.into_device())
+    Ok(())
 }
 
 /// Makes a call fail that comes after so many. Answers whether the opening makes no more calls than these.
 fn fail_opening(
     script: &BatchScript,
-    image: &TrialImage,
+    image: &TestImage,
     commits: usize,
     calls: u64,
-    tally: &mut TrialTally,
+    tally: &mut TestTally,
 ) -> Result<bool> {
     let device = image.device()?;
     DeviceEvent::Failure(calls).prepare(&device);
     let failures = device.failures();
-    match TrialStore::open(script, device) {
+    match TestStore::open(script, device) {
         Ok(store) => {
             tally.disagree(store.failures() == failures, "a failure is answered by Ok");
             Ok(true)
@@ -64,9 +80,9 @@ fn fail_opening(
 /// Sees that a device of which an opening failed has the records after so many commits.
 fn check(
     script: &BatchScript,
-    device: TrialDevice,
+    device: TestDevice,
     commits: usize,
-    tally: &mut TrialTally,
+    tally: &mut TestTally,
 ) -> Result<()> {
     tally.count_first();
     tally.count_second();

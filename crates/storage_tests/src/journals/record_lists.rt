@@ -63,36 +63,61 @@ pub fn same_records<M: Map, N: Map>(
     other: &mut N,
 ) -> Result<bool, StoreFault> {
     let wanted = scanned(alloc, other)?;
-    Ok(scanned(alloc, map)?.is_same(&wanted) && walked(alloc, map)?.is_same(&wanted))
+    has_records(alloc, map, &wanted)
+}
+
+/// Whether a scan and a walk meet these records.
+fn has_records<M: Map>(
+    alloc: Global,
+    map: &mut M,
+    wanted: &RecordList,
+) -> Result<bool, StoreFault> {
+    Ok(scanned(alloc, map)?.is_same(wanted) && walked(alloc, map)?.is_same(wanted))
 }
 
 /// The records that a scan meets, each of which is looked up too.
 fn scanned<M: Map>(alloc: Global, map: &mut M) -> Result<RecordList, StoreFault> {
-    let mut list = RecordList::new(alloc);
     let mut cursor = Cursor::over(alloc, &[])?;
+    let mut list = RecordList::new(alloc);
+    scan(map, &mut cursor, &mut list)?;
+    Ok(list)
+}
+
+/// Adds the records that a cursor comes to.
+fn scan<M: Map>(map: &mut M, cursor: &mut Cursor, list: &mut RecordList) -> Result<(), StoreFault> {
     for _ in 0..u32::MAX {
-        if !advance(&mut cursor, map)? {
-            return Ok(list);
+        if !advance(cursor, map)? {
+            return Ok(());
         }
         let entry = cursor.entry();
         let is_found = look_up(map, entry.key(), &mut list.found)?;
         list.see(is_found, entry.value());
         list.add(entry.key(), entry.value())?;
     }
-    Ok(list)
+    Ok(())
 }
 
 /// The records that a walk meets, which are as many as are counted.
 fn walked<M: Map>(alloc: Global, map: &mut M) -> Result<RecordList, StoreFault> {
-    let mut list = RecordList::new(alloc);
     let mut place = seek(map)?;
+    let mut list = RecordList::new(alloc);
+    walk(map, &mut place, &mut list)?;
+    Ok(list)
+}
+
+/// Adds the records behind a place, and sees that they are as many as are counted.
+fn walk<M: Map>(
+    map: &mut M,
+    place: &mut M::Place,
+    list: &mut RecordList,
+) -> Result<(), StoreFault> {
     for _ in 0..u32::MAX {
-        if !step(map, &mut place)? {
+        if !step(map, place)? {
             list.agrees = count(map)? == list.records;
-            return Ok(list);
+            return Ok(());
         }
-        let entry = map.entry(&place);
+        let entry = map.entry(place);
         list.add(entry.key, entry.value)?;
     }
-    Ok(list)
+    Ok(())
 }

@@ -1,6 +1,6 @@
 //! What the root sectors of a device say.
 
-use crate::journals::images::TrialImage;
+use crate::journals::images::TestImage;
 use page_roots::{RootSector, read_root};
 
 /// What the root sectors of a device say.
@@ -16,7 +16,7 @@ pub struct Roots {
 
 impl Roots {
     /// Those of a device that holds this.
-    pub fn of(image: &TrialImage) -> Roots {
+    pub fn of(image: &TestImage) -> Roots {
         let (even, is_even) = root_in(image, 0);
         let (odd, is_odd) = root_in(image, 1);
         if even > odd {
@@ -36,7 +36,7 @@ impl Roots {
 }
 
 /// The number of the root in a sector, and whether it says that there is a journal. Of a sector without a root the number is 0.
-fn root_in(image: &TrialImage, sector: u32) -> (u64, bool) {
+fn root_in(image: &TestImage, sector: u32) -> (u64, bool) {
     match read_root(sector, &image.last_content(sector)) {
         RootSector::Found(root) => (root.number(), root.format().has_journal()),
         RootSector::Empty | RootSector::Malformed => (0, false),

@@ -91,15 +91,17 @@ impl BatchScript {
 fn add_changes(batch: &mut Batch, call: &CallWords<'_>, life: u8) -> Result<()> {
     match call.name {
         "" => Ok(()),
-        "put" => add_change(
-            batch,
-            &bytes_in(call.alloc, call.first)?,
-            Some(&value_in(call, call.second, life)?),
-        ),
+        "put" => put(batch, call, life),
         "remove" => add_change(batch, &bytes_in(call.alloc, call.first)?, None),
         "rise" => rise(batch, call, &value_in(call, call.third, life)?),
         _ => bail!("no change of a store"),
     }
+}
+
+/// Puts a value at a key.
+fn put(batch: &mut Batch, call: &CallWords<'_>, life: u8) -> Result<()> {
+    let key = bytes_in(call.alloc, call.first)?;
+    add_change(batch, &key, Some(&value_in(call, call.second, life)?))
 }
 
 /// Puts a value at each number of a range.

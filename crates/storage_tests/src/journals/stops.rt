@@ -1,10 +1,10 @@
 //! Stops of commits after each count of sector writes, several lives deep.
 
 use crate::journals::devices::DeviceEvent;
-use crate::journals::images::TrialImage;
+use crate::journals::images::{SectorChoice, TestImage};
 use crate::journals::script::BatchScript;
-use crate::journals::tally::TrialTally;
-use crate::journals::trial_stores::{TrialStore, new_device, opened, synced};
+use crate::journals::tally::TestTally;
+use crate::journals::test_stores::{TestStore, commit_whole, new_device, opened, synced};
 use crate::journals::wanted::{wanted_after, with};
 use anyhow::Result;
 use std::alloc::{AllocError, Global};
@@ -16,7 +16,7 @@ const MAX_WRITES: u64 = 1_024;
 /// What a device holds after a stop: the lives in which the commits before the one that was under way were made, the life of that
 /// one, whether it was answered, and the number before it.
 struct Stopped {
-    image: TrialImage,
+    image: TestImage,
     before: Vec<u8>,
     life: u8,
     is_answered: bool,
@@ -36,6 +36,29 @@ impl Drop for Stopped {
     }
 }
 
+impl Stopped {
+    /// What the device holds that is started again.
+    fn restarted(&self, choice: SectorChoice) -> Result<Stopped, AllocError> {
+        Ok(Stopped {
+            image: self.image.restarted(choice)?,
+            before: self.before.clone()?,
+            life: self.life,
+            is_answered: self.is_answered,
+            number: self.number,
+        })
+    }
+}
+
+/// A commit that is to be stopped, of an index, and made in a life of a device that holds this, with commits that were made in
+/// these lives. Those between are made before it.
+#[derive(Clone, Copy)]
+struct NextCommit<'a> {
+    image: &'a TestImage,
+    before: &'a [u8],
+    life: u8,
+    index: usize,
+}
+
 /// The stops of a script.
 #[derive(Drop)]
 struct Stops {
@@ -52,25 +75,41 @@ pub fn stop_commits(
     script: &BatchScript,
     lives: u32,
     every: u32,
-    tally: &mut TrialTally,
+    tally: &mut TestTally,
 ) -> Result<()> {
-    let image = TrialImage::of(script.alloc, new_device(script.alloc, true)?)?;
+    let image = TestImage::of(script.alloc, new_device(script.alloc, true)?)?;
     let mut stops = Stops {
         lives: u8::try_from(lives).unwrap_or(u8::MAX),
         every: u64::from(every.max(1)),
         restarts: 0,
         waiting: Vec::new(script.alloc),
     };
-    for index in 0..script.len() {
-        stops.stop_at(script, &image, &[], 0, index, tally)?;
-        stops.follow_waiting(script, tally)?;
-    }
-    Ok(())
+    stops.follow(script, &image, tally)
 }
 
 impl Stops {
+    /// Stops each commit of a script in the first life of a device, and lets the lives that follow come.
+    fn follow(
+        &mut self,
+        script: &BatchScript,
+        image: &TestImage,
+        tally: &mut TestTally,
+    ) -> Result<()> {
+        for index in 0..script.len() {
+            let next = NextCommit {
+                image,
+                before: &[],
+                life: 0,
+                index,
+            };
+            self.stop_each(script, &next, tally)?;
+            self.follow_waiting(script, tally)?;
+        }
+        Ok(())
+    }
+
     /// Lets the lives that wait come, and those that follow them.
-    fn follow_waiting(&mut self, script: &BatchScript, tally: &mut TrialTally) -> Result<()> {
+    fn follow_waiting(&mut self, script: &BatchScript, tally: &mut TestTally) -> Result<()> {
         for _ in 0..u64::MAX {
             let Some(stopped) = self.waiting.pop() else {
                 return Ok(());
@@ -80,65 +119,38 @@ impl Stops {
         Ok(())
     }
 
-    /// In a life of a device with these commits makes the next ones up to the one of an index, and stops that after each count
-    /// of writes.
-    fn stop_at(
+    /// Stops a commit after each count of writes.
+    fn stop_each(
         &mut self,
         script: &BatchScript,
-        image: &TrialImage,
-        before: &[u8],
-        life: u8,
-        index: usize,
-        tally: &mut TrialTally,
+        next: &NextCommit<'_>,
+        tally: &mut TestTally,
     ) -> Result<()> {
         for writes in 0..MAX_WRITES {
-            let mut store = opened(script, image.device()?)?;
-            let made = made_up_to(script, &mut store, before, life, index, tally)?;
-            if self.stop_after(script, store, made, life, writes, tally)? {
+            if self.stop_after(script, next, writes, tally)? {
                 return Ok(());
             }
         }
         Ok(())
     }
 
-    /// Stops the next commit after so many writes, and starts the device again. Answers whether the commit was made whole.
+    /// Stops a commit after so many writes, and starts the device again. Answers whether the commit was made whole.
     fn stop_after(
         &mut self,
         script: &BatchScript,
-        store: TrialStore,
-        before: Vec<u8>,
-        life: u8,
+        next: &NextCommit<'_>,
         writes: u64,
-        tally: &mut TrialTally,
+        tally: &mut TestTally,
     ) -> Result<bool> {
-        let mut store = store;
-        let number = store.number();
-        let batch = script.batch(before.len(), life)?;
-        store.prepare(DeviceEvent::Stop(writes));
-        let answer = store.commit(&batch);
-        tally.count_first();
-        let is_answered = answer.is_ok();
-        let is_so = is_answered || answer == Err(StoreFault::Device);
-        tally.disagree(is_so, "a stop is answered otherwise");
-        let stopped = Stopped {
-            image: TrialImage::of(script.alloc, store.into_device())?,
-            before,
-            life,
-            is_answered,
-            number,
-        };
+        let stopped = stopped_after(script, next, writes, tally)?;
         self.await_lives(&stopped)?;
-        Ok(is_answered)
+        Ok(stopped.is_answered)
     }
 
     /// Has the lives of a device wait, one for each choice of its unsynced sectors.
     fn await_lives(&mut self, stopped: &Stopped) -> Result<(), AllocError> {
         for choice in &stopped.image.choices()? {
-            self.waiting.push(Stopped {
-                image: stopped.image.restarted(*choice)?,
-                before: stopped.before.clone()?,
-                ..*stopped
-            })?;
+            self.waiting.push(stopped.restarted(*choice)?)?;
         }
         Ok(())
     }
@@ -148,49 +160,100 @@ impl Stops {
         &mut self,
         script: &BatchScript,
         stopped: &Stopped,
-        tally: &mut TrialTally,
+        tally: &mut TestTally,
     ) -> Result<()> {
         tally.count_second();
         let mut store = opened(script, stopped.image.device()?)?;
-        let Some(found) = found(script, &mut store, stopped, tally)? else {
-            return Ok(());
+        match found(script, &mut store, stopped, tally)? {
+            Some(found) => self.go_on(script, store, stopped, &found, tally),
+            None => Ok(()),
+        }
+    }
+
+    /// Makes the next commit in a store that was found with these ones, and may stop it.
+    fn go_on(
+        &mut self,
+        script: &BatchScript,
+        store: TestStore,
+        stopped: &Stopped,
+        found: &[u8],
+        tally: &mut TestTally,
+    ) -> Result<()> {
+        let next = NextCommit {
+            image: &stopped.image,
+            before: found,
+            life: stopped.life.saturating_add(1),
+            index: found.len(),
         };
-        let life = stopped.life.saturating_add(1);
-        make_next(script, store, &found, life, tally)?;
-        if life < self.lives {
+        make_next(script, store, &next, tally)?;
+        if next.life < self.lives {
             self.restarts = self.restarts.wrapping_add(1);
             if self.restarts % self.every.max(1) == 0 {
-                return self.stop_at(script, &stopped.image, &found, life, found.len(), tally);
+                return self.stop_each(script, &next, tally);
             }
         }
         Ok(())
     }
 }
 
-/// Makes the next commits behind these ones, up to the one of an index, in a life. Answers the lives of all of them.
-fn made_up_to(
+/// What a device holds after a commit is stopped after so many writes.
+fn stopped_after(
     script: &BatchScript,
-    store: &mut TrialStore,
-    before: &[u8],
-    life: u8,
-    index: usize,
-    tally: &mut TrialTally,
+    next: &NextCommit<'_>,
+    writes: u64,
+    tally: &mut TestTally,
+) -> Result<Stopped> {
+    let mut store = opened(script, next.image.device()?)?;
+    let before = made_before(script, &mut store, next, tally)?;
+    let number = store.number();
+    let is_answered = is_answered(script, &mut store, next, writes, tally)?;
+    Ok(Stopped {
+        image: TestImage::of(script.alloc, store.into_device())?,
+        before,
+        life: next.life,
+        is_answered,
+        number,
+    })
+}
+
+/// Makes the commits between, before one that is to be stopped. Answers the lives of all that the device has then.
+fn made_before(
+    script: &BatchScript,
+    store: &mut TestStore,
+    next: &NextCommit<'_>,
+    tally: &mut TestTally,
 ) -> Result<Vec<u8>> {
-    let mut made = Vec::from_slice(script.alloc, before)?;
-    for ahead in before.len()..index {
-        let answer = store.commit(&script.batch(ahead, life)?);
-        tally.disagree(answer.is_ok(), "a commit is not made");
-        made.push(life)?;
+    let mut made = Vec::from_slice(script.alloc, next.before)?;
+    for ahead in next.before.len()..next.index {
+        commit_whole(script, store, ahead, next.life, tally)?;
+        made.push(next.life)?;
     }
     Ok(made)
+}
+
+/// Makes a commit, which is stopped after so many writes. Whether it is answered all the same.
+fn is_answered(
+    script: &BatchScript,
+    store: &mut TestStore,
+    next: &NextCommit<'_>,
+    writes: u64,
+    tally: &mut TestTally,
+) -> Result<bool> {
+    let batch = script.batch(next.index, next.life)?;
+    store.prepare(DeviceEvent::Stop(writes));
+    let answer = store.commit(&batch);
+    tally.count_first();
+    let is_so = answer.is_ok() || answer == Err(StoreFault::Device);
+    tally.disagree(is_so, "a stop is answered otherwise");
+    Ok(answer.is_ok())
 }
 
 /// The commits that a device has which was started again: those before, or these and the one that was under way.
 fn found(
     script: &BatchScript,
-    store: &mut TrialStore,
+    store: &mut TestStore,
     stopped: &Stopped,
-    tally: &mut TrialTally,
+    tally: &mut TestTally,
 ) -> Result<Option<Vec<u8>>> {
     let number = store.number();
     let is_next = stopped.number <= number && number <= stopped.number.saturating_add(1);
@@ -199,6 +262,16 @@ fn found(
     if has(script, store, &after)? {
         return Ok(Some(after));
     }
+    found_before(script, store, stopped, tally)
+}
+
+/// The commits before the one that was under way, where a device has these alone and may.
+fn found_before(
+    script: &BatchScript,
+    store: &mut TestStore,
+    stopped: &Stopped,
+    tally: &mut TestTally,
+) -> Result<Option<Vec<u8>>> {
     if !stopped.is_answered && has(script, store, &stopped.before)? {
         return Ok(Some(stopped.before.clone()?));
     }
@@ -207,25 +280,35 @@ fn found(
 }
 
 /// Whether a store has the records after commits that were made in these lives.
-fn has(script: &BatchScript, store: &mut TrialStore, lives: &[u8]) -> Result<bool> {
+fn has(script: &BatchScript, store: &mut TestStore, lives: &[u8]) -> Result<bool> {
     let mut wanted = wanted_after(script, lives)?;
     Ok(store.has(&mut wanted)?)
 }
 
-/// Makes the next commit in a store with these ones, and finds it after a stop.
+/// Makes the next commit in a store, and finds it after a stop.
 fn make_next(
     script: &BatchScript,
-    store: TrialStore,
-    before: &[u8],
-    life: u8,
-    tally: &mut TrialTally,
+    store: TestStore,
+    next: &NextCommit<'_>,
+    tally: &mut TestTally,
 ) -> Result<()> {
     let mut store = store;
-    let answer = store.commit(&script.batch(before.len(), life)?);
+    let answer = store.commit(&script.batch(next.index, next.life)?);
     tally.disagree(answer.is_ok(), "the next commit is not made");
     let image = synced(script.alloc, store.into_device())?;
-    let mut store = opened(script, image.device()?)?;
-    let is_found = has(script, &mut store, &with(script.alloc, before, life)?)?;
-    tally.disagree(is_found, "the next commit is not found");
+    tally.disagree(
+        is_next_found(script, &image, next)?,
+        "the next commit is not found",
+    );
     Ok(())
+}
+
+/// Whether a device has the commits before the next one, and that one behind them.
+fn is_next_found(script: &BatchScript, image: &TestImage, next: &NextCommit<'_>) -> Result<bool> {
+    let mut store = opened(script, image.device()?)?;
+    has(
+        script,
+        &mut store,
+        &with(script.alloc, next.before, next.life)?,
+    )
 }

@@ -1,9 +1,9 @@
 //! Stops while a journal is turned on or off, after each count of sector writes.
 
 use crate::journals::devices::{DeviceEvent, JournalSwitch, SwitchAnswer};
-use crate::journals::images::{SectorChoice, TrialImage};
+use crate::journals::images::{SectorChoice, TestImage};
 use crate::journals::script::{BatchScript, ScriptStep};
-use crate::journals::tally::TrialTally;
+use crate::journals::tally::TestTally;
 use crate::journals::turning::{Standing, Turning};
 use anyhow::Result;
 
@@ -19,29 +19,39 @@ struct Switches {
 
 /// Stops each step of a script that turns the journal on or off. Of the devices that were started again one in so many is
 /// followed by stops of the same step.
-pub fn stop_switches(script: &BatchScript, every: u32, tally: &mut TrialTally) -> Result<()> {
+pub fn stop_switches(script: &BatchScript, every: u32, tally: &mut TestTally) -> Result<()> {
     let mut switches = Switches {
         every: u64::from(every.max(1)),
         restarts: 0,
     };
     let mut standing = Standing::new(script)?;
-    for step in &script.steps {
-        if let ScriptStep::Turn(switch) = *step {
-            switches.stop_twice(script, &standing, switch, tally)?;
-        }
-        standing = standing.after(script, *step, tally)?;
-    }
-    Ok(())
+    switches.follow(script, &mut standing, tally)
 }
 
 impl Switches {
+    /// Makes the steps of a script one after the other, and stops each before that turns the journal on or off.
+    fn follow(
+        &mut self,
+        script: &BatchScript,
+        standing: &mut Standing,
+        tally: &mut TestTally,
+    ) -> Result<()> {
+        for step in &script.steps {
+            if let ScriptStep::Turn(switch) = *step {
+                self.stop_twice(script, standing, switch, tally)?;
+            }
+            standing.go_on(script, *step, tally)?;
+        }
+        Ok(())
+    }
+
     /// Stops a journal that is turned on or off, and stops that again on a part of what is left.
     fn stop_twice(
         &mut self,
         script: &BatchScript,
         standing: &Standing,
         switch: JournalSwitch,
-        tally: &mut TrialTally,
+        tally: &mut TestTally,
     ) -> Result<()> {
         for left in &stop_each(script, standing, switch, tally)? {
             self.restarts = self.restarts.wrapping_add(1);
@@ -58,26 +68,38 @@ fn stop_each(
     script: &BatchScript,
     standing: &Standing,
     switch: JournalSwitch,
-    tally: &mut TrialTally,
+    tally: &mut TestTally,
 ) -> Result<Vec<Standing>> {
-    let mut left = Vec::new(script.alloc);
     let turning = Turning::of(script, switch, standing)?;
+    let mut left = Vec::new(script.alloc);
+    stop_all(script, &turning, &standing.image, &mut left, tally)?;
+    Ok(left)
+}
+
+/// Stops it after each count of writes, until it is made whole. Adds what is left of it by each choice.
+fn stop_all(
+    script: &BatchScript,
+    turning: &Turning,
+    image: &TestImage,
+    left: &mut Vec<Standing>,
+    tally: &mut TestTally,
+) -> Result<()> {
     for writes in 0..MAX_WRITES {
-        if stop_after(script, &turning, &standing.image, writes, &mut left, tally)? {
-            return Ok(left);
+        if stop_after(script, turning, image, writes, left, tally)? {
+            return Ok(());
         }
     }
-    Ok(left)
+    Ok(())
 }
 
 /// Stops it after so many writes. Answers whether it was made whole.
 fn stop_after(
     script: &BatchScript,
     turning: &Turning,
-    image: &TrialImage,
+    image: &TestImage,
     writes: u64,
     left: &mut Vec<Standing>,
-    tally: &mut TrialTally,
+    tally: &mut TestTally,
 ) -> Result<bool> {
     let device = image.device()?;
     DeviceEvent::Stop(writes).prepare(&device);
@@ -85,41 +107,52 @@ fn stop_after(
     let answered = answer.number();
     let is_so = matches!(&answer, SwitchAnswer::Number(_) | SwitchAnswer::Device);
     tally.disagree(is_so, "a stop is answered otherwise");
-    let stopped = TrialImage::of(script.alloc, device)?;
-    turn_again(script, turning, &stopped, tally)?;
-    for choice in &stopped.choices()? {
-        let next = turning.left(stopped.restarted(*choice)?);
-        look(script, turning, &next.image, answered, tally)?;
-        left.push(next)?;
-    }
+    let stopped = TestImage::of(script.alloc, device)?;
+    restart_each(script, turning, &stopped, answered, left, tally)?;
     Ok(answered.is_some())
+}
+
+/// Starts a device again by each choice of its unsynced sectors, and adds what is left there. Where all of them are new, it is
+/// turned once more, too.
+fn restart_each(
+    script: &BatchScript,
+    turning: &Turning,
+    stopped: &TestImage,
+    answered: Option<u64>,
+    left: &mut Vec<Standing>,
+    tally: &mut TestTally,
+) -> Result<()> {
+    turn_again(script, turning, stopped, tally)?;
+    for choice in &stopped.choices()? {
+        let image = stopped.restarted(*choice)?;
+        left.push(looked_at(script, turning, image, answered, tally)?)?;
+    }
+    Ok(())
 }
 
 /// Turns the journal of a device on or off once more, all of whose sectors are new.
 fn turn_again(
     script: &BatchScript,
     turning: &Turning,
-    stopped: &TrialImage,
-    tally: &mut TrialTally,
+    stopped: &TestImage,
+    tally: &mut TestTally,
 ) -> Result<()> {
-    let standing = turning.left(stopped.restarted(SectorChoice::New)?);
-    let again = Turning::of(script, turning.switch, &standing)?;
-    let _left = again.turn(script, &standing.image, tally)?;
-    Ok(())
+    let mut standing = turning.left(stopped.restarted(SectorChoice::New)?);
+    standing.go_on(script, ScriptStep::Turn(turning.switch), tally)
 }
 
-/// Looks at what a device has that was started again.
-fn look(
+/// What is left on a device that was started again, after a look at what it has.
+fn looked_at(
     script: &BatchScript,
     turning: &Turning,
-    image: &TrialImage,
+    image: TestImage,
     answered: Option<u64>,
-    tally: &mut TrialTally,
-) -> Result<()> {
-    if turning.check(script, image, answered, tally)? {
+    tally: &mut TestTally,
+) -> Result<Standing> {
+    if turning.check(script, &image, answered, tally)? {
         tally.count_first();
     } else {
         tally.count_second();
     }
-    Ok(())
+    Ok(turning.left(image))
 }

@@ -1,10 +1,10 @@
-//! What was counted in a trial.
+//! What was counted in a test.
 
 use crate::stores::call::CallWords;
 use std::alloc::{AllocError, Global};
 
-/// What was counted in a trial: two numbers, and a line for each disagreement.
-pub struct TrialTally {
+/// What was counted in a test: two numbers, and a line for each disagreement.
+pub struct TestTally {
     pub first: u64,
     pub second: u64,
     disagreements: u64,
@@ -12,9 +12,9 @@ pub struct TrialTally {
 }
 
 // Written and not derived: where a value is dropped this is one call, and not its parts one by one.
-impl Drop for TrialTally {
+impl Drop for TestTally {
     fn drop(self) {
-        let TrialTally {
+        let TestTally {
             first: _,
             second: _,
             disagreements: _,
@@ -23,10 +23,10 @@ impl Drop for TrialTally {
     }
 }
 
-impl TrialTally {
+impl TestTally {
     /// Nothing was counted.
-    pub fn new(alloc: Global) -> TrialTally {
-        TrialTally {
+    pub fn new(alloc: Global) -> TestTally {
+        TestTally {
             first: 0,
             second: 0,
             disagreements: 0,
@@ -52,7 +52,7 @@ impl TrialTally {
         }
     }
 
-    /// Appends the counts, unless the trial is not to tell them, and a line for each disagreement.
+    /// Appends the counts, unless the test is not to tell them, and a line for each disagreement.
     pub fn push(
         &self,
         call: &CallWords<'_>,
@@ -70,9 +70,9 @@ impl TrialTally {
     }
 }
 
-/// What the two numbers of a trial count.
-fn counted(trial: &str) -> (&'static str, &'static str) {
-    match trial {
+/// What the two numbers of a test count.
+fn counted(test: &str) -> (&'static str, &'static str) {
+    match test {
         "stops" => ("stops", "restarts"),
         "openings" => ("failing calls", "openings"),
         "counts" => ("sectors", "syncs"),

@@ -1,17 +1,18 @@
 //! What a device is to have whose journal is turned on or off.
 
 use crate::journals::devices::{JournalSwitch, SwitchAnswer};
-use crate::journals::images::TrialImage;
+use crate::journals::failing::has;
+use crate::journals::images::TestImage;
 use crate::journals::roots::Roots;
 use crate::journals::script::{BatchScript, ScriptStep};
-use crate::journals::tally::TrialTally;
-use crate::journals::trial_stores::{new_device, opened, opens_in_pages, synced};
+use crate::journals::tally::TestTally;
+use crate::journals::test_stores::{commit_whole, new_device, opened, opens_in_pages, synced};
 use crate::journals::wanted::wanted_first;
 use anyhow::{Result, bail};
 
 /// What a device holds after steps of a script, and how many of these are commits.
 pub struct Standing {
-    pub image: TrialImage,
+    pub image: TestImage,
     pub commits: usize,
 }
 
@@ -29,44 +30,41 @@ impl Standing {
     /// A new store without a journal.
     pub fn new(script: &BatchScript) -> Result<Standing> {
         Ok(Standing {
-            image: TrialImage::of(script.alloc, new_device(script.alloc, false)?)?,
+            image: TestImage::of(script.alloc, new_device(script.alloc, false)?)?,
             commits: 0,
         })
     }
 
-    /// The same after one more step, which is made whole.
-    pub fn after(
-        self,
+    /// Makes one more step whole.
+    pub fn go_on(
+        &mut self,
         script: &BatchScript,
         step: ScriptStep,
-        tally: &mut TrialTally,
-    ) -> Result<Standing> {
+        tally: &mut TestTally,
+    ) -> Result<()> {
         match step {
-            ScriptStep::Commit(index) => self.commit(script, index, tally),
+            ScriptStep::Commit(index) => {
+                self.image = self.after_commit(script, index, tally)?;
+                self.commits = index.saturating_add(1);
+            }
             ScriptStep::Turn(switch) => {
-                let turning = Turning::of(script, switch, &self)?;
-                Ok(Standing {
-                    image: turning.turn(script, &self.image, tally)?,
-                    commits: self.commits,
-                })
+                let turning = Turning::of(script, switch, self)?;
+                self.image = turning.turn(script, &self.image, tally)?;
             }
         }
+        Ok(())
     }
 
-    /// The same after the commit of an index.
-    fn commit(
-        self,
+    /// What the device holds after the commit of an index.
+    fn after_commit(
+        &self,
         script: &BatchScript,
         index: usize,
-        tally: &mut TrialTally,
-    ) -> Result<Standing> {
+        tally: &mut TestTally,
+    ) -> Result<TestImage> {
         let mut store = opened(script, self.image.device()?)?;
-        let answer = store.commit(&script.batch(index, 0)?);
-        tally.disagree(answer.is_ok(), "a commit is not made");
-        Ok(Standing {
-            image: TrialImage::of(script.alloc, store.into_device())?,
-            commits: index.saturating_add(1),
-        })
+        commit_whole(script, &mut store, index, 0, tally)?;
+        TestImage::of(script.alloc, store.into_device())
     }
 }
 
@@ -81,7 +79,7 @@ pub struct Turning {
 
 impl Turning {
     /// What is left where the device holds this then.
-    pub fn left(&self, image: TrialImage) -> Standing {
+    pub fn left(&self, image: TestImage) -> Standing {
         Standing {
             image,
             commits: self.commits,
@@ -103,21 +101,35 @@ impl Turning {
     pub fn turn(
         &self,
         script: &BatchScript,
-        image: &TrialImage,
-        tally: &mut TrialTally,
-    ) -> Result<TrialImage> {
+        image: &TestImage,
+        tally: &mut TestTally,
+    ) -> Result<TestImage> {
         let (device, answer) = self.switch.turn(script.alloc, image.device()?);
         let SwitchAnswer::Number(number) = answer else {
             bail!("a journal is not turned on or off");
         };
         let left = synced(script.alloc, device)?;
-        let _has_journal = self.check(script, &left, Some(number), tally)?;
-        if !self.switch.is_on() {
-            let mut wanted = wanted_first(script, self.commits)?;
-            let is_opened = opens_in_pages(script, &left, &mut wanted)?;
-            tally.disagree(is_opened, "no store in pages");
-        }
+        self.check_turned(script, &left, number, tally)?;
         Ok(left)
+    }
+
+    /// Sees that a device has what it is to have where the call was answered by a number, and is opened as a store in pages alone
+    /// where the journal is turned off.
+    fn check_turned(
+        &self,
+        script: &BatchScript,
+        left: &TestImage,
+        number: u64,
+        tally: &mut TestTally,
+    ) -> Result<()> {
+        let _has_journal = self.check(script, left, Some(number), tally)?;
+        if self.switch.is_on() {
+            return Ok(());
+        }
+        let mut wanted = wanted_first(script, self.commits)?;
+        let is_opened = opens_in_pages(script, left, &mut wanted)?;
+        tally.disagree(is_opened, "no store in pages");
+        Ok(())
     }
 
     /// Sees that a device has the commits, and the roots and the number that may be there, where the call was answered by a number
@@ -125,16 +137,16 @@ impl Turning {
     pub fn check(
         &self,
         script: &BatchScript,
-        image: &TrialImage,
+        image: &TestImage,
         answered: Option<u64>,
-        tally: &mut TrialTally,
+        tally: &mut TestTally,
     ) -> Result<bool> {
         let roots = Roots::of(image);
         let mut store = opened(script, image.device()?)?;
         let number = store.number();
         let has_journal = store.has_journal();
-        let mut wanted = wanted_first(script, self.commits)?;
-        tally.disagree(store.has(&mut wanted)?, "other records");
+        let is_found = has(script, &mut store, self.commits)?;
+        tally.disagree(is_found, "other records");
         let may_have = self.may_have(roots, answered.is_some());
         tally.disagree(may_have, "other roots");
         let is_number = self.may_number(roots, number) && answered.unwrap_or(number) == number;

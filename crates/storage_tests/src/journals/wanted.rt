@@ -2,26 +2,29 @@
 
 use crate::journals::script::BatchScript;
 use crate::stores::map_calls::commit;
-use anyhow::{Result, bail};
-use sql_types::name::Name;
+use crate::stores::records::memory_of;
+use anyhow::Result;
 use std::alloc::{AllocError, Global};
 use store::MemStore;
 
 /// The store in memory of a new database whose administrator is root.
 pub fn new_memory(alloc: Global) -> Result<MemStore> {
-    let Some(name) = Name::from_str(alloc, "root")? else {
-        bail!("no name");
-    };
-    Ok(MemStore::new(alloc, &name)?)
+    memory_of(alloc, "root")
 }
 
 /// A store in memory after the first commits of a script, each made in the life that stands at its place.
 pub fn wanted_after(script: &BatchScript, lives: &[u8]) -> Result<MemStore> {
     let mut memory = new_memory(script.alloc)?;
-    for (index, life) in lives.iter().enumerate() {
-        commit(&mut memory, &script.batch(index, *life)?)?;
-    }
+    commit_first(script, lives, &mut memory)?;
     Ok(memory)
+}
+
+/// Makes the first commits of a script in a store in memory, each in the life that stands at its place.
+fn commit_first(script: &BatchScript, lives: &[u8], memory: &mut MemStore) -> Result<()> {
+    for (index, life) in lives.iter().enumerate() {
+        commit(memory, &script.batch(index, *life)?)?;
+    }
+    Ok(())
 }
 
 /// A store in memory after so many commits, the first ones of a script, each made in the first life.

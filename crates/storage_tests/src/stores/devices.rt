@@ -1,5 +1,6 @@
 //! Stores on a device in memory.
 
+use crate::checks::require::require;
 use crate::sectors::{content_of, put};
 use crate::stores::call::{CallWords, bytes_in, number_in};
 use crate::stores::callee::{Callee, make_calls};
@@ -32,16 +33,28 @@ pub fn run_on_device(
     calls: &str,
     out: &mut String,
 ) -> Result<MemDevice> {
-    let mut device = device;
     match first.name {
-        "device" | "journaled" => return new_device(first),
-        "open" => return open(device, first, calls, out),
-        "pages" => return count_pages(device, first, out),
-        "turn" => turn(&mut device, first)?,
-        "sector" => put_sector(&mut device, first)?,
-        _ => restart(&mut device, first)?,
+        "device" | "journaled" => new_device(first),
+        "open" => open(device, first, calls, out),
+        "pages" => count_pages(device, first, out),
+        _ => changed(device, first),
     }
+}
+
+/// A device that is changed, or started again.
+fn changed(device: MemDevice, call: &CallWords<'_>) -> Result<MemDevice> {
+    let mut device = device;
+    change(&mut device, call)?;
     Ok(device)
+}
+
+/// Changes a device, or starts it again.
+fn change(device: &mut MemDevice, call: &CallWords<'_>) -> Result<()> {
+    match call.name {
+        "turn" => turn(device, call),
+        "sector" => put_sector(device, call),
+        _ => restart(device, call),
+    }
 }
 
 /// A new device, with a store of one record where a key is named.
@@ -54,19 +67,20 @@ fn new_device(call: &CallWords<'_>) -> Result<MemDevice> {
     if call.second.is_empty() {
         return Ok(device);
     }
-    let (key, value) = (
-        bytes_in(call.alloc, call.second)?,
-        bytes_in(call.alloc, call.third)?,
-    );
     let mut device = Guarded::new(device);
+    format_as_called(&mut device, call)?;
+    Ok(device.into_device())
+}
+
+/// Makes a new store of the record that a call writes.
+fn format_as_called(device: &mut Guarded<MemDevice>, call: &CallWords<'_>) -> Result<()> {
     format(
         call.alloc,
-        &mut device,
+        device,
         call.name == "journaled",
-        key,
-        value,
-    )?;
-    Ok(device.into_device())
+        &bytes_in(call.alloc, call.second)?,
+        &bytes_in(call.alloc, call.third)?,
+    )
 }
 
 /// Makes a new store of one record on a device of 64 pages, with a journal or without.
@@ -74,13 +88,15 @@ pub fn format<D: Device>(
     alloc: Global,
     device: &mut Guarded<D>,
     has_journal: bool,
-    key: Vec<u8>,
-    value: Vec<u8>,
+    key: &[u8],
+    value: &[u8],
 ) -> Result<()> {
-    if !is_formatted(alloc, device, has_journal, Entry::from_parts(key, value)) {
-        bail!("not formatted");
-    }
-    Ok(())
+    let mut first = Entry::new(alloc);
+    first.set(key, value)?;
+    require(
+        is_formatted(alloc, device, has_journal, &first),
+        "not formatted",
+    )
 }
 
 /// Makes a new store of one record, where it is one and the device has 64 pages. Answers whether it is made.
@@ -88,7 +104,7 @@ fn is_formatted<D: Device>(
     alloc: Global,
     device: &mut Guarded<D>,
     has_journal: bool,
-    first: Entry,
+    first: &Entry,
 ) -> bool {
     let (key, value) = (first.key(), first.value());
     if key.is_empty() || key.len() > MAX_KEY_LENGTH || value.len() > MAX_VALUE_LENGTH {
@@ -98,9 +114,9 @@ fn is_formatted<D: Device>(
         return false;
     }
     if has_journal {
-        return JournalStore::format(alloc, device, &first).is_ok();
+        return JournalStore::format(alloc, device, first).is_ok();
     }
-    PageStore::format(alloc, device, &first).is_ok()
+    PageStore::format(alloc, device, first).is_ok()
 }
 
 /// Writes bytes to a sector of a device, and zeros behind them.
@@ -137,14 +153,20 @@ fn restart(device: &mut MemDevice, call: &CallWords<'_>) -> Result<()> {
 /// Appends how many pages of the tree on a device there are. Gives the device back.
 fn count_pages(device: MemDevice, call: &CallWords<'_>, out: &mut String) -> Result<MemDevice> {
     match CowPages::open(call.alloc, device) {
-        Ok(mut pages) => {
-            let answer = answer_pages(&mut pages, call, out);
-            let device = pages.into_device();
-            answer?;
-            Ok(device)
-        }
+        Ok(pages) => count_in(pages, call, out),
         Err(_) => bail!("no pages on the device"),
     }
+}
+
+/// Appends how many pages of the tree in an array there are. Gives the device back.
+fn count_in(
+    pages: CowPages<MemDevice>,
+    call: &CallWords<'_>,
+    out: &mut String,
+) -> Result<MemDevice> {
+    let mut pages = pages;
+    answer_pages(&mut pages, call, out)?;
+    Ok(pages.into_device())
 }
 
 /// Opens the store on a device and makes calls of it, or appends why it is not opened. Gives the device back.
@@ -183,11 +205,18 @@ fn run_on_store(
         },
     };
     let answer = make_calls(first.alloc, &mut open, calls, out);
-    let records = open.records;
-    let store = records.store;
-    let device = store.into_device().into_device();
+    let device = open.into_device();
     answer?;
     Ok(device)
+}
+
+impl OpenStore {
+    /// Its device.
+    fn into_device(self) -> MemDevice {
+        let records = self.records;
+        let store = records.store;
+        store.into_device().into_device()
+    }
 }
 
 impl Callee for OpenStore {

@@ -6,7 +6,7 @@ use crate::stores::map_calls::{commit, commit_migration, look_up, scan_from};
 use crate::stores::table::{Table, add_change, make_on};
 use anyhow::{Result, bail};
 use sql_types::name::Name;
-use std::alloc::AllocError;
+use std::alloc::{AllocError, Global};
 use store::{Batch, Entry, MemStore, Spelling, Store, StoreFault};
 
 /// A store, and the changes that are to be committed next.
@@ -82,12 +82,17 @@ fn word_of(spelling: Spelling) -> &'static str {
 
 /// Makes calls of the store in memory of a new database.
 pub fn run_in_memory(first: &CallWords<'_>, calls: &str, out: &mut String) -> Result<()> {
-    let Some(name) = Name::from_str(first.alloc, first.first)? else {
-        bail!("no name");
-    };
     let mut records = Records {
-        store: MemStore::new(first.alloc, &name)?,
+        store: memory_of(first.alloc, first.first)?,
         batch: Batch::new(first.alloc),
     };
     make_calls(first.alloc, &mut records, calls, out)
+}
+
+/// The store in memory of a new database, whose administrator has this name.
+pub fn memory_of(alloc: Global, administrator: &str) -> Result<MemStore> {
+    let Some(name) = Name::from_str(alloc, administrator)? else {
+        bail!("no name");
+    };
+    Ok(MemStore::new(alloc, &name)?)
 }

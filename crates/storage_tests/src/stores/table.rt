@@ -2,7 +2,7 @@
 
 use crate::stores::call::{CallWords, bytes_in, number_in};
 use anyhow::{Result, bail};
-use std::alloc::AllocError;
+use std::alloc::{AllocError, Global};
 use store::{Batch, Entry, MAX_KEY_LENGTH, MAX_VALUE_LENGTH, StoreFault};
 
 /// A map of keys and values, as a tree and a store are.
@@ -32,7 +32,6 @@ pub fn add_change(batch: &mut Batch, key: &[u8], value: Option<&[u8]>) -> Result
 }
 
 /// What a scan has met so far.
-#[derive(Drop)]
 struct Walk {
     from: Vec<u8>,
     entry: Entry,
@@ -42,19 +41,50 @@ struct Walk {
     digest: u64,
 }
 
+// Written and not derived: where a value is dropped this is one call, and not its parts one by one.
+impl Drop for Walk {
+    fn drop(self) {
+        let Walk {
+            from: _,
+            entry: _,
+            found: _,
+            entries: _,
+            entries_found: _,
+            digest: _,
+        } = self;
+    }
+}
+
+impl Walk {
+    /// Nothing was met.
+    fn new(alloc: Global) -> Walk {
+        Walk {
+            from: Vec::new(alloc),
+            entry: Entry::new(alloc),
+            found: Entry::new(alloc),
+            entries: 0,
+            entries_found: 0,
+            digest: 1,
+        }
+    }
+}
+
 /// Makes a call of a table.
 pub fn make_on<T: Table>(table: &mut T, call: &CallWords<'_>, out: &mut String) -> Result<()> {
     match call.name {
-        "put" => table.change(
-            &bytes_in(call.alloc, call.first)?,
-            Some(&bytes_in(call.alloc, call.second)?),
-        ),
+        "put" => put(table, call),
         "remove" => table.change(&bytes_in(call.alloc, call.first)?, None),
         "rise" => rise(table, call, &bytes_in(call.alloc, call.third)?),
         "get" => Ok(get(table, call, &bytes_in(call.alloc, call.first)?, out)?),
         "scan" => scan(table, call, out),
         _ => bail!("no call of a tree or a store"),
     }
+}
+
+/// Puts a value at a key.
+fn put<T: Table>(table: &mut T, call: &CallWords<'_>) -> Result<()> {
+    let key = bytes_in(call.alloc, call.first)?;
+    table.change(&key, Some(&bytes_in(call.alloc, call.second)?))
 }
 
 /// Puts a value at each number of a range.
@@ -82,21 +112,20 @@ fn get<T: Table>(
 
 /// Appends how many entries a scan meets, how many of them a look-up finds too, and their digest.
 fn scan<T: Table>(table: &mut T, call: &CallWords<'_>, out: &mut String) -> Result<()> {
-    let mut scan = Walk {
-        from: Vec::new(call.alloc),
-        entry: Entry::new(call.alloc),
-        found: Entry::new(call.alloc),
-        entries: 0,
-        entries_found: 0,
-        digest: 1,
-    };
-    for _ in 0..u32::MAX {
-        if !go_on(table, &mut scan)? {
-            break;
-        }
-    }
+    let mut scan = Walk::new(call.alloc);
+    scan_all(table, &mut scan)?;
     let (word, entries, found, digest) = (call.word, scan.entries, scan.entries_found, scan.digest);
     writeln!(out, "{word} {entries} entries, {found} found, {digest:08x}")?;
+    Ok(())
+}
+
+/// Goes on to all entries, one after the other.
+fn scan_all<T: Table>(table: &mut T, scan: &mut Walk) -> Result<(), StoreFault> {
+    for _ in 0..u32::MAX {
+        if !go_on(table, scan)? {
+            return Ok(());
+        }
+    }
     Ok(())
 }
 

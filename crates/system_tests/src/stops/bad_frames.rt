@@ -1,9 +1,9 @@
 //! Bytes that are no frame.
 
 use crate::servers::open_server;
-use crate::stops::fault::TrialFault;
-use crate::stops::places::TrialPlace;
-use crate::stops::tallies::{Kind, Trials};
+use crate::stops::fault::TestFault;
+use crate::stops::places::TestPlace;
+use crate::stops::tallies::{Kind, Tests};
 use crate::stores::new_in_memory;
 use connections::connection::{End, serve_connection};
 use connections::frame_sink::FrameSink;
@@ -41,13 +41,13 @@ impl Read for PieceReader<'_> {
 }
 
 /// Sends each bad frame, and then one that would be answered by itself, whole and byte by byte.
-pub fn send_bad_frames(alloc: Global, trials: &mut Trials) -> Result<(), TrialFault> {
-    let mut place = TrialPlace::after(0);
+pub fn send_bad_frames(alloc: Global, tests: &mut Tests) -> Result<(), TestFault> {
+    let mut place = TestPlace::after(0);
     for frame in BAD_FRAMES {
-        trials.count_tried(Kind::Frames);
+        tests.count_tried(Kind::Frames);
         match check_bad_frame(alloc, frame) {
             Ok(()) => {}
-            Err(fault) => trials.disagree(Kind::Frames, place, fault)?,
+            Err(fault) => tests.disagree(Kind::Frames, place, fault)?,
         }
         place.events = place.events.saturating_add(1);
     }
@@ -55,7 +55,7 @@ pub fn send_bad_frames(alloc: Global, trials: &mut Trials) -> Result<(), TrialFa
 }
 
 /// Serves a connection whose bytes are a bad frame and the good one, whole and byte by byte.
-fn check_bad_frame(alloc: Global, frame: &[u8]) -> Result<(), TrialFault> {
+fn check_bad_frame(alloc: Global, frame: &[u8]) -> Result<(), TestFault> {
     let mut bytes = Vec::from_slice(alloc, frame)?;
     bytes.extend_from_slice(GOOD_FRAME)?;
     check_pieces(alloc, bytes.as_slice(), 1)?;
@@ -63,14 +63,14 @@ fn check_bad_frame(alloc: Global, frame: &[u8]) -> Result<(), TrialFault> {
 }
 
 /// Serves a connection whose bytes come in pieces of so many, and checks its end and what is sent back.
-fn check_pieces(alloc: Global, rest: &[u8], size: usize) -> Result<(), TrialFault> {
+fn check_pieces(alloc: Global, rest: &[u8], size: usize) -> Result<(), TestFault> {
     let mut written = Vec::new(alloc);
     let end = serve_pieces(alloc, PieceReader { rest, size }, &mut written)?;
     if end != End::BadFrame {
-        return Err(TrialFault::AnotherEnd);
+        return Err(TestFault::AnotherEnd);
     }
     if written.as_slice() != ANSWER {
-        return Err(TrialFault::AnotherAnswer);
+        return Err(TestFault::AnotherAnswer);
     }
     Ok(())
 }

@@ -1,13 +1,13 @@
 //! Events of a script, during which the device is hindered, and one more commit after a stop.
 
 use crate::stops::choices::Choice;
-use crate::stops::fault::TrialFault;
+use crate::stops::fault::TestFault;
 use crate::stops::images::Image;
 use crate::stops::openings::Opening;
-use crate::stops::places::TrialPlace;
+use crate::stops::places::TestPlace;
 use crate::stops::scripts::Script;
 use crate::stops::servers::{CACHE_PAGES, open_device, open_new};
-use crate::stops::tallies::{Kind, Trials};
+use crate::stops::tallies::{Kind, Tests};
 use crate::stops::work::{Attempt, Hindrance, Work, hinder_each};
 use sector_device::MemDevice;
 use std::alloc::Global;
@@ -35,14 +35,14 @@ impl Work for ScriptEvent<'_> {
         alloc: Global,
         hindrance: Hindrance,
         count: u64,
-    ) -> Result<Attempt, TrialFault> {
+    ) -> Result<Attempt, TestFault> {
         let server = open_new(alloc, self.cache)?;
         self.script
             .talk
             .attempt(alloc, self.index, server, hindrance, count)
     }
 
-    fn check(&self, alloc: Global, device: MemDevice, is_done: bool) -> Result<usize, TrialFault> {
+    fn check(&self, alloc: Global, device: MemDevice, is_done: bool) -> Result<usize, TestFault> {
         let (first, last) = self.moments(is_done);
         self.script.check_device(alloc, device, first, last)
     }
@@ -54,10 +54,10 @@ impl Work for ScriptEvent<'_> {
         kind: Kind,
         image: &Image,
         is_done: bool,
-        place: TrialPlace,
-        trials: &mut Trials,
-    ) -> Result<(), TrialFault> {
-        if !matches!(kind, Kind::Stops) || !trials.parts.openings.takes_next() {
+        place: TestPlace,
+        tests: &mut Tests,
+    ) -> Result<(), TestFault> {
+        if !matches!(kind, Kind::Stops) || !tests.parts.openings.takes_next() {
             return Ok(());
         }
         let (first, last) = self.moments(is_done);
@@ -74,7 +74,7 @@ impl Work for ScriptEvent<'_> {
             Kind::Openings,
             Hindrance::Failure,
             place,
-            trials,
+            tests,
         )
     }
 
@@ -82,11 +82,11 @@ impl Work for ScriptEvent<'_> {
         &self,
         alloc: Global,
         image: &Image,
-        place: TrialPlace,
+        place: TestPlace,
         choice: Choice,
         moment: usize,
-        trials: &mut Trials,
-    ) -> Result<(), TrialFault> {
+        tests: &mut Tests,
+    ) -> Result<(), TestFault> {
         let commit = OneMoreCommit {
             script: self.script,
             image,
@@ -94,14 +94,14 @@ impl Work for ScriptEvent<'_> {
             moment,
         };
         let restart = Some(choice);
-        let place = TrialPlace { restart, ..place };
+        let place = TestPlace { restart, ..place };
         hinder_each(
             alloc,
             &commit,
             Kind::SecondStops,
             Hindrance::Stop,
             place,
-            trials,
+            tests,
         )
     }
 }
@@ -121,14 +121,14 @@ impl Work for OneMoreCommit<'_> {
         alloc: Global,
         hindrance: Hindrance,
         count: u64,
-    ) -> Result<Attempt, TrialFault> {
+    ) -> Result<Attempt, TestFault> {
         let server = open_device(alloc, self.image.restarted(alloc, self.choice)?)?;
         self.script
             .commit
             .attempt(alloc, 1, server, hindrance, count)
     }
 
-    fn check(&self, alloc: Global, device: MemDevice, is_done: bool) -> Result<usize, TrialFault> {
+    fn check(&self, alloc: Global, device: MemDevice, is_done: bool) -> Result<usize, TestFault> {
         self.script
             .check_again(alloc, device, self.moment, is_done)?;
         Ok(self.moment)

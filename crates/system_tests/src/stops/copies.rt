@@ -1,10 +1,10 @@
 //! Copies of databases, of which the device that the copy is made on is stopped after counts of sector writes.
 
-use crate::stops::fault::TrialFault;
+use crate::stops::fault::TestFault;
 use crate::stops::images::Image;
-use crate::stops::places::TrialPlace;
+use crate::stops::places::TestPlace;
 use crate::stops::servers::find_on;
-use crate::stops::tallies::{Kind, Trials};
+use crate::stops::tallies::{Kind, Tests};
 use crate::stops::work::{Attempt, Hindrance, Work, hinder_each};
 use crate::stores::SMALL_PAGES;
 use database_copies::{DatabaseCopyFault, Unwatched, copy_database};
@@ -18,8 +18,8 @@ pub fn stop_copies(
     alloc: Global,
     source: &Image,
     every: u64,
-    trials: &mut Trials,
-) -> Result<(), TrialFault> {
+    tests: &mut Tests,
+) -> Result<(), TestFault> {
     let found = find_on(alloc, source.running(alloc)?)?;
     let records = found.records.as_slice();
     let copying = Copying {
@@ -27,8 +27,37 @@ pub fn stop_copies(
         records,
         every,
     };
-    let (kind, place) = (Kind::Copies, TrialPlace::after(0));
-    hinder_each(alloc, &copying, kind, Hindrance::Stop, place, trials)
+    let (kind, place) = (Kind::Copies, TestPlace::after(0));
+    hinder_each(alloc, &copying, kind, Hindrance::Stop, place, tests)
+}
+
+/// Copies the database of a device that holds this to another, and tells whether that was done, or the other stopped.
+fn copied_to(
+    alloc: Global,
+    source: &Image,
+    target: MemDevice,
+) -> Result<(MemDevice, bool), TestFault> {
+    let device = Guarded::new(source.running(alloc)?);
+    let (device, target, copied) = copy_database(alloc, device, target, &mut Unwatched);
+    let is_done = was_copied(alloc, source, device.into_device(), copied)?;
+    Ok((target, is_done))
+}
+
+/// Whether a copy was done, or the device that it was made on stopped. The device that was copied has the content that it had.
+fn was_copied(
+    alloc: Global,
+    source: &Image,
+    device: MemDevice,
+    copied: Result<(), DatabaseCopyFault>,
+) -> Result<bool, TestFault> {
+    if !Image::of(alloc, device)?.has_content_of(source) {
+        return Err(TestFault::AnotherContent);
+    }
+    match copied {
+        Ok(()) => Ok(true),
+        Err(DatabaseCopyFault::Device) => Ok(false),
+        Err(_) => Err(TestFault::CopyRefused),
+    }
 }
 
 /// A copy of a device that holds this, and has these records. It is stopped after so many times a count.
@@ -45,29 +74,21 @@ impl Work for Copying<'_> {
         alloc: Global,
         hindrance: Hindrance,
         count: u64,
-    ) -> Result<Attempt, TrialFault> {
-        let device = Guarded::new(self.source.running(alloc)?);
+    ) -> Result<Attempt, TestFault> {
         let target = MemDevice::new(alloc, SMALL_PAGES)?;
         hindrance.begin(&target, count.saturating_mul(self.every));
-        let (device, target, copied) = copy_database(alloc, device, target, &mut Unwatched);
-        if !Image::of(alloc, device.into_device())?.has_content_of(self.source) {
-            return Err(TrialFault::AnotherContent);
-        }
-        match copied {
-            Ok(()) => Attempt::of(alloc, target, hindrance, true, 0),
-            Err(DatabaseCopyFault::Device) => Attempt::of(alloc, target, hindrance, false, 0),
-            Err(_) => Err(TrialFault::CopyRefused),
-        }
+        let (target, is_done) = copied_to(alloc, self.source, target)?;
+        Attempt::of(alloc, target, hindrance, is_done, 0)
     }
 
     /// It has these records; or, where the copy was not answered, no database is there.
-    fn check(&self, alloc: Global, device: MemDevice, is_done: bool) -> Result<usize, TrialFault> {
+    fn check(&self, alloc: Global, device: MemDevice, is_done: bool) -> Result<usize, TestFault> {
         match find_on(alloc, device) {
             Ok(found) => {
                 if found.records.as_slice() == self.records {
                     Ok(0)
                 } else {
-                    Err(TrialFault::AnotherMap)
+                    Err(TestFault::AnotherMap)
                 }
             }
             Err(fault) => {

@@ -1,15 +1,15 @@
-//! What went otherwise than expected, or why a trial ends before its work is done.
+//! What went otherwise than expected, or why a test ends before its work is done.
 
 use kv_store::OpenFault;
 use opening::OpeningFault;
 use sector_device::DeviceFault;
 use std::alloc::{AllocError, AllocFailed};
 use std::io;
-use store::StoreFault;
+use store::{Fault, StoreFault};
 
-/// What went otherwise than expected, or why a trial ends before its work is done.
+/// What went otherwise than expected, or why a test ends before its work is done.
 #[derive(Clone, Copy, Debug)]
-pub enum TrialFault {
+pub enum TestFault {
     /// Memory was refused.
     Memory,
     /// A file is not read, a line is not printed, or a script or a new database is not as it should be.
@@ -50,12 +50,14 @@ pub enum TrialFault {
     CopyRefused,
 }
 
-impl TrialFault {
+impl TestFault {
     /// Whether an opening was refused since the device failed.
     pub fn is_device(self) -> bool {
         matches!(
             self,
-            TrialFault::NoStore(OpenFault::Device) | TrialFault::NoServer(OpeningFault::Device)
+            TestFault::NoStore(OpenFault::Device)
+                | TestFault::NoServer(OpeningFault::Read(Fault::Device))
+                | TestFault::NoServer(OpeningFault::Commit(StoreFault::Device))
         )
     }
 
@@ -63,7 +65,9 @@ impl TrialFault {
     pub fn is_memory(self) -> bool {
         matches!(
             self,
-            TrialFault::NoStore(OpenFault::Memory) | TrialFault::NoServer(OpeningFault::Memory)
+            TestFault::NoStore(OpenFault::Memory)
+                | TestFault::NoServer(OpeningFault::Read(Fault::Memory))
+                | TestFault::NoServer(OpeningFault::Commit(StoreFault::Memory))
         )
     }
 
@@ -71,47 +75,48 @@ impl TrialFault {
     pub fn is_no_database(self) -> bool {
         matches!(
             self,
-            TrialFault::NoStore(OpenFault::NotADatabase)
-                | TrialFault::NoServer(OpeningFault::Damaged)
+            TestFault::NoStore(OpenFault::NotADatabase)
+                | TestFault::NoServer(OpeningFault::Read(Fault::Damaged))
         )
     }
 
     /// Tells why an opening was refused.
     pub fn tell(self, out: &mut String) -> Result<(), AllocError> {
         match self {
-            TrialFault::NoStore(fault) => write!(out, "{fault:?}"),
-            TrialFault::NoServer(fault) => write!(out, "{fault:?}"),
+            TestFault::NoStore(fault) => write!(out, "{fault:?}"),
+            TestFault::NoServer(OpeningFault::Read(fault)) => write!(out, "{fault:?}"),
+            TestFault::NoServer(OpeningFault::Commit(fault)) => write!(out, "{fault:?}"),
             _ => write!(out, "{self:?}"),
         }
     }
 }
 
-impl From<AllocError> for TrialFault {
-    fn from(_refused: AllocError) -> TrialFault {
-        TrialFault::Memory
+impl From<AllocError> for TestFault {
+    fn from(_refused: AllocError) -> TestFault {
+        TestFault::Memory
     }
 }
 
-impl<T: Drop> From<AllocFailed<T>> for TrialFault {
-    fn from(_refused: AllocFailed<T>) -> TrialFault {
-        TrialFault::Memory
+impl<T: Drop> From<AllocFailed<T>> for TestFault {
+    fn from(_refused: AllocFailed<T>) -> TestFault {
+        TestFault::Memory
     }
 }
 
-impl From<io::Error> for TrialFault {
-    fn from(error: io::Error) -> TrialFault {
-        TrialFault::Io(error.kind())
+impl From<io::Error> for TestFault {
+    fn from(error: io::Error) -> TestFault {
+        TestFault::Io(error.kind())
     }
 }
 
-impl From<DeviceFault> for TrialFault {
-    fn from(_fault: DeviceFault) -> TrialFault {
-        TrialFault::Device
+impl From<DeviceFault> for TestFault {
+    fn from(_fault: DeviceFault) -> TestFault {
+        TestFault::Device
     }
 }
 
-impl From<StoreFault> for TrialFault {
-    fn from(fault: StoreFault) -> TrialFault {
-        TrialFault::Store(fault)
+impl From<StoreFault> for TestFault {
+    fn from(fault: StoreFault) -> TestFault {
+        TestFault::Store(fault)
     }
 }

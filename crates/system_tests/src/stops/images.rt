@@ -1,7 +1,7 @@
 //! What devices hold after a stop.
 
 use crate::stops::choices::{Choice, choices_for};
-use crate::stops::fault::TrialFault;
+use crate::stops::fault::TestFault;
 use crate::stores::SMALL_PAGES;
 use sector_device::{Device, MemDevice, SECTOR_SIZE};
 use std::alloc::{AllocError, Global};
@@ -31,13 +31,13 @@ impl Image {
     }
 
     /// What a device holds.
-    pub fn of(alloc: Global, device: MemDevice) -> Result<Image, TrialFault> {
+    pub fn of(alloc: Global, device: MemDevice) -> Result<Image, TestFault> {
         let mut device = device;
         Image::read(alloc, &mut device)
     }
 
     /// What a device holds, which is started again for it.
-    fn read(alloc: Global, device: &mut MemDevice) -> Result<Image, TrialFault> {
+    fn read(alloc: Global, device: &mut MemDevice) -> Result<Image, TestFault> {
         // calls pass again, also where one that was to fail did not come
         device.stop_after(u64::MAX);
         device.fail_call(u64::MAX);
@@ -69,21 +69,21 @@ impl Image {
     }
 
     /// The device as it is, where it was not started again: what is unsynced is unsynced still.
-    pub fn running(&self, alloc: Global) -> Result<MemDevice, TrialFault> {
+    pub fn running(&self, alloc: Global) -> Result<MemDevice, TestFault> {
         let mut device = MemDevice::new(alloc, SMALL_PAGES)?;
         self.write(&mut device)?;
         Ok(device)
     }
 
     /// Gives a new device this content.
-    fn write(&self, device: &mut MemDevice) -> Result<(), TrialFault> {
+    fn write(&self, device: &mut MemDevice) -> Result<(), TestFault> {
         write_all(device, self.synced.as_slice())?;
         device.sync()?;
         write_all(device, self.last.as_slice())
     }
 
     /// The device, started again.
-    pub fn restarted(&self, alloc: Global, choice: Choice) -> Result<MemDevice, TrialFault> {
+    pub fn restarted(&self, alloc: Global, choice: Choice) -> Result<MemDevice, TestFault> {
         let mut device = self.running(alloc)?;
         restart(&mut device, choice)?;
         Ok(device)
@@ -113,13 +113,13 @@ fn sector_of(bytes: &[u8]) -> [u8; SECTOR_SIZE] {
 fn synced_contents(
     alloc: Global,
     device: &mut MemDevice,
-) -> Result<Vec<[u8; SECTOR_SIZE]>, TrialFault> {
+) -> Result<Vec<[u8; SECTOR_SIZE]>, TestFault> {
     restart(device, Choice::Old)?;
     contents(alloc, device)
 }
 
 /// The content of each sector.
-fn contents(alloc: Global, device: &mut MemDevice) -> Result<Vec<[u8; SECTOR_SIZE]>, TrialFault> {
+fn contents(alloc: Global, device: &mut MemDevice) -> Result<Vec<[u8; SECTOR_SIZE]>, TestFault> {
     let mut contents = Vec::new(alloc);
     for sector in 0..device.sectors() {
         contents.push(content(device, sector)?)?;
@@ -127,17 +127,17 @@ fn contents(alloc: Global, device: &mut MemDevice) -> Result<Vec<[u8; SECTOR_SIZ
     Ok(contents)
 }
 
-fn content(device: &mut MemDevice, sector: u32) -> Result<[u8; SECTOR_SIZE], TrialFault> {
+fn content(device: &mut MemDevice, sector: u32) -> Result<[u8; SECTOR_SIZE], TestFault> {
     let mut bytes = [0; SECTOR_SIZE];
     if sector >= device.sectors() {
-        return Err(TrialFault::AnotherSize);
+        return Err(TestFault::AnotherSize);
     }
     device.read(sector, &mut bytes)?;
     Ok(bytes)
 }
 
 /// Writes the sectors from the first on.
-fn write_all(device: &mut MemDevice, contents: &[[u8; SECTOR_SIZE]]) -> Result<(), TrialFault> {
+fn write_all(device: &mut MemDevice, contents: &[[u8; SECTOR_SIZE]]) -> Result<(), TestFault> {
     let mut sector = 0u32;
     for bytes in contents {
         write(device, sector, bytes)?;
@@ -146,17 +146,17 @@ fn write_all(device: &mut MemDevice, contents: &[[u8; SECTOR_SIZE]]) -> Result<(
     Ok(())
 }
 
-fn write(device: &mut MemDevice, sector: u32, bytes: &[u8; SECTOR_SIZE]) -> Result<(), TrialFault> {
+fn write(device: &mut MemDevice, sector: u32, bytes: &[u8; SECTOR_SIZE]) -> Result<(), TestFault> {
     if sector >= device.sectors() {
-        return Err(TrialFault::AnotherSize);
+        return Err(TestFault::AnotherSize);
     }
     device.write(sector, bytes)?;
     Ok(())
 }
 
-fn restart(device: &mut MemDevice, choice: Choice) -> Result<(), TrialFault> {
+fn restart(device: &mut MemDevice, choice: Choice) -> Result<(), TestFault> {
     if device.sectors() != SECTORS {
-        return Err(TrialFault::AnotherSize);
+        return Err(TestFault::AnotherSize);
     }
     device.restart(&choice.sectors());
     Ok(())

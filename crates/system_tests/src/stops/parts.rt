@@ -1,9 +1,9 @@
-//! A part of many trials, which is the same in each run.
+//! A part of many tests, which is the same in each run.
 
 /// Where the numbers begin that choose a part.
 const SEED: u64 = 20_160_601;
 
-/// Takes about one of so many trials, chosen by numbers that are drawn in turn.
+/// Takes about one of so many tests, chosen by numbers that are drawn in turn.
 #[derive(Clone, Copy)]
 pub struct Sampler {
     every: u64,
@@ -19,7 +19,7 @@ impl Sampler {
         }
     }
 
-    /// Whether the next trial is taken.
+    /// Whether the next test is taken.
     pub fn takes_next(&mut self) -> bool {
         // Knuth's multiplier of 64 bits. The upper bits of the numbers are those that vary well.
         let product = self.number.wrapping_mul(6_364_136_223_846_793_005);
@@ -35,10 +35,10 @@ const PART_STOPPED_AGAIN: u64 = 80;
 
 const PART_OPENED: u64 = 40;
 
-/// Of how many trials at stops a part is taken.
+/// Of how many tests at stops a part is taken.
 #[derive(Clone, Copy)]
 pub struct Parts {
-    /// All trials are taken.
+    /// All tests are taken.
     all: bool,
     /// Of the devices after a stop, those on which one more commit is stopped too.
     pub second_stops: Sampler,
@@ -47,7 +47,7 @@ pub struct Parts {
 }
 
 impl Parts {
-    /// A part of the trials, or all of them.
+    /// A part of the tests, or all of them.
     pub fn new(all: bool) -> Parts {
         Parts {
             all,

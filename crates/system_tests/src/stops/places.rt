@@ -4,7 +4,7 @@ use crate::stops::choices::Choice;
 
 /// Where something was tried. What was not done there is `None`.
 #[derive(Clone, Copy, Debug)]
-pub struct TrialPlace {
+pub struct TestPlace {
     /// How many events were answered before the one under way.
     pub events: usize,
     /// After how many writes the device stopped, or after how many calls one failed.
@@ -17,10 +17,10 @@ pub struct TrialPlace {
     pub choice: Option<Choice>,
 }
 
-impl TrialPlace {
+impl TestPlace {
     /// At an event, before anything is done to the device.
-    pub fn after(events: usize) -> TrialPlace {
-        TrialPlace {
+    pub fn after(events: usize) -> TestPlace {
+        TestPlace {
             events,
             count: None,
             restart: None,
@@ -30,7 +30,7 @@ impl TrialPlace {
     }
 
     /// Where the device is hindered after so many writes or calls, for the second time where it was before.
-    pub fn at(self, count: u64) -> TrialPlace {
+    pub fn at(self, count: u64) -> TestPlace {
         let mut place = self;
         if place.count.is_none() {
             place.count = Some(count);

@@ -1,12 +1,13 @@
 //! Scripts: their events, what a server in memory answers to them, and what it then holds.
 
-use crate::servers::open_server;
-use crate::stops::fault::TrialFault;
-use crate::stops::servers::{DeviceServer, find_and_commit, find_on, open_device, records_of};
+use crate::servers::{ServerOver, open_server};
+use crate::stops::fault::TestFault;
+use crate::stops::servers::{find_and_commit, find_and_commit_on, find_on, records_of};
 use crate::stops::talks::Talk;
 use crate::stores::new_in_memory;
 use sector_device::MemDevice;
 use std::alloc::Global;
+use store::MemStore;
 
 /// One more commit, which is made after a stop.
 const COMMIT: &str = "open again root\nagain: CREATE ROLE again\n";
@@ -45,29 +46,45 @@ impl Drop for Script {
     }
 }
 
+/// A server over a new database in memory, which was given so many events.
+fn server_after(
+    alloc: Global,
+    talk: &Talk,
+    count: usize,
+) -> Result<ServerOver<MemStore>, TestFault> {
+    let mut server = open_server(alloc, new_in_memory(alloc)?)?;
+    talk.give_first(alloc, count, &mut server)?;
+    Ok(server)
+}
+
 /// The moment after so many events, in memory.
 fn moment_after(
     alloc: Global,
     talk: &Talk,
     count: usize,
     commit: &Talk,
-) -> Result<Moment, TrialFault> {
-    let mut server = open_server(alloc, new_in_memory(alloc)?)?;
-    talk.give_first(alloc, count, &mut server)?;
+) -> Result<Moment, TestFault> {
+    let server = server_after(alloc, talk, count)?;
     let (records, server) = find_and_commit(alloc, server, commit)?;
     let again = records_of(alloc, server)?;
     Ok(Moment { records, again })
 }
 
+/// The moments before the first event and after each, in memory.
+fn moments_of(alloc: Global, talk: &Talk, commit: &Talk) -> Result<Vec<Moment>, TestFault> {
+    let mut moments = Vec::new(alloc);
+    for count in 0..=talk.events.len() {
+        moments.push(moment_after(alloc, talk, count, commit)?)?;
+    }
+    Ok(moments)
+}
+
 impl Script {
     /// Runs a script of this text in memory.
-    pub fn from_text(alloc: Global, text: &str) -> Result<Script, TrialFault> {
+    pub fn from_text(alloc: Global, text: &str) -> Result<Script, TestFault> {
         let talk = Talk::of_script(alloc, text)?;
         let commit = Talk::of_script(alloc, COMMIT)?;
-        let mut moments = Vec::new(alloc);
-        for count in 0..=talk.events.len() {
-            moments.push(moment_after(alloc, &talk, count, &commit)?)?;
-        }
+        let moments = moments_of(alloc, &talk, &commit)?;
         Ok(Script {
             talk,
             commit,
@@ -76,33 +93,28 @@ impl Script {
     }
 
     /// Whether the event at an index changes the map.
-    pub fn changes_map(&self, index: usize) -> Result<bool, TrialFault> {
+    pub fn changes_map(&self, index: usize) -> Result<bool, TestFault> {
         let before = self.moment(index)?.records.as_slice();
         let after = self.moment(index.saturating_add(1))?.records.as_slice();
         Ok(before != after)
     }
 
     /// The moment of a number.
-    fn moment(&self, number: usize) -> Result<&Moment, TrialFault> {
+    fn moment(&self, number: usize) -> Result<&Moment, TestFault> {
         match self.moments.get(number) {
             Some(moment) => Ok(moment),
-            None => Err(TrialFault::FewerEvents),
+            None => Err(TestFault::FewerEvents),
         }
     }
 
     /// The number of the moment that has these records, which must be the last or the first of two.
-    pub fn moment_of(
-        &self,
-        records: &[u8],
-        first: usize,
-        last: usize,
-    ) -> Result<usize, TrialFault> {
+    pub fn moment_of(&self, records: &[u8], first: usize, last: usize) -> Result<usize, TestFault> {
         if self.moment(last)?.records.as_slice() == records {
             Ok(last)
         } else if self.moment(first)?.records.as_slice() == records {
             Ok(first)
         } else {
-            Err(TrialFault::AnotherMap)
+            Err(TestFault::AnotherMap)
         }
     }
 
@@ -114,11 +126,10 @@ impl Script {
         device: MemDevice,
         first: usize,
         last: usize,
-    ) -> Result<usize, TrialFault> {
-        let server = open_device(alloc, device)?;
-        let (records, server) = find_and_commit(alloc, server, &self.commit)?;
+    ) -> Result<usize, TestFault> {
+        let (records, device) = find_and_commit_on(alloc, device, &self.commit)?;
         let moment = self.moment_of(records.as_slice(), first, last)?;
-        self.check_again(alloc, server.end(), moment, true)?;
+        self.check_again(alloc, device, moment, true)?;
         Ok(moment)
     }
 
@@ -130,14 +141,14 @@ impl Script {
         device: MemDevice,
         moment: usize,
         is_answered: bool,
-    ) -> Result<(), TrialFault> {
+    ) -> Result<(), TestFault> {
         let found = find_on(alloc, device)?;
         let expected = self.moment(moment)?;
         let stands = !is_answered && found.records.as_slice() == expected.records.as_slice();
         if stands || found.records.as_slice() == expected.again.as_slice() {
             Ok(())
         } else {
-            Err(TrialFault::AnotherMapAgain)
+            Err(TestFault::AnotherMapAgain)
         }
     }
 }

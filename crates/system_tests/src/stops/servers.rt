@@ -1,8 +1,8 @@
 //! Servers on devices of 64 pages, of whose calls some fail, opened as the program opens them: whether there is a journal, the root
-//! says. The functions that open servers and call them have no contract, so that the trials are checked without those of a server.
+//! says. The functions that open servers and call them have no contract, so that the tests are checked without those of a server.
 
 use crate::servers::{ServerOver, open_server, try_server};
-use crate::stops::fault::TrialFault;
+use crate::stops::fault::TestFault;
 use crate::stops::talks::Talk;
 use crate::stops::work::{Attempt, Hindrance};
 use crate::stores::{SMALL_PAGES, new_device};
@@ -62,7 +62,7 @@ fn device_of(store: StoreOnDevice) -> MemDevice {
 #[derive(Drop)]
 pub struct NotOpened {
     pub device: MemDevice,
-    pub fault: TrialFault,
+    pub fault: TestFault,
 }
 
 /// Opens a server on a device, with a cache of so many pages, or hands the device back.
@@ -72,14 +72,14 @@ pub fn open_or_hand_back(
     cache: usize,
 ) -> Result<OnDevice, NotOpened> {
     if cache == 0 || cache > MAX_CACHE_PAGES {
-        let fault = TrialFault::NoSuchCache;
+        let fault = TestFault::NoSuchCache;
         return Err(NotOpened { device, fault });
     }
     match DeviceStore::open_with(alloc, Guarded::new(device), cache) {
         Ok(store) => server_or_device(alloc, store),
         Err((device, fault)) => Err(NotOpened {
             device: device.into_device(),
-            fault: TrialFault::NoStore(fault),
+            fault: TestFault::NoStore(fault),
         }),
     }
 }
@@ -90,13 +90,21 @@ fn server_or_device(alloc: Global, store: StoreOnDevice) -> Result<OnDevice, Not
         Ok(server) => Ok(server),
         Err((store, fault)) => Err(NotOpened {
             device: device_of(store),
-            fault: TrialFault::NoServer(fault),
+            fault: TestFault::NoServer(fault),
         }),
     }
 }
 
+/// The device after a server was opened on it and ended, and why none was, if so.
+pub fn open_and_end(alloc: Global, device: MemDevice) -> (MemDevice, Option<TestFault>) {
+    match open_or_hand_back(alloc, device, CACHE_PAGES) {
+        Ok(server) => (server.end(), None),
+        Err(NotOpened { device, fault }) => (device, Some(fault)),
+    }
+}
+
 /// Opens a server on a device no call of which fails, with a cache of so many pages.
-fn open_cached(alloc: Global, device: MemDevice, cache: usize) -> Result<OnDevice, TrialFault> {
+fn open_cached(alloc: Global, device: MemDevice, cache: usize) -> Result<OnDevice, TestFault> {
     match open_or_hand_back(alloc, device, cache) {
         Ok(server) => Ok(server),
         Err(NotOpened { fault, .. }) => Err(fault),
@@ -104,12 +112,12 @@ fn open_cached(alloc: Global, device: MemDevice, cache: usize) -> Result<OnDevic
 }
 
 /// Opens a server on a device no call of which fails.
-pub fn open_device(alloc: Global, device: MemDevice) -> Result<OnDevice, TrialFault> {
+pub fn open_device(alloc: Global, device: MemDevice) -> Result<OnDevice, TestFault> {
     open_cached(alloc, device, CACHE_PAGES)
 }
 
 /// Opens a server over a new database on a device, with a cache of so many pages.
-pub fn open_new(alloc: Global, cache: usize) -> Result<OnDevice, TrialFault> {
+pub fn open_new(alloc: Global, cache: usize) -> Result<OnDevice, TestFault> {
     open_cached(alloc, new_device(alloc, SMALL_PAGES)?, cache)
 }
 
@@ -121,7 +129,7 @@ pub fn attempt_opening(
     cache: usize,
     hindrance: Hindrance,
     count: u64,
-) -> Result<Attempt, TrialFault> {
+) -> Result<Attempt, TestFault> {
     hindrance.begin(&device, count);
     match open_or_hand_back(alloc, device, cache) {
         Ok(server) => Attempt::of(alloc, server.end(), hindrance, true, 0),
@@ -136,7 +144,6 @@ pub fn attempt_opening(
 }
 
 /// What a server found on a device: the records, the number of the last commit, and the format.
-#[derive(Drop)]
 pub struct FoundStore {
     pub device: MemDevice,
     pub records: Vec<u8>,
@@ -144,13 +151,41 @@ pub struct FoundStore {
     pub format: u32,
 }
 
+// Written and not derived: where a value is dropped this is one call, and not its parts one by one.
+impl Drop for FoundStore {
+    fn drop(self) {
+        let FoundStore {
+            device: _,
+            records: _,
+            number: _,
+            format: _,
+        } = self;
+    }
+}
+
+impl FoundStore {
+    /// The device.
+    pub fn into_device(self) -> MemDevice {
+        let FoundStore {
+            device,
+            records: _,
+            number: _,
+            format: _,
+        } = self;
+        device
+    }
+}
+
 /// Opens a server on a device, and tells what it found.
-pub fn find_on(alloc: Global, device: MemDevice) -> Result<FoundStore, TrialFault> {
+pub fn find_on(alloc: Global, device: MemDevice) -> Result<FoundStore, TestFault> {
     let mut store = open_device(alloc, device)?.into_store();
-    let records = scan(alloc, &mut store)?;
+    let scanned = scan(alloc, &mut store);
     let (number, format) = (store.number(), format_of(&store));
+    // a device is dropped by one call, and a store is not
+    let device = device_of(store);
+    let records = scanned?;
     Ok(FoundStore {
-        device: device_of(store),
+        device,
         records,
         number,
         format,
@@ -171,34 +206,61 @@ pub fn find_and_commit<S: Store + Drop>(
     alloc: Global,
     server: ServerOver<S>,
     commit: &Talk,
-) -> Result<(Vec<u8>, ServerOver<S>), TrialFault> {
+) -> Result<(Vec<u8>, ServerOver<S>), TestFault> {
     let mut store = server.into_store();
     let records = scan(alloc, &mut store)?;
+    let server = commit_over(alloc, store, commit)?;
+    Ok((records, server))
+}
+
+/// Opens a server over a store, which makes one more commit.
+fn commit_over<S: Store + Drop>(
+    alloc: Global,
+    store: S,
+    commit: &Talk,
+) -> Result<ServerOver<S>, TestFault> {
     let mut server = open_server(alloc, store)?;
     commit.give_first(alloc, commit.events.len(), &mut server)?;
-    Ok((records, server))
+    Ok(server)
+}
+
+/// The records that a server finds on a device, and the device after one more commit.
+pub fn find_and_commit_on(
+    alloc: Global,
+    device: MemDevice,
+    commit: &Talk,
+) -> Result<(Vec<u8>, MemDevice), TestFault> {
+    let server = open_device(alloc, device)?;
+    let (records, server) = find_and_commit(alloc, server, commit)?;
+    Ok((records, server.end()))
 }
 
 /// The records that a server leaves.
 pub fn records_of<S: Store + Drop>(
     alloc: Global,
     server: ServerOver<S>,
-) -> Result<Vec<u8>, TrialFault> {
+) -> Result<Vec<u8>, TestFault> {
     let mut store = server.into_store();
     scan(alloc, &mut store)
 }
 
 /// The records of a map in the order of their keys: of each the key and the value, each of them after its length.
-fn scan<M: Map>(alloc: Global, map: &mut M) -> Result<Vec<u8>, TrialFault> {
+fn scan<M: Map>(alloc: Global, map: &mut M) -> Result<Vec<u8>, TestFault> {
     let mut records = Vec::new(alloc);
+    add_records(alloc, map, &mut records)?;
+    Ok(records)
+}
+
+/// Adds the records of a map.
+fn add_records<M: Map>(alloc: Global, map: &mut M, records: &mut Vec<u8>) -> Result<(), TestFault> {
     let mut cursor = Cursor::over(alloc, &[])?;
     for _ in 0..u64::MAX {
         if !cursor.advance(map)? {
             break;
         }
-        add_record(cursor.entry(), &mut records)?;
+        add_record(cursor.entry(), records)?;
     }
-    Ok(records)
+    Ok(())
 }
 
 /// Adds a record.

@@ -3,12 +3,13 @@
 use crate::answers::text_of_answers;
 use crate::events::events_of;
 use crate::servers::open_server;
-use crate::stops::fault::TrialFault;
+use crate::stops::fault::TestFault;
 use crate::stops::servers::{Answering, DeviceServer};
 use crate::stops::work::{Attempt, Hindrance};
 use crate::stores::new_in_memory;
 use sql_types::event::Event;
 use std::alloc::Global;
+use std::io;
 use std::slice::from_ref;
 
 /// What is answered where the device failed.
@@ -35,21 +36,43 @@ pub fn texts_of<S: Answering>(
     alloc: Global,
     server: &mut S,
     events: &[Event],
-) -> Result<Vec<String>, TrialFault> {
+) -> Result<Vec<String>, TestFault> {
     let mut texts = Vec::new(alloc);
     for event in events {
-        let answer = server.answer_to(event);
-        texts.push(text_of_answers(alloc, from_ref(&answer))?)?;
+        texts.push(text_answered(alloc, server, event)?)?;
     }
     Ok(texts)
 }
 
+/// The text of the answer of a server to an event.
+fn text_answered<S: Answering>(alloc: Global, server: &mut S, event: &Event) -> io::Result<String> {
+    let answer = server.answer_to(event);
+    text_of_answers(alloc, from_ref(&answer))
+}
+
+/// The texts of the answers of a server in memory to events.
+fn texts_in_memory(alloc: Global, events: &[Event]) -> Result<Vec<String>, TestFault> {
+    let mut server = open_server(alloc, new_in_memory(alloc)?)?;
+    texts_of(alloc, &mut server, events)
+}
+
+/// Whether an event was answered, as a text tells, which it was where that is not 58030. It is an error where the text is another
+/// than that which is expected.
+fn tells_answer(text: &str, expected: &str) -> Result<bool, TestFault> {
+    if text == expected {
+        Ok(true)
+    } else if text == DEVICE_FAILED {
+        Ok(false)
+    } else {
+        Err(TestFault::AnotherAnswer)
+    }
+}
+
 impl Talk {
     /// The events of a script, and the answers of a server in memory.
-    pub fn of_script(alloc: Global, script: &str) -> Result<Talk, TrialFault> {
+    pub fn of_script(alloc: Global, script: &str) -> Result<Talk, TestFault> {
         let events = events_of(alloc, script)?;
-        let mut server = open_server(alloc, new_in_memory(alloc)?)?;
-        let answers = texts_of(alloc, &mut server, events.as_slice())?;
+        let answers = texts_in_memory(alloc, events.as_slice())?;
         Ok(Talk { events, answers })
     }
 
@@ -60,20 +83,13 @@ impl Talk {
         alloc: Global,
         index: usize,
         server: &mut S,
-    ) -> Result<bool, TrialFault> {
+    ) -> Result<bool, TestFault> {
         match (self.events.get(index), self.answers.get(index)) {
             (Some(event), Some(expected)) => {
-                let answer = server.answer_to(event);
-                let text = text_of_answers(alloc, from_ref(&answer))?;
-                if text.as_str() == expected.as_str() {
-                    Ok(true)
-                } else if text.as_str() == DEVICE_FAILED {
-                    Ok(false)
-                } else {
-                    Err(TrialFault::AnotherAnswer)
-                }
+                let text = text_answered(alloc, server, event)?;
+                tells_answer(text.as_str(), expected.as_str())
             }
-            _ => Err(TrialFault::FewerEvents),
+            _ => Err(TestFault::FewerEvents),
         }
     }
 
@@ -83,10 +99,10 @@ impl Talk {
         alloc: Global,
         count: usize,
         server: &mut S,
-    ) -> Result<(), TrialFault> {
+    ) -> Result<(), TestFault> {
         for index in 0..count {
             if !self.is_answered_by(alloc, index, server)? {
-                return Err(TrialFault::EarlyFailure);
+                return Err(TestFault::EarlyFailure);
             }
         }
         Ok(())
@@ -98,13 +114,33 @@ impl Talk {
         alloc: Global,
         index: usize,
         server: &mut S,
-    ) -> Result<(), TrialFault> {
+    ) -> Result<(), TestFault> {
         for later in index.saturating_add(1)..self.events.len() {
             if self.is_answered_by(alloc, later, server)? {
-                return Err(TrialFault::LaterAnswer);
+                return Err(TestFault::LaterAnswer);
             }
         }
         Ok(())
+    }
+
+    /// Gives a server the events up to the one at an index, before which its device is hindered after a count. Tells whether that
+    /// event was answered, and how many reads the device had made before.
+    fn give_hindered<S: Answering + DeviceServer>(
+        &self,
+        alloc: Global,
+        index: usize,
+        server: &mut S,
+        hindrance: Hindrance,
+        count: u64,
+    ) -> Result<(bool, u64), TestFault> {
+        self.give_first(alloc, index, server)?;
+        let reads_before = server.device().reads();
+        hindrance.begin(server.device(), count);
+        let is_answered = self.is_answered_by(alloc, index, server)?;
+        if !is_answered {
+            self.give_refused(alloc, index, server)?;
+        }
+        Ok((is_answered, reads_before))
     }
 
     /// Gives a server the events up to the one at an index. While that is answered, the device is hindered after a count. Where it
@@ -116,15 +152,15 @@ impl Talk {
         server: S,
         hindrance: Hindrance,
         count: u64,
-    ) -> Result<Attempt, TrialFault> {
+    ) -> Result<Attempt, TestFault> {
         let mut server = server;
-        self.give_first(alloc, index, &mut server)?;
-        let reads_before = server.device().reads();
-        hindrance.begin(server.device(), count);
-        let is_answered = self.is_answered_by(alloc, index, &mut server)?;
-        if !is_answered {
-            self.give_refused(alloc, index, &mut server)?;
-        }
+        let (is_answered, reads_before) = self.give_hindered(
+            alloc,
+            index,
+            &mut server,
+            hindrance,
+            count,
+        )?;
         Attempt::of(alloc, server.end(), hindrance, is_answered, reads_before)
     }
 }

@@ -1,13 +1,13 @@
 //! What was tried of each kind, and what went otherwise than expected.
 
 use crate::reports::print_counts;
-use crate::stops::fault::TrialFault;
+use crate::stops::fault::TestFault;
 use crate::stops::parts::Parts;
-use crate::stops::places::TrialPlace;
+use crate::stops::places::TestPlace;
 use std::alloc::Global;
 use std::io;
 
-/// The kinds of trials.
+/// The kinds of tests.
 #[derive(Clone, Copy)]
 pub enum Kind {
     /// Stops of commits and of migrations.
@@ -88,9 +88,9 @@ impl Tallies {
     }
 }
 
-/// What was tried, at one place and in the whole run, and which parts of the trials are taken.
+/// What was tried, at one place and in the whole run, and which parts of the tests are taken.
 #[derive(Drop)]
-pub struct Trials {
+pub struct Tests {
     /// Which parts are taken.
     pub parts: Parts,
     /// What was tried since the last line was printed.
@@ -101,10 +101,10 @@ pub struct Trials {
     faults: String,
 }
 
-impl Trials {
-    /// Nothing was tried of all trials, or of a part of them.
-    pub fn new(alloc: Global, all: bool) -> Trials {
-        Trials {
+impl Tests {
+    /// Nothing was tried of all tests, or of a part of them.
+    pub fn new(alloc: Global, all: bool) -> Tests {
+        Tests {
             parts: Parts::new(all),
             now: Tallies::none(),
             sums: Tallies::none(),
@@ -134,9 +134,9 @@ impl Trials {
     pub fn disagree(
         &mut self,
         kind: Kind,
-        place: TrialPlace,
-        fault: TrialFault,
-    ) -> Result<(), TrialFault> {
+        place: TestPlace,
+        fault: TestFault,
+    ) -> Result<(), TestFault> {
         count(&mut self.now.disagreements, 1);
         count(&mut self.sums.disagreements, 1);
         count(&mut self.now.of(kind).disagreements, 1);

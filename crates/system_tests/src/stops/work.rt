@@ -1,10 +1,10 @@
 //! Work on a device that is hindered after each count of writes or calls, and what is found on it after that.
 
 use crate::stops::choices::Choice;
-use crate::stops::fault::TrialFault;
+use crate::stops::fault::TestFault;
 use crate::stops::images::Image;
-use crate::stops::places::TrialPlace;
-use crate::stops::tallies::{Kind, Trials};
+use crate::stops::places::TestPlace;
+use crate::stops::tallies::{Kind, Tests};
 use sector_device::{Device, MemDevice};
 use std::alloc::Global;
 
@@ -55,11 +55,11 @@ impl Attempt {
         hindrance: Hindrance,
         is_done: bool,
         reads_before: u64,
-    ) -> Result<Attempt, TrialFault> {
+    ) -> Result<Attempt, TestFault> {
         let (failures, reads) = (device.failures(), device.reads());
         let expected = if is_done { 0 } else { 1 };
         if failures != expected && !hindrance.is_stop() {
-            return Err(TrialFault::Calls(failures));
+            return Err(TestFault::Calls(failures));
         }
         Ok(Attempt {
             image: Image::of(alloc, device)?,
@@ -77,10 +77,10 @@ pub trait Work {
         alloc: Global,
         hindrance: Hindrance,
         count: u64,
-    ) -> Result<Attempt, TrialFault>;
+    ) -> Result<Attempt, TestFault>;
 
     /// Checks what is found on a device that was started again, where the work was done or not. Tells of which moment its map is.
-    fn check(&self, alloc: Global, device: MemDevice, is_done: bool) -> Result<usize, TrialFault>;
+    fn check(&self, alloc: Global, device: MemDevice, is_done: bool) -> Result<usize, TestFault>;
 
     /// Tries what else is to be tried with what an attempt left: nothing, where that is not said.
     fn try_more(
@@ -89,9 +89,9 @@ pub trait Work {
         _kind: Kind,
         _image: &Image,
         _is_done: bool,
-        _place: TrialPlace,
-        _trials: &mut Trials,
-    ) -> Result<(), TrialFault> {
+        _place: TestPlace,
+        _tests: &mut Tests,
+    ) -> Result<(), TestFault> {
         Ok(())
     }
 
@@ -101,11 +101,11 @@ pub trait Work {
         &self,
         _alloc: Global,
         _image: &Image,
-        _place: TrialPlace,
+        _place: TestPlace,
         _choice: Choice,
         _moment: usize,
-        _trials: &mut Trials,
-    ) -> Result<(), TrialFault> {
+        _tests: &mut Tests,
+    ) -> Result<(), TestFault> {
         Ok(())
     }
 }
@@ -116,15 +116,15 @@ pub fn hinder_each<W: Work>(
     work: &W,
     kind: Kind,
     hindrance: Hindrance,
-    place: TrialPlace,
-    trials: &mut Trials,
-) -> Result<(), TrialFault> {
+    place: TestPlace,
+    tests: &mut Tests,
+) -> Result<(), TestFault> {
     for count in 0..MAX_COUNT {
-        if is_done_after(alloc, work, kind, hindrance, place, count, trials)? {
+        if is_done_after(alloc, work, kind, hindrance, place, count, tests)? {
             return Ok(());
         }
     }
-    trials.disagree(kind, place, TrialFault::NoEnd)
+    tests.disagree(kind, place, TestFault::NoEnd)
 }
 
 /// Hinders work after a count, and tries what that left. Answers whether the work was done, or went otherwise than expected.
@@ -133,23 +133,23 @@ fn is_done_after<W: Work>(
     work: &W,
     kind: Kind,
     hindrance: Hindrance,
-    place: TrialPlace,
+    place: TestPlace,
     count: u64,
-    trials: &mut Trials,
-) -> Result<bool, TrialFault> {
+    tests: &mut Tests,
+) -> Result<bool, TestFault> {
     let place = place.at(count);
     match work.attempt(alloc, hindrance, count) {
         Ok(attempt) => {
             if attempt.is_done && !hindrance.is_stop() {
-                trials.count_reads(kind, attempt.reads);
+                tests.count_reads(kind, attempt.reads);
             } else {
-                trials.count_tried(kind);
-                check_left(alloc, work, kind, &attempt, place, trials)?;
+                tests.count_tried(kind);
+                check_left(alloc, work, kind, &attempt, place, tests)?;
             }
             Ok(attempt.is_done)
         }
         Err(fault) => {
-            trials.disagree(kind, place, fault)?;
+            tests.disagree(kind, place, fault)?;
             Ok(true)
         }
     }
@@ -161,14 +161,14 @@ fn check_left<W: Work>(
     work: &W,
     kind: Kind,
     attempt: &Attempt,
-    place: TrialPlace,
-    trials: &mut Trials,
-) -> Result<(), TrialFault> {
+    place: TestPlace,
+    tests: &mut Tests,
+) -> Result<(), TestFault> {
     let (image, is_done) = (&attempt.image, attempt.is_done);
-    check_restarts(alloc, work, kind, image, is_done, place, trials)?;
-    match work.try_more(alloc, kind, image, is_done, place, trials) {
+    check_restarts(alloc, work, kind, image, is_done, place, tests)?;
+    match work.try_more(alloc, kind, image, is_done, place, tests) {
         Ok(()) => Ok(()),
-        Err(fault) => trials.disagree(kind, place, fault),
+        Err(fault) => tests.disagree(kind, place, fault),
     }
 }
 
@@ -179,15 +179,15 @@ fn check_restarts<W: Work>(
     kind: Kind,
     image: &Image,
     is_done: bool,
-    place: TrialPlace,
-    trials: &mut Trials,
-) -> Result<(), TrialFault> {
+    place: TestPlace,
+    tests: &mut Tests,
+) -> Result<(), TestFault> {
     for choice in &image.choices(alloc)? {
-        match check_restart(alloc, work, kind, image, is_done, place, *choice, trials) {
+        match check_restart(alloc, work, kind, image, is_done, place, *choice, tests) {
             Ok(()) => {}
             Err(fault) => {
                 let choice = Some(*choice);
-                trials.disagree(kind, TrialPlace { choice, ..place }, fault)?;
+                tests.disagree(kind, TestPlace { choice, ..place }, fault)?;
             }
         }
     }
@@ -201,16 +201,16 @@ fn check_restart<W: Work>(
     kind: Kind,
     image: &Image,
     is_done: bool,
-    place: TrialPlace,
+    place: TestPlace,
     choice: Choice,
-    trials: &mut Trials,
-) -> Result<(), TrialFault> {
-    let is_taken = matches!(kind, Kind::Stops) && trials.parts.second_stops.takes_next();
+    tests: &mut Tests,
+) -> Result<(), TestFault> {
+    let is_taken = matches!(kind, Kind::Stops) && tests.parts.second_stops.takes_next();
     let device = image.restarted(alloc, choice)?;
-    trials.count_opened(kind);
+    tests.count_opened(kind);
     let moment = work.check(alloc, device, is_done)?;
     if is_taken {
-        work.stop_again(alloc, image, place, choice, moment, trials)?;
+        work.stop_again(alloc, image, place, choice, moment, tests)?;
     }
     Ok(())
 }

@@ -1,10 +1,9 @@
-use Rattle.std.proofs.Common.{Err, refl, sym, subst}
+use Rattle.std.proofs.Common.{sym, subst}
 use Rattle.sector_device.specs.Device.{KeepsHistory as DeviceHistory}
 use Rattle.cow_pages.specs.Held.{KeepsContent}
 use Rattle.store.specs.Store.{stored}
 use Rattle.device_store.specs.Stores.{state_under, store_state}
 use Rattle.device_store.proofs.Since.{history_since, content_since}
-use Rattle.database_copies.specs.declared.fault.DatabaseCopyFault.{DatabaseCopyFault}
 use Rattle.database_copies.specs.Databases.{CopiesDatabase}
 use Rattle.database_copies.proofs.Copying.{copies_database, failed_from, refused_pages}
 use Rattle.database_copies.proofs.database.copy_database.Goals as goal
@@ -13,8 +12,7 @@ pub returns-in-Err-clause-copies : goal.returns-in-Err-clause-copies
 returns-in-Err-clause-copies g c = λ faithful.
     let d = g.D.Device.state c.args.source in
     let e = g.D.Device.state c.in-Err.source in
-    subst (λ (f : DatabaseCopyFault). CopiesDatabase d e g.E.Device.state (Err f) c.args.target c.args.target) (sym c.from-fault.ensures)
-    (refused_pages g.E.Device.state d e c.in-Err.fault c.args.target (c.in-Err.ensures.named faithful) c.in-Err.ensures.cause)
+    refused_pages g.E.Device.state d e c.in-Err.fault c.args.target (c.in-Err.ensures.named faithful) c.in-Err.ensures.cause
 
 pub returns-clause-history : goal.returns-clause-history
 returns-clause-history g c =

@@ -1,24 +1,19 @@
-use Rattle.std.proofs.Common.{Err, IfErr, sym, subst}
+use Rattle.std.proofs.Common.{IfErr, sym, subst}
 use Rattle.store.specs.Records.{Records}
 use Rattle.store.specs.Store.{stored}
 use Rattle.transactions.specs.Views.{applied_all}
 use Rattle.copying.specs.Copying.{HasOutsized, behind_mark}
 use Rattle.device_copies.specs.Copies.{CopiesTo}
-use Rattle.database_copies.specs.declared.fault.DatabaseCopyFault.{DatabaseCopyFault}
 use Rattle.database_copies.specs.Databases.{CopiesStore, HasReadCause, IsRead}
-use Rattle.database_copies.proofs.Copying.{cause_of_reads, copies_read, copies_store, no_outsized, refused_read, told_cause, undamaged}
+use Rattle.database_copies.proofs.Copying.{copies_read, copies_store, no_outsized, refused_read, told_cause, undamaged}
 use Rattle.database_copies.proofs.database.copy_store.Goals as goal
 
 pub returns-in-Err-clause-copies : goal.returns-in-Err-clause-copies
 returns-in-Err-clause-copies g c = λ sound.
-    subst (λ (f : DatabaseCopyFault). CopiesStore (stored (g.S.Map.state c.args.store.now)) g.E.Device.state (Err f) c.args.target c.args.target) (sym c.from-fault.ensures)
-    (refused_read g.E.Device.state (stored (g.S.Map.state c.args.store.now)) c.in-Err.fault c.args.target (c.in-Err.ensures.damaged sound))
+    refused_read g.E.Device.state (stored (g.S.Map.state c.args.store.now)) c.in-Err.fault c.args.target (c.in-Err.ensures.damaged sound)
 
 pub returns-in-Err-clause-cause : goal.returns-in-Err-clause-cause
-returns-in-Err-clause-cause g c =
-    let old = g.S.Map.state c.args.store.now in
-    let new = g.S.Map.state c.read_source.new.store in
-    subst (λ (f : DatabaseCopyFault). HasReadCause f old new) (sym c.from-fault.ensures) (cause_of_reads c.in-Err.fault old new c.in-Err.ensures.read.cause)
+returns-in-Err-clause-cause g c = c.in-Err.ensures.read.cause
 
 pub returns-clause-copies : goal.returns-clause-copies
 returns-clause-copies g c = λ sound.

@@ -2,8 +2,7 @@ use Rattle.std.proofs.Common.{◌∙◌, ap, sym, subst}
 use Rattle.storage_sizes.specs.declared.spelling.Spelling.{Spelling}
 use Rattle.std.specs.Prelude.{Ok}
 use Rattle.opening.specs.Openings.{OnlyLooks}
-use Rattle.lives.specs.declared.fault.DatabaseFault.{DatabaseFault}
-use Rattle.lives.specs.OnDevice.{fault_of_opening}
+use Rattle.lives.specs.declared.fault.DatabaseFault.TheVariants.{Records}
 use Rattle.device_databases.specs.Openings.{IsRefused, is_first}
 use Rattle.device_databases.proofs.Opening.{opened_on, refused_pages, refused_records}
 use Rattle.device_databases.proofs.database.open_database.Goals as goal
@@ -11,8 +10,7 @@ use Rattle.device_databases.proofs.database.open_database.Goals as goal
 pub returns-in-Err-clause-opens : goal.returns-in-Err-clause-opens
 returns-in-Err-clause-opens g c = λ faithful.
     let d = g.D.Device.state c.args.device in
-    subst (λ (f : DatabaseFault). IsRefused d f (g.D.Device.state c.in-Err.device)) (sym c.from.ensures)
-    (refused_pages d (g.D.Device.state c.in-Err.device) c.in-Err.fault c.in-Err.ensures faithful)
+    refused_pages d (g.D.Device.state c.in-Err.device) c.in-Err.fault c.in-Err.ensures faithful
 
 pub returns-in-Ok-open-clause-opens : goal.returns-in-Ok-open-clause-opens
 returns-in-Ok-open-clause-opens g c = λ faithful.
@@ -38,5 +36,4 @@ returns-in-Err-open-clause-opens g c = λ faithful.
     let sound = (opened.holds faithful).sound in
     let whole = refused_records g.met.D.Device.only_now d c.in-Ok.store refused.store refused.fault opened faithful is.history (is.cause sound) is.works (is.unchanged sound)
     (λ looks. is.preserved looks opened.has_not_failed) (is.same sound opened.has_not_failed) in
-    subst (λ (f : DatabaseFault). IsRefused d f (g.D.Device.state c.into_device.result)) (sym c.from-fault.ensures)
-    (subst (λ (e : g.row.D.Denot). IsRefused d (fault_of_opening refused.fault) (g.D.Device.state e)) (sym c.into_device.ensures) whole)
+    subst (λ (e : g.row.D.Denot). IsRefused d (Records refused.fault) (g.D.Device.state e)) (sym c.into_device.ensures) whole

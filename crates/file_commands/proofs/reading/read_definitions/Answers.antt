@@ -1,7 +1,6 @@
-use Rattle.std.proofs.Common.{◌≡◌, ◌∙◌, ap, sym, subst, Ok, Err}
-use Rattle.opening.specs.Openings.{read_fault}
-use Rattle.lives.specs.declared.fault.DatabaseFault.{DatabaseFault}
-use Rattle.lives.specs.OnDevice.{fault_of_opening}
+use Rattle.std.proofs.Common.{sym, subst, Ok, Err}
+use Rattle.migration.specs.declared.fault.OpeningFault.TheVariants.{Read}
+use Rattle.lives.specs.declared.fault.DatabaseFault.TheVariants.{Records}
 use Rattle.file_commands.specs.Reading.{ReadsOn}
 use Rattle.file_commands.proofs.OnlyRead.{read_definitions_on, unread_on}
 use Rattle.file_commands.proofs.reading.read_definitions.Goals as goal
@@ -20,7 +19,5 @@ returns-in-Err-read g c = λ faithful.
     let opened = c.in-Ok.ensures in
     let read = c.in-Err-read.ensures in
     let fault = c.in-Err-read.fault in
-    let is : c.from-in-Err-read-2.result ≡ fault_of_opening (read_fault fault) = c.from-in-Err-read-2.ensures ∙ ap fault_of_opening c.from-in-Err-read.ensures in
-    subst (λ (f : DatabaseFault). ReadsOn d (Err f) (g.D.Device.state c.into_device-left.result)) (sym is)
-    (subst (λ (e : g.row.D.Denot). ReadsOn d (Err (fault_of_opening (read_fault fault))) (g.D.Device.state e)) (sym c.into_device-left.ensures)
-    (unread_on g.met.D.Device.only_now d c.in-Ok.store c.read_store-read.new.store opened faithful read.preserved fault read.read.only_reads.history (read.found (opened.holds faithful).sound) read.read.cause))
+    subst (λ (e : g.row.D.Denot). ReadsOn d (Err (Records (Read fault))) (g.D.Device.state e)) (sym c.into_device-left.ensures)
+    (unread_on g.met.D.Device.only_now d c.in-Ok.store c.read_store-read.new.store opened faithful read.preserved fault read.read.only_reads.history (read.found (opened.holds faithful).sound) read.read.cause)

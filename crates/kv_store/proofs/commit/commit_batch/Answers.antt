@@ -8,71 +8,92 @@ use Rattle.page_roots.specs.Root.{RootFields}
 use Rattle.pages.specs.declared.array.PageFault.{PageFault}
 use Rattle.pages.specs.declared.array.PageFault.TheVariants.{Memory, Malformed}
 use Rattle.cow_pages.specs.declared.cow.CowPages.{CowPages}
-use Rattle.cow_pages.specs.Cow.{durable_array, working_array, has_failed}
-use Rattle.cow_pages.specs.Preserved.{FailedWith}
+use Rattle.cow_pages.specs.Cow.{IsOpen, LeavesDurable, StaysDurable, durable_array, working_array, has_failed}
+use Rattle.cow_pages.specs.Preserved.{FailedWith, IsPreserved}
 use Rattle.page_tree.specs.Calls.{IsCaused}
 use Rattle.page_tree.specs.Forest.{Represents}
 use Rattle.page_tree.proofs.Represented.{map_rises}
 use Rattle.store.specs.Records.{Records, Changes}
 use Rattle.store.specs.Contents.{changed_in}
+use Rattle.store.specs.Store.{Contents}
+use Rattle.kv_store.specs.Contents.{HoldsContents}
 use Rattle.kv_store.specs.Batches.{applied_in_turn, LacksRoom, LacksReserve}
 use Rattle.kv_store.specs.TreeLaws.{ordered_is}
 use Rattle.kv_store.proofs.InTurn.{in_turn_is}
 use Rattle.kv_store.proofs.Batches.{working_holds, first_used, still_represents, leaves_either, abandoned_back, abandoned_lost, abandoned_leaves, committed, cannot_commit}
 use Rattle.kv_store.proofs.Numbering.{before_still, numbered_by, numbered_failed}
 use Rattle.kv_store.proofs.Sparing.{spares_of_old, takes_of_old, kept_by, no_room, no_reserve}
+use Rattle.kv_store.proofs.commit.commit_batch.Given.{Over}
+use Rattle.kv_store.proofs.commit.commit_batch.Goals.{After-preserved_stays, In-Ok}
 use Rattle.kv_store.proofs.commit.commit_batch.Goals as goal
+
+-- the pages stand, whatever became of the changes
+module _ (g : Over) (c : After-preserved_stays g) (contents : Contents) (holds : HoldsContents contents c.args.pages.now) (preserved : IsPreserved c.args.pages.now c.make_pieces-made.new.pages) where
+  leaves : LeavesDurable c.args.pages.now c.make_pieces-made.new.pages
+  leaves = c.preserved_stays.ensures.leaves c.args.pages.now holds.is_open preserved
+
+  stays : StaysDurable c.args.pages.now c.make_pieces-made.new.pages
+  stays = c.preserved_stays.ensures.stays c.args.pages.now holds.is_open preserved
+
+-- the changes are made
+module _ (g : Over) (c : In-Ok g) (contents : Contents) (holds : HoldsContents contents c.args.pages.now) where
+  opened : IsOpen c.make_pieces-made.new.pages
+  opened = c.preserved_stays.ensures.open c.args.pages.now holds.is_open c.in-Ok.ensures.preserved (c.in-Ok.ensures.works holds.is_open.has_not_failed)
+
+  stand : Represents (applied_in_turn c.args.batch.now contents.records) (working_array c.make_pieces-made.new.pages)
+  stand = subst (λ (cs : Changes). Represents (applied_in_turn cs contents.records) (working_array c.make_pieces-made.new.pages)) c.pieces.ensures.changes
+      (c.in-Ok.ensures.made holds.is_open.faithful contents.records (working_holds contents c.args.pages.now holds)).1
+
+  represents : Represents (changed_in (spelling_of c.args.format) c.args.batch.now contents).records (working_array c.make_pieces-made.new.pages)
+  represents =
+      let in_order = ordered_is contents.records (map_rises (durable_array c.args.pages.now) contents.records holds.durable) in
+      subst (λ (es : Records). Represents es (working_array c.make_pieces-made.new.pages)) (in_turn_is c.args.batch.now contents.records c.pieces.ensures.ordered in_order) stand
 
 pub returns-else-not-may_commit-clause-batch : goal.returns-else-not-may_commit-clause-batch
 returns-else-not-may_commit-clause-batch g c contents holds =
+    let at = goal.at.returns-else-not-may_commit-clause-batch g c in
     let old = c.args.pages.now in
     let mid = c.make_pieces-made.new.pages in
     let new = c.finish.new.pages in
     let preserved = c.in-Ok.ensures.preserved in
     let after = changed_in (spelling_of c.args.format) c.args.batch.now contents in
-    let leaves = c.preserved_stays.ensures.leaves old holds.is_open preserved in
-    let stays = c.preserved_stays.ensures.stays old holds.is_open preserved in
-    let opened = c.preserved_stays.ensures.open old holds.is_open preserved (c.in-Ok.ensures.works holds.is_open.has_not_failed) in
-    let made = c.in-Ok.ensures.made holds.is_open.faithful contents.records (working_holds contents old holds) in
-    let in_order = ordered_is contents.records (map_rises (durable_array old) contents.records holds.durable) in
-    let stand = subst (λ (cs : Changes). Represents (applied_in_turn cs contents.records) (working_array mid)) c.pieces.ensures.changes made.1 in
-    let same = ap (λ (cs : Changes). applied_in_turn cs contents.records) c.pieces.ensures.changes ∙ in_turn_is c.args.batch.now contents.records c.pieces.ensures.ordered in_order in
-    let represents : Represents after.records (working_array mid) = subst (λ (es : Records). Represents es (working_array mid)) same made.1 in
-    let is = c.finish.ensures.finished opened (first_used after.records mid represents) in
+    let left = leaves g at.After-preserved_stays contents holds preserved in
+    let stay = stays g at.After-preserved_stays contents holds preserved in
+    let open_still = opened g at.In-Ok contents holds in
+    let stands = represents g at.In-Ok contents holds in
+    let is = c.finish.ensures.finished open_still (first_used after.records mid stands) in
     record {
-      leaves = leaves_either contents after old mid new c.args.format refl c.requires preserved.preserved.root holds (still_represents contents old mid holds preserved leaves stays) leaves represents is.leaves;
+      leaves = leaves_either contents after old mid new c.args.format refl c.requires preserved.preserved.root holds (still_represents contents old mid holds preserved left stay) left stands is.leaves;
       outcome = MatchResult-weaker c.finish.result is.outcome
-          (λ x done. committed contents old mid holds preserved leaves stays after new c.args.format refl c.requires represents opened c.args.reserve
+          (λ x done. committed contents old mid holds preserved left stay after new c.args.format refl c.requires stands open_still c.args.reserve
           (kept_by c.args.reserve c.free_pages-free.result old mid new c.free_pages-free.ensures preserved.preserved.durable done.map
           (spares_of_old (c.args.reserve) c.free_pages-free.result old mid preserved.preserved.root (c.may_commit.ensures.spares c.if-not-may_commit.false))) done)
-          (λ fault not. cannot_commit contents old mid holds preserved leaves stays after new c.args.format refl c.requires represents opened c.args.reserve c.args.batch.now stand c.finish.ensures.history fault not);
+          (λ fault not. cannot_commit contents old mid holds preserved left stay after new c.args.format refl c.requires stands open_still c.args.reserve c.args.batch.now (stand g at.In-Ok contents holds) c.finish.ensures.history fault not);
     }
 
 pub returns-then-not-may_commit-clause-batch : goal.returns-then-not-may_commit-clause-batch
 returns-then-not-may_commit-clause-batch g c contents holds =
+    let at = goal.at.returns-then-not-may_commit-clause-batch g c in
     let old = c.args.pages.now in
     let mid = c.make_pieces-made.new.pages in
     let new = c.abandon.new.self in
     let preserved = c.in-Ok.ensures.preserved in
-    let leaves = c.preserved_stays.ensures.leaves old holds.is_open preserved in
-    let stays = c.preserved_stays.ensures.stays old holds.is_open preserved in
-    let opened = c.preserved_stays.ensures.open old holds.is_open preserved (c.in-Ok.ensures.works holds.is_open.has_not_failed) in
-    let made = c.in-Ok.ensures.made holds.is_open.faithful contents.records (working_holds contents old holds) in
-    let stand = subst (λ (cs : Changes). Represents (applied_in_turn cs contents.records) (working_array mid)) c.pieces.ensures.changes made.1 in
+    let left = leaves g at.After-preserved_stays contents holds preserved in
+    let stay = stays g at.After-preserved_stays contents holds preserved in
     let takes = c.may_commit.ensures.takes c.if-not-may_commit.true in
     let lacks : LacksReserve c.args.batch.now contents.records old = record {
       mid = mid;
       preserved = preserved;
-      holds = stand;
+      holds = stand g at.In-Ok contents holds;
       free = c.free_pages-free.result;
       free_is = c.free_pages-free.ensures;
       takes = takes_of_old c.free_pages-free.result old mid preserved.preserved.root takes.1;
     } in
     record {
-      leaves = abandoned_leaves contents old mid holds preserved leaves stays new c.abandon.ensures.outcome c.abandon.ensures.preserved (changed_in (spelling_of c.args.format) c.args.batch.now contents);
+      leaves = abandoned_leaves contents old mid holds preserved left stay new c.abandon.ensures.outcome c.abandon.ensures.preserved (changed_in (spelling_of c.args.format) c.args.batch.now contents);
       outcome = (
         no_reserve c.args.reserve c.args.batch.now contents.records old takes.0 lacks,
-        abandoned_back contents old mid holds preserved leaves stays new c.abandon.ensures.outcome c.abandon.ensures.preserved opened,
+        abandoned_back contents old mid holds preserved left stay new c.abandon.ensures.outcome c.abandon.ensures.preserved (opened g at.In-Ok contents holds),
       );
     }
 
@@ -101,11 +122,12 @@ returns-then-has_failed-clause-batch g c contents holds =
     let mid = c.make_pieces-made.new.pages in
     let new = c.abandon-in-Err.new.self in
     let preserved = c.in-Err.ensures.preserved in
-    let leaves = c.preserved_stays.ensures.leaves old holds.is_open preserved in
-    let stays = c.preserved_stays.ensures.stays old holds.is_open preserved in
+    let at = goal.at.returns-then-has_failed-clause-batch g c in
+    let left = leaves g at.After-preserved_stays contents holds preserved in
+    let stay = stays g at.After-preserved_stays contents holds preserved in
     record {
-      leaves = abandoned_leaves contents old mid holds preserved leaves stays new c.abandon-in-Err.ensures.outcome c.abandon-in-Err.ensures.preserved (changed_in (spelling_of c.args.format) c.args.batch.now contents);
-      outcome = abandoned_lost contents old mid holds preserved leaves stays new c.abandon-in-Err.ensures.outcome c.abandon-in-Err.ensures.preserved
+      leaves = abandoned_leaves contents old mid holds preserved left stay new c.abandon-in-Err.ensures.outcome c.abandon-in-Err.ensures.preserved (changed_in (spelling_of c.args.format) c.args.batch.now contents);
+      outcome = abandoned_lost contents old mid holds preserved left stay new c.abandon-in-Err.ensures.outcome c.abandon-in-Err.ensures.preserved
           (sym c.has_failed.ensures ∙ c.if-has_failed.true);
     }
 
@@ -116,17 +138,18 @@ returns-in-Full-clause-batch g c contents holds =
     let new = c.abandon-in-Err.new.self in
     let preserved = c.in-Err.ensures.preserved in
     let abandoned = c.abandon-in-Err.ensures.outcome in
-    let leaves = c.preserved_stays.ensures.leaves old holds.is_open preserved in
-    let stays = c.preserved_stays.ensures.stays old holds.is_open preserved in
+    let at = goal.at.returns-in-Full-clause-batch g c in
+    let left = leaves g at.After-preserved_stays contents holds preserved in
+    let stay = stays g at.After-preserved_stays contents holds preserved in
     let works : has_failed mid ≡ false = sym abandoned.has_failed ∙ sym c.has_failed.ensures ∙ c.if-has_failed.false in
     let lacks : LacksRoom c.args.batch.now contents.records old =
     subst (λ (cs : Changes). LacksRoom cs contents.records old) c.pieces.ensures.changes
     (c.in-Err.ensures.room holds.is_open.faithful contents.records (working_holds contents old holds) c.in-Full.is) in
     record {
-      leaves = abandoned_leaves contents old mid holds preserved leaves stays new abandoned c.abandon-in-Err.ensures.preserved (changed_in (spelling_of c.args.format) c.args.batch.now contents);
+      leaves = abandoned_leaves contents old mid holds preserved left stay new abandoned c.abandon-in-Err.ensures.preserved (changed_in (spelling_of c.args.format) c.args.batch.now contents);
       outcome = (
         no_room c.args.reserve c.args.batch.now contents.records old lacks,
-        abandoned_back contents old mid holds preserved leaves stays new abandoned c.abandon-in-Err.ensures.preserved
+        abandoned_back contents old mid holds preserved left stay new abandoned c.abandon-in-Err.ensures.preserved
             (c.preserved_stays.ensures.open old holds.is_open preserved works),
       );
     }
@@ -138,12 +161,13 @@ returns-in-Memory-clause-batch g c contents holds =
     let new = c.abandon-in-Err.new.self in
     let preserved = c.in-Err.ensures.preserved in
     let abandoned = c.abandon-in-Err.ensures.outcome in
-    let leaves = c.preserved_stays.ensures.leaves old holds.is_open preserved in
-    let stays = c.preserved_stays.ensures.stays old holds.is_open preserved in
+    let at = goal.at.returns-in-Memory-clause-batch g c in
+    let left = leaves g at.After-preserved_stays contents holds preserved in
+    let stay = stays g at.After-preserved_stays contents holds preserved in
     let works : has_failed mid ≡ false = sym abandoned.has_failed ∙ sym c.has_failed.ensures ∙ c.if-has_failed.false in
     record {
-      leaves = abandoned_leaves contents old mid holds preserved leaves stays new abandoned c.abandon-in-Err.ensures.preserved (changed_in (spelling_of c.args.format) c.args.batch.now contents);
-      outcome = abandoned_back contents old mid holds preserved leaves stays new abandoned c.abandon-in-Err.ensures.preserved
+      leaves = abandoned_leaves contents old mid holds preserved left stay new abandoned c.abandon-in-Err.ensures.preserved (changed_in (spelling_of c.args.format) c.args.batch.now contents);
+      outcome = abandoned_back contents old mid holds preserved left stay new abandoned c.abandon-in-Err.ensures.preserved
           (c.preserved_stays.ensures.open old holds.is_open preserved works);
     }
 
@@ -174,20 +198,15 @@ returns-else-not-may_commit-clause-number g c is =
 
 pub returns-else-not-may_commit-clause-numbered : goal.returns-else-not-may_commit-clause-numbered
 returns-else-not-may_commit-clause-numbered g c contents holds =
+    let at = goal.at.returns-else-not-may_commit-clause-numbered g c in
     let old = c.args.pages.now in
     let mid = c.make_pieces-made.new.pages in
-    let new = c.finish.new.pages in
     let preserved = c.in-Ok.ensures.preserved in
     let after = changed_in (spelling_of c.args.format) c.args.batch.now contents in
-    let leaves = c.preserved_stays.ensures.leaves old holds.is_open preserved in
-    let stays = c.preserved_stays.ensures.stays old holds.is_open preserved in
-    let opened = c.preserved_stays.ensures.open old holds.is_open preserved (c.in-Ok.ensures.works holds.is_open.has_not_failed) in
-    let made = c.in-Ok.ensures.made holds.is_open.faithful contents.records (working_holds contents old holds) in
-    let in_order = ordered_is contents.records (map_rises (durable_array old) contents.records holds.durable) in
-    let same = ap (λ (cs : Changes). applied_in_turn cs contents.records) c.pieces.ensures.changes ∙ in_turn_is c.args.batch.now contents.records c.pieces.ensures.ordered in_order in
-    let represents : Represents after.records (working_array mid) = subst (λ (es : Records). Represents es (working_array mid)) same made.1 in
-    let is = c.finish.ensures.finished opened (first_used after.records mid represents) in
-    numbered_by contents after old mid holds leaves c.args.format refl c.requires preserved.preserved.root (still_represents contents old mid holds preserved leaves stays) represents new c.finish.result is.leaves is.outcome
+    let left = leaves g at.After-preserved_stays contents holds preserved in
+    let stands = represents g at.In-Ok contents holds in
+    let is = c.finish.ensures.finished (opened g at.In-Ok contents holds) (first_used after.records mid stands) in
+    numbered_by contents after old mid holds left c.args.format refl c.requires preserved.preserved.root (still_represents contents old mid holds preserved left (stays g at.After-preserved_stays contents holds preserved)) stands c.finish.new.pages c.finish.result is.leaves is.outcome
 
 pub returns-then-has_failed-clause-numbered : goal.returns-then-has_failed-clause-numbered
 returns-then-has_failed-clause-numbered g c contents holds =

@@ -1,7 +1,5 @@
-use Rattle.std.proofs.Common.{◌≡◌, List, Ok, Err, sym, subst}
+use Rattle.std.proofs.Common.{List, Ok, Err, sym, subst}
 use Rattle.store.specs.Records.{Changes}
-use Rattle.migration.specs.Migrated.{failed_after_opening, HasOpeningCause, Migrates}
-use Rattle.migration.specs.declared.fault.OpeningFault.{OpeningFault}
 use Rattle.migration.specs.Respelled.{AreRespelling}
 use Rattle.migration.proofs.Ending.{ends_history, failed_ok, failed_err, cause_err, migrates_ok, migrates_err}
 use Rattle.migration.proofs.commits.migrate.Goals as goal
@@ -35,27 +33,20 @@ returns-clause-history g c =
 
 pub returns-clause-failed : goal.returns-clause-failed
 returns-clause-failed g c =
-    let had = (g.S.Map.state c.args.store.now).has_failed in
-    let now = (g.S.Map.state c.commit_respelled.new.store).has_failed in
-    subst (λ (fault : OpeningFault). now ≡ failed_after_opening (Err fault) had) (sym c.from-in-Err-commit_respelled.ensures)
-    (failed_err g.S.Map.state c.args.store.now c.respelled_lists.new.store c.commit_respelled.new.store c.as_slice.result.now c.in-Ok.ensures.read.only_reads c.in-Ok.ensures.read.failed
-    c.in-Err-commit_respelled.fault c.in-Err-commit_respelled.ensures.none c.in-Err-commit_respelled.ensures.some)
+    failed_err g.S.Map.state c.args.store.now c.respelled_lists.new.store c.commit_respelled.new.store c.as_slice.result.now c.in-Ok.ensures.read.only_reads c.in-Ok.ensures.read.failed
+    c.in-Err-commit_respelled.fault c.in-Err-commit_respelled.ensures.none c.in-Err-commit_respelled.ensures.some
 
 pub returns-clause-cause : goal.returns-clause-cause
 returns-clause-cause g c = λ sound.
     let old = g.S.Map.state c.args.store.now in
-    let new = g.S.Map.state c.commit_respelled.new.store in
     let are = subst (λ (lists : List Changes). AreRespelling old.spelling old.map lists) (sym c.as_slice.ensures) (c.in-Ok.ensures.spelled sound) in
-    subst (λ (fault : OpeningFault). HasOpeningCause fault old new) (sym c.from-in-Err-commit_respelled.ensures)
-    (cause_err g.S.Map.state c.args.store.now c.respelled_lists.new.store c.commit_respelled.new.store c.as_slice.result.now c.in-Ok.ensures.read.only_reads c.in-Ok.ensures.read.failed
-    sound are c.in-Err-commit_respelled.fault c.in-Err-commit_respelled.ensures.none c.in-Err-commit_respelled.ensures.some)
+    cause_err g.S.Map.state c.args.store.now c.respelled_lists.new.store c.commit_respelled.new.store c.as_slice.result.now c.in-Ok.ensures.read.only_reads c.in-Ok.ensures.read.failed
+    sound are c.in-Err-commit_respelled.fault c.in-Err-commit_respelled.ensures.none c.in-Err-commit_respelled.ensures.some
 
 pub returns-clause-migrates : goal.returns-clause-migrates
 returns-clause-migrates g c = λ sound works db stands.
     let old = g.S.Map.state c.args.store.now in
-    let new = g.S.Map.state c.commit_respelled.new.store in
     let are = subst (λ (lists : List Changes). AreRespelling old.spelling old.map lists) (sym c.as_slice.ensures) (c.in-Ok.ensures.spelled sound) in
-    subst (λ (fault : OpeningFault). Migrates (Err fault) db old new) (sym c.from-in-Err-commit_respelled.ensures)
-    (migrates_err g.S.Map.state c.args.store.now c.respelled_lists.new.store c.commit_respelled.new.store c.as_slice.result.now c.in-Ok.ensures.read.only_reads c.in-Ok.ensures.read.failed
+    migrates_err g.S.Map.state c.args.store.now c.respelled_lists.new.store c.commit_respelled.new.store c.as_slice.result.now c.in-Ok.ensures.read.only_reads c.in-Ok.ensures.read.failed
     sound are works db (λ x left. g.met.S.Store.settled c.args.store.now x sound works left) stands
-    c.in-Err-commit_respelled.fault c.in-Err-commit_respelled.ensures.none c.in-Err-commit_respelled.ensures.some)
+    c.in-Err-commit_respelled.fault c.in-Err-commit_respelled.ensures.none c.in-Err-commit_respelled.ensures.some

@@ -6,11 +6,11 @@ use Rattle.store.specs.Records.{Changes, Records}
 use Rattle.stored_database.specs.Records.{Shows}
 use Rattle.server.specs.Standing.{Represents, at_start}
 use Rattle.migration.specs.Respelled.{AreRespelling}
-use Rattle.migration.specs.declared.fault.OpeningFault.{OpeningFault}
-use Rattle.migration.specs.Migrated.{failed_after_opening, HasOpeningCause, KeepsDatabase, Migrates}
+use Rattle.migration.specs.declared.fault.OpeningFault.TheVariants.{Read, Commit}
+use Rattle.migration.specs.Migrated.{KeepsDatabase, Migrates}
 use Rattle.migration.proofs.Migrating.{IsSettled, read_keeps}
 use Rattle.migration.proofs.Ending.{ends_history, failed_ok, failed_err, cause_err, migrates_ok, migrates_err}
-use Rattle.opening.specs.Openings.{HasLooked, IsNumberAfter, OnlyLooks}
+use Rattle.opening.specs.Openings.{HasLooked, IsNumberAfter}
 use Rattle.opening.proofs.Outcomes.{looked, read_failed, read_cause, not_damaged, opened_looking, no_look_refused}
 use Rattle.opening.proofs.Outcomes.{looked_through, unchanged_refused, number_then}
 use Rattle.opening.proofs.opening.open.Goals as goal
@@ -19,9 +19,7 @@ use Rattle.opening.proofs.opening.open.Goals as goal
 
 pub returns-in-Err-clause-read : goal.returns-in-Err-clause-read
 returns-in-Err-clause-read g c = λ looks.
-    let old = g.S.Map.state c.args.store in
-    let new = g.S.Map.state c.read_store.new.store in
-    subst (λ (fault : OpeningFault). HasLooked (Err fault) old new) (sym c.from-fault.ensures) (looked c.in-Err.fault old new c.in-Err.ensures.read)
+    looked c.in-Err.fault (g.S.Map.state c.args.store) (g.S.Map.state c.read_store.new.store) c.in-Err.ensures.read
 
 pub returns-in-Err-clause-same : goal.returns-in-Err-clause-same
 returns-in-Err-clause-same g c = λ sound unfailed db stands.
@@ -29,21 +27,15 @@ returns-in-Err-clause-same g c = λ sound unfailed db stands.
 
 pub returns-in-Err-clause-cause : goal.returns-in-Err-clause-cause
 returns-in-Err-clause-cause g c = λ sound.
-    let old = g.S.Map.state c.args.store in
-    let new = g.S.Map.state c.read_store.new.store in
-    subst (λ (fault : OpeningFault). HasOpeningCause fault old new) (sym c.from-fault.ensures)
-    (read_cause c.in-Err.fault old new c.in-Err.ensures.read.cause (c.in-Err.ensures.found sound))
+    read_cause c.in-Err.fault (g.S.Map.state c.args.store) (g.S.Map.state c.read_store.new.store) c.in-Err.ensures.read.cause (c.in-Err.ensures.found sound)
 
 pub returns-in-Err-clause-damaged : goal.returns-in-Err-clause-damaged
 returns-in-Err-clause-damaged g c = λ sound db stands.
-    not_damaged c.from-fault.result (g.S.Map.state c.args.store) (g.S.Map.state c.read_store.new.store) (returns-in-Err-clause-cause g c sound) db stands
+    not_damaged (Read c.in-Err.fault) (g.S.Map.state c.args.store) (g.S.Map.state c.read_store.new.store) (returns-in-Err-clause-cause g c sound) db stands
 
 pub returns-in-Err-clause-works : goal.returns-in-Err-clause-works
 returns-in-Err-clause-works g c =
-    let old = g.S.Map.state c.args.store in
-    let new = g.S.Map.state c.read_store.new.store in
-    subst (λ (fault : OpeningFault). new.has_failed ≡ failed_after_opening (Err fault) old.has_failed) (sym c.from-fault.ensures)
-    (read_failed c.in-Err.fault old new c.in-Err.ensures.read)
+    read_failed c.in-Err.fault (g.S.Map.state c.args.store) (g.S.Map.state c.read_store.new.store) c.in-Err.ensures.read
 
 -- ---- a server was opened
 
@@ -129,22 +121,18 @@ pub returns-in-Err-commit_respelled-clause-read : goal.returns-in-Err-commit_res
 returns-in-Err-commit_respelled-clause-read g c = λ looks.
     let old = g.S.Map.state c.args.store in
     no_look_refused old.spelling c.in-Err-commit_respelled.fault c.read_store.new.store c.commit_respelled.new.store c.as_slice.result.now
-    (λ second. c.as_slice.ensures ∙ c.in-Ok.ensures.none second) c.in-Err-commit_respelled.ensures.none
-    (subst (λ (fault : OpeningFault). OnlyLooks old.spelling (Err fault)) c.from-fault-in-Err-commit_respelled.ensures looks)
+    (λ second. c.as_slice.ensures ∙ c.in-Ok.ensures.none second) c.in-Err-commit_respelled.ensures.none looks
 
 pub returns-in-Err-commit_respelled-clause-preserved : goal.returns-in-Err-commit_respelled-clause-preserved
 returns-in-Err-commit_respelled-clause-preserved g c = λ looks works.
     let old = g.S.Map.state c.args.store in
     no_look_refused old.spelling c.in-Err-commit_respelled.fault c.read_store.new.store c.commit_respelled.new.store c.as_slice.result.now
-    (λ second. c.as_slice.ensures ∙ c.in-Ok.ensures.none second) c.in-Err-commit_respelled.ensures.none
-    (subst (λ (fault : OpeningFault). OnlyLooks old.spelling (Err fault)) c.from-fault-in-Err-commit_respelled.ensures looks)
+    (λ second. c.as_slice.ensures ∙ c.in-Ok.ensures.none second) c.in-Err-commit_respelled.ensures.none looks
 
 pub returns-in-Err-commit_respelled-clause-same : goal.returns-in-Err-commit_respelled-clause-same
 returns-in-Err-commit_respelled-clause-same g c = λ sound works db stands.
     let old = g.S.Map.state c.args.store in
-    let new = g.S.Map.state c.commit_respelled.new.store in
     let are = subst (λ (lists : List Changes). AreRespelling old.spelling old.map lists) (sym c.as_slice.ensures) (c.in-Ok.ensures.found sound).0 in
-    subst (λ (fault : OpeningFault). KeepsDatabase db (Err fault) old new) (sym c.from-fault-in-Err-commit_respelled.ensures)
     (migrates_err g.S.Map.state c.args.store c.read_store.new.store c.commit_respelled.new.store c.as_slice.result.now c.in-Ok.ensures.read.only_reads c.in-Ok.ensures.read.failed
     sound are works db (λ x left. g.met.S.Store.settled c.args.store x sound works left) stands
     c.in-Err-commit_respelled.fault c.in-Err-commit_respelled.ensures.none c.in-Err-commit_respelled.ensures.some).keeps
@@ -152,26 +140,21 @@ returns-in-Err-commit_respelled-clause-same g c = λ sound works db stands.
 pub returns-in-Err-commit_respelled-clause-cause : goal.returns-in-Err-commit_respelled-clause-cause
 returns-in-Err-commit_respelled-clause-cause g c = λ sound.
     let old = g.S.Map.state c.args.store in
-    let new = g.S.Map.state c.commit_respelled.new.store in
     let are = subst (λ (lists : List Changes). AreRespelling old.spelling old.map lists) (sym c.as_slice.ensures) (c.in-Ok.ensures.found sound).0 in
-    subst (λ (fault : OpeningFault). HasOpeningCause fault old new) (sym c.from-fault-in-Err-commit_respelled.ensures)
-    (cause_err g.S.Map.state c.args.store c.read_store.new.store c.commit_respelled.new.store c.as_slice.result.now c.in-Ok.ensures.read.only_reads c.in-Ok.ensures.read.failed
-    sound are c.in-Err-commit_respelled.fault c.in-Err-commit_respelled.ensures.none c.in-Err-commit_respelled.ensures.some)
+    cause_err g.S.Map.state c.args.store c.read_store.new.store c.commit_respelled.new.store c.as_slice.result.now c.in-Ok.ensures.read.only_reads c.in-Ok.ensures.read.failed
+    sound are c.in-Err-commit_respelled.fault c.in-Err-commit_respelled.ensures.none c.in-Err-commit_respelled.ensures.some
 
 pub returns-in-Err-commit_respelled-clause-damaged : goal.returns-in-Err-commit_respelled-clause-damaged
 returns-in-Err-commit_respelled-clause-damaged g c = λ sound db stands.
-    not_damaged c.from-fault-in-Err-commit_respelled.result (g.S.Map.state c.args.store) (g.S.Map.state c.commit_respelled.new.store) (returns-in-Err-commit_respelled-clause-cause g c sound) db stands
+    not_damaged (Commit c.in-Err-commit_respelled.fault) (g.S.Map.state c.args.store) (g.S.Map.state c.commit_respelled.new.store) (returns-in-Err-commit_respelled-clause-cause g c sound) db stands
 
 pub returns-in-Err-commit_respelled-clause-works : goal.returns-in-Err-commit_respelled-clause-works
 returns-in-Err-commit_respelled-clause-works g c =
-    let old = g.S.Map.state c.args.store in
-    let new = g.S.Map.state c.commit_respelled.new.store in
-    subst (λ (fault : OpeningFault). new.has_failed ≡ failed_after_opening (Err fault) old.has_failed) (sym c.from-fault-in-Err-commit_respelled.ensures)
-    (failed_err g.S.Map.state c.args.store c.read_store.new.store c.commit_respelled.new.store c.as_slice.result.now c.in-Ok.ensures.read.only_reads c.in-Ok.ensures.read.failed
-    c.in-Err-commit_respelled.fault c.in-Err-commit_respelled.ensures.none c.in-Err-commit_respelled.ensures.some)
+    failed_err g.S.Map.state c.args.store c.read_store.new.store c.commit_respelled.new.store c.as_slice.result.now c.in-Ok.ensures.read.only_reads c.in-Ok.ensures.read.failed
+    c.in-Err-commit_respelled.fault c.in-Err-commit_respelled.ensures.none c.in-Err-commit_respelled.ensures.some
 
 pub returns-in-Err-commit_respelled-clause-unchanged : goal.returns-in-Err-commit_respelled-clause-unchanged
 returns-in-Err-commit_respelled-clause-unchanged g c = λ sound is.
-    ⊎_elim (λ device. absurd (is (c.from-fault-in-Err-commit_respelled.ensures ∙ device))) (λ same. same)
+    ⊎_elim (λ device. absurd (is (ap Commit device))) (λ same. same)
     (unchanged_refused g.S.Map.state c.args.store c.read_store.new.store c.commit_respelled.new.store c.as_slice.result.now c.in-Ok.ensures.read.only_reads c.in-Ok.ensures.read.failed
     sound c.in-Ok.ensures.works c.in-Err-commit_respelled.fault c.in-Err-commit_respelled.ensures.none c.in-Err-commit_respelled.ensures.some)

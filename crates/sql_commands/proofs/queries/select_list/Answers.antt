@@ -1,17 +1,22 @@
-use Rattle.std.proofs.Common.{refl, rules}
+use Rattle.std.proofs.Common.{◌≡◌, refl}
+use Rattle.std.specs.Prelude.{true}
 use Rattle.std.proofs.lemmas.Bool.{iff_false}
 use Rattle.sql_lexer.specs.declared.token.TokenKind.TheVariants.{Punctuation}
 use Rattle.sql_lexer.specs.declared.token.Punctuation.TheVariants.{Star}
-use Rattle.sql_grammar.specs.LookAhead.{HasNoReading}
-use Rattle.sql_grammar.proofs.Steps.{start, next, token, phrase, no_phrase, left_by, right_by, no_right_by}
+use Rattle.sql_grammar.specs.LookAhead.{is_determined}
+use Rattle.sql_grammar.proofs.Steps.{next}
 use Rattle.sql_commands.specs.Commands.{a_select_list}
+use Rattle.sql_commands.proofs.Walks.{fails, read, start, token, phrase, no_phrase, left_by, right_by, no_right_by}
 use Rattle.sql_commands.proofs.queries.select_list.Goals as goal
 
+determined : is_determined a_select_list ≡ true
+determined = refl
+
 pub returns-then-has : goal.returns-then-has
-returns-then-has c = let h = c.has.ensures.value.0 c.if-has.true in left_by (Punctuation Star) refl refl h (token refl start (next _ _ _ h))
+returns-then-has c = let h = c.has.ensures.value.0 c.if-has.true in read determined (left_by (Punctuation Star) refl h (token start (next _ _ _ h)))
 
 pub returns-in_err-values : goal.returns-in_err-values
-returns-in_err-values c = let m : HasNoReading a_select_list _ _ _ = no_right_by (Punctuation Star) refl refl refl refl (iff_false c.has.ensures.value c.if-has.false) (no_phrase refl start c.in_err-values.ensures) in search rules
+returns-in_err-values c = fails a_select_list c.from_residual.result determined (no_right_by (Punctuation Star) refl refl refl (iff_false c.has.ensures.value c.if-has.false) (no_phrase start c.in_err-values.ensures)) c.from_residual.ensures.1
 
 pub returns : goal.returns
-returns c = right_by (Punctuation Star) refl refl refl refl (iff_false c.has.ensures.value c.if-has.false) (phrase refl start c.in_ok-values.ensures)
+returns c = read determined (right_by (Punctuation Star) refl refl refl (iff_false c.has.ensures.value c.if-has.false) (phrase start c.in_ok-values.ensures))

@@ -1,20 +1,24 @@
-use Rattle.std.proofs.Common.{refl, rules}
-use Rattle.sql_grammar.specs.LookAhead.{HasNoReading}
-use Rattle.sql_grammar.proofs.Steps.{start, token, phrase, no_token, no_phrase, lost_token, lost_phrase}
+use Rattle.std.proofs.Common.{◌≡◌, refl}
+use Rattle.std.specs.Prelude.{true}
+use Rattle.sql_grammar.specs.LookAhead.{is_determined}
 use Rattle.sql_commands.specs.Commands.{create_table}
+use Rattle.sql_commands.proofs.Walks.{fails, read, start, token, phrase, no_token, no_phrase, lost_token, lost_phrase}
 use Rattle.sql_commands.proofs.tables.create_table.Goals as goal
 
+determined : is_determined create_table ≡ true
+determined = refl
+
 pub returns-in_err-at_table : goal.returns-in_err-at_table
-returns-in_err-at_table c = let m : HasNoReading create_table _ _ _ = lost_phrase refl (lost_phrase refl (lost_token refl (no_token refl start c.in_err-at_table.ensures))) in search rules
+returns-in_err-at_table c = fails create_table c.from_residual.result determined (lost_phrase (lost_phrase (lost_token (no_token start c.in_err-at_table.ensures)))) c.from_residual.ensures.1
 
 pub returns-in_err-at_name : goal.returns-in_err-at_name
-returns-in_err-at_name c = let m : HasNoReading create_table _ _ _ = lost_phrase refl (lost_phrase refl (no_token refl (token refl start c.in_ok-at_table.ensures) c.in_err-at_name.ensures)) in search rules
+returns-in_err-at_name c = fails create_table c.from_residual-in_err-at_name.result determined (lost_phrase (lost_phrase (no_token (token start c.in_ok-at_table.ensures) c.in_err-at_name.ensures))) c.from_residual-in_err-at_name.ensures.1
 
 pub returns-in_err-table : goal.returns-in_err-table
-returns-in_err-table c = let m : HasNoReading create_table _ _ _ = lost_phrase refl (no_phrase refl (token refl (token refl start c.in_ok-at_table.ensures) c.in_ok-at_name.ensures) c.in_err-table.ensures) in search rules
+returns-in_err-table c = fails create_table c.from_residual-in_err-table.result determined (lost_phrase (no_phrase (token (token start c.in_ok-at_table.ensures) c.in_ok-at_name.ensures) c.in_err-table.ensures)) c.from_residual-in_err-table.ensures.1
 
 pub returns-in_err-elements : goal.returns-in_err-elements
-returns-in_err-elements c = let m : HasNoReading create_table _ _ _ = no_phrase refl (phrase refl (token refl (token refl start c.in_ok-at_table.ensures) c.in_ok-at_name.ensures) c.in_ok-table.ensures) c.in_err-elements.ensures in search rules
+returns-in_err-elements c = fails create_table c.from_residual-in_err-elements.result determined (no_phrase (phrase (token (token start c.in_ok-at_table.ensures) c.in_ok-at_name.ensures) c.in_ok-table.ensures) c.in_err-elements.ensures) c.from_residual-in_err-elements.ensures.1
 
 pub returns : goal.returns
-returns c = phrase refl (phrase refl (token refl (token refl start c.in_ok-at_table.ensures) c.in_ok-at_name.ensures) c.in_ok-table.ensures) c.in_ok-elements.ensures
+returns c = read determined (phrase (phrase (token (token start c.in_ok-at_table.ensures) c.in_ok-at_name.ensures) c.in_ok-table.ensures) c.in_ok-elements.ensures)

@@ -1,6 +1,6 @@
 use Rattle.std.proofs.Common.{ℕ, Err, ap, sym, subst}
 use Rattle.cow_pages.specs.declared.open.OpenFault.TheVariants.{Damaged, Memory}
-use Rattle.sector_journal.specs.declared.journal.JournalFault.{JournalFault}
+use Rattle.store.specs.declared.fault.Fault.{Fault}
 use Rattle.journal_store.specs.Opening.{CannotOpen, IsReplayed, NotReplayed}
 use Rattle.journal_store.proofs.Opened.{refused_on, pages_refused, refused_memory, refused_damaged, store_opened}
 use Rattle.journal_store.proofs.stores.JournalStore.open_with.Goals as goal
@@ -35,4 +35,4 @@ returns-in-Err-Damaged g c =
     subst (λ (x : g.row.D.Denot). CannotOpen d Damaged (state x)) (sym c.into_device-in-Err-Damaged.ensures)
     (refused_damaged d (state c.read_behind_roots.new.device) c.read_behind_roots.ensures.history c.read_behind_roots.ensures.reads c.in_ok-store.store c.in_ok-store.ensures.opens
     c.read_behind_roots.new.sectors c.in_default.ensures.read
-    (subst (λ (n : ℕ). NotReplayed n c.read_behind_roots.new.sectors) c.number.ensures (c.in-Err-Damaged.ensures.damaged (ap (λ (f : JournalFault). Err f) c.in-Err-Damaged.field-0-is))))
+    (subst (λ (n : ℕ). NotReplayed n c.read_behind_roots.new.sectors) c.number.ensures (c.in-Err-Damaged.ensures.damaged (ap (λ (f : Fault). Err f) c.in-Err-Damaged.field-0-is))))

@@ -1,22 +1,11 @@
-use Rattle.std.proofs.Common.{◌∙◌}
-use Rattle.kv_store.specs.TreeStore.{pages_of}
-use Rattle.kv_store.proofs.Plain.{plain_reads}
-use Rattle.kv_store.proofs.SameKind.{same_kind}
+use Rattle.kv_store.proofs.Plain.{plain_reads, plain_still}
 use Rattle.kv_store.proofs.page_store.PageStoreMap.get.Goals as goal
 
 pub invariant_of-self : goal.invariant_of-self
-invariant_of-self g c =
-    let old = c.args.self.now in
-    record { plain = same_kind (pages_of old.tree) (pages_of c.get.new.self) c.get.ensures.preserved.preserved.preserved.root ∙ old.plain }
+invariant_of-self g c = record { plain = plain_still c.args.self.now c.get.new.self c.get.ensures.preserved }
 
 pub returns : goal.returns
 returns g c =
-    let old = c.args.self.now in
+    let s = c.args.self.now in
     let is = c.get.ensures in
-    let plain = same_kind (pages_of old.tree) (pages_of c.get.new.self) is.preserved.preserved.preserved.root ∙ old.plain in
-    record {
-      preserved = is.preserved;
-      reads = plain_reads old.tree c.get.new.self old.plain plain is.reads;
-      still = is.still;
-      counts = is.counts;
-    }
+    record { preserved = is.preserved; reads = plain_reads s.tree c.get.new.self s.plain (plain_still s c.get.new.self is.preserved) is.reads; still = is.still; counts = is.counts }

@@ -18,15 +18,7 @@ use Rattle.kv_store.proofs.tree_store.TreeStore.change.Goals as goal
 pub returns-in-Ok : goal.returns-in-Ok
 returns-in-Ok g c =
     let old = c.args.self.now in
-    let new : TreeStore g.row.D.Denot g.D.Device = record {
-      pages = record { below = c.commit_batch.new.pages };
-      scratch = c.commit_batch.new.scratch;
-      value = c.args.self.now.value;
-      cursor = c.forget.new.self;
-      has_failed = c.args.self.now.has_failed;
-      fulls = c.args.self.now.fulls;
-      failures = c.args.self.now.failures;
-    } in
+    let new : TreeStore g.row.D.Denot g.D.Device = record old { pages = record { below = c.commit_batch.new.pages }; scratch = c.commit_batch.new.scratch; cursor = c.forget.new.self } in
     record {
       kind = c.in-Ok.ensures.kind;
       commits = all_committed g.met.D.Device.only_now g.met.D.Device.content_left old new _ c.requires.works c.in-Ok.ensures.history (omega arith) (omega arith) c.forget.ensures c.args.reserve c.args.batch.now c.requires.works
@@ -42,15 +34,7 @@ returns-in-Ok g c =
 pub returns-in-Err : goal.returns-in-Err
 returns-in-Err g c =
     let old = c.args.self.now in
-    let mid : TreeStore g.row.D.Denot g.D.Device = record {
-      pages = record { below = c.commit_batch.new.pages };
-      scratch = c.commit_batch.new.scratch;
-      value = c.args.self.now.value;
-      cursor = c.forget.new.self;
-      has_failed = c.args.self.now.has_failed;
-      fulls = c.args.self.now.fulls;
-      failures = c.args.self.now.failures;
-    } in
+    let mid : TreeStore g.row.D.Denot g.D.Device = record old { pages = record { below = c.commit_batch.new.pages }; scratch = c.commit_batch.new.scratch; cursor = c.forget.new.self } in
     let new = c.count.new.self in
     let fault = c.in-Err.fault in
     let pages = sym c.count.ensures.pages in

@@ -36,15 +36,7 @@ returns-in-Err g c =
     let p = c.args.self.now.pages.below in
     let q = c.finish.new.pages in
     let new = c.count.new.self in
-    let mid : TreeStore g.row.D.Denot g.D.Device = record {
-      pages = record { below = q };
-      scratch = c.args.self.now.scratch;
-      value = c.args.self.now.value;
-      cursor = c.args.self.now.cursor;
-      has_failed = c.args.self.now.has_failed;
-      fulls = c.args.self.now.fulls;
-      failures = c.args.self.now.failures;
-    } in
+    let mid : TreeStore g.row.D.Denot g.D.Device = record c.args.self.now { pages = record { below = q } } in
     let fault = c.in-Err.fault in
     let pages = sym c.count.ensures.pages in
     record {

@@ -1,106 +1,40 @@
-use Rattle.std.proofs.Common.{◌≡◌, ◌⊎◌, false, refl, sym, ap, ◌∙◌, subst, arith}
-use Rattle.pages.specs.declared.array.PageFault.TheVariants.{Memory}
-use Rattle.cow_pages.specs.Cow.{working_array}
-use Rattle.cow_pages.specs.Preserved.{IsPreserved, FailedWith}
-use Rattle.page_tree.specs.Kept.{KeepsPlace}
+use Rattle.std.proofs.Common.{refl, sym, subst}
 use Rattle.page_tree.specs.Search.{key_of, value_of}
-use Rattle.page_tree.specs.declared.cursor.TreeCursor.{TreeCursor}
 use Rattle.store.specs.Records.{Record, first_from, IsFound}
-use Rattle.kv_store.specs.declared.read_only.ReadOnlyPages.{ReadOnlyPages}
-use Rattle.kv_store.specs.declared.tree_store.TreeStore.{TreeStore}
 use Rattle.kv_store.specs.Contents.{contents_of}
-use Rattle.kv_store.specs.TreeStore.{store_state}
-use Rattle.kv_store.specs.Unwritten.{WritesNothing}
+use Rattle.kv_store.specs.TreeStore.{pages_of}
+use Rattle.kv_store.proofs.Answering.{HasRead, copies, finds_none, reads_fault}
 use Rattle.kv_store.proofs.Batches.{working_holds}
-use Rattle.std.proofs.lemmas.Bool.{false≢true}
-use Rattle.kv_store.proofs.Counting.{copy_counts, refusal_counts}
-use Rattle.kv_store.proofs.Reading.{only_reads, reads_found, reads_copied, read_refused, cause_of_read, entry_found, pair_is, none_found, some_found}
+use Rattle.kv_store.proofs.Reading.{none_found, some_found, entry_found, pair_is}
+use Rattle.kv_store.proofs.tree_store.TreeStoreMap.scan_from.Given.{Over}
+use Rattle.kv_store.proofs.tree_store.TreeStoreMap.scan_from.Goals.{After-first_on}
 use Rattle.kv_store.proofs.tree_store.TreeStoreMap.scan_from.Goals as goal
+
+-- what the call leaves of the store
+has_read : (g : Over) (c : After-first_on g) → HasRead c.args.self.now (record c.args.self.now { pages = c.first_on.new.pages; cursor = c.first_on.new.cursor })
+has_read g c =
+    let old = c.args.self.now in
+    let is = c.first_on.ensures in
+    record { preserved = is.preserved; working = λ faithful l. (is.only_reads faithful).same l; place = λ sound. (is.found sound.faithful (contents_of (pages_of old)).records (working_holds (contents_of (pages_of old)) (pages_of old) (sound.works c.if-self.false)) sound.place).1; has_failed = refl; counts = record { fulls = refl; failures = refl } }
 
 pub returns-in-Ok-true : goal.returns-in-Ok-true
 returns-in-Ok-true g c =
     let old = c.args.self.now in
-    let new : TreeStore g.row.D.Denot g.D.Device = record {
-      pages = c.first_on.new.pages;
-      scratch = c.args.self.now.scratch;
-      value = c.args.self.now.value;
-      cursor = c.first_on.new.cursor;
-      has_failed = c.args.self.now.has_failed;
-      fulls = c.args.self.now.fulls;
-      failures = c.args.self.now.failures;
-    } in
-    let is = c.in-Ok-true.ensures in
-    record {
-      preserved = is.preserved;
-      reads = reads_copied _ c.copy_to.result c.copy_to.new.out _ (store_state old) (store_state new)
-          (only_reads g.met.D.Device.only_now g.met.D.Device.content_left old new c.if-self.false is.preserved.preserved (λ sound works. is.works (sound.works c.if-self.false).is_open.has_not_failed) (λ faithful l. (is.only_reads faithful).same l)
-          (λ sound. (is.found sound.faithful (contents_of old.pages.below).records (working_holds (contents_of old.pages.below) old.pages.below (sound.works c.if-self.false)) sound.place).1) refl (omega arith))
-          c.if-self.false c.if-self.false c.copy_to.ensures.found c.copy_to.ensures.memory
-          (λ sound.
-          let held = working_holds (contents_of old.pages.below) old.pages.below (sound.works c.if-self.false) in
-          some_found _ c.in-Ok-true.field-0 _ c.in-Ok-true.field-0-test
-          (subst (λ (r : Record). IsFound c.in-Ok-true.field-0 r (first_from c.args.key.now (contents_of old.pages.below).records)) (sym (pair_is _ _ _ _ c.key.ensures c.value.ensures))
-          (entry_found c.args.key.now (key_of c.first_on.new.cursor) (value_of c.first_on.new.cursor) (contents_of old.pages.below).records c.in-Ok-true.field-0 (is.found sound.faithful (contents_of old.pages.below).records held sound.place).0)));
-      still = λ had. absurd (false≢true (sym c.if-self.false ∙ had));
-      counts = copy_counts c.copy_to.result old new c.copy_to.ensures.memory (record { fulls = refl; failures = refl });
-    }
+    copies g.met.D.Device.only_now g.met.D.Device.content_left old (record old { pages = c.first_on.new.pages; cursor = c.first_on.new.cursor }) c.if-self.false (has_read g (goal.at.returns-in-Ok-true g c).After-first_on) (λ sound. c.in-Ok-true.ensures.works (sound.works c.if-self.false).is_open.has_not_failed) _ c.copy_to.result c.copy_to.new.out _ c.copy_to.ensures.found c.copy_to.ensures.memory
+    (λ sound held. some_found _ c.in-Ok-true.field-0 _ c.in-Ok-true.field-0-test
+    (subst (λ (r : Record). IsFound c.in-Ok-true.field-0 r (first_from c.args.key.now (contents_of (pages_of old)).records)) (sym (pair_is _ _ _ _ c.key.ensures c.value.ensures))
+    (entry_found c.args.key.now (key_of c.first_on.new.cursor) (value_of c.first_on.new.cursor) (contents_of (pages_of old)).records c.in-Ok-true.field-0 (c.in-Ok-true.ensures.found sound.faithful (contents_of (pages_of old)).records held sound.place).0)))
 
 pub returns-in-Ok-false : goal.returns-in-Ok-false
 returns-in-Ok-false g c =
     let old = c.args.self.now in
-    let new : TreeStore g.row.D.Denot g.D.Device = record {
-      pages = c.first_on.new.pages;
-      scratch = c.args.self.now.scratch;
-      value = c.args.self.now.value;
-      cursor = c.first_on.new.cursor;
-      has_failed = c.args.self.now.has_failed;
-      fulls = c.args.self.now.fulls;
-      failures = c.args.self.now.failures;
-    } in
-    let is = c.in-Ok-false.ensures in
-    record {
-      preserved = is.preserved;
-      reads = reads_found _ false c.args.out.now (store_state old) (store_state new)
-          (only_reads g.met.D.Device.only_now g.met.D.Device.content_left old new c.if-self.false is.preserved.preserved (λ sound works. is.works (sound.works c.if-self.false).is_open.has_not_failed) (λ faithful l. (is.only_reads faithful).same l)
-          (λ sound. (is.found sound.faithful (contents_of old.pages.below).records (working_holds (contents_of old.pages.below) old.pages.below (sound.works c.if-self.false)) sound.place).1) refl (omega arith))
-          c.if-self.false c.if-self.false
-          (λ sound.
-          let held = working_holds (contents_of old.pages.below) old.pages.below (sound.works c.if-self.false) in
-          none_found _ c.in-Ok-false.field-0 _ c.args.out.now c.in-Ok-false.field-0-test
-          (entry_found c.args.key.now (key_of c.first_on.new.cursor) (value_of c.first_on.new.cursor) (contents_of old.pages.below).records c.in-Ok-false.field-0 (is.found sound.faithful (contents_of old.pages.below).records held sound.place).0));
-      still = λ had. absurd (false≢true (sym c.if-self.false ∙ had));
-      counts = record { fulls = refl; failures = refl };
-    }
+    finds_none g.met.D.Device.only_now g.met.D.Device.content_left old (record old { pages = c.first_on.new.pages; cursor = c.first_on.new.cursor }) c.if-self.false (has_read g (goal.at.returns-in-Ok-false g c).After-first_on) (λ sound. c.in-Ok-false.ensures.works (sound.works c.if-self.false).is_open.has_not_failed) _ c.args.out.now
+    (λ sound held. none_found _ c.in-Ok-false.field-0 _ c.args.out.now c.in-Ok-false.field-0-test
+    (entry_found c.args.key.now (key_of c.first_on.new.cursor) (value_of c.first_on.new.cursor) (contents_of (pages_of old)).records c.in-Ok-false.field-0 (c.in-Ok-false.ensures.found sound.faithful (contents_of (pages_of old)).records held sound.place).0))
 
 pub returns-in-Err : goal.returns-in-Err
 returns-in-Err g c =
     let old = c.args.self.now in
-    let mid : TreeStore g.row.D.Denot g.D.Device = record {
-      pages = c.first_on.new.pages;
-      scratch = c.args.self.now.scratch;
-      value = c.args.self.now.value;
-      cursor = c.first_on.new.cursor;
-      has_failed = c.args.self.now.has_failed;
-      fulls = c.args.self.now.fulls;
-      failures = c.args.self.now.failures;
-    } in
-    let new = c.refuse_read.new.self in
-    let is = c.in-Err.ensures in
-    let refuse = c.refuse_read.ensures in
-    let fault = c.in-Err.fault in
-    record {
-      preserved = subst (λ (p : ReadOnlyPages g.row.D.Denot g.D.Device). WritesNothing old.pages.below p.below) (sym refuse.pages) is.preserved;
-      reads = read_refused g.met.D.Device.only_now g.met.D.Device.content_left old mid new c.if-self.false
-          (subst (λ (p : ReadOnlyPages g.row.D.Denot g.D.Device). IsPreserved old.pages.below p.below) (sym refuse.pages) is.preserved.preserved)
-          (λ faithful l. ap (λ (p : ReadOnlyPages g.row.D.Denot g.D.Device). working_array p.below l) refuse.pages ∙ (is.only_reads faithful).same l)
-          (λ sound. subst (λ (k : TreeCursor). KeepsPlace (contents_of old.pages.below).records k) (sym refuse.cursor)
-          (is.found sound.faithful (contents_of old.pages.below).records (working_holds (contents_of old.pages.below) old.pages.below (sound.works c.if-self.false)) sound.place).1)
-          refl refl refuse.fulls refuse.failures _ c.args.out.now fault is.faults
-          (λ sound.
-          let held = working_holds (contents_of old.pages.below) old.pages.below (sound.works c.if-self.false) in
-          let caused = (is.found sound.faithful (contents_of old.pages.below).records held sound.place).0 in
-          (caused.well_formed, subst (λ (p : ReadOnlyPages g.row.D.Denot g.D.Device). (fault ≡ Memory) ⊎ FailedWith old.pages.below p.below fault) (sym refuse.pages) (cause_of_read is.faults caused.cause)))
-          c.refuse_read.result refuse.refused;
-      still = λ had. absurd (false≢true (sym c.if-self.false ∙ had));
-      counts = refusal_counts fault c.refuse_read.result mid old new refl refl refuse.fulls refuse.counts;
-    }
+    let read = has_read g (goal.at.returns-in-Err g c).After-first_on in
+    reads_fault g.met.D.Device.only_now g.met.D.Device.content_left old (record old { pages = c.first_on.new.pages; cursor = c.first_on.new.cursor }) c.refuse_read.new.self c.if-self.false read c.in-Err.fault c.refuse_read.result c.refuse_read.ensures c.in-Err.ensures.faults
+    (λ sound held. (c.in-Err.ensures.found sound.faithful (contents_of (pages_of old)).records held sound.place).0) _ c.args.out.now

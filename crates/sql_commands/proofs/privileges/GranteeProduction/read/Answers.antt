@@ -1,17 +1,22 @@
-use Rattle.std.proofs.Common.{refl, rules}
+use Rattle.std.proofs.Common.{◌≡◌, refl}
+use Rattle.std.specs.Prelude.{true}
 use Rattle.std.proofs.lemmas.Bool.{iff_false}
 use Rattle.sql_lexer.specs.declared.token.TokenKind.TheVariants.{Reserved}
 use Rattle.sql_lexer.specs.declared.token.Reserved.TheVariants as reserved
-use Rattle.sql_grammar.specs.LookAhead.{HasNoReading}
-use Rattle.sql_grammar.proofs.Steps.{start, next, token, phrase, no_phrase, left_by, right_by, no_right_by}
+use Rattle.sql_grammar.specs.LookAhead.{is_determined}
+use Rattle.sql_grammar.proofs.Steps.{next}
 use Rattle.sql_commands.specs.Commands.{a_grantee}
+use Rattle.sql_commands.proofs.Walks.{fails, read, start, token, phrase, no_phrase, left_by, right_by, no_right_by}
 use Rattle.sql_commands.proofs.privileges.GranteeProduction.read.Goals as goal
 
+determined : is_determined a_grantee ≡ true
+determined = refl
+
 pub returns-then-has : goal.returns-then-has
-returns-then-has c = let h = c.has.ensures.value.0 c.if-has.true in left_by (Reserved reserved.Public) refl refl h (token refl start (next _ _ _ h))
+returns-then-has c = let h = c.has.ensures.value.0 c.if-has.true in read determined (left_by (Reserved reserved.Public) refl h (token start (next _ _ _ h)))
 
 pub returns-in_err-role : goal.returns-in_err-role
-returns-in_err-role c = let m : HasNoReading a_grantee _ _ _ = no_right_by (Reserved reserved.Public) refl refl refl refl (iff_false c.has.ensures.value c.if-has.false) (no_phrase refl start c.in_err-role.ensures) in search rules
+returns-in_err-role c = fails a_grantee c.from_residual.result determined (no_right_by (Reserved reserved.Public) refl refl refl (iff_false c.has.ensures.value c.if-has.false) (no_phrase start c.in_err-role.ensures)) c.from_residual.ensures.1
 
 pub returns : goal.returns
-returns c = right_by (Reserved reserved.Public) refl refl refl refl (iff_false c.has.ensures.value c.if-has.false) (phrase refl start c.in_ok-role.ensures)
+returns c = read determined (right_by (Reserved reserved.Public) refl refl refl (iff_false c.has.ensures.value c.if-has.false) (phrase start c.in_ok-role.ensures))

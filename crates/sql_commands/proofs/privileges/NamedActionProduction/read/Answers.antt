@@ -1,14 +1,18 @@
-use Rattle.std.proofs.Common.{refl, rules}
-use Rattle.sql_grammar.specs.LookAhead.{HasNoReading}
-use Rattle.sql_grammar.proofs.Steps.{start, phrase, no_phrase, lost_phrase}
+use Rattle.std.proofs.Common.{◌≡◌, refl}
+use Rattle.std.specs.Prelude.{true}
+use Rattle.sql_grammar.specs.LookAhead.{is_determined}
 use Rattle.sql_commands.specs.Commands.{a_named_action}
+use Rattle.sql_commands.proofs.Walks.{fails, read, start, phrase, no_phrase, lost_phrase}
 use Rattle.sql_commands.proofs.privileges.NamedActionProduction.read.Goals as goal
 
+determined : is_determined a_named_action ≡ true
+determined = refl
+
 pub returns-in_err-action : goal.returns-in_err-action
-returns-in_err-action c = let m : HasNoReading a_named_action _ _ _ = lost_phrase refl (no_phrase refl start c.in_err-action.ensures) in search rules
+returns-in_err-action c = fails a_named_action c.from_residual.result determined (lost_phrase (no_phrase start c.in_err-action.ensures)) c.from_residual.ensures.1
 
 pub returns-in_err-columns : goal.returns-in_err-columns
-returns-in_err-columns c = let m : HasNoReading a_named_action _ _ _ = no_phrase refl (phrase refl start c.in_ok-action.ensures) c.in_err-columns.ensures in search rules
+returns-in_err-columns c = fails a_named_action c.from_residual-in_err-columns.result determined (no_phrase (phrase start c.in_ok-action.ensures) c.in_err-columns.ensures) c.from_residual-in_err-columns.ensures.1
 
 pub returns : goal.returns
-returns c = phrase refl (phrase refl start c.in_ok-action.ensures) c.in_ok-columns.ensures
+returns c = read determined (phrase (phrase start c.in_ok-action.ensures) c.in_ok-columns.ensures)

@@ -1,11 +1,15 @@
-use Rattle.std.proofs.Common.{refl, rules}
-use Rattle.sql_grammar.specs.LookAhead.{HasNoReading}
-use Rattle.sql_grammar.proofs.Steps.{start, phrase, no_phrase, lost_phrase}
+use Rattle.std.proofs.Common.{◌≡◌, refl}
+use Rattle.std.specs.Prelude.{true}
+use Rattle.sql_grammar.specs.LookAhead.{is_determined}
 use Rattle.sql_commands.specs.Commands.{a_sort_key}
+use Rattle.sql_commands.proofs.Walks.{fails, read, start, phrase, no_phrase, lost_phrase}
 use Rattle.sql_commands.proofs.queries.SortKeyProduction.read.Goals as goal
 
+determined : is_determined a_sort_key ≡ true
+determined = refl
+
 pub returns-in_err-value : goal.returns-in_err-value
-returns-in_err-value c = let m : HasNoReading a_sort_key _ _ _ = lost_phrase refl (no_phrase refl start c.in_err-value.ensures) in search rules
+returns-in_err-value c = fails a_sort_key c.from_residual.result determined (lost_phrase (no_phrase start c.in_err-value.ensures)) c.from_residual.ensures.1
 
 pub returns : goal.returns
-returns c = phrase refl (phrase refl start c.in_ok-value.ensures) c.optional_word_of-direction.ensures
+returns c = read determined (phrase (phrase start c.in_ok-value.ensures) c.optional_word_of-direction.ensures)

@@ -1,0 +1,62 @@
+use Rattle.std.proofs.Common.{rules}
+use Rattle.std.specs.Prelude.{IfOk}
+use Rattle.expressions.specs.Rows.{names_of}
+use Rattle.row_statements.specs.Damage.{StopsForDamage}
+use Rattle.row_statements.specs.Executed.{Performs}
+use Rattle.row_statements.specs.Reading.{AnswersBy}
+use Rattle.row_statements.proofs.Carrying.{inserts_rows, updates_rows, deletes}
+use Rattle.row_statements.proofs.Damaging.{damaged_among}
+use Rattle.row_statements.proofs.Meanings.{of_kind}
+use Rattle.row_statements.proofs.Querying.{selects, answers_planned}
+use Rattle.row_statements.proofs.Targeting.{target_where, targets_in}
+use Rattle.row_statements.proofs.executing.carry_out.Goals as goal
+
+pub returns-in_ok-targets-in-Select : goal.returns-in_ok-targets-in-Select
+returns-in_ok-targets-in-Select g c =
+    let records = (g.M.Map.state c.args.map.now).map in
+    let users = names_of c.args.users in
+    let p = c.in-Select.plan in
+    let rows = c.select-rows.result in
+    let are = targets_in users p c.as_slice.ensures c.as_slice-conditions.ensures c.as_slice-in-Select.ensures c.as_slice-in-Select-2.ensures
+    c.in_ok-tables-in-Select.ensures.safe c.in_ok-tables-in-Select.ensures.exact c.in_ok-targets-in-Select.ensures in
+    record {
+      preserved = search rules;
+      read = search rules;
+      unchanged = search rules;
+      definitions = search rules;
+      executed = λ sound. of_kind (Performs records users) c.in-Select.is c.answered.ensures
+          (selects records users p _ rows (g.met.M.Map.ordered c.args.map.now sound) are (c.select-rows.ensures.answer sound));
+      damage = λ sound. of_kind (StopsForDamage records users) c.in-Select.is c.answered.ensures
+          (λ d s planned. damaged_among records d users p _ rows s planned are (c.select-rows.ensures.answer sound));
+      reads = λ sound. of_kind (λ x r. IfOk r (λ effect. AnswersBy records users x effect.answer)) c.in-Select.is c.answered.ensures
+          (answers_planned records users p _ rows are (c.select-rows.ensures.read sound));
+    }
+
+pub returns-in-Insert-clause-executed : goal.returns-in-Insert-clause-executed
+returns-in-Insert-clause-executed g c = λ sound.
+    let records = (g.M.Map.state c.args.map.now).map in
+    let users = names_of c.args.users in
+    let p = c.in-Insert.plan in
+    of_kind (Performs records users) c.in-Insert.is c.counted.ensures
+    (inserts_rows records (g.met.M.Map.ordered c.args.map.now sound) users p c.target-target.result (record { columns = c.as_slice-in-Insert.result; rows = c.as_slice-in-Insert-2.result }) c.insert-made.result c.target-target.ensures.target_of c.as_slice-in-Insert.ensures c.as_slice-in-Insert-2.ensures (c.insert-made.ensures.changes sound))
+
+pub returns-in_ok-table-in-Update-clause-executed : goal.returns-in_ok-table-in-Update-clause-executed
+returns-in_ok-table-in-Update-clause-executed g c = λ sound.
+    let records = (g.M.Map.state c.args.map.now).map in
+    let users = names_of c.args.users in
+    let p = c.in-Update.plan in
+    let table = c.in_ok-table-in-Update in
+    let target = c.target-target-in-Update in
+    of_kind (Performs records users) c.in-Update.is c.counted-in-Update.ensures
+    (updates_rows records (g.met.M.Map.ordered c.args.map.now sound) users p target.result c.as_ref-condition.result (record { columns = c.as_slice-in-Update.result; values = c.as_slice-in-Update-2.result }) c.update-made.result
+    (target_where users p.target p.condition c.as_ref-condition.result table.table target.result c.as_ref-condition.ensures.value table.ensures.source table.ensures.safe target.ensures)
+    c.as_slice-in-Update.ensures c.as_slice-in-Update-2.ensures (c.update-made.ensures.changes sound))
+
+pub returns-in_ok-table-in-Delete-clause-executed : goal.returns-in_ok-table-in-Delete-clause-executed
+returns-in_ok-table-in-Delete-clause-executed g c = λ sound.
+    let records = (g.M.Map.state c.args.map.now).map in
+    let users = names_of c.args.users in
+    let p = c.in-Delete.plan in
+    of_kind (Performs records users) c.in-Delete.is c.counted-in-Delete.ensures
+    (deletes records (g.met.M.Map.ordered c.args.map.now sound) users p c.target-target-in-Delete.result c.as_ref-condition-in-Delete.result c.delete-made.result
+    (target_where users p.target p.condition c.as_ref-condition-in-Delete.result c.in_ok-table-in-Delete.table c.target-target-in-Delete.result c.as_ref-condition-in-Delete.ensures.value c.in_ok-table-in-Delete.ensures.source c.in_ok-table-in-Delete.ensures.safe c.target-target-in-Delete.ensures) (c.delete-made.ensures.changes sound))
