@@ -1,8 +1,9 @@
 -- The rows that the query of a plan may be asked of, and those that a plan makes.
-use Rattle.std.proofs.Common.{◌≡◌, ℕ, zero, suc, true, List, [], ◌∷◌, ◌++◌, map, flat_map, length, Ok, refl, sym, ap, ◌∙◌, subst, inl, inr, arith}
+use Rattle.std.proofs.Common.{◌≡◌, ℕ, zero, suc, true, List, [], ◌∷◌, ◌++◌, map, flat_map, length, Result, Ok, Err, refl, sym, ap, ◌∙◌, subst, inl, inr, arith}
 use Rattle.std.specs.List.{AllByRecursion}
 use Rattle.sql_types.specs.Name.{IsUtf8Name}
 use Rattle.sql_types.specs.Row.{Row}
+use Rattle.sql_types.specs.declared.state.SqlState.{SqlState}
 use Rattle.sql_ast.specs.declared.role.Role.{Role}
 use Rattle.sql_ast.specs.declared.statement.Assignment.{Assignment}
 use Rattle.sql_ast.specs.declared.statement.TableReference.{TableReference}
@@ -11,18 +12,19 @@ use Rattle.sql_ast.specs.Scope.{Table as ScopeTable, type_at}
 use Rattle.expressions.specs.Meaning.{UserNames}
 use Rattle.expressions.specs.Names.{resolved}
 use Rattle.expressions.specs.Parts.{Part, check_type, check_expressions}
-use Rattle.expressions.specs.Stages.{each}
+use Rattle.expressions.specs.Stages.{◌>>=◌, each}
 use Rattle.expressions.specs.Types.{is_of}
 use Rattle.abstract_database.specs.Lists.{TheName, Among}
-use Rattle.abstract_database.specs.Checks.{insert_parts, value_parts, new_values, update_parts, condition_parts}
+use Rattle.abstract_database.specs.Checks.{insert_parts, value_parts, new_values, update_parts, condition_parts, checked_insert, checked_update}
 use Rattle.abstract_database.specs.Database.{Database, is_role_named}
 use Rattle.abstract_database.specs.Expressions.{own_scope, cell_in}
 use Rattle.abstract_database.specs.Queries.{Combination, product, tables_in, scope_of}
+use Rattle.abstract_database.specs.Statements.{Checked, inserts as inserts_rows, updates as updates_rows}
 use Rattle.abstract_database.specs.Whole.{Each, IsWholeRole, IsRoleOf, AreRolesOf}
 use Rattle.abstract_database.proofs.CheckLemmas.{insert_checked, update_checked}
 use Rattle.abstract_database.proofs.ElementLemmas.{any_found}
 use Rattle.abstract_database.proofs.ListLemmas.{bytes_same, in_append_left}
-use Rattle.abstract_database.proofs.ResultLemmas.{each_to, each_from, length_each}
+use Rattle.abstract_database.proofs.ResultLemmas.{ok_inside, each_to, each_from, length_each}
 use Rattle.abstract_database.proofs.ValueTypes.{inserted_fits, assigned_fits}
 use Rattle.stored_database.specs.Definitions.{TableDefinition, Definitions, table_with}
 use Rattle.stored_database.specs.Valid.{Describes}
@@ -37,7 +39,7 @@ use Rattle.planner.specs.Fitting.{NamedTablesHaveLayouts, FitTables, AreRowsOf, 
 use Rattle.planner.specs.Selected.{tables_of_plan, scope_of_plan}
 use Rattle.planner.specs.Tables.{table_in, definitions_in}
 use Rattle.planner.specs.Inserted.{checked_of as checked_insert_of}
-use Rattle.planner.specs.Updated.{checked_of as checked_update_of}
+use Rattle.planner.specs.RowChanges.{changes_of}
 use Rattle.abstract_database.proofs.NewRows.{types_of, row_of, inserted_is_row, assigned_is_row, fits_row}
 use Rattle.abstract_database.proofs.ReadValues.{AreTexts, name_is_text}
 
@@ -157,6 +159,11 @@ texts_of d db users h are =
 
 -- ---- INSERT and UPDATE
 
+-- what the checks of a statement over rows give is what those of its kind give
+checked_inside : {C : Type 0} (a : Result C SqlState) (view : C → Checked) → ((x y : C) → view x ≡ view y → x ≡ y) → (c : C) → (a >>= λ x. Ok (view x)) ≡ Ok (view c) → a ≡ Ok c
+checked_inside (Ok x) view one c e = ap (λ y. Ok y) (one x c (ok_inside (view x) (view c) e))
+checked_inside (Err code) view one c e = cc
+
 fine_parts : (parts : List Part) (l : List (Unit {0})) → check_expressions parts ≡ Ok l → (q : Part) → Among q parts → (u : Unit {0}) × (check_type q ≡ Ok u)
 fine_parts parts l e q h = let at = each_to check_type parts l e q h in (at.0, at.1)
 
@@ -164,7 +171,7 @@ pub inserts : InsertsFit
 inserts d db users s p h are read is values v row made kept sized =
     let t = p.target.table.now in
     let c = checked_insert_of p in
-    let facts = insert_checked db users s c (is.plan read.one_length db users h refl) in
+    let facts = insert_checked db users s c (checked_inside (checked_insert db users s) inserts_rows (λ x y e. cc) c (is.plan read.one_length db users h refl)) in
     let texts = texts_of d db users h are in
     let from = each_from (each (resolved [])) s.rows c.rows facts.bound (terms values) (into_map terms p.rows values v) in
     let fine : (q : Part) → Among q (value_parts [] c.table.layout c.columns from.0) → (u : Unit {0}) × (check_type q ≡ Ok u) =
@@ -175,8 +182,8 @@ inserts d db users s p h are read is values v row made kept sized =
 
 pub updates : UpdatesFit
 updates d db users s p rs h are read is fit row there new made kept sized =
-    let c = checked_update_of p in
-    let facts = update_checked db users s c (is.plan db users h refl) in
+    let c = changes_of p in
+    let facts = update_checked db users s c (checked_inside (checked_update db users s) updates_rows (λ x y e. cc) c (is.plan tt db users h refl)) in
     let texts = texts_of d db users h are in
     let old = fit row there in
     let set_parts = value_parts (own_scope c.table) c.table.layout c.columns (new_values s) in

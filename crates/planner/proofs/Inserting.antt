@@ -27,16 +27,13 @@ use Rattle.abstract_database.proofs.ResultLemmas.{ok_inside, bind_ok, require_ok
 use Rattle.stored_database.specs.Definitions.{TableDefinition, Definitions, database_with}
 use Rattle.stored_database.specs.Valid.{AreValid, Describes}
 use Rattle.planner.specs.declared.rights.Rights.{Rights}
-use Rattle.planner.specs.Answers.{ChecksRefuse}
 use Rattle.planner.specs.Rights.{AreRightsOf, meets}
 use Rattle.planner.specs.Tables.{table_in}
 use Rattle.abstract_database.specs.Statements.{inserts as inserts_rows, checked_over_rows}
 use Rattle.sql_ast.specs.declared.statement.RowStatement.TheVariants as over_rows
-use Rattle.planner.specs.Plans.{IsRefusalOf}
-use Rattle.planner.specs.NamedTable.{IsMissing}
 use Rattle.planner.specs.Columns.{insert_columns}
-use Rattle.planner.specs.Inserted.{AreAsLong, bound_rows, insert_from, allowed_insert, planned_insert, IsInsertRefusal}
-use Rattle.planner.proofs.Checking.{definition_found, missing, own_table}
+use Rattle.planner.specs.Inserted.{AreAsLong, bound_rows, insert_from, allowed_insert}
+use Rattle.planner.proofs.Checking.{definition_found, own_table}
 use Rattle.planner.proofs.Needing.{columns_or_one_alike}
 use Rattle.planner.proofs.Steps.{in_one, same_after, one_wanted}
 
@@ -105,22 +102,18 @@ module _ (d : Definitions) (role : TheName) (r : Rights) (s : Insert) (rights : 
         ∙ same_after (insert_columns t.definition.layout s) (λ columns. with_columns t.definition columns) (λ columns. bound_rows [] t.definition.layout columns s.rows >>= λ terms. allowed_insert r s t columns terms)
         (from_columns t (own_table d s.table t e))
 
-    insert_same : length rows ≡ length d.tables → checked_insert (database_with d rows) users s ≡ planned_insert d r s
+    insert_same : length rows ≡ length d.tables → checked_insert (database_with d rows) users s ≡ (table_in d s.table >>= insert_from r s)
     insert_same e = ap (λ a. a >>= staged) (definition_found d rows s.table e) ∙ from_table (table_in d s.table) refl
 
-  pub inserts : (db : Database) (users : UserNames) → Describes d db → users.current ≡ role → checked_insert db users s ≡ planned_insert d r s
-  inserts db users h is = ap (λ x. checked_insert x users s) h.is ∙ insert_same h.rows users h.valid is h.each_table
+  pub inserts : (db : Database) (users : UserNames) → Describes d db → users.current ≡ role → checked_over_rows db users (over_rows.Insert s) ≡ (table_in d s.table >>= λ t. insert_from r s t >>= λ c. Ok (inserts_rows c))
+  inserts db users h is =
+      ap (λ x. checked_over_rows x users (over_rows.Insert s)) h.is
+      ∙ ap (λ a. a >>= λ c. Ok (inserts_rows c)) (insert_same h.rows users h.valid is h.each_table)
+      ∙ sym (in_one (table_in d s.table) (insert_from r s) (λ c. Ok (inserts_rows c)))
 
--- the same of a statement over rows
-pub over_rows_refused : (d : Definitions) (role : TheName) (s : Insert) (x : Refusal) → IsInsertRefusal d role s x → IsRefusalOf d role (over_rows.Insert s) x
-over_rows_refused d role s x h one = go (h one) where
-  go : ChecksRefuse d role (λ db users. checked_insert db users s) x → ChecksRefuse d role (λ db users. checked_over_rows db users (over_rows.Insert s)) x
-  go (inl e) = inl e
-  go (inr f) = inr (λ db users k is. ap (λ a. a >>= λ c. Ok (inserts_rows c)) (f db users k is))
-
-pub no_table : (d : Definitions) (role : TheName) (s : Insert) (x : Refusal) → IsMissing d s.table x → IsInsertRefusal d role s x
-no_table d role s x (inl e) = λ one. inl e
-no_table d role s x (inr e) = λ one. inr (λ db users h is. let none : find_definition db s.table ≡ Err x.0 = missing d db s.table x.0 h e in rw none)
+-- the checks begin with the table
+pub begins : (s : Insert) (db : Database) (users : UserNames) (code : SqlState) → find_definition db s.table ≡ Err code → checked_over_rows db users (over_rows.Insert s) ≡ Err code
+begins s db users code none = rw none
 
 -- ---- the stages over the table that was found
 

@@ -11,12 +11,12 @@ pub mod Meeting
 pub mod ReadColumns
 pub mod Needing
 pub mod Steps
+pub mod Planning
 pub mod Selecting
 pub mod Changing
 pub mod Cutting
 pub mod Adding
-pub mod Deleting
 pub mod Inserting
-pub mod Updating
+pub mod RowChanges
 pub mod Fitting
 pub mod Joining

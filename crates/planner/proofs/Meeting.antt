@@ -4,13 +4,14 @@ use Rattle.std.specs.List.{list_any, list_all, range_with_len}
 use Rattle.std.proofs.lemmas.Bool.{ltb-true, or_right}
 use Rattle.std.proofs.lemmas.List.Folds.{list_all-map, list_all-append}
 use Rattle.sql_ast.specs.declared.privilege.Action.{Action}
+use Rattle.sql_ast.specs.declared.privilege.Action.TheVariants as action
 use Rattle.abstract_database.specs.Lists.{TheName}
 use Rattle.abstract_database.specs.Needs.{Need, privilege, on_columns, on_columns_or_one}
 use Rattle.abstract_database.specs.Privileges.{on_column}
 use Rattle.stored_database.specs.Definitions.{TableDefinition}
 use Rattle.catalogue.specs.Grants.{has_bit}
 use Rattle.planner.specs.declared.rights.Rights.{Rights}
-use Rattle.planner.specs.Rights.{has, IsHeld, covers, covers_some, meets}
+use Rattle.planner.specs.Rights.{has, IsHeld, covers, covers_some, meets, needs_of_write}
 
 -- ---- tests over a range
 
@@ -84,6 +85,14 @@ module _ (r : Rights) (a : Action) (t : TableDefinition) (mask : ℕ) (held : Is
 
   pub columns_met : (each : Bool) → each ≡ list_all (covers (has_bit mask)) cs → each ≡ list_all (meets r t) (on_columns name a cs)
   columns_met each e = e ∙ each_alike r a t mask held cs ∙ sym (on_columns_met r t name a cs)
+
+-- rows are written by their columns, but for DELETE
+module _ (r : Rights) (t : TableDefinition) (name : TheName) where
+  pub as_columns : (a : Action) → (a ≡ action.Delete → ⊥) → (cs : List ℕ) → list_all (meets r t) (on_columns_or_one name a cs) ≡ list_all (meets r t) (needs_of_write a name cs)
+  as_columns action.Select other cs = refl
+  as_columns action.Insert other cs = refl
+  as_columns action.Update other cs = refl
+  as_columns action.Delete other cs = absurd (other refl)
 
 -- needs that are met in two parts
 module _ (r : Rights) (t : TableDefinition) where

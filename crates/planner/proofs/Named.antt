@@ -1,15 +1,10 @@
 -- The tables of a plan are the catalogue's.
-use Rattle.std.proofs.Common.{◌≡◌, Bool, List, find, Ok, sym, subst}
-use Rattle.sql_ast.specs.declared.privilege.Action.{Action}
+use Rattle.std.proofs.Common.{◌≡◌, List, find, Ok, sym, subst}
 use Rattle.sql_ast.specs.declared.statement.TableReference.{TableReference}
 use Rattle.abstract_database.specs.Lists.{TheName}
 use Rattle.abstract_database.proofs.ResultLemmas.{each_from}
 use Rattle.stored_database.specs.Definitions.{TableDefinition, Definitions}
 use Rattle.catalogue.specs.Lookups.{is_definition_named}
-use Rattle.planner.specs.declared.named_table.NamedTable.{NamedTable}
-use Rattle.planner.specs.declared.named_table.GuardedTable.{GuardedTable}
-use Rattle.planner.specs.NamedTable.{IsNamed, IsGuarded}
-use Rattle.planner.specs.Plans.{IsChecked}
 use Rattle.planner.specs.Tables.{table_in, tables_for, IsTableNamed, AreTablesOf}
 use Rattle.planner.proofs.Checking.{found_inside, find_among}
 
@@ -23,14 +18,4 @@ are_tables d refs ts e = record {
   found = e;
   among = λ t h. let from = each_from (λ (r : TableReference). table_in d r.table) refs ts e t h in
       find_among (is_definition_named from.0.table) d.tables t (found_inside (find (is_definition_named from.0.table) d.tables) t from.2);
-}
-
--- a plan over a table that was found
-pub is_checked : (given : Type 0) (d : Definitions) (role name : TheName) (a : Action) (reads : Bool) (n : NamedTable) (g : GuardedTable) → IsNamed d role name n → IsGuarded d role n.table.now a reads g → given
-    → IsChecked given d role name a reads g.source g.roles
-is_checked given d role name a reads n g named guarded plan = record {
-  plan = plan;
-  table = is_named d name n.table.now g.source.table.now named.found guarded.table;
-  guard = guarded.guard;
-  roles = guarded.roles;
 }

@@ -15,7 +15,7 @@ use Rattle.sql_ast.specs.Term.{Term}
 use Rattle.expressions.specs.Meaning.{UserNames}
 use Rattle.abstract_database.specs.Lists.{TheName, Among}
 use Rattle.abstract_database.specs.Database.{same_action}
-use Rattle.abstract_database.specs.Needs.{Need, privilege, some_column, on_columns, on_columns_or_one, columns_read, columns_of_query, needs_of_tables, needs_of_update, needs_of_delete}
+use Rattle.abstract_database.specs.Needs.{Need, privilege, some_column, on_columns, on_columns_or_one, columns_read, columns_of_query, needs_of_tables}
 use Rattle.abstract_database.specs.Privileges.{on_table, on_column, covers as covers_privilege, reaches, has_privilege, has_on_some_column}
 use Rattle.abstract_database.specs.Queries.{BoundQuery}
 use Rattle.abstract_database.specs.Roles.{is_superuser}
@@ -26,7 +26,7 @@ use Rattle.stored_database.proofs.TableParts.{descriptors_found}
 use Rattle.catalogue.specs.Grants.{bit_of}
 use Rattle.catalogue.specs.Lookups.{is_definition_named}
 use Rattle.planner.specs.declared.rights.Rights.{Rights}
-use Rattle.planner.specs.Rights.{AreRightsOf, is_one, gives, has, covers_whole_or, meets}
+use Rattle.planner.specs.Rights.{AreRightsOf, is_one, gives, has, covers_whole_or, meets, needs_of_write, needs_of_change}
 use Rattle.planner.specs.Selected.{may_read_each}
 use Rattle.planner.specs.Tables.{table_in, definitions_in}
 use Rattle.planner.proofs.Checking.{found_inside, find_among}
@@ -210,20 +210,21 @@ module _ (d : Definitions) (role : TheName) (r : Rights) (rights : AreRightsOf d
     columns_or_one_alike a [] = ap (λ b. b && true) (some_alike a)
     columns_or_one_alike a (c ∷ cs) = columns_alike a (c ∷ cs)
 
-    pub update_alike : (cs : List ℕ) (values : List (Term ColumnIndex)) (condition : Option (Term ColumnIndex)) → asked (needs_of_update t.definition cs values condition) ≡ list_all (meets r t) (needs_of_update t.definition cs values condition)
-    update_alike cs values condition =
-        let set = on_columns_or_one name action.Update cs in
-        let read = on_columns name action.Select (columns_read 0 (values ++ option_to_list condition)) in
-        list_all-append (has_needed (database_with d rows) users) set read
-        ∙ ap (λ b. b && asked read) (columns_or_one_alike action.Update cs)
-        ∙ ap (λ b. list_all (meets r t) set && b) (columns_alike action.Select (columns_read 0 (values ++ option_to_list condition)))
-        ∙ sym (list_all-append (meets r t) set read)
+    write_alike : (a : Action) (cs : List ℕ) → asked (needs_of_write a name cs) ≡ list_all (meets r t) (needs_of_write a name cs)
+    write_alike action.Select cs = columns_or_one_alike action.Select cs
+    write_alike action.Insert cs = columns_or_one_alike action.Insert cs
+    write_alike action.Update cs = columns_or_one_alike action.Update cs
+    write_alike action.Delete cs = ap (λ b. b && true) (privilege_alike (on_table action.Delete))
 
-    pub delete_alike : (condition : Option (Term ColumnIndex)) → asked (needs_of_delete t.definition condition) ≡ list_all (meets r t) (needs_of_delete t.definition condition)
-    delete_alike condition =
-        let read = on_columns name action.Select (columns_read 0 (option_to_list condition)) in
-        ap (λ b. b && asked read) (privilege_alike (on_table action.Delete))
-        ∙ ap (λ b. meets r t (privilege name (on_table action.Delete)) && b) (columns_alike action.Select (columns_read 0 (option_to_list condition)))
+    pub change_alike : (a : Action) (cs : List ℕ) (values : List (Term ColumnIndex)) (condition : Option (Term ColumnIndex)) →
+        asked (needs_of_change a t.definition cs values condition) ≡ list_all (meets r t) (needs_of_change a t.definition cs values condition)
+    change_alike a cs values condition =
+        let written = needs_of_write a name cs in
+        let read = on_columns name action.Select (columns_read 0 (values ++ option_to_list condition)) in
+        list_all-append (has_needed (database_with d rows) users) written read
+        ∙ ap (λ b. b && asked read) (write_alike a cs)
+        ∙ ap (λ b. list_all (meets r t) written && b) (columns_alike action.Select (columns_read 0 (values ++ option_to_list condition)))
+        ∙ sym (list_all-append (meets r t) written read)
 
   -- what a query reads of its tables
   pub query_alike : (q : BoundQuery) (number : ℕ) (ts : List TableDefinition) → ((t : TableDefinition) → Among t ts → table_in d t.definition.name ≡ Ok t) →

@@ -1,16 +1,7 @@
 -- Steps that may be refused, one after another.
-use Rattle.std.proofs.Common.{◌≡◌, ◌⊎◌, ◌∙◌, inl, inr, Result, Ok, Err, refl, sym, ap}
-use Rattle.sql_types.specs.declared.state.Refusal.{Refusal}
+use Rattle.std.proofs.Common.{◌≡◌, Result, Ok, Err, refl}
 use Rattle.sql_types.specs.declared.state.SqlState.{SqlState}
-use Rattle.sql_types.specs.declared.state.SqlState.TheVariants.{OutOfMemory}
-use Rattle.expressions.specs.Meaning.{UserNames}
 use Rattle.expressions.specs.Stages.{◌>>=◌}
-use Rattle.abstract_database.specs.Lists.{TheName}
-use Rattle.abstract_database.specs.Database.{Database}
-use Rattle.stored_database.specs.Definitions.{TableDefinition, Definitions}
-use Rattle.stored_database.specs.Valid.{Describes}
-use Rattle.planner.specs.Answers.{ChecksGive, ChecksRefuse}
-use Rattle.planner.specs.Tables.{table_in}
 
 -- what follows a step may be said in another way
 pub same_after : {A B : Type 0} (a : Result A SqlState) (f g : A → Result B SqlState) → ((x : A) → f x ≡ g x) → (a >>= f) ≡ (a >>= g)
@@ -38,15 +29,3 @@ two_wanted (Ok x) (Ok y) (Ok z) go = refl
 two_wanted (Ok x) (Ok y) (Err code) go = refl
 two_wanted (Ok x) (Err code) c go = refl
 two_wanted (Err code) b c go = refl
-
--- ---- checks that begin with the table of a name
-
-module _ {C : Type 0} (d : Definitions) (role name : TheName) (checks : Database → UserNames → Result C SqlState) (from : TableDefinition → Result C SqlState)
-    (are : (db : Database) (users : UserNames) → Describes d db → users.current ≡ role → checks db users ≡ (table_in d name >>= from)) (t : TableDefinition) (found : table_in d name ≡ Ok t) where
-  pub refused_later : (x : Refusal) → (x.0 ≡ OutOfMemory) ⊎ (from t ≡ Err x.0) → ChecksRefuse d role checks x
-  refused_later x (inl e) = inl e
-  refused_later x (inr e) = inr (λ db users h is. are db users h is ∙ ap (λ a. a >>= from) found ∙ e)
-
-  -- said of another name of the table
-  pub given : (view : TableDefinition → C) (u : TableDefinition) → u ≡ t → from t ≡ Ok (view t) → ChecksGive d role checks (view u)
-  given view u same e = λ db users h is. are db users h is ∙ ap (λ a. a >>= from) found ∙ e ∙ ap (λ x. Ok (view x)) (sym same)

@@ -24,7 +24,7 @@ use Rattle.gathering.specs.Passed.{alone}
 use Rattle.gathering.specs.Queries.{terms}
 use Rattle.planner.specs.declared.select.SelectPlan.{SelectPlan}
 use Rattle.planner.specs.declared.insert.InsertPlan.{InsertPlan}
-use Rattle.planner.specs.declared.update.UpdatePlan.{UpdatePlan}
+use Rattle.planner.specs.declared.row_changes.ChangePlan.{ChangePlan}
 use Rattle.planner.specs.Plans.{IsCheckedSelect, IsCheckedInsert, IsCheckedUpdate}
 use Rattle.planner.specs.Selected.{tables_of_plan}
 use Rattle.planner.specs.Tables.{IsTableNamed}
@@ -78,7 +78,7 @@ abbrev pub row_inserted : UserNames → InsertPlan → List TypedTerm → Result
 row_inserted users p values = inserted_row p.target.table.now.definition.layout users p.columns (terms values)
 
 -- the row that an UPDATE makes of another
-abbrev pub row_updated : UserNames → UpdatePlan → Row → Result Row SqlState
+abbrev pub row_updated : UserNames → ChangePlan → Row → Result Row SqlState
 row_updated users p row = assigned users p.columns (terms p.values) row
 
 -- each row of values of a plan makes a row of its table
@@ -89,6 +89,6 @@ InsertsFit = (d : Definitions) (db : Database) (users : UserNames) (s : Insert) 
 
 -- of each row of its table a plan makes another
 abbrev pub UpdatesFit : Type 0
-UpdatesFit = (d : Definitions) (db : Database) (users : UserNames) (s : Update) (p : UpdatePlan) (rows : List Row)
+UpdatesFit = (d : Definitions) (db : Database) (users : UserNames) (s : Update) (p : ChangePlan) (rows : List Row)
     → Describes d db → AreRolesOf db users → IsReadUpdate s → IsCheckedUpdate d users.current s p → Each (FitsTable p.target.table.now.definition.layout) rows
     → Each (λ (row : Row). GivesFittingRow p.target.table.now.definition.layout (row_updated users p row)) rows

@@ -1,32 +1,27 @@
 -- What INSERT is checked for, in the definitions of a database.
 use Rattle.std.specs.Prelude.{◌≡◌, ℕ, nat_le, List, [], ◌∷◌, take, drop, length, map, flat_map, Result, Ok}
 use Rattle.std.specs.List.{list_all}
-use Rattle.sql_types.specs.declared.state.Refusal.{Refusal}
 use Rattle.sql_types.specs.declared.state.SqlState.{SqlState}
 use Rattle.sql_types.specs.declared.state.SqlState.TheVariants.{InsufficientPrivilege, ProgramLimitExceeded}
 use Rattle.sql_ast.specs.declared.expression.ColumnName.{ColumnName}
 use Rattle.sql_ast.specs.declared.scope.ColumnIndex.{ColumnIndex}
 use Rattle.sql_ast.specs.declared.statement.Insert.{Insert}
 use Rattle.sql_ast.specs.Layout.{Layout}
-use Rattle.sql_ast.specs.Read.{HaveOneLength}
 use Rattle.sql_ast.specs.Scope.{Table as ScopeTable}
 use Rattle.sql_ast.specs.Term.{Term}
 use Rattle.expressions.specs.Names.{resolved}
 use Rattle.expressions.specs.Parts.{check_expressions}
 use Rattle.expressions.specs.Stages.{◌>>=◌, each, require}
 use Rattle.expressions.specs.Types.{TypedTerm}
-use Rattle.abstract_database.specs.Lists.{TheName}
 use Rattle.abstract_database.specs.Changes.{CheckedInsert}
-use Rattle.abstract_database.specs.Checks.{value_parts, checked_insert}
+use Rattle.abstract_database.specs.Checks.{value_parts}
 use Rattle.abstract_database.specs.Needs.{needs_of_insert}
-use Rattle.stored_database.specs.Definitions.{TableDefinition, Definitions}
+use Rattle.stored_database.specs.Definitions.{TableDefinition}
 use Rattle.planner.specs.declared.rights.Rights.{Rights}
 use Rattle.planner.specs.declared.insert.CheckedRows.{CheckedRows}
 use Rattle.planner.specs.declared.insert.InsertPlan.{InsertPlan}
 use Rattle.planner.specs.Columns.{insert_columns}
-use Rattle.planner.specs.Answers.{IsGivenBy, IsRefusedBy}
 use Rattle.planner.specs.Rights.{meets}
-use Rattle.planner.specs.Tables.{table_in}
 
 -- the values by indices, row by row
 abbrev pub rows_of : List (List TypedTerm) → List (List (Term ColumnIndex))
@@ -74,14 +69,3 @@ insert_from r s t = do
   columns ← insert_columns t.definition.layout s
   rows ← bound_rows [] t.definition.layout columns s.rows
   allowed_insert r s t columns rows
-
-abbrev pub planned_insert : Definitions → Rights → Insert → Result CheckedInsert SqlState
-planned_insert d r s = table_in d s.table >>= insert_from r s
-
--- ---- for each database that has these definitions, where the rows of the statement have one length, as those of a text have
-
-abbrev pub IsInsertPlan : Definitions → TheName → Insert → InsertPlan → Type 0
-IsInsertPlan d current s p = HaveOneLength s.rows → IsGivenBy checked_insert d current s (checked_of p)
-
-abbrev pub IsInsertRefusal : Definitions → TheName → Insert → Refusal → Type 0
-IsInsertRefusal d current s refusal = HaveOneLength s.rows → IsRefusedBy checked_insert d current s refusal

@@ -9,8 +9,7 @@ pub mod NamedTable
 pub mod Columns
 pub mod Selected
 pub mod Changed
-pub mod Deleted
 pub mod Inserted
-pub mod Updated
+pub mod RowChanges
 pub mod Plans
 pub mod Fitting

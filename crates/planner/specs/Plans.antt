@@ -18,8 +18,7 @@ use Rattle.stored_database.specs.Definitions.{Definitions}
 use Rattle.planner.specs.declared.select.SelectPlan.{SelectPlan}
 use Rattle.planner.specs.declared.sources.Source.{Source}
 use Rattle.planner.specs.declared.insert.InsertPlan.{InsertPlan}
-use Rattle.planner.specs.declared.update.UpdatePlan.{UpdatePlan}
-use Rattle.planner.specs.declared.delete.DeletePlan.{DeletePlan}
+use Rattle.planner.specs.declared.row_changes.ChangePlan.{ChangePlan}
 use Rattle.planner.specs.declared.plans.Plan.{Plan}
 use Rattle.planner.specs.declared.plans.Plan.TheVariants as plan
 use Rattle.planner.specs.Answers.{IsGivenBy, IsRefusedBy}
@@ -28,9 +27,31 @@ use Rattle.planner.specs.Rights.{AreItsRoles}
 use Rattle.planner.specs.Sources.{IsGuardedFrom}
 use Rattle.planner.specs.Tables.{IsTableNamed, AreTablesOf}
 use Rattle.planner.specs.Selected.{tables_of_plan, scope_of_plan, IsSelectPlan, checked_of as checked_select_of}
-use Rattle.planner.specs.Inserted.{IsInsertPlan, checked_of as checked_insert_of}
-use Rattle.planner.specs.Updated.{IsUpdatePlan, checked_of as checked_update_of}
-use Rattle.planner.specs.Deleted.{IsDeletePlan, checked_of as checked_delete_of}
+use Rattle.planner.specs.Inserted.{checked_of as checked_insert_of}
+use Rattle.planner.specs.RowChanges.{changes_of, without_values}
+
+-- ---- for each database that has these definitions, where the rows of an INSERT have one length, as those of a text have
+
+abbrev pub HasRowsOfOneLength : RowStatement → Type 0
+HasRowsOfOneLength (over_rows.Insert s) = HaveOneLength s.rows
+HasRowsOfOneLength (over_rows.Update s) = Unit {0}
+HasRowsOfOneLength (over_rows.Delete s) = Unit {0}
+HasRowsOfOneLength (over_rows.Select s) = Unit {0}
+
+-- what the definition of the checks gives in place of the plan
+abbrev pub checked_of : Plan → Checked
+checked_of (plan.Select p) = selects (checked_select_of p)
+checked_of (plan.Insert p) = inserts (checked_insert_of p)
+checked_of (plan.Update p) = updates (changes_of p)
+checked_of (plan.Delete p) = deletes (without_values (changes_of p))
+
+-- the checks of the statement give the plan
+abbrev pub Means : Definitions → TheName → RowStatement → Plan → Type 0
+Means d current s p = HasRowsOfOneLength s → IsGivenBy checked_over_rows d current s (checked_of p)
+
+-- memory was refused, or its checks refuse the statement in this way
+abbrev pub IsRefusalOf : Definitions → TheName → RowStatement → Refusal → Type 0
+IsRefusalOf d current s refusal = HasRowsOfOneLength s → IsRefusedBy checked_over_rows d current s refusal
 
 -- ---- what holds of a plan
 
@@ -53,13 +74,18 @@ pub record IsChecked (given : Type 0) (d : Definitions) (current name : TheName)
   pub roles : AreItsRoles d current names
 
 abbrev pub IsCheckedInsert : Definitions → TheName → Insert → InsertPlan → Type 0
-IsCheckedInsert d current s p = IsChecked (IsInsertPlan d current s p) d current s.table action.Insert false p.target p.roles
+IsCheckedInsert d current s p = IsChecked (Means d current (over_rows.Insert s) (plan.Insert p)) d current s.table action.Insert false p.target p.roles
 
-abbrev pub IsCheckedUpdate : Definitions → TheName → Update → UpdatePlan → Type 0
-IsCheckedUpdate d current s p = IsChecked (IsUpdatePlan d current s p) d current s.table action.Update p.reads p.target p.roles
+abbrev pub IsCheckedUpdate : Definitions → TheName → Update → ChangePlan → Type 0
+IsCheckedUpdate d current s p = IsChecked (Means d current (over_rows.Update s) (plan.Update p)) d current s.table action.Update p.reads p.target p.roles
 
-abbrev pub IsCheckedDelete : Definitions → TheName → Delete → DeletePlan → Type 0
-IsCheckedDelete d current s p = IsChecked (IsDeletePlan d current s p) d current s.table action.Delete p.reads p.target p.roles
+abbrev pub IsCheckedDelete : Definitions → TheName → Delete → ChangePlan → Type 0
+IsCheckedDelete d current s p = IsChecked (Means d current (over_rows.Delete s) (plan.Delete p)) d current s.table action.Delete p.reads p.target p.roles
+
+abbrev pub IsCheckedChange : Definitions → TheName → RowStatement → ChangePlan → Type 0
+IsCheckedChange d current (over_rows.Update s) p = IsCheckedUpdate d current s p
+IsCheckedChange d current (over_rows.Delete s) p = IsCheckedDelete d current s p
+IsCheckedChange d current s p = ⊥
 
 -- the plan is one of this statement
 abbrev pub IsPlanOf : Definitions → TheName → RowStatement → Plan → Type 0
@@ -68,26 +94,3 @@ IsPlanOf d current (over_rows.Insert s) (plan.Insert p) = IsCheckedInsert d curr
 IsPlanOf d current (over_rows.Update s) (plan.Update p) = IsCheckedUpdate d current s p
 IsPlanOf d current (over_rows.Delete s) (plan.Delete p) = IsCheckedDelete d current s p
 IsPlanOf d current s p = ⊥
-
--- ---- for each database that has these definitions, where the rows of an INSERT have one length, as those of a text have
-
-abbrev pub HasRowsOfOneLength : RowStatement → Type 0
-HasRowsOfOneLength (over_rows.Insert s) = HaveOneLength s.rows
-HasRowsOfOneLength (over_rows.Update s) = Unit {0}
-HasRowsOfOneLength (over_rows.Delete s) = Unit {0}
-HasRowsOfOneLength (over_rows.Select s) = Unit {0}
-
--- what the definition of the checks gives in place of the plan
-abbrev pub checked_of : Plan → Checked
-checked_of (plan.Select p) = selects (checked_select_of p)
-checked_of (plan.Insert p) = inserts (checked_insert_of p)
-checked_of (plan.Update p) = updates (checked_update_of p)
-checked_of (plan.Delete p) = deletes (checked_delete_of p)
-
--- the checks of the statement give the plan
-abbrev pub Means : Definitions → TheName → RowStatement → Plan → Type 0
-Means d current s p = HasRowsOfOneLength s → IsGivenBy checked_over_rows d current s (checked_of p)
-
--- memory was refused, or its checks refuse the statement in this way
-abbrev pub IsRefusalOf : Definitions → TheName → RowStatement → Refusal → Type 0
-IsRefusalOf d current s refusal = HasRowsOfOneLength s → IsRefusedBy checked_over_rows d current s refusal

@@ -1,13 +1,17 @@
 -- The rights of a role on a table and its columns, and the needs that they meet.
-use Rattle.std.specs.Prelude.{◌≡◌, ℕ, ◌+◌, ◌<◌, nat_eq, nat_lt, ◌||◌, ◌&&◌, Bool, true, List, Option, None, Some}
+use Rattle.std.specs.Prelude.{◌≡◌, ℕ, ◌+◌, ◌<◌, nat_eq, nat_lt, ◌||◌, ◌&&◌, Bool, true, List, [], ◌∷◌, ◌++◌, Option, None, Some, option_to_list}
 use Rattle.std.specs.List.{list_any, range_with_len}
 use Rattle.sql_ast.specs.declared.privilege.Action.{Action}
+use Rattle.sql_ast.specs.declared.privilege.Action.TheVariants as action
 use Rattle.sql_ast.specs.declared.privilege.Descriptor.{Descriptor}
 use Rattle.sql_ast.specs.declared.privilege.Grantee.{Grantee}
 use Rattle.sql_ast.specs.declared.privilege.Grantee.TheVariants as grantee
+use Rattle.sql_ast.specs.declared.scope.ColumnIndex.{ColumnIndex}
+use Rattle.sql_ast.specs.Term.{Term}
 use Rattle.abstract_database.specs.Lists.{TheName, has_name}
-use Rattle.abstract_database.specs.Database.{same_action}
-use Rattle.abstract_database.specs.Needs.{Need, privilege, some_column}
+use Rattle.abstract_database.specs.Database.{TableOf, same_action}
+use Rattle.abstract_database.specs.Needs.{Need, privilege, some_column, on_columns, on_columns_or_one, columns_read}
+use Rattle.abstract_database.specs.Privileges.{on_table}
 use Rattle.abstract_database.specs.Roles.{is_superuser, is_in}
 use Rattle.stored_database.specs.Definitions.{TableDefinition, Definitions, database_of}
 use Rattle.catalogue.specs.Grants.{bit_of, has_bit, gives_bit}
@@ -62,3 +66,13 @@ covers_whole_or bit (Some column) = covers bit column
 abbrev pub meets : Rights → TableDefinition → Need → Bool
 meets r t (privilege name p) = covers_whole_or (has r p.action t) p.column
 meets r t (some_column name a) = covers_some (has r a t)
+
+-- what is needed to write rows of a table: the action on these columns, or on one at least where there are none; DELETE on the whole table
+abbrev pub needs_of_write : Action → TheName → List ℕ → List Need
+needs_of_write action.Delete name columns = privilege name (on_table action.Delete) ∷ []
+needs_of_write a name columns = on_columns_or_one name a columns
+
+-- and SELECT on the columns that new values and WHERE read
+abbrev pub needs_of_change : Action → TableOf → List ℕ → List (Term ColumnIndex) → Option (Term ColumnIndex) → List Need
+needs_of_change a table columns values condition =
+    needs_of_write a table.name columns ++ on_columns table.name action.Select (columns_read 0 (values ++ option_to_list condition))

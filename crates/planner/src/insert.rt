@@ -1,10 +1,11 @@
 //! INSERT, checked (SQL:2016 Foundation, 14.11; PostgreSQL manual, INSERT).
 
 ghost use Rattle.std.specs.Prelude.{IfOk, IfErr};
+ghost use Rattle.sql_ast.specs.declared.statement.RowStatement.TheVariants.{Insert as InsertOf};
 ghost use Rattle.sql_ast.specs.Read.{HaveOneLength};
 ghost use Rattle.planner.specs.Answers.{AnswersBy};
-ghost use Rattle.planner.specs.Plans.{IsCheckedInsert};
-ghost use Rattle.planner.specs.Inserted.{checked_in, insert_from, IsInsertRefusal};
+ghost use Rattle.planner.specs.Plans.{IsCheckedInsert, IsRefusalOf};
+ghost use Rattle.planner.specs.Inserted.{checked_in, insert_from};
 
 use crate::named_table::NamedTable;
 use crate::rights::Rights;
@@ -60,7 +61,8 @@ pub fn plan_insert<'c>(
     statement: &Insert,
 ) -> Result<InsertPlan<'c>, Refusal>
     ensures plan { IfOk result (IsCheckedInsert catalogue.now current.now statement.now) }
-    ensures refusal { IfErr result (IsInsertRefusal catalogue.now current.now statement.now) }
+    ensures refusal { IfErr result
+        (IsRefusalOf catalogue.now current.now (InsertOf statement.now)) }
 {
     let named = NamedTable::find(alloc, catalogue, current, &statement.table)?;
     let checked = check_insert(alloc, &named.rights, named.table, statement)?;
@@ -87,7 +89,7 @@ fn check_insert(
     let rows = statement.rows.as_slice();
     let columns = insert_columns(alloc, layout, statement)?;
     let values = bind_rows(alloc, layout, columns.as_slice(), rows)?;
-    if !rights.may_each(Action::Insert, table, columns.as_slice()) {
+    if !rights.may_write(Action::Insert, table, columns.as_slice()) {
         return Err(Refusal(SqlState::InsufficientPrivilege));
     }
     if rows.len() > MAX_INSERTED_ROWS {

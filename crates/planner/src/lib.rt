@@ -4,7 +4,6 @@
 
 mod bound;
 mod changes;
-mod delete;
 mod insert;
 pub mod laws;
 mod masks;
@@ -13,17 +12,16 @@ mod parts;
 mod plans;
 mod reading;
 mod rights;
+mod row_changes;
 mod select;
 mod sources;
 mod tables;
 mod targets;
-mod update;
 mod values;
 
 pub use bound::bind_query;
-pub use delete::{DeletePlan, plan_delete};
 pub use insert::{InsertPlan, plan_insert};
 pub use plans::{Plan, plan_rows};
+pub use row_changes::{ChangePlan, plan_delete, plan_update};
 pub use select::{SelectPlan, plan_select};
 pub use sources::Source;
-pub use update::{UpdatePlan, plan_update};

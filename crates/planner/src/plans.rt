@@ -3,10 +3,9 @@
 ghost use Rattle.std.specs.Prelude.{IfOk, IfErr};
 ghost use Rattle.planner.specs.Plans.{IsPlanOf, Means, IsRefusalOf};
 
-use crate::delete::{DeletePlan, plan_delete};
 use crate::insert::{InsertPlan, plan_insert};
+use crate::row_changes::{ChangePlan, plan_delete, plan_update};
 use crate::select::{SelectPlan, plan_select};
-use crate::update::{UpdatePlan, plan_update};
 use catalogue::definitions::Catalogue;
 use sql_ast::statement::RowStatement;
 use sql_types::name::Name;
@@ -18,8 +17,8 @@ use std::alloc::Global;
 pub enum Plan<'c> {
     Select(SelectPlan<'c>),
     Insert(InsertPlan<'c>),
-    Update(UpdatePlan<'c>),
-    Delete(DeletePlan<'c>),
+    Update(ChangePlan<'c>),
+    Delete(ChangePlan<'c>),
 }
 
 /// Checks a SELECT, INSERT, UPDATE or DELETE of a role.

@@ -3,11 +3,10 @@
 ghost use Rattle.std.specs.Prelude.{◌≡◌, map, IfOk};
 ghost use Rattle.std.specs.List.{list_all};
 ghost use Rattle.sql_ast.specs.declared.privilege.Action.TheVariants as action;
-ghost use Rattle.abstract_database.specs.Needs.{privilege, on_columns, on_columns_or_one, columns_read, needs_of_update, needs_of_delete};
-ghost use Rattle.abstract_database.specs.Privileges.{on_table};
+ghost use Rattle.abstract_database.specs.Needs.{on_columns, columns_read};
 ghost use Rattle.gathering.specs.Queries.{bound_of};
 ghost use Rattle.planner.specs.Changed.{values_of, where_of, expressions_in};
-ghost use Rattle.planner.specs.Rights.{AreRightsOf, IsGivenToAny, IsHeld, meets};
+ghost use Rattle.planner.specs.Rights.{AreRightsOf, IsGivenToAny, IsHeld, meets, needs_of_change, needs_of_write};
 ghost use Rattle.planner.specs.Selected.{may_read};
 
 use crate::masks::{covers_each, covers_some, is_whole};
@@ -61,27 +60,22 @@ impl<'a> Rights<'a> {
         self.roles
     }
 
-    /// Whether they have an action on a whole table.
-    fn may(&self, action: Action, table: &TableDefinition) -> bool
-        ensures { result ≡ meets self.now table.now
-            (privilege table.now.definition.name (on_table action)) }
-    {
-        is_whole(self.held(action, table))
-    }
-
-    /// Whether they have an action on each of these columns of a table, and where there are none, on
-    /// one at least.
-    pub(crate) fn may_each(
+    /// Whether they may write rows of a table: whether they have the action on each of these columns,
+    /// and where there are none, on one at least. DELETE they must have on the whole table.
+    pub(crate) fn may_write(
         &self,
         action: Action,
         table: &TableDefinition,
         columns: &[usize],
     ) -> bool
         ensures { result ≡ list_all (meets self.now table.now)
-            (on_columns_or_one table.now.definition.name action columns.now) }
+            (needs_of_write action table.now.definition.name columns.now) }
     {
         let mask = self.held(action, table);
-        covers_some(mask) && covers_each(mask, columns)
+        match action {
+            Action::Delete => is_whole(mask),
+            _ => covers_some(mask) && covers_each(mask, columns),
+        }
     }
 
     /// Whether they may read what new values and a condition read of their table.
@@ -111,28 +105,21 @@ impl<'a> Rights<'a> {
         covers_some(mask) && covers_query(mask, query, number, table.columns())
     }
 
-    /// Whether they have what an UPDATE needs that sets these columns.
-    pub(crate) fn may_update(
+    /// Whether they have what a statement needs that changes rows of a table, and may set these
+    /// columns.
+    pub(crate) fn may_change(
         &self,
+        action: Action,
         table: &TableDefinition,
         columns: &[usize],
         values: &[Typed],
         condition: &Option<Typed>,
     ) -> bool
         ensures { result ≡ list_all (meets self.now table.now)
-            (needs_of_update table.now.definition columns.now
+            (needs_of_change action table.now.definition columns.now
             (values_of values.now) (where_of condition.now)) }
     {
-        self.may_each(Action::Update, table, columns)
-            && self.may_read_changes(table, values, condition)
-    }
-
-    /// Whether they have what a DELETE needs.
-    pub(crate) fn may_delete(&self, table: &TableDefinition, condition: &Option<Typed>) -> bool
-        ensures { result ≡ list_all (meets self.now table.now)
-            (needs_of_delete table.now.definition (where_of condition.now)) }
-    {
-        self.may(Action::Delete, table) && self.may_read_changes(table, &[], condition)
+        self.may_write(action, table, columns) && self.may_read_changes(table, values, condition)
     }
 
     /// What they have of a table for an action, as a mask: bit 0 is set for the whole table, bit i + 1

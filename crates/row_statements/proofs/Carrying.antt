@@ -27,16 +27,14 @@ use Rattle.stored_database.specs.Definitions.{TableDefinition, Definitions}
 use Rattle.stored_database.specs.Records.{Shows}
 use Rattle.stored_database.proofs.Wholeness.{shown_described}
 use Rattle.planner.specs.declared.insert.InsertPlan.{InsertPlan}
-use Rattle.planner.specs.declared.update.UpdatePlan.{UpdatePlan}
-use Rattle.planner.specs.declared.delete.DeletePlan.{DeletePlan}
+use Rattle.planner.specs.declared.row_changes.ChangePlan.{ChangePlan}
 use Rattle.planner.specs.declared.plans.Plan.TheVariants as plan
 use Rattle.planner.specs.declared.sources.Source.{Source}
 use Rattle.planner.specs.Fitting.{GivesFittingRow, row_inserted, row_updated}
 use Rattle.planner.specs.Tables.{IsTableNamed}
 use Rattle.planner.specs.Plans.{IsChecked}
 use Rattle.planner.specs.Inserted.{checked_of as checked_insert_of}
-use Rattle.planner.specs.Updated.{checked_of as checked_update_of}
-use Rattle.planner.specs.Deleted.{checked_of as checked_delete_of}
+use Rattle.planner.specs.RowChanges.{changes_of, without_values}
 use Rattle.planner.proofs.Fitting.{layouts, inserts, updates}
 use Rattle.table_rows.specs.declared.change.RowChanges.{RowChanges}
 use Rattle.table_rows.specs.declared.target.Target.{Target}
@@ -103,19 +101,19 @@ module _ (records : Records) (ordered : IsOrdered records) (users : UserNames) w
 
   -- ---- DELETE
 
-  pub deletes : (p : DeletePlan) (target : Target) (condition : Option (Bor TypedTerm)) (made : Result RowChanges Stop) → IsTargetWhere users p.target p.condition condition target
+  pub deletes : (p : ChangePlan) (target : Target) (condition : Option (Bor TypedTerm)) (made : Result RowChanges Stop) → IsTargetWhere users p.target p.condition condition target
       → ((rows : List Row) (c : CheckedDelete) → IsLayout target.columns.now → HoldsRows target.id target.columns.now records rows → IsDelete target condition c
       → LosesNothing target condition → MakesChanges target.id target.columns.now records made (rows_deleted (sees target) (users_of target) c rows))
       → Performs records users (plan.Delete p) (effect_by (counted tag.Delete) made)
   deletes p target condition made at gives d db (over_rows.Delete s) shown c read =
-      changed tag.Delete d db s.table action.Delete p.reads p.target p.roles target made (λ existing new who rows. rows_deleted existing who (checked_delete_of p) rows) shown c at.is (λ rows fit layout held.
-      gives rows (checked_delete_of p) layout held (record { layout = sym at.is.layout; where_is = condition_is condition p.condition at.same }) at.lossless)
+      changed tag.Delete d db s.table action.Delete p.reads p.target p.roles target made (λ existing new who rows. rows_deleted existing who (without_values (changes_of p)) rows) shown c at.is (λ rows fit layout held.
+      gives rows (without_values (changes_of p)) layout held (record { layout = sym at.is.layout; where_is = condition_is condition p.condition at.same }) at.lossless)
   deletes p target condition made at gives d db s shown c read = absurd c
 
   -- ---- UPDATE
 
   -- rows that the plan makes are those that it is carried out with
-  updates_there : (p : UpdatePlan) (target : Target) (assignments : Assignments) (rows : List Row) → IsTargetOf users p.target target → assignments.columns.now ≡ p.columns → assignments.values.now ≡ p.values
+  updates_there : (p : ChangePlan) (target : Target) (assignments : Assignments) (rows : List Row) → IsTargetOf users p.target target → assignments.columns.now ≡ p.columns → assignments.values.now ≡ p.values
       → Each (λ (row : Row). GivesFittingRow p.target.table.now.definition.layout (row_updated users p row)) rows → GiveFittingRows target.columns.now (assigned_by target assignments) rows
   updates_there p target assignments rows is columns values fit =
       subst (λ (layout : Layout). GiveFittingRows layout (λ row. assigned (users_of target) assignments.columns.now (terms_in assignments.values.now) row) rows) (sym is.layout)
@@ -123,15 +121,15 @@ module _ (records : Records) (ordered : IsOrdered records) (users : UserNames) w
       (subst (λ (cs : List ℕ). GiveFittingRows p.target.table.now.definition.layout (λ row. assigned users cs (terms_in assignments.values.now) row) rows) (sym columns)
       (subst (λ (vs : List TypedTerm). GiveFittingRows p.target.table.now.definition.layout (λ row. assigned users p.columns (terms_in vs) row) rows) (sym values) fit)))
 
-  pub updates_rows : (p : UpdatePlan) (target : Target) (condition : Option (Bor TypedTerm)) (assignments : Assignments) (made : Result RowChanges Stop) → IsTargetWhere users p.target p.condition condition target
+  pub updates_rows : (p : ChangePlan) (target : Target) (condition : Option (Bor TypedTerm)) (assignments : Assignments) (made : Result RowChanges Stop) → IsTargetWhere users p.target p.condition condition target
       → assignments.columns.now ≡ p.columns → assignments.values.now ≡ p.values
       → ((rows : List Row) (c : CheckedUpdate) → IsLayout target.columns.now → HoldsRows target.id target.columns.now records rows → IsUpdate target condition assignments c
       → GiveFittingRows target.columns.now (assigned_by target assignments) rows
       → LosesNothing target condition → MakesChanges target.id target.columns.now records made (rows_updated (sees target) (admits target) (users_of target) c rows))
       → Performs records users (plan.Update p) (effect_by (counted tag.Update) made)
   updates_rows p target condition assignments made at columns values gives d db (over_rows.Update s) shown c read =
-      changed tag.Update d db s.table action.Update p.reads p.target p.roles target made (λ existing new who rows. rows_updated existing new who (checked_update_of p) rows) shown c at.is (λ rows fit layout held.
-      gives rows (checked_update_of p) layout held (record { layout = sym at.is.layout; columns = sym columns; values = ap terms_in (sym values); where_is = condition_is condition p.condition at.same })
+      changed tag.Update d db s.table action.Update p.reads p.target p.roles target made (λ existing new who rows. rows_updated existing new who (changes_of p) rows) shown c at.is (λ rows fit layout held.
+      gives rows (changes_of p) layout held (record { layout = sym at.is.layout; columns = sym columns; values = ap terms_in (sym values); where_is = condition_is condition p.condition at.same })
       (updates_there p target assignments rows at.is columns values (updates d db users s p rows (shown_described records d db shown) (read tt).0 (read tt).1 c fit)) at.lossless)
   updates_rows p target condition assignments made at columns values gives d db s shown c read = absurd c
 

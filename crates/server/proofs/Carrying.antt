@@ -1,11 +1,12 @@
 -- What a server makes of what was decided.
-use Rattle.std.proofs.Common.{◌≡◌, ℕ, Bool, true, false, nat_eq, ⊎_elim, refl, sym, ◌∙◌, ap, subst, Option, Some, None, List, [], ◌∷◌, Result, Ok, Err}
+use Rattle.std.proofs.Common.{◌≡◌, ℕ, Bool, true, false, nat_eq, ⊎_elim, refl, sym, ◌∙◌, ap, subst, Option, Some, None, List, [], ◌∷◌, Result, Ok, Err, OnOk, IfErr}
 use Rattle.sql_types.specs.declared.answer.Answer.{Answer}
 use Rattle.indexmap.specs.IndexMap.{insert_entry}
 use Rattle.sector_device.specs.Timeline.{IsPresent}
 use Rattle.storage_sizes.specs.declared.spelling.Spelling.TheVariants.{Second}
 use Rattle.store.specs.Records.{Records, Changes, applied}
-use Rattle.store.specs.Store.{Contents, StoreState, OnlyReads, Commits, Rose, HasDeviceCause}
+use Rattle.store.specs.Store.{Contents, StoreState, OnlyReads, Commits, Rose, HasDeviceCause, stored}
+use Rattle.store.specs.Contents.{changed_by_batch}
 use Rattle.store.specs.Readers.{HasRead}
 use Rattle.store.specs.declared.fault.StoreFault.{StoreFault}
 use Rattle.store.specs.declared.fault.StoreFault.TheVariants.{Full, Memory, Device, Number}
@@ -25,7 +26,7 @@ use Rattle.server.specs.declared.slot.Slot.{Slot}
 use Rattle.server.specs.declared.server.Server.{Server}
 use Rattle.server.specs.Slots.{definitions_or, records_under, definitions_under}
 use Rattle.server.specs.Standing.{Works, HolderShows}
-use Rattle.server.specs.Deeds.{machine_at, LeadsTo, WorksAs, Passes, Performs, DecidesAt, store_fault_of}
+use Rattle.server.specs.Deeds.{CommitsLists, machine_at, LeadsTo, WorksAs, Passes, Performs, DecidesAt, store_fault_of}
 use Rattle.server.proofs.Passing.{LeavesRecords, commit_refused, commit_fails, reads_pass, none_pass, read_fails, reads_then, reads_then_fail}
 
 never_both : (b : Bool) → b ≡ false → b ≡ true → ⊥
@@ -48,6 +49,10 @@ pub inserted_is : (sessions : List (ℕ × Session)) (number : ℕ) (s : Session
 inserted_is [] number s = refl
 inserted_is (e ∷ es) number s = rw (inserted_is es number s) refl
 
+-- the sessions where this one was inserted
+pub inserted_to : (sessions new : List (ℕ × Session)) (number : ℕ) (s : Session) → new ≡ insert_entry nat_eq sessions number s → new ≡ with_session sessions number s
+inserted_to sessions new number s is = is ∙ inserted_is sessions number s
+
 -- ---- the slot
 
 -- where nobody holds the slot it is free
@@ -63,6 +68,12 @@ slot_shows records d slot s holder h p q shows =
     let there : HolderShows records d (Some s) (Some h) =
     subst (λ (z : Option Slot). HolderShows records d z (Some h)) p (subst (λ (z : Option Holder). HolderShows records d slot z) q shows) in
     there.1
+
+-- where somebody holds the slot it is not free
+pub slot_is_held : (records : Records) (d : Definitions) (slot : Option Slot) (holder : Option Holder) (h : Holder) → holder ≡ Some h → HolderShows records d slot holder
+    → (s : Slot) × (slot ≡ Some s)
+slot_is_held records d (Some s) holder h is shows = (s, refl)
+slot_is_held records d None holder h is shows = absurd (subst (λ (z : Option Holder). HolderShows records d None z) is shows)
 
 -- a slot under which there are these records and definitions, with the changes of one more statement
 pub held_with : (records under : Records) (d before : Definitions) (slot : Option Slot) (cs : Changes) (change : Option SchemaChange) (lists : List Changes) (held : Option Definitions) (after : Database)
@@ -126,6 +137,18 @@ commit_err Reads state old new db holder d after answer m e Device sound w runs 
     let fails = commit_fails after (state old.store) (state new.store) old.catalogue d db m.committed c.history (c.at_once sound w.unfailed) w.second w.committed still shown
     (fresh_failures (state old.store) (state new.store) w.unfailed c.cause) (fresh_faults (state old.store) (state new.store) sound w.unfailed c.cause) in
     (record { answer = answer; machine = m }, next, calls, ap (λ z. z.entries) sessions, fails)
+
+-- a commit that was done, of changes that make of the records what the slot's lists make of them
+pub slot_committed : (r : Result (Unit {0}) StoreFault) (cs : Changes) (held : Option Slot) (old new : StoreState)
+    → ((slot : Slot) → held ≡ Some slot → old.sound → applied cs old.map ≡ applied_all slot.lists old.map)
+    → Commits r (changed_by_batch cs (stored old)) old new → OnOk r ((slot : Slot) → held ≡ Some slot → CommitsLists slot.lists old new)
+slot_committed (Ok x) cs held old new same commits = λ slot is sound. (cs, same slot is sound, commits)
+slot_committed (Err f) cs held old new same commits = tt
+
+-- it is enough to speak of the faults that there are
+pub each_fault : (r : Result (Unit {0}) StoreFault) (P : StoreFault → Type 0) → ((f : StoreFault) → r ≡ Err f → P f) → IfErr r P
+each_fault (Ok x) P each = tt
+each_fault (Err f) P each = each f refl
 
 -- ---- memory that is refused before the store is called
 

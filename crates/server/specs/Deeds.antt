@@ -2,8 +2,9 @@
 use Rattle.std.specs.Prelude.{◌≡◌, ◌⊎◌, ◌≤◌, ◌^◌, ◌-◌, ℕ, false, List, Option, Some, None, IsSome, Result, Ok, Err}
 use Rattle.sector_device.specs.Timeline.{LeavesOnly}
 use Rattle.sql_types.specs.declared.answer.Answer.{Answer}
-use Rattle.store.specs.Records.{Records}
-use Rattle.store.specs.Store.{StoreState, Contents, KeepsHistory, Rose}
+use Rattle.store.specs.Records.{Records, Changes, applied}
+use Rattle.store.specs.Store.{StoreState, Contents, KeepsHistory, Rose, Commits, stored}
+use Rattle.store.specs.Contents.{changed_by_batch}
 use Rattle.store.specs.declared.fault.StoreFault.{StoreFault}
 use Rattle.store.specs.declared.fault.StoreFault.TheVariants.{Full, Memory, Device, Number}
 use Rattle.store.specs.declared.fault.Fault.{Fault}
@@ -14,6 +15,7 @@ use Rattle.abstract_database.specs.Runs.{TheText, ReadingRelation, IsTransition,
 use Rattle.stored_database.specs.Definitions.{Definitions}
 use Rattle.catalogue.specs.Changes.{definitions_after}
 use Rattle.catalogue.specs.Executed.{Leads}
+use Rattle.transactions.specs.Views.{applied_all}
 use Rattle.server.specs.declared.deed.Deed.{Deed}
 use Rattle.server.specs.declared.deed.Deed.TheVariants as deed
 use Rattle.server.specs.declared.deed.SessionChange.{SessionChange}
@@ -132,6 +134,10 @@ Performs Reads state old new db holder e (Err Number) =
 Performs Reads state old new db holder e (Err Device) =
     (t : Transition) × IsTransition Reads (machine_at db holder old.sessions.entries) e t × MayCallStore (machine_at db holder old.sessions.entries) e
     × (new.sessions.entries ≡ old.sessions.entries) × Fails db t.machine.committed (state old.store) (state new.store)
+
+-- what these lists make of the records, one after the other, is committed
+abbrev pub CommitsLists : List Changes → StoreState → StoreState → Type 0
+CommitsLists lists old new = old.sound → (cs : Changes) × (applied cs old.map ≡ applied_all lists old.map) × Commits (Ok tt) (changed_by_batch cs (stored old)) old new
 
 -- whatever database and holder the store and the slot show
 abbrev pub Attempts : {S X : Type 0} → ReadingRelation → (S → StoreState) → Server S X → Server S X → MachineEvent TheText → Result Answer StoreFault → Type 0

@@ -1,6 +1,6 @@
 //! A server: a store, the write slot, and the sessions that are open over them.
 
-ghost use Rattle.std.specs.Prelude.{◌≡◌, ◌++◌, ◌+◌, length, List, Option, Some, None, OnOk, OnErr, slice_get, true, false};
+ghost use Rattle.std.specs.Prelude.{◌≡◌, ◌++◌, ◌+◌, length, List, Option, Some, None, Err, OnOk, OnErr, IfErr, slice_get, true, false};
 ghost use Rattle.std.specs.Option.{option_map};
 ghost use Rattle.sql_types.specs.declared.answer.Answer.{Answer as TheAnswer};
 ghost use Rattle.storage_sizes.specs.declared.spelling.Spelling.TheVariants.{Second};
@@ -12,13 +12,15 @@ ghost use Rattle.abstract_database.specs.Runs.{At};
 ghost use Rattle.stored_database.specs.Records.{Shows};
 ghost use Rattle.server.specs.Standing.{event_of, Represents, at_start};
 ghost use Rattle.server.specs.Runs.{Steps, Runs};
-ghost use Rattle.server.specs.Deeds.{Attempts, Carries, Concerns, after_change, store_fault_of};
+ghost use Rattle.server.specs.Deeds.{Attempts, Carries, CommitsLists, Concerns, after_change, store_fault_of};
+ghost use Rattle.server.specs.declared.deed.SessionChange.{SessionChange as TheChange};
+ghost use Rattle.server.specs.declared.slot.Slot.{Slot as TheSlot};
 ghost use Rattle.server.specs.declared.deed.Deed.TheVariants as deeds;
 
 use crate::decide::Decide;
 use crate::deed::{Deed, SessionChange};
 use crate::session::{BlockChange, Session};
-use crate::slot::{Slot, replace_catalogue};
+use crate::slot::Slot;
 use catalogue::change::SchemaChange;
 use catalogue::definitions::Catalogue;
 use catalogue::effect::Effect;
@@ -122,8 +124,10 @@ impl<S: Store, X: Decide> Server<S, X> {
         ensures { (w : At) → Represents S.state self.now w
             → result ≡ option_map (λ e. e.0) (slice_get w.standing.machine.sessions index) }
     {
-        let (number, _) = self.sessions.get_index(index)?;
-        Some(*number)
+        match self.sessions.get_index(index) {
+            Some((number, _)) => Some(*number),
+            None => None,
+        }
     }
 
     /// Makes one transition of the session machine and answers what it answers, or refuses the event
@@ -386,24 +390,33 @@ impl<S: Store, X: Decide> Server<S, X> {
         ensures carries { Carries X.Reads S.state self.old self.new
             (deeds.CommitSlot answer change) result }
     {
-        let Some(slot) = &self.slot else {
-            return Ok(answer);
-        };
-        joined_changes();
-        let joined = match slot.lists.joined() {
-            Ok(joined) => joined,
-            Err(_) => return Err(StoreFault::Memory),
-        };
-        let committed = self.store.commit(joined.batch());
-        // What it lends is of the slot, which ends.
-        drop(joined);
-        match committed {
+        match self.commit_held() {
             Ok(()) => {
                 self.end_slot();
                 change_sessions(&mut self.sessions, change);
                 Ok(answer)
             }
             Err(fault) => Err(fault),
+        }
+    }
+
+    // Commits what the write slot holds, if there is one. The slot stays.
+    fn commit_held(&mut self) -> Result<(), StoreFault>
+        ensures history { KeepsHistory (S.state self.old.store) (S.state self.new.store) }
+        ensures kept { self.new ≡ record self.old { store = self.new.store } }
+        ensures ok { OnOk result ((slot : TheSlot) → self.old.slot ≡ Some slot
+            → CommitsLists slot.lists (S.state self.old.store) (S.state self.new.store)) }
+        ensures err { IfErr result (λ fault. (answer : TheAnswer) (change : TheChange)
+            → Carries X.Reads S.state self.old self.new
+            (deeds.CommitSlot answer change) (Err fault)) }
+    {
+        let Some(slot) = &self.slot else {
+            return Ok(());
+        };
+        joined_changes();
+        match slot.lists.joined() {
+            Ok(joined) => self.store.commit(joined.batch()),
+            Err(_) => Err(StoreFault::Memory),
         }
     }
 
@@ -414,15 +427,9 @@ impl<S: Store, X: Decide> Server<S, X> {
           catalogue = definitions_under self.old.slot self.old.catalogue;
         } }
     {
-        let Some(slot) = self.slot.take() else {
-            return;
-        };
-        let Slot {
-            session: _,
-            lists: _,
-            catalogue,
-        } = slot;
-        replace_catalogue(&mut self.catalogue, catalogue);
+        if let Some(slot) = self.slot.take() {
+            slot.end(&mut self.catalogue);
+        }
     }
 }
 

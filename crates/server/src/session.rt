@@ -10,7 +10,7 @@ use std::mem;
 
 /// Whether a session is in a block, and the set role that it had at the block's BEGIN, which comes
 /// back with a ROLLBACK (SQL:2016 Foundation, 4.41; PostgreSQL manual, BEGIN and SET ROLE).
-#[derive(Debug, Drop)]
+#[derive(Drop)]
 pub enum Block {
     Outside,
     Inside(Name),
@@ -20,15 +20,25 @@ pub enum Block {
 
 /// An open session: the role that it was opened for, the role that it has set, and its block.
 /// Contracts see it as a session of the session machine.
-#[derive(Debug, Drop)]
 pub struct Session {
     pub login: Name,
     pub role: Name,
     pub block: Block,
 }
 
+// Written and not derived: where a value is dropped this is one call, and not its parts one by one.
+impl Drop for Session {
+    fn drop(self) {
+        let Session {
+            login: _,
+            role: _,
+            block: _,
+        } = self;
+    }
+}
+
 /// What may become of a session's block without memory.
-#[derive(Clone, Copy, Debug, PartialEq, Eq)]
+#[derive(Clone, Copy)]
 pub enum BlockChange {
     /// The block is failed.
     Fail,

@@ -16,11 +16,21 @@ use transactions::ChangeLists;
 
 /// The changes of the session that holds the write slot, and the definitions under them, or `None`
 /// where no statement changed the definitions.
-#[derive(Drop)]
 pub struct Slot {
     pub session: u32,
     pub lists: ChangeLists,
     pub catalogue: Option<Catalogue>,
+}
+
+// Written and not derived: where a value is dropped this is one call, and not its parts one by one.
+impl Drop for Slot {
+    fn drop(self) {
+        let Slot {
+            session: _,
+            lists: _,
+            catalogue: _,
+        } = self;
+    }
 }
 
 impl Slot {
@@ -32,6 +42,21 @@ impl Slot {
             session,
             lists: ChangeLists::new(alloc),
             catalogue: None,
+        }
+    }
+
+    // The slot's changes are committed: the definitions under them, if they changed, come in place of
+    // these.
+    pub(crate) fn end(self, committed: &mut Catalogue)
+        ensures { committed.new ≡ definitions_or self.catalogue committed.old }
+    {
+        let Slot {
+            session: _,
+            lists: _,
+            catalogue,
+        } = self;
+        if let Some(next) = catalogue {
+            *committed = next;
         }
     }
 
@@ -106,7 +131,11 @@ impl Slot {
             (self.new.catalogue ≡ Some (changed change committed.now)) }
         ensures err { OnErr result (self.new ≡ self.old) }
     {
-        let copy = committed.try_copy(alloc)?;
+        let Ok(copy) = committed.try_copy(alloc) else {
+            // One call, and not its parts one by one.
+            drop(change);
+            return Err(AllocError);
+        };
         match record_change(&mut self.lists, copy, changes, change) {
             Ok(next) => {
                 self.catalogue = Some(next);
@@ -135,15 +164,5 @@ fn record_change(
     match lists.record(changes) {
         Ok(()) => Ok(staged.make()),
         Err(_) => Err(staged.give_up()),
-    }
-}
-
-// Puts the definitions after a change in place of those before it.
-pub(crate) fn replace_catalogue(catalogue: &mut Catalogue, next: Option<Catalogue>)
-    ensures { catalogue.new ≡ definitions_or next catalogue.old }
-{
-    match next {
-        Some(next) => *catalogue = next,
-        None => {}
     }
 }

@@ -1,5 +1,6 @@
 mod Within
 mod Walks
+mod Stepwise
 mod Second
 mod Apart
 pub mod Table

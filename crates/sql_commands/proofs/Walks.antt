@@ -22,6 +22,9 @@ pub record Lost {A : Type 0} (p : Phrase A) (ts : List Lexeme) (i : ℕ) (e : Pa
 pub read : {A : Type 0} {p : Phrase A} {ts : List Lexeme} {i j : ℕ} {x : A} → is_determined p ≡ true → Found p ts i j x → IsReading p ts i j x
 read w r = r.reading w
 
+pub lost : {A : Type 0} {p : Phrase A} {ts : List Lexeme} {i : ℕ} {e : ParseError} → is_determined p ≡ true → Lost p ts i e → HasNoReading p ts i e
+lost w r = r.no_reading w
+
 -- a part's failure is passed on
 pub fails : {A : Type 0} (p : Phrase A) {ts : List Lexeme} {i : ℕ} {e : ParseError} (r : Result (A × ℕ) ParseError) → is_determined p ≡ true → Lost p ts i e → IsErrAnd r (λ d. d ≡ e) → Reads p ts i r
 fails p (Ok x) w l h = absurd h

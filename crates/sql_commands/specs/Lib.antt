@@ -1,2 +1,4 @@
 pub mod Commands
 pub mod Statements
+pub mod Steps
+pub mod Determined

@@ -1,6 +1,6 @@
 //! The productions that are single names, numbers and expressions.
 
-use crate::production::{KnownProduction, Production};
+use crate::production::{KnownProduction, Part, Production};
 use expr_parser::parse_error::ParseError;
 use expr_parser::parser::expr_at;
 use expr_parser::reader::{kind_at, name_at};
@@ -10,9 +10,11 @@ use sql_lexer::token::{Token, TokenKind};
 use sql_types::name::Name;
 use std::alloc::Global;
 
-impl Production for Name {
+impl Part for Name {
     ghost use Rattle.std.specs.Prelude.{refl};
     ghost use Rattle.sql_grammar.specs.Phrases.{name as a_name};
+
+    type Value = Name;
 
     ghost phrase = { a_name };
 
@@ -24,6 +26,12 @@ impl Production for Name {
     }
 
     ghost determined = { refl };
+}
+
+impl Production for Name {
+    ghost use Rattle.std.specs.Prelude.{refl};
+
+    ghost listable = { refl };
 }
 
 impl KnownProduction for Name {
@@ -41,9 +49,11 @@ impl KnownProduction for Name {
     ghost repeatable = { refl };
 }
 
-impl Production for Expr {
+impl Part for Expr {
     ghost use Rattle.std.specs.Prelude.{refl};
     ghost use Rattle.sql_grammar.specs.Phrases.{expr as an_expression};
+
+    type Value = Expr;
 
     ghost phrase = { an_expression };
 
@@ -57,10 +67,18 @@ impl Production for Expr {
     ghost determined = { refl };
 }
 
+impl Production for Expr {
+    ghost use Rattle.std.specs.Prelude.{refl};
+
+    ghost listable = { refl };
+}
+
 /// A number below 2^63 is a production.
-impl Production for u64 {
+impl Part for u64 {
     ghost use Rattle.std.specs.Prelude.{refl};
     ghost use Rattle.sql_grammar.specs.Phrases.{number as a_number};
+
+    type Value = u64;
 
     ghost phrase = { a_number };
 
@@ -69,4 +87,10 @@ impl Production for u64 {
     }
 
     ghost determined = { refl };
+}
+
+impl Production for u64 {
+    ghost use Rattle.std.specs.Prelude.{refl};
+
+    ghost listable = { refl };
 }

@@ -12,7 +12,6 @@
 //! [`whole::statement`] reads all tokens of a text as one command, and `sql_parser` stands on it.
 #![tactic(auto)]
 
-mod clause;
 pub mod command;
 pub mod laws;
 mod leaves;
@@ -27,6 +26,7 @@ mod repeated;
 pub mod roles;
 pub mod rows;
 mod sort_value;
+mod steps;
 pub mod tables;
 pub mod transactions;
 pub mod whole;

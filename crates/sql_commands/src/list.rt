@@ -1,62 +1,84 @@
 //! Lists: productions with a comma between two, and such lists in parentheses.
 
-ghost use Rattle.sql_lexer.specs.Lexeme.{lexemes};
-ghost use Rattle.sql_grammar.specs.Phrases.{listed, optional, parenthesized};
-ghost use Rattle.sql_grammar.specs.LookAhead.{Reads};
-
-use crate::production::Production;
+use crate::production::{KnownProduction, Part, Production};
+use crate::steps::{then, token};
 use expr_parser::parse_error::ParseError;
 use expr_parser::reader::has;
-use sql_grammar::expect::expect;
 use sql_lexer::token::{Punctuation, Token, TokenKind};
 use sql_types::items::Items;
 use std::alloc::Global;
+use std::marker::PhantomData;
 
-/// `phrase {"," phrase}`: a list with a comma between two, and the end of the last.
-pub fn list<T: Production>(
-    alloc: Global,
-    tokens: &[Token],
-    at: usize,
-) -> Result<(Items<T>, usize), ParseError>
-    ensures { Reads (listed T.phrase) (lexemes tokens.now) at result }
-{
-    let (first, mut end) = T::read(alloc, tokens, at)?;
-    let mut items = Items::new(alloc);
-    items.push(first)?;
-    while has(tokens, end, TokenKind::Punctuation(Punctuation::Comma)) {
-        let (item, next) = T::read(alloc, tokens, end + 1)?;
-        items.push(item)?;
-        end = next;
+/// `phrase {"," phrase}`: a list with a comma between two.
+pub struct ListOf<T>(PhantomData<T>);
+
+impl<T: Production> Part for ListOf<T> {
+    ghost use Rattle.sql_grammar.specs.Phrases.{listed};
+    ghost use Rattle.sql_commands.specs.Determined.{list_determined};
+
+    type Value = Items<T::Value>;
+
+    ghost phrase = { listed T.phrase };
+
+    fn read(
+        alloc: Global,
+        tokens: &[Token],
+        at: usize,
+    ) -> Result<(Items<T::Value>, usize), ParseError> {
+        let (first, mut end) = T::read(alloc, tokens, at)?;
+        let mut items = Items::new(alloc);
+        items.push(first)?;
+        while has(tokens, end, TokenKind::Punctuation(Punctuation::Comma)) {
+            let (item, next) = T::read(alloc, tokens, end + 1)?;
+            items.push(item)?;
+            end = next;
+        }
+        Ok((items, end))
     }
-    Ok((items, end))
+
+    ghost determined = { list_determined T.phrase T.listable };
 }
 
-/// `"(" phrase {"," phrase} ")"`: a list in parentheses, and its end.
-pub fn in_parentheses<T: Production>(
-    alloc: Global,
-    tokens: &[Token],
-    at: usize,
-) -> Result<(Items<T>, usize), ParseError>
-    ensures { Reads (parenthesized T.phrase) (lexemes tokens.now) at result }
-{
-    let first = expect(tokens, at, TokenKind::Punctuation(Punctuation::Open))?;
-    let (items, end) = list::<T>(alloc, tokens, first)?;
-    let end = expect(tokens, end, TokenKind::Punctuation(Punctuation::Close))?;
-    Ok((items, end))
+/// `"(" phrase {"," phrase} ")"`: a list in parentheses.
+pub struct InParentheses<T>(PhantomData<T>);
+
+impl<T: Production> Part for InParentheses<T> {
+    ghost use Rattle.sql_grammar.specs.Phrases.{parenthesized};
+
+    type Value = Items<T::Value>;
+
+    ghost phrase = { parenthesized T.phrase };
+
+    fn read(
+        alloc: Global,
+        tokens: &[Token],
+        at: usize,
+    ) -> Result<(Items<T::Value>, usize), ParseError> {
+        let read = token(
+            tokens,
+            Ok(((), at)),
+            TokenKind::Punctuation(Punctuation::Open),
+        );
+        let read = then::<_, ListOf<T>>(alloc, tokens, read);
+        let (((), items), end) = token(tokens, read, TokenKind::Punctuation(Punctuation::Close))?;
+        Ok((items, end))
+    }
+
+    ghost determined = { T.listable };
 }
 
-/// `["(" phrase {"," phrase} ")"]`: a list in parentheses, or nothing where no parenthesis opens,
-/// and the end.
-pub fn optional_list<T: Production>(
-    alloc: Global,
-    tokens: &[Token],
-    at: usize,
-) -> Result<(Option<Items<T>>, usize), ParseError>
-    ensures { Reads (optional (parenthesized T.phrase)) (lexemes tokens.now) at result }
-{
-    if !has(tokens, at, TokenKind::Punctuation(Punctuation::Open)) {
-        return Ok((None, at));
+impl<T: Production> Production for InParentheses<T> {
+    ghost use Rattle.sql_commands.specs.Determined.{lists_determined};
+
+    ghost listable = { lists_determined T.phrase T.listable };
+}
+
+impl<T: Production> KnownProduction for InParentheses<T> {
+    ghost use Rattle.sql_commands.specs.Determined.{lists_repeated};
+
+    fn begins(tokens: &[Token], at: usize) -> bool {
+        has(tokens, at, TokenKind::Punctuation(Punctuation::Open))
     }
-    let (items, end) = in_parentheses::<T>(alloc, tokens, at)?;
-    Ok((Some(items), end))
+
+    ghost repeatable = { lists_repeated T.phrase T.listable };
 }

@@ -4,15 +4,14 @@ ghost use Rattle.sql_lexer.specs.Lexeme.{lexemes};
 ghost use Rattle.sql_grammar.specs.LookAhead.{Reads};
 ghost use Rattle.sql_commands.specs.Commands.{grant_role as a_grant_role, revoke_role as a_revoke_role, revoke_admin_option as a_revoke_admin_option};
 
-use crate::list::list;
+use crate::list::ListOf;
 use crate::privileges::BEHAVIORS;
+use crate::steps::{then, three_words, token};
 use expr_parser::parse_error::ParseError;
 use sql_ast::statement::{
     DatabaseStatement, DefiningStatement, Grant, GrantRole, Revoke, RevokeRole, Statement,
 };
-use sql_grammar::expect::{reserved, unreserved};
 use sql_grammar::word_of::optional_word_of;
-use sql_grammar::words::three_words;
 use sql_lexer::token::{Reserved, Token, TokenKind, Unreserved};
 use sql_types::name::Name;
 use std::alloc::Global;
@@ -21,13 +20,13 @@ use std::alloc::Global;
 pub fn grant_role(alloc: Global, tokens: &[Token]) -> Result<(Statement, usize), ParseError>
     ensures { Reads a_grant_role (lexemes tokens.now) 0 result }
 {
-    let at_roles = reserved(tokens, 0, Reserved::Grant)?;
-    let (roles, at_to) = list::<Name>(alloc, tokens, at_roles)?;
-    let at_members = reserved(tokens, at_to, Reserved::To)?;
-    let (members, end) = list::<Name>(alloc, tokens, at_members)?;
-    let (with_admin_option, end) = three_words(
+    let read = token(tokens, Ok(((), 0)), TokenKind::Reserved(Reserved::Grant));
+    let read = then::<_, ListOf<Name>>(alloc, tokens, read);
+    let read = token(tokens, read, TokenKind::Reserved(Reserved::To));
+    let read = then::<_, ListOf<Name>>(alloc, tokens, read);
+    let (((((), roles), members), with_admin_option), end) = three_words(
         tokens,
-        end,
+        read,
         TokenKind::Reserved(Reserved::With),
         TokenKind::Unreserved(Unreserved::Admin),
         TokenKind::Unreserved(Unreserved::Option),
@@ -48,10 +47,14 @@ pub fn grant_role(alloc: Global, tokens: &[Token]) -> Result<(Statement, usize),
 pub fn revoke_role(alloc: Global, tokens: &[Token]) -> Result<(Statement, usize), ParseError>
     ensures { Reads a_revoke_role (lexemes tokens.now) 0 result }
 {
-    let at_roles = unreserved(tokens, 0, Unreserved::Revoke)?;
-    let (roles, at_from) = list::<Name>(alloc, tokens, at_roles)?;
-    let at_members = reserved(tokens, at_from, Reserved::From)?;
-    let (members, at_behavior) = list::<Name>(alloc, tokens, at_members)?;
+    let read = token(
+        tokens,
+        Ok(((), 0)),
+        TokenKind::Unreserved(Unreserved::Revoke),
+    );
+    let read = then::<_, ListOf<Name>>(alloc, tokens, read);
+    let read = token(tokens, read, TokenKind::Reserved(Reserved::From));
+    let ((((), roles), members), at_behavior) = then::<_, ListOf<Name>>(alloc, tokens, read)?;
     let (behavior, end) = optional_word_of(tokens, at_behavior, &BEHAVIORS);
     Ok((
         Statement::OnDatabase(DatabaseStatement::Defining(DefiningStatement::RevokeRole(
@@ -73,13 +76,17 @@ pub fn revoke_admin_option(
 ) -> Result<(Statement, usize), ParseError>
     ensures { Reads a_revoke_admin_option (lexemes tokens.now) 0 result }
 {
-    let at_admin = unreserved(tokens, 0, Unreserved::Revoke)?;
-    let at_option = unreserved(tokens, at_admin, Unreserved::Admin)?;
-    let at_for = unreserved(tokens, at_option, Unreserved::Option)?;
-    let at_roles = reserved(tokens, at_for, Reserved::For)?;
-    let (roles, at_from) = list::<Name>(alloc, tokens, at_roles)?;
-    let at_members = reserved(tokens, at_from, Reserved::From)?;
-    let (members, at_behavior) = list::<Name>(alloc, tokens, at_members)?;
+    let read = token(
+        tokens,
+        Ok(((), 0)),
+        TokenKind::Unreserved(Unreserved::Revoke),
+    );
+    let read = token(tokens, read, TokenKind::Unreserved(Unreserved::Admin));
+    let read = token(tokens, read, TokenKind::Unreserved(Unreserved::Option));
+    let read = token(tokens, read, TokenKind::Reserved(Reserved::For));
+    let read = then::<_, ListOf<Name>>(alloc, tokens, read);
+    let read = token(tokens, read, TokenKind::Reserved(Reserved::From));
+    let ((((), roles), members), at_behavior) = then::<_, ListOf<Name>>(alloc, tokens, read)?;
     let (behavior, end) = optional_word_of(tokens, at_behavior, &BEHAVIORS);
     Ok((
         Statement::OnDatabase(DatabaseStatement::Defining(DefiningStatement::RevokeRole(

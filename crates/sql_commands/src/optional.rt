@@ -1,25 +1,33 @@
 //! Productions that may be left out.
 
-ghost use Rattle.sql_lexer.specs.Lexeme.{lexemes};
-ghost use Rattle.sql_grammar.specs.Phrases.{optional as optional_phrase};
-ghost use Rattle.sql_grammar.specs.LookAhead.{Reads};
-
-use crate::production::KnownProduction;
+use crate::production::{KnownProduction, Part};
 use expr_parser::parse_error::ParseError;
 use sql_lexer::token::Token;
 use std::alloc::Global;
+use std::marker::PhantomData;
 
-/// `[phrase]`: a production, or nothing where no token begins it, and the end.
-pub fn optional<T: KnownProduction>(
-    alloc: Global,
-    tokens: &[Token],
-    at: usize,
-) -> Result<(Option<T>, usize), ParseError>
-    ensures { Reads (optional_phrase T.phrase) (lexemes tokens.now) at result }
-{
-    if !T::begins(tokens, at) {
-        return Ok((None, at));
+/// `[phrase]`: a production, or nothing where no token begins it.
+pub struct Optional<T>(PhantomData<T>);
+
+impl<T: KnownProduction> Part for Optional<T> {
+    ghost use Rattle.sql_grammar.specs.Phrases.{optional};
+    ghost use Rattle.sql_commands.specs.Determined.{optional_determined};
+
+    type Value = Option<T::Value>;
+
+    ghost phrase = { optional T.phrase };
+
+    fn read(
+        alloc: Global,
+        tokens: &[Token],
+        at: usize,
+    ) -> Result<(Option<T::Value>, usize), ParseError> {
+        if !T::begins(tokens, at) {
+            return Ok((None, at));
+        }
+        let (item, end) = T::read(alloc, tokens, at)?;
+        Ok((Some(item), end))
     }
-    let (item, end) = T::read(alloc, tokens, at)?;
-    Ok((Some(item), end))
+
+    ghost determined = { optional_determined T.phrase T.listable };
 }

@@ -3,10 +3,12 @@
 ghost use Rattle.sql_lexer.specs.Lexeme.{ArePlaced, lexemes};
 ghost use Rattle.sql_grammar.specs.LookAhead.{Reads};
 ghost use Rattle.sql_grammar.specs.Phrases.{clause as a_clause, optional};
+ghost use Rattle.sql_commands.specs.Steps.{ReadsNext};
 ghost use Rattle.sql_commands.specs.Commands.{a_check, a_using, create_policy as a_create_policy, drop_policy as a_drop_policy, enclosed as an_enclosed};
 
-use crate::clause::{after_word, list_after_word};
-use crate::production::Production;
+use crate::list::ListOf;
+use crate::production::{Part, Production};
+use crate::steps::{after_word, then, token};
 use expr_parser::parse_error::ParseError;
 use expr_parser::reader::has;
 use sql_ast::expr::Expr;
@@ -15,7 +17,7 @@ use sql_ast::privilege::{Action, Grantee};
 use sql_ast::statement::{
     CreatePolicy, DatabaseStatement, DefiningStatement, DropPolicy, Statement,
 };
-use sql_grammar::expect::{punctuation, reserved, unreserved};
+use sql_grammar::expect::{punctuation, reserved};
 use sql_grammar::word_of::word_of;
 use sql_lexer::slice::text_between;
 use sql_lexer::token::{Punctuation, Reserved, Token, TokenKind, Unreserved};
@@ -36,9 +38,11 @@ const KINDS: [(TokenKind, PolicyKind); 2] = [
 ];
 
 /// `PERMISSIVE | RESTRICTIVE`
-impl Production for PolicyKind {
+impl Part for PolicyKind {
     ghost use Rattle.std.specs.Prelude.{refl};
     ghost use Rattle.sql_commands.specs.Commands.{a_policy_kind};
+
+    type Value = PolicyKind;
 
     ghost phrase = { a_policy_kind };
 
@@ -47,6 +51,12 @@ impl Production for PolicyKind {
     }
 
     ghost determined = { refl };
+}
+
+impl Production for PolicyKind {
+    ghost use Rattle.std.specs.Prelude.{refl};
+
+    ghost listable = { refl };
 }
 
 // ALL | SELECT | INSERT | UPDATE | DELETE
@@ -71,9 +81,11 @@ const COMMANDS: [(TokenKind, PolicyCommand); 5] = [
 ];
 
 /// `ALL | SELECT | INSERT | UPDATE | DELETE`
-impl Production for PolicyCommand {
+impl Part for PolicyCommand {
     ghost use Rattle.std.specs.Prelude.{refl};
     ghost use Rattle.sql_commands.specs.Commands.{a_policy_command};
+
+    type Value = PolicyCommand;
 
     ghost phrase = { a_policy_command };
 
@@ -82,6 +94,12 @@ impl Production for PolicyCommand {
     }
 
     ghost determined = { refl };
+}
+
+impl Production for PolicyCommand {
+    ghost use Rattle.std.specs.Prelude.{refl};
+
+    ghost listable = { refl };
 }
 
 // An expression, and the slice of the source that it is written as.
@@ -115,39 +133,41 @@ fn enclosed(
     Ok((clause, end))
 }
 
-// [USING "(" expr ")"]
-fn using(
+// [USING "(" expr ")"], after what is read so far
+fn using<A: Drop>(
     alloc: Global,
     source: &str,
     tokens: &[Token],
-    at: usize,
-) -> Result<(Option<PolicyClause>, usize), ParseError>
+    read: Result<(A, usize), ParseError>,
+) -> Result<((A, Option<PolicyClause>), usize), ParseError>
     requires { ArePlaced source.now (lexemes tokens.now) }
-    ensures { Reads (optional (a_using source.now)) (lexemes tokens.now) at result }
+    ensures { ReadsNext (optional (a_using source.now)) (lexemes tokens.now) read result }
 {
+    let (values, at) = read?;
     if !has(tokens, at, TokenKind::Reserved(Reserved::Using)) {
-        return Ok((None, at));
+        return Ok(((values, None), at));
     }
     let (clause, end) = enclosed(alloc, source, tokens, at + 1)?;
-    Ok((Some(clause), end))
+    Ok(((values, Some(clause)), end))
 }
 
-// [WITH CHECK "(" expr ")"]
-fn check(
+// [WITH CHECK "(" expr ")"], after what is read so far
+fn check<A: Drop>(
     alloc: Global,
     source: &str,
     tokens: &[Token],
-    at: usize,
-) -> Result<(Option<PolicyClause>, usize), ParseError>
+    read: Result<(A, usize), ParseError>,
+) -> Result<((A, Option<PolicyClause>), usize), ParseError>
     requires { ArePlaced source.now (lexemes tokens.now) }
-    ensures { Reads (optional (a_check source.now)) (lexemes tokens.now) at result }
+    ensures { ReadsNext (optional (a_check source.now)) (lexemes tokens.now) read result }
 {
+    let (values, at) = read?;
     if !has(tokens, at, TokenKind::Reserved(Reserved::With)) {
-        return Ok((None, at));
+        return Ok(((values, None), at));
     }
     let at_clause = reserved(tokens, at + 1, Reserved::Check)?;
     let (clause, end) = enclosed(alloc, source, tokens, at_clause)?;
-    Ok((Some(clause), end))
+    Ok(((values, Some(clause)), end))
 }
 
 /// `CREATE POLICY name ON name [AS (PERMISSIVE | RESTRICTIVE)] [FOR (ALL | action)] [TO grantees]
@@ -161,16 +181,28 @@ pub fn create_policy(
     requires { ArePlaced source.now (lexemes tokens.now) }
     ensures { Reads (a_create_policy source.now) (lexemes tokens.now) 0 result }
 {
-    let at_policy = reserved(tokens, 0, Reserved::Create)?;
-    let at_name = unreserved(tokens, at_policy, Unreserved::Policy)?;
-    let (policy, at_on) = Name::read(alloc, tokens, at_name)?;
-    let at_table = reserved(tokens, at_on, Reserved::On)?;
-    let (table, end) = Name::read(alloc, tokens, at_table)?;
-    let (kind, end) = after_word(alloc, tokens, end, TokenKind::Reserved(Reserved::As))?;
-    let (command, end) = after_word(alloc, tokens, end, TokenKind::Reserved(Reserved::For))?;
-    let (grantees, end) = list_after_word(alloc, tokens, end, TokenKind::Reserved(Reserved::To))?;
-    let (using, end) = using(alloc, source, tokens, end)?;
-    let (check, end) = check(alloc, source, tokens, end)?;
+    let read = token(tokens, Ok(((), 0)), TokenKind::Reserved(Reserved::Create));
+    let read = token(tokens, read, TokenKind::Unreserved(Unreserved::Policy));
+    let read = then::<_, Name>(alloc, tokens, read);
+    let read = token(tokens, read, TokenKind::Reserved(Reserved::On));
+    let read = then::<_, Name>(alloc, tokens, read);
+    let read = after_word::<_, PolicyKind>(alloc, tokens, read, TokenKind::Reserved(Reserved::As));
+    let read = after_word::<_, PolicyCommand>(
+        alloc,
+        tokens,
+        read,
+        TokenKind::Reserved(Reserved::For),
+    );
+    let read = after_word::<_, ListOf<Grantee>>(
+        alloc,
+        tokens,
+        read,
+        TokenKind::Reserved(Reserved::To),
+    );
+    let read = using(alloc, source, tokens, read);
+    let (((((((((), policy), table), kind), command), grantees), using), check), end) = check(
+        alloc, source, tokens, read,
+    )?;
     Ok((
         Statement::OnDatabase(DatabaseStatement::Defining(DefiningStatement::CreatePolicy(
             CreatePolicy {
@@ -191,11 +223,11 @@ pub fn create_policy(
 pub fn drop_policy(alloc: Global, tokens: &[Token]) -> Result<(Statement, usize), ParseError>
     ensures { Reads a_drop_policy (lexemes tokens.now) 0 result }
 {
-    let at_policy = unreserved(tokens, 0, Unreserved::Drop)?;
-    let at_name = unreserved(tokens, at_policy, Unreserved::Policy)?;
-    let (policy, at_on) = Name::read(alloc, tokens, at_name)?;
-    let at_table = reserved(tokens, at_on, Reserved::On)?;
-    let (table, end) = Name::read(alloc, tokens, at_table)?;
+    let read = token(tokens, Ok(((), 0)), TokenKind::Unreserved(Unreserved::Drop));
+    let read = token(tokens, read, TokenKind::Unreserved(Unreserved::Policy));
+    let read = then::<_, Name>(alloc, tokens, read);
+    let read = token(tokens, read, TokenKind::Reserved(Reserved::On));
+    let ((((), policy), table), end) = then::<_, Name>(alloc, tokens, read)?;
     Ok((
         Statement::OnDatabase(DatabaseStatement::Defining(DefiningStatement::DropPolicy(DropPolicy {
             policy,

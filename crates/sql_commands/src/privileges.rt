@@ -2,10 +2,12 @@
 
 ghost use Rattle.sql_lexer.specs.Lexeme.{lexemes};
 ghost use Rattle.sql_grammar.specs.LookAhead.{Reads};
-ghost use Rattle.sql_commands.specs.Commands.{grant as a_grant, revoke as a_revoke, some_privileges};
+ghost use Rattle.sql_commands.specs.Commands.{grant as a_grant, revoke as a_revoke};
 
-use crate::list::{list, optional_list};
-use crate::production::Production;
+use crate::list::{InParentheses, ListOf};
+use crate::optional::Optional;
+use crate::production::{Part, Production};
+use crate::steps::{skip, then, three_words, token};
 use expr_parser::parse_error::ParseError;
 use expr_parser::reader::has;
 use sql_ast::privilege::{Action, Grantee};
@@ -13,9 +15,7 @@ use sql_ast::statement::{
     DatabaseStatement, DefiningStatement, Delete, DropBehavior, Grant, Insert, NamedAction,
     Privileges, Revoke, Select, Statement, Update,
 };
-use sql_grammar::expect::{reserved, unreserved};
 use sql_grammar::word_of::{optional_word_of, word_of};
-use sql_grammar::words::{skip, three_words};
 use sql_lexer::token::{Reserved, Token, TokenKind, Unreserved};
 use sql_types::name::Name;
 use std::alloc::Global;
@@ -40,10 +40,28 @@ const ACTIONS: [(TokenKind, Action); 4] = [
     (TokenKind::Unreserved(Unreserved::Delete), Action::Delete),
 ];
 
+/// `SELECT | INSERT | UPDATE | DELETE`
+impl Part for Action {
+    ghost use Rattle.std.specs.Prelude.{refl};
+    ghost use Rattle.sql_commands.specs.Commands.{an_action};
+
+    type Value = Action;
+
+    ghost phrase = { an_action };
+
+    fn read(_: Global, tokens: &[Token], at: usize) -> Result<(Action, usize), ParseError> {
+        word_of(tokens, at, &ACTIONS)
+    }
+
+    ghost determined = { refl };
+}
+
 /// `(SELECT | INSERT | UPDATE | DELETE) ["(" names ")"]`
-impl Production for NamedAction {
+impl Part for NamedAction {
     ghost use Rattle.std.specs.Prelude.{refl};
     ghost use Rattle.sql_commands.specs.Commands.{a_named_action};
+
+    type Value = NamedAction;
 
     ghost phrase = { a_named_action };
 
@@ -52,18 +70,28 @@ impl Production for NamedAction {
         tokens: &[Token],
         at: usize,
     ) -> Result<(NamedAction, usize), ParseError> {
-        let (action, at_columns) = word_of(tokens, at, &ACTIONS)?;
-        let (columns, end) = optional_list::<Name>(alloc, tokens, at_columns)?;
+        let read = then::<_, Action>(alloc, tokens, Ok(((), at)));
+        let ((((), action), columns), end) = then::<_, Optional<InParentheses<Name>>>(
+            alloc, tokens, read,
+        )?;
         Ok((NamedAction { action, columns }, end))
     }
 
     ghost determined = { refl };
 }
 
+impl Production for NamedAction {
+    ghost use Rattle.std.specs.Prelude.{refl};
+
+    ghost listable = { refl };
+}
+
 /// `PUBLIC | name`
-impl Production for Grantee {
+impl Part for Grantee {
     ghost use Rattle.std.specs.Prelude.{refl};
     ghost use Rattle.sql_commands.specs.Commands.{a_grantee};
+
+    type Value = Grantee;
 
     ghost phrase = { a_grantee };
 
@@ -78,37 +106,55 @@ impl Production for Grantee {
     ghost determined = { refl };
 }
 
-// ALL [PRIVILEGES] ["(" names ")"] | action {"," action}, where an action may have columns of its own
-fn privileges(alloc: Global, tokens: &[Token], at: usize) -> Result<(Privileges, usize), ParseError>
-    ensures { Reads some_privileges (lexemes tokens.now) at result }
-{
-    if has(tokens, at, TokenKind::Reserved(Reserved::All)) {
-        let at_columns = skip(
-            tokens,
-            at + 1,
-            TokenKind::Unreserved(Unreserved::Privileges),
-        );
-        let (columns, end) = optional_list::<Name>(alloc, tokens, at_columns)?;
-        return Ok((Privileges::All(columns), end));
+impl Production for Grantee {
+    ghost use Rattle.std.specs.Prelude.{refl};
+
+    ghost listable = { refl };
+}
+
+/// `ALL [PRIVILEGES] ["(" names ")"] | action {"," action}`, where an action may have columns of its
+/// own.
+impl Part for Privileges {
+    ghost use Rattle.std.specs.Prelude.{refl};
+    ghost use Rattle.sql_commands.specs.Commands.{some_privileges};
+
+    type Value = Privileges;
+
+    ghost phrase = { some_privileges };
+
+    fn read(alloc: Global, tokens: &[Token], at: usize) -> Result<(Privileges, usize), ParseError> {
+        if has(tokens, at, TokenKind::Reserved(Reserved::All)) {
+            let read = skip(
+                tokens,
+                Ok(((), at + 1)),
+                TokenKind::Unreserved(Unreserved::Privileges),
+            );
+            let ((((), ()), columns), end) = then::<_, Optional<InParentheses<Name>>>(
+                alloc, tokens, read,
+            )?;
+            return Ok((Privileges::All(columns), end));
+        }
+        let (actions, end) = ListOf::<NamedAction>::read(alloc, tokens, at)?;
+        Ok((Privileges::Actions(actions), end))
     }
-    let (actions, end) = list::<NamedAction>(alloc, tokens, at)?;
-    Ok((Privileges::Actions(actions), end))
+
+    ghost determined = { refl };
 }
 
 /// `GRANT privileges ON [TABLE] name TO grantees [WITH GRANT OPTION]`, and its end.
 pub fn grant(alloc: Global, tokens: &[Token]) -> Result<(Statement, usize), ParseError>
     ensures { Reads a_grant (lexemes tokens.now) 0 result }
 {
-    let at_privileges = reserved(tokens, 0, Reserved::Grant)?;
-    let (privileges, at_on) = privileges(alloc, tokens, at_privileges)?;
-    let after_on = reserved(tokens, at_on, Reserved::On)?;
-    let at_table = skip(tokens, after_on, TokenKind::Reserved(Reserved::Table));
-    let (table, at_to) = Name::read(alloc, tokens, at_table)?;
-    let at_grantees = reserved(tokens, at_to, Reserved::To)?;
-    let (grantees, end) = list::<Grantee>(alloc, tokens, at_grantees)?;
-    let (with_grant_option, end) = three_words(
+    let read = token(tokens, Ok(((), 0)), TokenKind::Reserved(Reserved::Grant));
+    let read = then::<_, Privileges>(alloc, tokens, read);
+    let read = token(tokens, read, TokenKind::Reserved(Reserved::On));
+    let read = skip(tokens, read, TokenKind::Reserved(Reserved::Table));
+    let read = then::<_, Name>(alloc, tokens, read);
+    let read = token(tokens, read, TokenKind::Reserved(Reserved::To));
+    let read = then::<_, ListOf<Grantee>>(alloc, tokens, read);
+    let (((((((), privileges), ()), table), grantees), with_grant_option), end) = three_words(
         tokens,
-        end,
+        read,
         TokenKind::Reserved(Reserved::With),
         TokenKind::Reserved(Reserved::Grant),
         TokenKind::Unreserved(Unreserved::Option),
@@ -129,20 +175,27 @@ pub fn grant(alloc: Global, tokens: &[Token]) -> Result<(Statement, usize), Pars
 pub fn revoke(alloc: Global, tokens: &[Token]) -> Result<(Statement, usize), ParseError>
     ensures { Reads a_revoke (lexemes tokens.now) 0 result }
 {
-    let at_option = unreserved(tokens, 0, Unreserved::Revoke)?;
-    let (grant_option_for, at_privileges) = three_words(
+    let read = token(
         tokens,
-        at_option,
+        Ok(((), 0)),
+        TokenKind::Unreserved(Unreserved::Revoke),
+    );
+    let read = three_words(
+        tokens,
+        read,
         TokenKind::Reserved(Reserved::Grant),
         TokenKind::Unreserved(Unreserved::Option),
         TokenKind::Reserved(Reserved::For),
-    )?;
-    let (privileges, at_on) = privileges(alloc, tokens, at_privileges)?;
-    let after_on = reserved(tokens, at_on, Reserved::On)?;
-    let at_table = skip(tokens, after_on, TokenKind::Reserved(Reserved::Table));
-    let (table, at_from) = Name::read(alloc, tokens, at_table)?;
-    let at_grantees = reserved(tokens, at_from, Reserved::From)?;
-    let (grantees, at_behavior) = list::<Grantee>(alloc, tokens, at_grantees)?;
+    );
+    let read = then::<_, Privileges>(alloc, tokens, read);
+    let read = token(tokens, read, TokenKind::Reserved(Reserved::On));
+    let read = skip(tokens, read, TokenKind::Reserved(Reserved::Table));
+    let read = then::<_, Name>(alloc, tokens, read);
+    let read = token(tokens, read, TokenKind::Reserved(Reserved::From));
+    let (((((((), grant_option_for), privileges), ()), table), grantees), at_behavior) = then::<
+        _,
+        ListOf<Grantee>,
+    >(alloc, tokens, read)?;
     let (behavior, end) = optional_word_of(tokens, at_behavior, &BEHAVIORS);
     Ok((
         Statement::OnDatabase(DatabaseStatement::Defining(DefiningStatement::Revoke(Revoke {

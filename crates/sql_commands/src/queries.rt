@@ -2,16 +2,15 @@
 
 ghost use Rattle.sql_lexer.specs.Lexeme.{lexemes};
 ghost use Rattle.sql_grammar.specs.LookAhead.{Reads};
-ghost use Rattle.sql_commands.specs.Commands.{select as a_select, select_count as a_select_count, an_alias, cross_join as a_cross_join, inner_join as an_inner_join, plain_join as a_plain_join, more_tables as some_more_tables, from_clause as from_clause_of, some_tables, an_order, a_source, a_select_list};
+ghost use Rattle.sql_commands.specs.Commands.{select as a_select, select_count as a_select_count, cross_join as a_cross_join, inner_join as an_inner_join, plain_join as a_plain_join, from_clause as from_clause_of};
 ghost use Rattle.std.specs.Prelude.{◌≡◌, IfOk};
-ghost use Rattle.sql_grammar.specs.Phrases.{after, optional as an_optional};
 
-use crate::clause::after_word;
-use crate::list::list;
-use crate::optional::optional;
-use crate::production::{KnownProduction, Production};
-use crate::repeated::repeated;
+use crate::list::ListOf;
+use crate::optional::Optional;
+use crate::production::{KnownProduction, Part, Production};
+use crate::repeated::Repeated;
 use crate::sort_value::sort_value;
+use crate::steps::{after_word, then, token};
 use expr_parser::parse_error::ParseError;
 use expr_parser::reader::has;
 use sql_ast::expr::Expr;
@@ -19,7 +18,6 @@ use sql_ast::statement::{
     DatabaseStatement, FromClause, Join, RowStatement, Select, SelectList, SortDirection, SortKey,
     Statement, TableExpression, TableReference,
 };
-use sql_grammar::expect::{punctuation, reserved, unreserved};
 use sql_grammar::word_of::{begins_word, optional_word_of};
 use sql_lexer::token::{Punctuation, Reserved, Token, TokenKind, Unreserved};
 use sql_types::items::Items;
@@ -27,20 +25,37 @@ use sql_types::name::Name;
 use std::alloc::{AllocError, Global};
 
 // [AS name | name]
-fn alias(alloc: Global, tokens: &[Token], at: usize) -> Result<(Option<Name>, usize), ParseError>
-    ensures { Reads an_alias (lexemes tokens.now) at result }
-{
-    if has(tokens, at, TokenKind::Reserved(Reserved::As)) {
-        let (name, end) = Name::read(alloc, tokens, at + 1)?;
-        return Ok((Some(name), end));
+struct Alias;
+
+impl Part for Alias {
+    ghost use Rattle.std.specs.Prelude.{refl};
+    ghost use Rattle.sql_commands.specs.Commands.{an_alias};
+
+    type Value = Option<Name>;
+
+    ghost phrase = { an_alias };
+
+    fn read(
+        alloc: Global,
+        tokens: &[Token],
+        at: usize,
+    ) -> Result<(Option<Name>, usize), ParseError> {
+        if has(tokens, at, TokenKind::Reserved(Reserved::As)) {
+            let (name, end) = Name::read(alloc, tokens, at + 1)?;
+            return Ok((Some(name), end));
+        }
+        Optional::<Name>::read(alloc, tokens, at)
     }
-    optional::<Name>(alloc, tokens, at)
+
+    ghost determined = { refl };
 }
 
 /// `name [[AS] name]`
-impl Production for TableReference {
+impl Part for TableReference {
     ghost use Rattle.std.specs.Prelude.{refl};
     ghost use Rattle.sql_commands.specs.Commands.{a_table};
+
+    type Value = TableReference;
 
     ghost phrase = { a_table };
 
@@ -49,21 +64,27 @@ impl Production for TableReference {
         tokens: &[Token],
         at: usize,
     ) -> Result<(TableReference, usize), ParseError> {
-        let (table, at_alias) = Name::read(alloc, tokens, at)?;
-        let (alias, end) = alias(alloc, tokens, at_alias)?;
+        let read = then::<_, Name>(alloc, tokens, Ok(((), at)));
+        let ((((), table), alias), end) = then::<_, Alias>(alloc, tokens, read)?;
         Ok((TableReference { table, alias }, end))
     }
 
     ghost determined = { refl };
 }
 
+impl Production for TableReference {
+    ghost use Rattle.std.specs.Prelude.{refl};
+
+    ghost listable = { refl };
+}
+
 // CROSS JOIN table
 fn cross_join(alloc: Global, tokens: &[Token], at: usize) -> Result<(Join, usize), ParseError>
     ensures { Reads a_cross_join (lexemes tokens.now) at result }
 {
-    let at_join = reserved(tokens, at, Reserved::Cross)?;
-    let at_table = reserved(tokens, at_join, Reserved::Join)?;
-    let (table, end) = TableReference::read(alloc, tokens, at_table)?;
+    let read = token(tokens, Ok(((), at)), TokenKind::Reserved(Reserved::Cross));
+    let read = token(tokens, read, TokenKind::Reserved(Reserved::Join));
+    let (((), table), end) = then::<_, TableReference>(alloc, tokens, read)?;
     Ok((
         Join {
             table,
@@ -77,11 +98,11 @@ fn cross_join(alloc: Global, tokens: &[Token], at: usize) -> Result<(Join, usize
 fn inner_join(alloc: Global, tokens: &[Token], at: usize) -> Result<(Join, usize), ParseError>
     ensures { Reads an_inner_join (lexemes tokens.now) at result }
 {
-    let at_join = reserved(tokens, at, Reserved::Inner)?;
-    let at_table = reserved(tokens, at_join, Reserved::Join)?;
-    let (table, at_on) = TableReference::read(alloc, tokens, at_table)?;
-    let at_condition = reserved(tokens, at_on, Reserved::On)?;
-    let (condition, end) = Expr::read(alloc, tokens, at_condition)?;
+    let read = token(tokens, Ok(((), at)), TokenKind::Reserved(Reserved::Inner));
+    let read = token(tokens, read, TokenKind::Reserved(Reserved::Join));
+    let read = then::<_, TableReference>(alloc, tokens, read);
+    let read = token(tokens, read, TokenKind::Reserved(Reserved::On));
+    let ((((), table), condition), end) = then::<_, Expr>(alloc, tokens, read)?;
     Ok((
         Join {
             table,
@@ -95,10 +116,10 @@ fn inner_join(alloc: Global, tokens: &[Token], at: usize) -> Result<(Join, usize
 fn plain_join(alloc: Global, tokens: &[Token], at: usize) -> Result<(Join, usize), ParseError>
     ensures { Reads a_plain_join (lexemes tokens.now) at result }
 {
-    let at_table = reserved(tokens, at, Reserved::Join)?;
-    let (table, at_on) = TableReference::read(alloc, tokens, at_table)?;
-    let at_condition = reserved(tokens, at_on, Reserved::On)?;
-    let (condition, end) = Expr::read(alloc, tokens, at_condition)?;
+    let read = token(tokens, Ok(((), at)), TokenKind::Reserved(Reserved::Join));
+    let read = then::<_, TableReference>(alloc, tokens, read);
+    let read = token(tokens, read, TokenKind::Reserved(Reserved::On));
+    let ((((), table), condition), end) = then::<_, Expr>(alloc, tokens, read)?;
     Ok((
         Join {
             table,
@@ -109,9 +130,11 @@ fn plain_join(alloc: Global, tokens: &[Token], at: usize) -> Result<(Join, usize
 }
 
 /// `CROSS JOIN table | [INNER] JOIN table ON expr`
-impl Production for Join {
+impl Part for Join {
     ghost use Rattle.std.specs.Prelude.{refl};
     ghost use Rattle.sql_commands.specs.Commands.{a_join};
+
+    type Value = Join;
 
     ghost phrase = { a_join };
 
@@ -126,6 +149,12 @@ impl Production for Join {
     }
 
     ghost determined = { refl };
+}
+
+impl Production for Join {
+    ghost use Rattle.std.specs.Prelude.{refl};
+
+    ghost listable = { refl };
 }
 
 impl KnownProduction for Join {
@@ -155,19 +184,26 @@ pub enum MoreTables {
 }
 
 // "," table {"," table} | {join}
-fn more_tables(
-    alloc: Global,
-    tokens: &[Token],
-    at: usize,
-) -> Result<(MoreTables, usize), ParseError>
-    ensures { Reads some_more_tables (lexemes tokens.now) at result }
-{
-    if has(tokens, at, TokenKind::Punctuation(Punctuation::Comma)) {
-        let (tables, end) = list::<TableReference>(alloc, tokens, at + 1)?;
-        return Ok((MoreTables::Tables(tables), end));
+struct FurtherTables;
+
+impl Part for FurtherTables {
+    ghost use Rattle.std.specs.Prelude.{refl};
+    ghost use Rattle.sql_commands.specs.Commands.{more_tables};
+
+    type Value = MoreTables;
+
+    ghost phrase = { more_tables };
+
+    fn read(alloc: Global, tokens: &[Token], at: usize) -> Result<(MoreTables, usize), ParseError> {
+        if has(tokens, at, TokenKind::Punctuation(Punctuation::Comma)) {
+            let (tables, end) = ListOf::<TableReference>::read(alloc, tokens, at + 1)?;
+            return Ok((MoreTables::Tables(tables), end));
+        }
+        let (joins, end) = Repeated::<Join>::read(alloc, tokens, at)?;
+        Ok((MoreTables::Joins(joins), end))
     }
-    let (joins, end) = repeated::<Join>(alloc, tokens, at)?;
-    Ok((MoreTables::Joins(joins), end))
+
+    ghost determined = { refl };
 }
 
 // The first table and what follows it.
@@ -196,13 +232,24 @@ fn from_clause(
 }
 
 // table {"," table} | table {join}
-fn tables(alloc: Global, tokens: &[Token], at: usize) -> Result<(FromClause, usize), ParseError>
-    ensures { Reads some_tables (lexemes tokens.now) at result }
-{
-    let (first, at_more) = TableReference::read(alloc, tokens, at)?;
-    let (more, end) = more_tables(alloc, tokens, at_more)?;
-    let clause = from_clause(alloc, first, more)?;
-    Ok((clause, end))
+struct Tables;
+
+impl Part for Tables {
+    ghost use Rattle.std.specs.Prelude.{refl};
+    ghost use Rattle.sql_commands.specs.Commands.{some_tables};
+
+    type Value = FromClause;
+
+    ghost phrase = { some_tables };
+
+    fn read(alloc: Global, tokens: &[Token], at: usize) -> Result<(FromClause, usize), ParseError> {
+        let read = then::<_, TableReference>(alloc, tokens, Ok(((), at)));
+        let ((((), first), more), end) = then::<_, FurtherTables>(alloc, tokens, read)?;
+        let clause = from_clause(alloc, first, more)?;
+        Ok((clause, end))
+    }
+
+    ghost determined = { refl };
 }
 
 // ASC | DESC
@@ -215,9 +262,11 @@ const DIRECTIONS: [(TokenKind, SortDirection); 2] = [
 ];
 
 /// `expr [ASC | DESC]`, where the expression is no number by itself.
-impl Production for SortKey {
+impl Part for SortKey {
     ghost use Rattle.std.specs.Prelude.{refl};
     ghost use Rattle.sql_commands.specs.Commands.{a_sort_key};
+
+    type Value = SortKey;
 
     ghost phrase = { a_sort_key };
 
@@ -230,88 +279,113 @@ impl Production for SortKey {
     ghost determined = { refl };
 }
 
+impl Production for SortKey {
+    ghost use Rattle.std.specs.Prelude.{refl};
+
+    ghost listable = { refl };
+}
+
 // [ORDER BY key {"," key}]
-fn order(
-    alloc: Global,
-    tokens: &[Token],
-    at: usize,
-) -> Result<(Option<Items<SortKey>>, usize), ParseError>
-    ensures { Reads (an_optional an_order) (lexemes tokens.now) at result }
-{
-    if !has(tokens, at, TokenKind::Reserved(Reserved::Order)) {
-        return Ok((None, at));
+struct Order;
+
+impl Part for Order {
+    ghost use Rattle.std.specs.Prelude.{refl};
+    ghost use Rattle.sql_grammar.specs.Phrases.{optional};
+    ghost use Rattle.sql_commands.specs.Commands.{an_order};
+
+    type Value = Option<Items<SortKey>>;
+
+    ghost phrase = { optional an_order };
+
+    fn read(
+        alloc: Global,
+        tokens: &[Token],
+        at: usize,
+    ) -> Result<(Option<Items<SortKey>>, usize), ParseError> {
+        if !has(tokens, at, TokenKind::Reserved(Reserved::Order)) {
+            return Ok((None, at));
+        }
+        let read = token(
+            tokens,
+            Ok(((), at + 1)),
+            TokenKind::Unreserved(Unreserved::By),
+        );
+        let (((), keys), end) = then::<_, ListOf<SortKey>>(alloc, tokens, read)?;
+        Ok((Some(keys), end))
     }
-    let at_keys = unreserved(tokens, at + 1, Unreserved::By)?;
-    let (keys, end) = list::<SortKey>(alloc, tokens, at_keys)?;
-    Ok((Some(keys), end))
+
+    ghost determined = { refl };
 }
 
-// tables [WHERE expr] [ORDER BY key {"," key}] [LIMIT number]
-fn table_expression(
-    alloc: Global,
-    tokens: &[Token],
-    at: usize,
-) -> Result<(TableExpression, usize), ParseError>
-    ensures { Reads a_source (lexemes tokens.now) at result }
-{
-    let (tables, end) = tables(alloc, tokens, at)?;
-    let (condition, end) = after_word::<Expr>(
-        alloc,
-        tokens,
-        end,
-        TokenKind::Reserved(Reserved::Where),
-    )?;
-    let (order, end) = order(alloc, tokens, end)?;
-    let (limit, end) = after_word::<u64>(alloc, tokens, end, TokenKind::Reserved(Reserved::Limit))?;
-    Ok((
-        TableExpression {
-            tables,
-            condition,
-            order,
-            limit,
-        },
-        end,
-    ))
+/// `tables [WHERE expr] [ORDER BY key {"," key}] [LIMIT number]`
+impl Part for TableExpression {
+    ghost use Rattle.std.specs.Prelude.{refl};
+    ghost use Rattle.sql_commands.specs.Commands.{a_source};
+
+    type Value = TableExpression;
+
+    ghost phrase = { a_source };
+
+    fn read(
+        alloc: Global,
+        tokens: &[Token],
+        at: usize,
+    ) -> Result<(TableExpression, usize), ParseError> {
+        let read = then::<_, Tables>(alloc, tokens, Ok(((), at)));
+        let read = after_word::<_, Expr>(alloc, tokens, read, TokenKind::Reserved(Reserved::Where));
+        let read = then::<_, Order>(alloc, tokens, read);
+        let ((((((), tables), condition), order), limit), end) = after_word::<_, u64>(
+            alloc,
+            tokens,
+            read,
+            TokenKind::Reserved(Reserved::Limit),
+        )?;
+        Ok((
+            TableExpression {
+                tables,
+                condition,
+                order,
+                limit,
+            },
+            end,
+        ))
+    }
+
+    ghost determined = { refl };
 }
 
-// [FROM source]
-fn from(
-    alloc: Global,
-    tokens: &[Token],
-    at: usize,
-) -> Result<(Option<TableExpression>, usize), ParseError>
-    ensures { Reads (an_optional (after (TokenKind.Reserved Reserved.From) a_source))
-        (lexemes tokens.now) at result }
-{
-    if !has(tokens, at, TokenKind::Reserved(Reserved::From)) {
-        return Ok((None, at));
-    }
-    let (source, end) = table_expression(alloc, tokens, at + 1)?;
-    Ok((Some(source), end))
-}
+/// `"*" | expr {"," expr}`
+impl Part for SelectList {
+    ghost use Rattle.std.specs.Prelude.{refl};
+    ghost use Rattle.sql_commands.specs.Commands.{a_select_list};
 
-// "*" | expr {"," expr}
-fn select_list(
-    alloc: Global,
-    tokens: &[Token],
-    at: usize,
-) -> Result<(SelectList, usize), ParseError>
-    ensures { Reads a_select_list (lexemes tokens.now) at result }
-{
-    if has(tokens, at, TokenKind::Punctuation(Punctuation::Star)) {
-        return Ok((SelectList::Asterisk, at + 1));
+    type Value = SelectList;
+
+    ghost phrase = { a_select_list };
+
+    fn read(alloc: Global, tokens: &[Token], at: usize) -> Result<(SelectList, usize), ParseError> {
+        if has(tokens, at, TokenKind::Punctuation(Punctuation::Star)) {
+            return Ok((SelectList::Asterisk, at + 1));
+        }
+        let (values, end) = ListOf::<Expr>::read(alloc, tokens, at)?;
+        Ok((SelectList::Expressions(values), end))
     }
-    let (values, end) = list::<Expr>(alloc, tokens, at)?;
-    Ok((SelectList::Expressions(values), end))
+
+    ghost determined = { refl };
 }
 
 /// `SELECT list [FROM source]`, and its end.
 pub fn select(alloc: Global, tokens: &[Token]) -> Result<(Statement, usize), ParseError>
     ensures { Reads a_select (lexemes tokens.now) 0 result }
 {
-    let at_list = reserved(tokens, 0, Reserved::Select)?;
-    let (list, at_from) = select_list(alloc, tokens, at_list)?;
-    let (source, end) = from(alloc, tokens, at_from)?;
+    let read = token(tokens, Ok(((), 0)), TokenKind::Reserved(Reserved::Select));
+    let read = then::<_, SelectList>(alloc, tokens, read);
+    let ((((), list), source), end) = after_word::<_, TableExpression>(
+        alloc,
+        tokens,
+        read,
+        TokenKind::Reserved(Reserved::From),
+    )?;
     Ok((
         Statement::OnDatabase(DatabaseStatement::OverRows(RowStatement::Select(Select {
             list,
@@ -325,12 +399,17 @@ pub fn select(alloc: Global, tokens: &[Token]) -> Result<(Statement, usize), Par
 pub fn select_count(alloc: Global, tokens: &[Token]) -> Result<(Statement, usize), ParseError>
     ensures { Reads a_select_count (lexemes tokens.now) 0 result }
 {
-    let at_count = reserved(tokens, 0, Reserved::Select)?;
-    let at_open = unreserved(tokens, at_count, Unreserved::Count)?;
-    let at_star = punctuation(tokens, at_open, Punctuation::Open)?;
-    let at_close = punctuation(tokens, at_star, Punctuation::Star)?;
-    let at_from = punctuation(tokens, at_close, Punctuation::Close)?;
-    let (source, end) = from(alloc, tokens, at_from)?;
+    let read = token(tokens, Ok(((), 0)), TokenKind::Reserved(Reserved::Select));
+    let read = token(tokens, read, TokenKind::Unreserved(Unreserved::Count));
+    let read = token(tokens, read, TokenKind::Punctuation(Punctuation::Open));
+    let read = token(tokens, read, TokenKind::Punctuation(Punctuation::Star));
+    let read = token(tokens, read, TokenKind::Punctuation(Punctuation::Close));
+    let (((), source), end) = after_word::<_, TableExpression>(
+        alloc,
+        tokens,
+        read,
+        TokenKind::Reserved(Reserved::From),
+    )?;
     Ok((
         Statement::OnDatabase(DatabaseStatement::OverRows(RowStatement::Select(Select {
             list: SelectList::Count,

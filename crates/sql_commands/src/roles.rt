@@ -2,10 +2,11 @@
 
 ghost use Rattle.sql_lexer.specs.Lexeme.{lexemes};
 ghost use Rattle.sql_grammar.specs.LookAhead.{Reads};
-ghost use Rattle.sql_commands.specs.Commands.{create_role as a_create_role, drop_role as a_drop_role, set_role as a_set_role, reset_role as a_reset_role, role_or_none as a_role_or_none};
+ghost use Rattle.sql_commands.specs.Commands.{create_role as a_create_role, drop_role as a_drop_role, set_role as a_set_role, reset_role as a_reset_role};
 
-use crate::production::{KnownProduction, Production};
-use crate::repeated::repeated;
+use crate::production::{KnownProduction, Part, Production};
+use crate::repeated::Repeated;
+use crate::steps::{skip, then, token};
 use expr_parser::parse_error::ParseError;
 use expr_parser::reader::has;
 use sql_ast::role::RoleAttribute;
@@ -13,9 +14,7 @@ use sql_ast::statement::{
     CreateRole, DatabaseStatement, DefiningStatement, DropRole, SessionStatement, SetRole,
     Statement,
 };
-use sql_grammar::expect::{reserved, unreserved};
 use sql_grammar::word_of::{begins_word, word_of};
-use sql_grammar::words::skip;
 use sql_lexer::token::{Reserved, Token, TokenKind, Unreserved};
 use sql_types::name::Name;
 use std::alloc::Global;
@@ -48,9 +47,11 @@ const ATTRIBUTES: [(TokenKind, RoleAttribute); 6] = [
 ];
 
 /// `SUPERUSER | NOSUPERUSER | LOGIN | NOLOGIN | BYPASSRLS | NOBYPASSRLS`
-impl Production for RoleAttribute {
+impl Part for RoleAttribute {
     ghost use Rattle.std.specs.Prelude.{refl};
     ghost use Rattle.sql_commands.specs.Commands.{an_attribute};
+
+    type Value = RoleAttribute;
 
     ghost phrase = { an_attribute };
 
@@ -63,6 +64,12 @@ impl Production for RoleAttribute {
     }
 
     ghost determined = { refl };
+}
+
+impl Production for RoleAttribute {
+    ghost use Rattle.std.specs.Prelude.{refl};
+
+    ghost listable = { refl };
 }
 
 impl KnownProduction for RoleAttribute {
@@ -79,11 +86,13 @@ impl KnownProduction for RoleAttribute {
 pub fn create_role(alloc: Global, tokens: &[Token]) -> Result<(Statement, usize), ParseError>
     ensures { Reads a_create_role (lexemes tokens.now) 0 result }
 {
-    let at_role = reserved(tokens, 0, Reserved::Create)?;
-    let at_name = unreserved(tokens, at_role, Unreserved::Role)?;
-    let (role, end) = Name::read(alloc, tokens, at_name)?;
-    let at_attributes = skip(tokens, end, TokenKind::Reserved(Reserved::With));
-    let (attributes, end) = repeated::<RoleAttribute>(alloc, tokens, at_attributes)?;
+    let read = token(tokens, Ok(((), 0)), TokenKind::Reserved(Reserved::Create));
+    let read = token(tokens, read, TokenKind::Unreserved(Unreserved::Role));
+    let read = then::<_, Name>(alloc, tokens, read);
+    let read = skip(tokens, read, TokenKind::Reserved(Reserved::With));
+    let (((((), role), ()), attributes), end) = then::<_, Repeated<RoleAttribute>>(
+        alloc, tokens, read,
+    )?;
     Ok((
         Statement::OnDatabase(DatabaseStatement::Defining(DefiningStatement::CreateRole(CreateRole {
             role,
@@ -97,9 +106,9 @@ pub fn create_role(alloc: Global, tokens: &[Token]) -> Result<(Statement, usize)
 pub fn drop_role(alloc: Global, tokens: &[Token]) -> Result<(Statement, usize), ParseError>
     ensures { Reads a_drop_role (lexemes tokens.now) 0 result }
 {
-    let at_role = unreserved(tokens, 0, Unreserved::Drop)?;
-    let at_name = unreserved(tokens, at_role, Unreserved::Role)?;
-    let (role, end) = Name::read(alloc, tokens, at_name)?;
+    let read = token(tokens, Ok(((), 0)), TokenKind::Unreserved(Unreserved::Drop));
+    let read = token(tokens, read, TokenKind::Unreserved(Unreserved::Role));
+    let (((), role), end) = then::<_, Name>(alloc, tokens, read)?;
     Ok((
         Statement::OnDatabase(DatabaseStatement::Defining(DefiningStatement::DropRole(DropRole {
             role,
@@ -109,27 +118,38 @@ pub fn drop_role(alloc: Global, tokens: &[Token]) -> Result<(Statement, usize), 
 }
 
 // NONE | name
-fn role_or_none(
-    alloc: Global,
-    tokens: &[Token],
-    at: usize,
-) -> Result<(Option<Name>, usize), ParseError>
-    ensures { Reads a_role_or_none (lexemes tokens.now) at result }
-{
-    if has(tokens, at, TokenKind::Reserved(Reserved::None)) {
-        return Ok((None, at + 1));
+struct RoleOrNone;
+
+impl Part for RoleOrNone {
+    ghost use Rattle.std.specs.Prelude.{refl};
+    ghost use Rattle.sql_commands.specs.Commands.{role_or_none};
+
+    type Value = Option<Name>;
+
+    ghost phrase = { role_or_none };
+
+    fn read(
+        alloc: Global,
+        tokens: &[Token],
+        at: usize,
+    ) -> Result<(Option<Name>, usize), ParseError> {
+        if has(tokens, at, TokenKind::Reserved(Reserved::None)) {
+            return Ok((None, at + 1));
+        }
+        let (role, end) = Name::read(alloc, tokens, at)?;
+        Ok((Some(role), end))
     }
-    let (role, end) = Name::read(alloc, tokens, at)?;
-    Ok((Some(role), end))
+
+    ghost determined = { refl };
 }
 
 /// `SET ROLE (name | NONE)`, and its end.
 pub fn set_role(alloc: Global, tokens: &[Token]) -> Result<(Statement, usize), ParseError>
     ensures { Reads a_set_role (lexemes tokens.now) 0 result }
 {
-    let at_role = unreserved(tokens, 0, Unreserved::Set)?;
-    let at_name = unreserved(tokens, at_role, Unreserved::Role)?;
-    let (role, end) = role_or_none(alloc, tokens, at_name)?;
+    let read = token(tokens, Ok(((), 0)), TokenKind::Unreserved(Unreserved::Set));
+    let read = token(tokens, read, TokenKind::Unreserved(Unreserved::Role));
+    let (((), role), end) = then::<_, RoleOrNone>(alloc, tokens, read)?;
     Ok((
         Statement::OfSession(SessionStatement::SetRole(SetRole { role })),
         end,
@@ -140,7 +160,11 @@ pub fn set_role(alloc: Global, tokens: &[Token]) -> Result<(Statement, usize), P
 pub fn reset_role(tokens: &[Token]) -> Result<(Statement, usize), ParseError>
     ensures { Reads a_reset_role (lexemes tokens.now) 0 result }
 {
-    let at_role = unreserved(tokens, 0, Unreserved::Reset)?;
-    let end = unreserved(tokens, at_role, Unreserved::Role)?;
+    let read = token(
+        tokens,
+        Ok(((), 0)),
+        TokenKind::Unreserved(Unreserved::Reset),
+    );
+    let ((), end) = token(tokens, read, TokenKind::Unreserved(Unreserved::Role))?;
     Ok((Statement::OfSession(SessionStatement::ResetRole), end))
 }

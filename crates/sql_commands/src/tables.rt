@@ -2,11 +2,12 @@
 
 ghost use Rattle.sql_lexer.specs.Lexeme.{lexemes};
 ghost use Rattle.sql_grammar.specs.LookAhead.{Reads};
-ghost use Rattle.sql_commands.specs.Commands.{create_table as a_create_table, drop_table as a_drop_table, alter_table as an_alter_table, a_change};
+ghost use Rattle.sql_commands.specs.Commands.{create_table as a_create_table, drop_table as a_drop_table, alter_table as an_alter_table};
 
-use crate::list::in_parentheses;
-use crate::production::{KnownProduction, Production};
-use crate::repeated::repeated;
+use crate::list::InParentheses;
+use crate::production::{KnownProduction, Part, Production};
+use crate::repeated::Repeated;
+use crate::steps::{then, token};
 use expr_parser::parse_error::ParseError;
 use expr_parser::reader::has;
 use sql_ast::columns::ColumnType;
@@ -14,7 +15,7 @@ use sql_ast::statement::{
     AlterTable, ColumnConstraint, ColumnDefinition, CreateTable, DatabaseStatement,
     DefiningStatement, DropTable, RowSecurityChange, Statement, TableElement,
 };
-use sql_grammar::expect::{reserved, unreserved};
+use sql_grammar::expect::reserved;
 use sql_grammar::word_of::{begins_word, word_of};
 use sql_lexer::token::{Reserved, Token, TokenKind, Unreserved};
 use sql_types::name::Name;
@@ -34,10 +35,28 @@ const TYPES: [(TokenKind, ColumnType); 4] = [
     (TokenKind::Unreserved(Unreserved::Bool), ColumnType::Boolean),
 ];
 
+/// `BIGINT | TEXT | BOOLEAN | BOOL`
+impl Part for ColumnType {
+    ghost use Rattle.std.specs.Prelude.{refl};
+    ghost use Rattle.sql_commands.specs.Commands.{a_type};
+
+    type Value = ColumnType;
+
+    ghost phrase = { a_type };
+
+    fn read(_: Global, tokens: &[Token], at: usize) -> Result<(ColumnType, usize), ParseError> {
+        word_of(tokens, at, &TYPES)
+    }
+
+    ghost determined = { refl };
+}
+
 /// `NOT NULL | PRIMARY KEY`
-impl Production for ColumnConstraint {
+impl Part for ColumnConstraint {
     ghost use Rattle.std.specs.Prelude.{refl};
     ghost use Rattle.sql_commands.specs.Commands.{a_constraint};
+
+    type Value = ColumnConstraint;
 
     ghost phrase = { a_constraint };
 
@@ -50,12 +69,18 @@ impl Production for ColumnConstraint {
             let end = reserved(tokens, at + 1, Reserved::Null)?;
             return Ok((ColumnConstraint::NotNull, end));
         }
-        let at_key = reserved(tokens, at, Reserved::Primary)?;
-        let end = unreserved(tokens, at_key, Unreserved::Key)?;
+        let read = token(tokens, Ok(((), at)), TokenKind::Reserved(Reserved::Primary));
+        let ((), end) = token(tokens, read, TokenKind::Unreserved(Unreserved::Key))?;
         Ok((ColumnConstraint::PrimaryKey, end))
     }
 
     ghost determined = { refl };
+}
+
+impl Production for ColumnConstraint {
+    ghost use Rattle.std.specs.Prelude.{refl};
+
+    ghost listable = { refl };
 }
 
 impl KnownProduction for ColumnConstraint {
@@ -75,9 +100,11 @@ const FIRST_OF_CONSTRAINTS: [(TokenKind, ()); 2] = [
 ];
 
 /// `PRIMARY KEY "(" names ")" | name type {NOT NULL | PRIMARY KEY}`
-impl Production for TableElement {
+impl Part for TableElement {
     ghost use Rattle.std.specs.Prelude.{refl};
     ghost use Rattle.sql_commands.specs.Commands.{an_element};
+
+    type Value = TableElement;
 
     ghost phrase = { an_element };
 
@@ -87,13 +114,20 @@ impl Production for TableElement {
         at: usize,
     ) -> Result<(TableElement, usize), ParseError> {
         if has(tokens, at, TokenKind::Reserved(Reserved::Primary)) {
-            let at_names = unreserved(tokens, at + 1, Unreserved::Key)?;
-            let (columns, end) = in_parentheses::<Name>(alloc, tokens, at_names)?;
+            let read = token(
+                tokens,
+                Ok(((), at + 1)),
+                TokenKind::Unreserved(Unreserved::Key),
+            );
+            let (((), columns), end) = then::<_, InParentheses<Name>>(alloc, tokens, read)?;
             return Ok((TableElement::PrimaryKey(columns), end));
         }
-        let (column, at_type) = Name::read(alloc, tokens, at)?;
-        let (column_type, end) = word_of(tokens, at_type, &TYPES)?;
-        let (constraints, end) = repeated::<ColumnConstraint>(alloc, tokens, end)?;
+        let read = then::<_, Name>(alloc, tokens, Ok(((), at)));
+        let read = then::<_, ColumnType>(alloc, tokens, read);
+        let (((((), column), column_type), constraints), end) = then::<
+            _,
+            Repeated<ColumnConstraint>,
+        >(alloc, tokens, read)?;
         let definition = ColumnDefinition {
             column,
             column_type,
@@ -105,14 +139,22 @@ impl Production for TableElement {
     ghost determined = { refl };
 }
 
+impl Production for TableElement {
+    ghost use Rattle.std.specs.Prelude.{refl};
+
+    ghost listable = { refl };
+}
+
 /// `CREATE TABLE name "(" element {"," element} ")"`, and its end.
 pub fn create_table(alloc: Global, tokens: &[Token]) -> Result<(Statement, usize), ParseError>
     ensures { Reads a_create_table (lexemes tokens.now) 0 result }
 {
-    let at_table = reserved(tokens, 0, Reserved::Create)?;
-    let at_name = reserved(tokens, at_table, Reserved::Table)?;
-    let (table, at_elements) = Name::read(alloc, tokens, at_name)?;
-    let (elements, end) = in_parentheses::<TableElement>(alloc, tokens, at_elements)?;
+    let read = token(tokens, Ok(((), 0)), TokenKind::Reserved(Reserved::Create));
+    let read = token(tokens, read, TokenKind::Reserved(Reserved::Table));
+    let read = then::<_, Name>(alloc, tokens, read);
+    let ((((), table), elements), end) = then::<_, InParentheses<TableElement>>(
+        alloc, tokens, read,
+    )?;
     Ok((
         Statement::OnDatabase(DatabaseStatement::Defining(DefiningStatement::CreateTable(
             CreateTable { table, elements },
@@ -125,9 +167,9 @@ pub fn create_table(alloc: Global, tokens: &[Token]) -> Result<(Statement, usize
 pub fn drop_table(alloc: Global, tokens: &[Token]) -> Result<(Statement, usize), ParseError>
     ensures { Reads a_drop_table (lexemes tokens.now) 0 result }
 {
-    let at_table = unreserved(tokens, 0, Unreserved::Drop)?;
-    let at_name = reserved(tokens, at_table, Reserved::Table)?;
-    let (table, end) = Name::read(alloc, tokens, at_name)?;
+    let read = token(tokens, Ok(((), 0)), TokenKind::Unreserved(Unreserved::Drop));
+    let read = token(tokens, read, TokenKind::Reserved(Reserved::Table));
+    let (((), table), end) = then::<_, Name>(alloc, tokens, read)?;
     Ok((
         Statement::OnDatabase(DatabaseStatement::Defining(DefiningStatement::DropTable(DropTable {
             table,
@@ -152,28 +194,50 @@ const CHANGES: [(TokenKind, RowSecurityChange); 3] = [
     ),
 ];
 
-// ENABLE | DISABLE | FORCE | NO FORCE
-fn change(tokens: &[Token], at: usize) -> Result<(RowSecurityChange, usize), ParseError>
-    ensures { Reads a_change (lexemes tokens.now) at result }
-{
-    if has(tokens, at, TokenKind::Unreserved(Unreserved::No)) {
-        let end = unreserved(tokens, at + 1, Unreserved::Force)?;
-        return Ok((RowSecurityChange::NoForce, end));
+/// `ENABLE | DISABLE | FORCE | NO FORCE`
+impl Part for RowSecurityChange {
+    ghost use Rattle.std.specs.Prelude.{refl};
+    ghost use Rattle.sql_commands.specs.Commands.{a_change};
+
+    type Value = RowSecurityChange;
+
+    ghost phrase = { a_change };
+
+    fn read(
+        _: Global,
+        tokens: &[Token],
+        at: usize,
+    ) -> Result<(RowSecurityChange, usize), ParseError> {
+        if has(tokens, at, TokenKind::Unreserved(Unreserved::No)) {
+            let read = Ok(((), at + 1));
+            let ((), end) = token(tokens, read, TokenKind::Unreserved(Unreserved::Force))?;
+            return Ok((RowSecurityChange::NoForce, end));
+        }
+        word_of(tokens, at, &CHANGES)
     }
-    word_of(tokens, at, &CHANGES)
+
+    ghost determined = { refl };
 }
 
 /// `ALTER TABLE name (ENABLE | DISABLE | FORCE | NO FORCE) ROW LEVEL SECURITY`, and its end.
 pub fn alter_table(alloc: Global, tokens: &[Token]) -> Result<(Statement, usize), ParseError>
     ensures { Reads an_alter_table (lexemes tokens.now) 0 result }
 {
-    let at_table = unreserved(tokens, 0, Unreserved::Alter)?;
-    let at_name = reserved(tokens, at_table, Reserved::Table)?;
-    let (table, at_change) = Name::read(alloc, tokens, at_name)?;
-    let (change, at_row) = change(tokens, at_change)?;
-    let at_level = unreserved(tokens, at_row, Unreserved::Row)?;
-    let at_security = unreserved(tokens, at_level, Unreserved::Level)?;
-    let end = unreserved(tokens, at_security, Unreserved::Security)?;
+    let read = token(
+        tokens,
+        Ok(((), 0)),
+        TokenKind::Unreserved(Unreserved::Alter),
+    );
+    let read = token(tokens, read, TokenKind::Reserved(Reserved::Table));
+    let read = then::<_, Name>(alloc, tokens, read);
+    let read = then::<_, RowSecurityChange>(alloc, tokens, read);
+    let read = token(tokens, read, TokenKind::Unreserved(Unreserved::Row));
+    let read = token(tokens, read, TokenKind::Unreserved(Unreserved::Level));
+    let ((((), table), change), end) = token(
+        tokens,
+        read,
+        TokenKind::Unreserved(Unreserved::Security),
+    )?;
     Ok((
         Statement::OnDatabase(DatabaseStatement::Defining(DefiningStatement::AlterTable(AlterTable {
             table,

@@ -4,6 +4,7 @@ ghost use Rattle.sql_lexer.specs.Lexeme.{lexemes};
 ghost use Rattle.sql_grammar.specs.LookAhead.{IsReading, Reads};
 ghost use Rattle.sql_commands.specs.Commands.{begin as a_begin, start_transaction as a_start, commit as a_commit, rollback as a_rollback, work as a_work};
 
+use crate::steps::token;
 use expr_parser::parse_error::ParseError;
 use expr_parser::reader::has;
 use sql_ast::statement::{SessionStatement, Statement};
@@ -52,7 +53,11 @@ pub fn rollback(tokens: &[Token]) -> Result<(Statement, usize), ParseError>
 pub fn start_transaction(tokens: &[Token]) -> Result<(Statement, usize), ParseError>
     ensures { Reads a_start (lexemes tokens.now) 0 result }
 {
-    let at_transaction = unreserved(tokens, 0, Unreserved::Start)?;
-    let end = unreserved(tokens, at_transaction, Unreserved::Transaction)?;
+    let read = token(
+        tokens,
+        Ok(((), 0)),
+        TokenKind::Unreserved(Unreserved::Start),
+    );
+    let ((), end) = token(tokens, read, TokenKind::Unreserved(Unreserved::Transaction))?;
     Ok((Statement::OfSession(SessionStatement::Begin), end))
 }

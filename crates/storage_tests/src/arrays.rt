@@ -34,123 +34,117 @@ mod roots;
 mod words;
 
 use crate::arrays::words::{Word, word_of};
+use crate::transcript::Transcript;
 use cow_pages::{CowPages, OpenFault};
 use pages::MemPages;
 use sector_device::{MAX_MEMORY_PAGES, MemDevice};
 use std::alloc::{AllocError, Global};
 
 /// What stands there: a device, or an array on one, or pages in memory.
-#[derive(Drop)]
 struct Case {
+    alloc: Global,
     device: Option<MemDevice>,
     array: Option<CowPages<MemDevice>>,
     memory: MemPages,
 }
 
-/// Does what a line says, and appends a line of what came of it.
+// Written and not derived: where a value is dropped this is one call, and not its parts one by one.
+impl Drop for Case {
+    fn drop(self) {
+        let Case {
+            alloc: _,
+            device: _,
+            array: _,
+            memory: _,
+        } = self;
+    }
+}
+
+/// Does what a line says, and tells what came of it on a line.
 pub fn follow(
     alloc: Global,
     script: &mut String,
     line: &str,
-    out: &mut String,
-) -> Result<(), AllocError> {
-    follow_case(alloc, script, line, out)?;
-    out.push_str("\n")
-}
-
-/// Does what a case says, and appends what came of it.
-fn follow_case(
-    alloc: Global,
-    script: &mut String,
-    line: &str,
-    out: &mut String,
+    out: &mut Transcript,
 ) -> Result<(), AllocError> {
     let (first, rest) = line.split_once(' ').unwrap_or((line, ""));
     let word = word_of(first);
     match word.name {
-        "--" => out.push_str(line),
-        "root" => roots::push_root(alloc, word.first, word.second, rest, out),
-        "map" => roots::push_map(rest, out),
+        "--" => out.put(line),
+        "root" => roots::tell_root(alloc, word, rest, out)?,
+        "map" => roots::tell_map(rest, out),
         "script" => {
             script.clear();
-            script.push_str(rest)
+            script.push_str(rest)?;
         }
-        _ => follow_words(alloc, word, script.as_str(), rest, out),
+        _ => Case::new(alloc, word)?.follow(script.as_str(), rest, out),
     }
-}
-
-/// Does what words say to what the first one begins.
-fn follow_words(
-    alloc: Global,
-    first: Word<'_>,
-    script: &str,
-    words: &str,
-    out: &mut String,
-) -> Result<(), AllocError> {
-    let mut case = begun(alloc, first)?;
-    do_all(alloc, &mut case, script, words, out)
-}
-
-/// Does what words say, of which the word `script` stands for those that were kept.
-fn do_all(
-    alloc: Global,
-    case: &mut Case,
-    script: &str,
-    words: &str,
-    out: &mut String,
-) -> Result<(), AllocError> {
-    for text in words.split(' ') {
-        if text == "script" {
-            do_words(alloc, case, script, out)?;
-        } else {
-            case.do_word(alloc, word_of(text), out)?;
-        }
-    }
-    Ok(())
-}
-
-/// What the first word of a line begins.
-fn begun(alloc: Global, first: Word<'_>) -> Result<Case, AllocError> {
-    let device = if first.name == "device" && first.first <= MAX_MEMORY_PAGES {
-        Some(MemDevice::new(alloc, first.first)?)
-    } else {
-        None
-    };
-    Ok(Case {
-        device,
-        array: None,
-        memory: MemPages::new(alloc),
-    })
-}
-
-/// Does what words say.
-fn do_words(
-    alloc: Global,
-    case: &mut Case,
-    words: &str,
-    out: &mut String,
-) -> Result<(), AllocError> {
-    for text in words.split(' ') {
-        case.do_word(alloc, word_of(text), out)?;
-    }
+    out.put("\n");
     Ok(())
 }
 
 impl Case {
-    /// Opens the array of the device, and appends its number, or why there is none.
-    fn open(&mut self, alloc: Global, out: &mut String) -> Result<(), AllocError> {
+    /// What the first word of a line begins.
+    fn new(alloc: Global, first: Word<'_>) -> Result<Case, AllocError> {
+        Ok(Case {
+            alloc,
+            device: device_of(alloc, first)?,
+            array: None,
+            memory: MemPages::new(alloc),
+        })
+    }
+
+    /// Does what words say, of which the word `script` stands for those that were kept.
+    fn follow(&mut self, script: &str, words: &str, out: &mut Transcript) {
+        for text in words.split(' ') {
+            if text == "script" {
+                self.do_words(script, out);
+            } else {
+                self.do_word(word_of(text), out);
+            }
+        }
+    }
+
+    /// Does what words say.
+    fn do_words(&mut self, words: &str, out: &mut Transcript) {
+        for text in words.split(' ') {
+            self.do_word(word_of(text), out);
+        }
+    }
+
+    /// Does what a word says, and tells what came of it.
+    fn do_word(&mut self, word: Word<'_>, out: &mut Transcript) {
+        match word.name {
+            "open" => self.open(out),
+            "close" => self.close(),
+            _ => self.do_other_word(word, out),
+        }
+    }
+
+    /// Does a word to what stands there, and tells what came of it.
+    fn do_other_word(&mut self, word: Word<'_>, out: &mut Transcript) {
+        if let Some(array) = &mut self.array {
+            calls::do_word(array, word, out)
+        } else if let Some(device) = &mut self.device {
+            devices::do_word(self.alloc, device, word, out)
+        } else {
+            calls::do_page_word(&mut self.memory, word, out)
+        }
+    }
+
+    /// Opens the array of the device, and tells its number, or why there is none.
+    fn open(&mut self, out: &mut Transcript) {
         let Some(device) = self.device.take() else {
-            return out.push_str(" ?");
+            return out.put(" ?");
         };
-        match page_calls::open(alloc, device) {
+        match page_calls::open(self.alloc, device) {
             Ok(array) => {
-                let number = array.number();
+                out.put_after_blank(array.number());
                 self.array = Some(array);
-                write!(out, " {number}")
             }
             Err((device, fault)) => {
                 self.device = Some(device);
-                push_open_fault(out, fault)
+                out.put(word_of_fault(fault));
             }
         }
     }
@@ -161,45 +155,23 @@ impl Case {
             self.device = Some(array.into_device());
         }
     }
-
-    /// Does what a word says, and appends what came of it.
-    fn do_word(
-        &mut self,
-        alloc: Global,
-        word: Word<'_>,
-        out: &mut String,
-    ) -> Result<(), AllocError> {
-        match word.name {
-            "open" => self.open(alloc, out),
-            "close" => Ok(self.close()),
-            _ => self.do_other_word(alloc, word, out),
-        }
-    }
-
-    /// Does a word to what stands there, and appends what came of it.
-    fn do_other_word(
-        &mut self,
-        alloc: Global,
-        word: Word<'_>,
-        out: &mut String,
-    ) -> Result<(), AllocError> {
-        if let Some(array) = &mut self.array {
-            calls::do_word(array, word, out)
-        } else if let Some(device) = &mut self.device {
-            devices::do_word(alloc, device, word, out)
-        } else {
-            calls::do_page_word(&mut self.memory, word, out)
-        }
-    }
 }
 
-/// Appends why a device is not opened.
-fn push_open_fault(out: &mut String, fault: OpenFault) -> Result<(), AllocError> {
-    out.push_str(match fault {
+/// The device that a word begins, if it begins one.
+fn device_of(alloc: Global, first: Word<'_>) -> Result<Option<MemDevice>, AllocError> {
+    if first.name == "device" && first.first <= MAX_MEMORY_PAGES {
+        return Ok(Some(MemDevice::new(alloc, first.first)?));
+    }
+    Ok(None)
+}
+
+/// The word of why a device is not opened.
+fn word_of_fault(fault: OpenFault) -> &'static str {
+    match fault {
         OpenFault::WrongSize => " WrongSize",
         OpenFault::NotADatabase => " NotADatabase",
         OpenFault::Damaged => " Damaged",
         OpenFault::Device => " D",
         OpenFault::Memory => " memory",
-    })
+    }
 }

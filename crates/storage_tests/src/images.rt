@@ -17,9 +17,10 @@ mod answer;
 mod change;
 mod outcomes;
 
-use crate::images::answer::{ImageAnswer, answer_to, push_line, push_short};
-use crate::images::change::{ImageChange, changed};
+use crate::images::answer::{ImageAnswer, answer_to, tell_line, tell_short};
+use crate::images::change::ImageChange;
 use crate::images::outcomes::OutcomeCounts;
+use crate::transcript::Transcript;
 use anyhow::Result;
 use sector_device::SECTOR_SIZE;
 use std::alloc::{AllocError, Global};
@@ -50,29 +51,29 @@ impl AlteredImages {
         }
     }
 
-    /// Does what a line says, and appends what came of it.
-    pub fn follow(&mut self, line: &str, out: &mut String) -> Result<()> {
+    /// Does what a line says, and tells what came of it.
+    pub fn follow(&mut self, line: &str, out: &mut Transcript) -> Result<()> {
         let (word, rest) = line.split_once(' ').unwrap_or((line, ""));
         match word {
-            "database" => self.begin(rest, out)?,
+            "database" => self.begin(rest, out),
             "put" => self.put(rest)?,
-            "byte" => self.try_byte(rest, out)?,
-            "length" => self.try_length(rest, out)?,
-            "bytes" => self.try_bytes(rest, out)?,
-            "sectors" => self.try_sectors(out)?,
-            "sum" => self.tally.push(out, rest)?,
+            "byte" => self.try_byte(rest, out),
+            "length" => self.try_length(rest, out),
+            "bytes" => self.try_bytes(rest, out),
+            "sectors" => self.try_sectors(out),
+            "sum" => self.tally.tell(rest, out),
             _ => {}
         }
         Ok(())
     }
 
     /// Begins an empty image.
-    fn begin(&mut self, rest: &str, out: &mut String) -> Result<(), AllocError> {
+    fn begin(&mut self, rest: &str, out: &mut Transcript) {
         let (every, name) = number_in(rest);
         self.every = if self.tries_all { 1 } else { every };
         self.image.clear();
         self.tally = OutcomeCounts::new();
-        writeln!(out, "{name}")
+        out.put_all(&[name, "\n"]);
     }
 
     /// Appends bytes to the image.
@@ -92,47 +93,47 @@ impl AlteredImages {
     }
 
     /// Tries the image with another byte.
-    fn try_byte(&mut self, rest: &str, out: &mut String) -> Result<(), AllocError> {
+    fn try_byte(&mut self, rest: &str, out: &mut Transcript) {
         let (at, rest) = number_in(rest);
         let (value, name) = number_in(rest);
         let value = u8::try_from(value).unwrap_or(0);
-        push_line(out, name, &self.answer_to(ImageChange::Byte(at, value))?)
+        tell_line(out, name, &self.answer_to(ImageChange::Byte(at, value)));
     }
 
     /// Tries the image of another length.
-    fn try_length(&mut self, rest: &str, out: &mut String) -> Result<(), AllocError> {
+    fn try_length(&mut self, rest: &str, out: &mut Transcript) {
         let (length, name) = number_in(rest);
-        push_line(out, name, &self.answer_to(ImageChange::Length(length))?)
+        tell_line(out, name, &self.answer_to(ImageChange::Length(length)));
     }
 
     /// What the store says of the image with a change.
-    fn answer_to(&mut self, change: ImageChange) -> Result<ImageAnswer, AllocError> {
-        let image = changed(self.alloc, self.image.as_slice(), change)?;
-        let answer = answer_to(self.alloc, image.as_slice());
+    fn answer_to(&mut self, change: ImageChange) -> ImageAnswer {
+        let answer = answer_to(self.alloc, self.image.as_slice(), change);
         self.tally.count(&answer);
-        Ok(answer)
+        answer
     }
 
     /// Tries other values of each byte of a span.
-    fn try_bytes(&mut self, rest: &str, out: &mut String) -> Result<(), AllocError> {
+    fn try_bytes(&mut self, rest: &str, out: &mut Transcript) {
         let (start, rest) = number_in(rest);
         let (count, _) = number_in(rest);
-        write!(out, "bytes from {start}: ")?;
+        out.put("bytes from ");
+        out.put_number(start as u64);
+        out.put(": ");
         for at in start..start.saturating_add(count) {
-            self.try_values(at, out)?;
+            self.try_values(at, out);
         }
-        out.push_str("\n")
+        out.put("\n");
     }
 
     /// Tries those other values of a byte that are to be tried.
-    fn try_values(&mut self, at: usize, out: &mut String) -> Result<(), AllocError> {
+    fn try_values(&mut self, at: usize, out: &mut Transcript) {
         let byte = self.image.get(at).copied().unwrap_or(0);
         for (turn, value) in other_values(byte).iter().enumerate() {
             if self.is_tried(at, turn) {
-                push_short(out, &self.answer_to(ImageChange::Byte(at, *value))?)?;
+                tell_short(out, &self.answer_to(ImageChange::Byte(at, *value)));
             }
         }
-        Ok(())
     }
 
     /// Whether a change of a byte is to be tried.
@@ -142,14 +143,14 @@ impl AlteredImages {
     }
 
     /// Tries zeros in the place of each sector that has another byte.
-    fn try_sectors(&mut self, out: &mut String) -> Result<(), AllocError> {
-        out.push_str("sectors, in turn: ")?;
+    fn try_sectors(&mut self, out: &mut Transcript) {
+        out.put("sectors, in turn: ");
         for sector in 0..self.image.len() / SECTOR_SIZE {
             if !self.is_zero(sector) {
-                push_short(out, &self.answer_to(ImageChange::Sector(sector))?)?;
+                tell_short(out, &self.answer_to(ImageChange::Sector(sector)));
             }
         }
-        out.push_str("\n")
+        out.put("\n");
     }
 
     /// Whether all bytes of a sector are zero.

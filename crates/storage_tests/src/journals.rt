@@ -59,32 +59,29 @@ mod wanted;
 use crate::journals::script::BatchScript;
 use crate::journals::tally::TestTally;
 use crate::stores::call::{CallWords, number_in};
+use crate::transcript::Transcript;
 use anyhow::{Result, bail};
 use kv_store::MAX_CACHE_PAGES;
 use std::alloc::Global;
 
-/// Runs the test of a line, and appends what came of it.
-pub fn follow(alloc: Global, tries_all: bool, line: &str, out: &mut String) -> Result<()> {
+/// Runs the test of a line, and tells what came of it.
+pub fn follow(alloc: Global, tries_all: bool, line: &str, out: &mut Transcript) -> Result<()> {
     let (word, rest) = line.split_once(' ').unwrap_or((line, ""));
     let first = CallWords::new(alloc, word);
     match first.name {
         "" => Ok(()),
-        "#" => {
-            out.push_str(line)?;
-            out.push_str("\n")?;
-            Ok(())
-        }
+        "#" => Ok(out.put_all(&[line, "\n"])),
         "full" => full::fill(&first, out),
         _ => follow_script(&first, tries_all, rest, out),
     }
 }
 
-/// Runs the test that a word names with the script behind it, and appends what came of it.
+/// Runs the test that a word names with the script behind it, and tells what came of it.
 fn follow_script(
     first: &CallWords<'_>,
     tries_all: bool,
     rest: &str,
-    out: &mut String,
+    out: &mut Transcript,
 ) -> Result<()> {
     let cache = number_in(first.first) as usize;
     if cache == 0 || cache > MAX_CACHE_PAGES {
@@ -95,20 +92,9 @@ fn follow_script(
         None => (rest, true),
     };
     let script = BatchScript::new(first.alloc, cache, words)?;
-    follow_counted(first, tries_all, &script, is_counted, out)
-}
-
-/// Runs the test that a word names with a script, and appends what came of it.
-fn follow_counted(
-    first: &CallWords<'_>,
-    tries_all: bool,
-    script: &BatchScript,
-    is_counted: bool,
-    out: &mut String,
-) -> Result<()> {
     let mut tally = TestTally::new(first.alloc);
-    run_test(first, tries_all, script, &mut tally)?;
-    tally.push(first, is_counted, out)?;
+    run_test(first, tries_all, &script, &mut tally)?;
+    tally.tell(first, is_counted, out);
     Ok(())
 }
 

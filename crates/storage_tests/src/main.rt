@@ -12,9 +12,11 @@ mod images;
 mod journals;
 mod sectors;
 mod stores;
+mod transcript;
 
 use crate::images::AlteredImages;
 use crate::stores::Stores;
+use crate::transcript::Transcript;
 use anyhow::{Result, bail};
 use std::alloc::Global;
 use std::env;
@@ -57,17 +59,16 @@ fn tries_all(rt: &HostRuntime) -> Result<bool> {
 /// Does what the lines of standard input say, and writes what came of them to standard output.
 fn follow(rt: &HostRuntime, tests: &mut StorageTests) -> Result<()> {
     let mut out = BufWriter::new(rt.alloc(), rt.stdout())?;
-    follow_lines(rt, tests, &mut out)?;
-    end(rt, tests, &mut out)
+    follow_lines(rt, tests, &mut out)
 }
 
-/// Does what the lines of standard input say, and writes what came of them.
+/// Does what the lines of standard input say, and writes what came of them. At their end the part that is there ends.
 fn follow_lines<W: Write>(rt: &HostRuntime, tests: &mut StorageTests, out: &mut W) -> Result<()> {
     for line in rt.lines(rt.alloc()) {
-        let line = line?;
-        follow_line(rt, tests, line.as_str(), out)?;
+        follow_line(rt, tests, line?.as_str(), out)?;
     }
-    Ok(())
+    follow_line(rt, tests, "part checks", out)?;
+    Ok(out.flush()?)
 }
 
 /// Does what a line says, and writes what came of it.
@@ -77,18 +78,9 @@ fn follow_line<W: Write>(
     line: &str,
     out: &mut W,
 ) -> Result<()> {
-    let mut told = String::new(rt.alloc());
+    let mut told = Transcript::new(rt.alloc());
     tests.follow(rt, line, &mut told)?;
-    out.write_all(told.as_bytes())?;
-    Ok(())
-}
-
-/// Ends the part that is there at the end of the lines, and writes what came of it.
-fn end<W: Write>(rt: &HostRuntime, tests: &mut StorageTests, out: &mut W) -> Result<()> {
-    let mut told = String::new(rt.alloc());
-    tests.stores.end(&mut told)?;
-    out.write_all(told.as_bytes())?;
-    out.flush()?;
+    out.write_all(told.finish()?.as_bytes())?;
     Ok(())
 }
 
@@ -105,26 +97,21 @@ impl StorageTests {
         })
     }
 
-    /// Begins a part, or does what a line of the one that is there says. Appends what came of it.
-    fn follow(&mut self, rt: &HostRuntime, line: &str, out: &mut String) -> Result<()> {
+    /// Begins a part, or does what a line of the one that is there says. Tells what came of it.
+    fn follow(&mut self, rt: &HostRuntime, line: &str, out: &mut Transcript) -> Result<()> {
+        let alloc = rt.alloc();
         match (line.strip_prefix("part "), self.part) {
-            (Some(name), _) => self.begin(name, out)?,
-            (None, StoragePart::Checks) => checks::check(rt, line, out)?,
-            (None, StoragePart::Images) => self.images.follow(line, out)?,
-            (None, StoragePart::Arrays) => arrays::follow(rt.alloc(), &mut self.script, line, out)?,
-            (None, StoragePart::Journals) => journals::follow(
-                rt.alloc(),
-                self.tries_all,
-                line,
-                out,
-            )?,
-            (None, StoragePart::Stores) => self.stores.follow(line, out)?,
+            (Some(name), _) => self.begin(name, out),
+            (None, StoragePart::Checks) => Ok(checks::check(rt, line, out)),
+            (None, StoragePart::Images) => self.images.follow(line, out),
+            (None, StoragePart::Arrays) => Ok(arrays::follow(alloc, &mut self.script, line, out)?),
+            (None, StoragePart::Journals) => journals::follow(alloc, self.tries_all, line, out),
+            (None, StoragePart::Stores) => self.stores.follow(line, out),
         }
-        Ok(())
     }
 
     /// Ends the part that is there, and begins the one of this name.
-    fn begin(&mut self, name: &str, out: &mut String) -> Result<()> {
+    fn begin(&mut self, name: &str, out: &mut Transcript) -> Result<()> {
         self.stores.end(out)?;
         self.part = match name {
             "checks" => StoragePart::Checks,

@@ -41,14 +41,13 @@ mod trees;
 
 use crate::stores::caches::run_on_cache;
 use crate::stores::call::CallWords;
-use crate::stores::callee::make_calls;
 use crate::stores::devices::run_on_device;
 use crate::stores::records::run_in_memory;
-use crate::stores::trees::MemoryTree;
-use anyhow::{Result, bail};
+use crate::stores::trees::run_on_tree;
+use crate::transcript::Transcript;
+use anyhow::Result;
 use sector_device::MemDevice;
-use std::alloc::{AllocError, Global};
-use std::mem;
+use std::alloc::Global;
 use store::{Fault, StoreFault};
 
 /// The device, and a line on which calls may still follow.
@@ -69,8 +68,8 @@ impl Stores {
         })
     }
 
-    /// Goes on with the line that is there, or does what it says and begins another one. Appends what came of it.
-    pub fn follow(&mut self, line: &str, out: &mut String) -> Result<()> {
+    /// Goes on with the line that is there, or does what it says and begins another one. Tells what came of it.
+    pub fn follow(&mut self, line: &str, out: &mut Transcript) -> Result<()> {
         if !line.starts_with(' ') {
             self.end(out)?;
         }
@@ -78,63 +77,44 @@ impl Stores {
         Ok(())
     }
 
-    /// Does what the line says, and appends what came of it. No line is left.
-    pub fn end(&mut self, out: &mut String) -> Result<()> {
-        let device = mem::replace(&mut self.device, MemDevice::new(self.alloc, 0)?);
-        self.device = run(self.alloc, device, self.line.as_str(), out)?;
+    /// Does what the line says, and tells what came of it. No line is left.
+    pub fn end(&mut self, out: &mut Transcript) -> Result<()> {
+        run(self.alloc, &mut self.device, self.line.as_str(), out)?;
         self.line.clear();
         Ok(())
     }
 }
 
-/// Does what a line says, and appends what came of it. Gives the device back.
-fn run(alloc: Global, device: MemDevice, line: &str, out: &mut String) -> Result<MemDevice> {
+/// Does what a line says, and tells what came of it.
+fn run(alloc: Global, device: &mut MemDevice, line: &str, out: &mut Transcript) -> Result<()> {
     let (word, calls) = line.split_once(' ').unwrap_or((line, ""));
     let first = CallWords::new(alloc, word);
     match first.name {
-        "device" | "journaled" | "turn" | "sector" | "restart" | "pages" | "open" => {
-            run_on_device(device, &first, calls, out)
-        }
-        _ => {
-            run_elsewhere(&first, calls, line, out)?;
-            Ok(device)
-        }
-    }
-}
-
-/// Does what a line says that is not about the device, and appends what came of it.
-fn run_elsewhere(first: &CallWords<'_>, calls: &str, line: &str, out: &mut String) -> Result<()> {
-    match first.name {
         "" => Ok(()),
-        "#" => {
-            out.push_str(line)?;
-            out.push_str("\n")?;
-            Ok(())
-        }
-        "faults" => Ok(push_faults(out)?),
-        "tree" => make_calls(first.alloc, &mut MemoryTree::new(first.alloc), calls, out),
-        "memory" => run_in_memory(first, calls, out),
-        "cache" => run_on_cache(first, calls, out),
-        _ => bail!("a line begins with no word"),
+        "#" => Ok(out.put_all(&[line, "\n"])),
+        "faults" => Ok(tell_faults(out)),
+        "tree" => run_on_tree(&first, calls, out),
+        "memory" => run_in_memory(&first, calls, out),
+        "cache" => run_on_cache(&first, calls, out),
+        _ => run_on_device(device, &first, calls, out),
     }
 }
 
-/// Appends the text of each fault of a store, and the text of the fault of a read that it is.
-fn push_faults(out: &mut String) -> Result<(), AllocError> {
+/// Tells the text of each fault of a store, and the text of the fault of a read that it is.
+fn tell_faults(out: &mut Transcript) {
     for fault in [
         StoreFault::Full,
         StoreFault::Memory,
         StoreFault::Device,
         StoreFault::Number,
     ] {
-        push_fault(out, fault)?;
+        out.put("of a store: ");
+        out.put_display(fault);
+        out.put("\nof a read: ");
+        out.put_display(Fault::from(fault));
+        out.put("\n");
     }
-    writeln!(out, "of a read: {}", Fault::Damaged)
-}
-
-/// Appends the text of a fault of a store, and that of the fault of a read that it is.
-fn push_fault(out: &mut String, fault: StoreFault) -> Result<(), AllocError> {
-    let read = Fault::from(fault);
-    writeln!(out, "of a store: {fault}")?;
-    writeln!(out, "of a read: {read}")
+    out.put("of a read: ");
+    out.put_display(Fault::Damaged);
+    out.put("\n");
 }

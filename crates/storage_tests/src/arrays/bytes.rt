@@ -1,7 +1,7 @@
 //! Bytes of pages, and how bytes are printed.
 
+use crate::transcript::Transcript;
 use sector_device::SECTOR_SIZE;
-use std::alloc::AllocError;
 use storage_sizes::PAGE_SIZE;
 
 /// The page of a tag: each sector begins with its index in the page, and is full of the tag.
@@ -23,21 +23,19 @@ pub fn tag_of(bytes: &[u8; PAGE_SIZE]) -> Option<u8> {
     }
 }
 
-/// Appends each four bytes that are not all zero, after their place.
-pub fn push_bytes(out: &mut String, bytes: &[u8]) -> Result<(), AllocError> {
-    for (index, four) in bytes.chunks(4).enumerate() {
-        push_four(out, index, number_of(four))?;
+/// Tells each four bytes that are not all zero, after their place.
+pub fn tell_bytes(out: &mut Transcript, bytes: &[u8]) {
+    let mut at = 0u64;
+    for four in bytes.chunks(4) {
+        let number = number_of(four);
+        if number != 0 {
+            out.put(" ");
+            out.put_number(at);
+            out.put(":");
+            out.put_hex(u64::from(number));
+        }
+        at = at.wrapping_add(4);
     }
-    Ok(())
-}
-
-/// Appends the four bytes of a number, unless it is 0.
-fn push_four(out: &mut String, index: usize, number: u32) -> Result<(), AllocError> {
-    if number == 0 {
-        return Ok(());
-    }
-    let at = index.wrapping_mul(4);
-    write!(out, " {at}:{number:08x}")
 }
 
 /// The number that four bytes spell.

@@ -4,33 +4,24 @@ use crate::arrays::bytes::{filled, tag_of};
 use crate::arrays::devices::count_or_fail;
 use crate::arrays::page_calls::{commit, commit_anew, free_page, is_used, new_page, read, write};
 use crate::arrays::words::{Word, byte_of};
+use crate::transcript::Transcript;
 use cow_pages::{CommitFault, CowPages, Format};
 use pages::{PageFault, Pages};
 use sector_device::MemDevice;
-use std::alloc::AllocError;
 use storage_sizes::PAGE_SIZE;
 
 /// How many pages are looked at where all are read.
 const LOOKED_AT: u32 = 2_048;
 
-/// Does a word to an array on a device, and appends what came of it.
-pub fn do_word(
-    pages: &mut CowPages<MemDevice>,
-    word: Word<'_>,
-    out: &mut String,
-) -> Result<(), AllocError> {
+/// Does a word to an array on a device, and tells what came of it.
+pub fn do_word(pages: &mut CowPages<MemDevice>, word: Word<'_>, out: &mut Transcript) {
+    let format = format_of(pages, word.first);
     match word.name {
-        "commit" => {
-            let format = format_of(pages, word.first);
-            push_commit(out, commit(pages, format))
-        }
-        "anew" => {
-            let format = format_of(pages, word.first);
-            push_commit(out, commit_anew(pages, format))
-        }
-        "abandon" => Ok(pages.abandon()),
-        "number" => write!(out, " {}", pages.number()),
-        "version" => write!(out, " {}", pages.format().number()),
+        "commit" => tell_commit(out, commit(pages, format)),
+        "anew" => tell_commit(out, commit_anew(pages, format)),
+        "abandon" => pages.abandon(),
+        "number" => out.put_after_blank(pages.number()),
+        "version" => out.put_after_blank(u64::from(pages.format().number())),
         "read" | "write" | "new" | "free" | "fill" | "all" => do_page_word(pages, word, out),
         _ => count_or_fail(pages.device(), word, out),
     }
@@ -45,20 +36,16 @@ fn format_of(pages: &CowPages<MemDevice>, number: u32) -> Format {
     }
 }
 
-/// Does a word to the pages of an array, and appends what came of it.
-pub fn do_page_word<P: Pages>(
-    pages: &mut P,
-    word: Word<'_>,
-    out: &mut String,
-) -> Result<(), AllocError> {
+/// Does a word to the pages of an array, and tells what came of it.
+pub fn do_page_word<P: Pages>(pages: &mut P, word: Word<'_>, out: &mut Transcript) {
     match word.name {
-        "read" => push_tag(out, read_tag(pages, word.first)),
-        "write" => push_done(out, write(pages, word.first, byte_of(word.second))),
-        "new" => push_number(out, new_page(pages, &filled(byte_of(word.first)))),
-        "free" => push_done(out, free_page(pages, word.first)),
-        "fill" => push_number(out, fill(pages, byte_of(word.first))),
-        "all" => push_all(pages, out),
-        _ => out.push_str(" ?"),
+        "read" => tell_tag(out, read_tag(pages, word.first)),
+        "write" => tell_done(out, write(pages, word.first, byte_of(word.second))),
+        "new" => tell_number(out, new_page(pages, &filled(byte_of(word.first)))),
+        "free" => tell_done(out, free_page(pages, word.first)),
+        "fill" => tell_number(out, fill(pages, byte_of(word.first))),
+        "all" => tell_all(pages, out),
+        _ => out.put(" ?"),
     }
 }
 
@@ -82,54 +69,55 @@ fn fill<P: Pages>(pages: &mut P, tag: u8) -> Result<u32, PageFault> {
     Ok(u32::MAX)
 }
 
-/// Appends the pages that are in use, and the tag of each.
-fn push_all<P: Pages>(pages: &mut P, out: &mut String) -> Result<(), AllocError> {
+/// Tells the pages that are in use, and the tag of each.
+fn tell_all<P: Pages>(pages: &mut P, out: &mut Transcript) {
     for page in 0..LOOKED_AT {
         if is_used(pages, page) {
-            write!(out, " {page}=")?;
-            push_tag(out, read_tag(pages, page))?;
+            out.put_after_blank(u64::from(page));
+            out.put("=");
+            tell_tag(out, read_tag(pages, page));
         }
     }
-    Ok(())
 }
 
-/// Appends a tag, or why there is none.
-fn push_tag(out: &mut String, answer: Result<Option<u8>, PageFault>) -> Result<(), AllocError> {
+/// Tells a tag, or why there is none.
+fn tell_tag(out: &mut Transcript, answer: Result<Option<u8>, PageFault>) {
     match answer {
-        Ok(Some(tag)) => write!(out, " {tag}"),
-        Ok(None) => out.push_str(" other"),
-        Err(fault) => push_fault(out, fault),
+        Ok(Some(tag)) => out.put_after_blank(u64::from(tag)),
+        Ok(None) => out.put(" other"),
+        Err(fault) => out.put(word_of(fault)),
     }
 }
 
-/// Appends a number, or why there is none.
-fn push_number(out: &mut String, answer: Result<u32, PageFault>) -> Result<(), AllocError> {
+/// Tells a number, or why there is none.
+fn tell_number(out: &mut Transcript, answer: Result<u32, PageFault>) {
     match answer {
-        Ok(number) => write!(out, " {number}"),
-        Err(fault) => push_fault(out, fault),
+        Ok(number) => out.put_after_blank(u64::from(number)),
+        Err(fault) => out.put(word_of(fault)),
     }
 }
 
-/// Appends whether a call succeeded, or why not.
-fn push_done(out: &mut String, answer: Result<(), PageFault>) -> Result<(), AllocError> {
+/// Tells whether a call succeeded, or why not.
+fn tell_done(out: &mut Transcript, answer: Result<(), PageFault>) {
     match answer {
-        Ok(()) => out.push_str(" ."),
-        Err(fault) => push_fault(out, fault),
+        Ok(()) => out.put(" ."),
+        Err(fault) => out.put(word_of(fault)),
     }
 }
 
-fn push_fault(out: &mut String, fault: PageFault) -> Result<(), AllocError> {
-    out.push_str(match fault {
+/// The word of a fault.
+fn word_of(fault: PageFault) -> &'static str {
+    match fault {
         PageFault::Full => " F",
         PageFault::Memory => " memory",
         PageFault::Device => " D",
         PageFault::Malformed => " M",
-    })
+    }
 }
 
-/// Appends whether a commit succeeded, or why not.
-fn push_commit(out: &mut String, answer: Result<(), CommitFault>) -> Result<(), AllocError> {
-    out.push_str(match answer {
+/// Tells whether a commit succeeded, or why not.
+fn tell_commit(out: &mut Transcript, answer: Result<(), CommitFault>) {
+    out.put(match answer {
         Ok(()) => " .",
         Err(CommitFault::Full) => " F",
         Err(CommitFault::Device) => " D",

@@ -1,67 +1,49 @@
 //! What words do to a device.
 
-use crate::arrays::bytes::{filled, push_bytes};
+use crate::arrays::bytes::{filled, tell_bytes};
 use crate::arrays::restarts::restart;
 use crate::arrays::roots::root_of;
 use crate::arrays::words::{Word, byte_of};
 use crate::sectors::{content_of, put};
+use crate::transcript::Transcript;
 use cow_pages::{Format, format, page_count};
 use sector_device::{Device, DeviceFault, MemDevice, SECTOR_SIZE};
-use std::alloc::{AllocError, Global};
+use std::alloc::Global;
 
-/// Does a word to a device, and appends what came of it.
-pub fn do_word(
-    alloc: Global,
-    device: &mut MemDevice,
-    word: Word<'_>,
-    out: &mut String,
-) -> Result<(), AllocError> {
+/// Does a word to a device, and tells what came of it.
+pub fn do_word(alloc: Global, device: &mut MemDevice, word: Word<'_>, out: &mut Transcript) {
     match word.name {
-        "format" => push_done(out, format_first(device, byte_of(word.first))),
-        "put" => push_done(
+        "format" => tell_done(out, format_first(device, byte_of(word.first))),
+        "put" => tell_done(
             out,
             put(device, word.first, &[byte_of(word.second); SECTOR_SIZE]),
         ),
-        "byte" => push_done(out, change_byte(device, word)),
-        "root" => push_done(out, put_root(device, word.first)),
-        "sector" => push_sector(device, word.first, out),
-        "sync" => push_done(out, device.sync()),
-        _ => restart_or_count(alloc, device, word, out),
+        "byte" => tell_done(out, change_byte(device, word)),
+        "root" => tell_done(out, put_root(device, word.first)),
+        "sector" => tell_sector(device, word.first, out),
+        "sync" => tell_done(out, device.sync()),
+        "old" | "new" | "even" | "odd" | "only" | "but" | "drawn" => {
+            out.note(restart(alloc, device, word))
+        }
+        _ => count_or_fail(device, word, out),
     }
-}
-
-/// Starts a device again after a stop, or does a word that needs no call of it.
-fn restart_or_count(
-    alloc: Global,
-    device: &mut MemDevice,
-    word: Word<'_>,
-    out: &mut String,
-) -> Result<(), AllocError> {
-    if restart(alloc, device, word)? {
-        return Ok(());
-    }
-    count_or_fail(device, word, out)
 }
 
 /// Does a word that needs no call of the device: it makes the device fail later, or tells a count.
-pub fn count_or_fail(
-    device: &MemDevice,
-    word: Word<'_>,
-    out: &mut String,
-) -> Result<(), AllocError> {
+pub fn count_or_fail(device: &MemDevice, word: Word<'_>, out: &mut Transcript) {
     match word.name {
-        "stop" => Ok(device.stop_after(u64::from(word.first))),
-        "fail" => Ok(device.fail_call(u64::from(word.first))),
-        "late" => Ok(device.fail_call_late(u64::from(word.first))),
-        "failures" => write!(out, " {}", device.failures()),
-        "reads" => write!(out, " {}", device.reads()),
-        _ => out.push_str(" ?"),
+        "stop" => device.stop_after(u64::from(word.first)),
+        "fail" => device.fail_call(u64::from(word.first)),
+        "late" => device.fail_call_late(u64::from(word.first)),
+        "failures" => out.put_after_blank(device.failures()),
+        "reads" => out.put_after_blank(device.reads()),
+        _ => out.put(" ?"),
     }
 }
 
-/// Appends whether a call of a device succeeded.
-fn push_done(out: &mut String, answer: Result<(), DeviceFault>) -> Result<(), AllocError> {
-    out.push_str(if answer.is_ok() { " ." } else { " D" })
+/// Tells whether a call of a device succeeded.
+fn tell_done(out: &mut Transcript, answer: Result<(), DeviceFault>) {
+    out.put(if answer.is_ok() { " ." } else { " D" })
 }
 
 /// Makes an array of one page of a tag, where the device has a size of a database.
@@ -89,13 +71,13 @@ fn change_byte(device: &mut MemDevice, word: Word<'_>) -> Result<(), DeviceFault
     put(device, word.first, &bytes)
 }
 
-/// Reads a sector, and appends its bytes.
-fn push_sector(device: &mut MemDevice, sector: u32, out: &mut String) -> Result<(), AllocError> {
+/// Reads a sector, and tells its bytes.
+fn tell_sector(device: &mut MemDevice, sector: u32, out: &mut Transcript) {
     match content_of(device, sector) {
         Ok(bytes) => {
-            out.push_str(" .")?;
-            push_bytes(out, &bytes)
+            out.put(" .");
+            tell_bytes(out, &bytes)
         }
-        Err(_) => out.push_str(" D"),
+        Err(_) => out.put(" D"),
     }
 }

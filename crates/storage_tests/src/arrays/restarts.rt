@@ -4,41 +4,29 @@ use crate::arrays::words::Word;
 use sector_device::{Device, MemDevice};
 use std::alloc::{AllocError, Global};
 
-/// Starts a device again after a stop that leaves what a word tells. Whether it is such a word.
-pub fn restart(alloc: Global, device: &mut MemDevice, word: Word<'_>) -> Result<bool, AllocError> {
+/// Starts a device again after a stop that leaves what a word tells.
+pub fn restart(alloc: Global, device: &mut MemDevice, word: Word<'_>) -> Result<(), AllocError> {
     let sectors = device.sectors();
-    let Some(new) = choice(alloc, word, sectors)? else {
-        return Ok(false);
-    };
+    let mut new = Vec::new(alloc);
+    for sector in 0..sectors {
+        new.push(is_new(word, sector))?;
+    }
     if new.len() == sectors as usize {
         device.restart(new.as_slice());
     }
-    Ok(true)
+    Ok(())
 }
 
-/// For each sector whether its last content is left, if a word tells that.
-fn choice(alloc: Global, word: Word<'_>, sectors: u32) -> Result<Option<Vec<bool>>, AllocError> {
-    let mut choice = Vec::new(alloc);
-    for sector in 0..sectors {
-        match is_new(word, sector) {
-            Some(is_new) => choice.push(is_new)?,
-            None => return Ok(None),
-        }
-    }
-    Ok(Some(choice))
-}
-
-/// Whether the last content of a sector is left, if a word tells that.
-fn is_new(word: Word<'_>, sector: u32) -> Option<bool> {
+/// Whether the last content of a sector is left.
+fn is_new(word: Word<'_>, sector: u32) -> bool {
     match word.name {
-        "old" => Some(false),
-        "new" => Some(true),
-        "even" => Some(sector % 2 == 0),
-        "odd" => Some(sector % 2 == 1),
-        "only" => Some(sector == word.first),
-        "but" => Some(sector != word.first),
-        "drawn" => Some(is_drawn(word.first, sector)),
-        _ => None,
+        "new" => true,
+        "even" => sector % 2 == 0,
+        "odd" => sector % 2 == 1,
+        "only" => sector == word.first,
+        "but" => sector != word.first,
+        "drawn" => is_drawn(word.first, sector),
+        _ => false,
     }
 }
 

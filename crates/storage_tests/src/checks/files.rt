@@ -1,8 +1,8 @@
 //! Devices over real files.
 use crate::arrays::page_calls::{commit, new_page, open, read};
-use crate::checks::require::require;
+use crate::checks::require::Findings;
 use crate::sectors::content_of;
-use anyhow::{Result, bail};
+use anyhow::Result;
 use cow_pages::{CowPages, Format, PAGE_SIZE, format};
 use sector_device::{
     Device, DeviceFault, FileDevice, FileFault, SECTOR_SIZE, SystemCause, SystemFile,
@@ -16,27 +16,35 @@ pub fn remove(rt: &HostRuntime, path: &str) {
 }
 
 /// Makes an array of a page of sevens on a new file, and commits a page of eights. Both are there where the file is opened again.
-pub fn keeps_commits(rt: &HostRuntime, path: &str) -> Result<()> {
+pub fn keeps_commits(rt: &HostRuntime, path: &str, findings: &mut Findings) -> Result<()> {
     let mut device = FileDevice::make(rt, path, 64)?;
     format_64(&mut device)?;
-    commit_on(rt.alloc(), device)?;
-    check_on(rt.alloc(), FileDevice::open(rt, path)?)
+    commit_on(rt.alloc(), device, findings);
+    check_on(rt.alloc(), FileDevice::open(rt, path)?, findings);
+    Ok(())
 }
 
-// Commits a second page on a device.
-fn commit_on<D: Device + Drop>(alloc: Global, device: D) -> Result<()> {
-    match open(alloc, device) {
-        Ok(mut pages) => commit_eights(&mut pages),
-        Err(_) => bail!("not opened"),
-    }
+// Commits a second page on a device, of eights.
+fn commit_on<D: Device + Drop>(alloc: Global, device: D, findings: &mut Findings) {
+    let Ok(mut pages) = open(alloc, device) else {
+        return findings.require(false, "not opened");
+    };
+    let is_made = new_page(&mut pages, &[8; PAGE_SIZE]).is_ok();
+    findings.require(is_made, "no new page");
+    let is_committed = commit(&mut pages, Format::Two).is_ok();
+    findings.require(is_committed, "no commit");
 }
 
-// Whether a device has both pages.
-fn check_on<D: Device + Drop>(alloc: Global, device: D) -> Result<()> {
-    match open(alloc, device) {
-        Ok(mut pages) => check_pages(&mut pages),
-        Err(_) => bail!("not opened again"),
-    }
+// Sees whether a device has both pages, after one commit.
+fn check_on<D: Device + Drop>(alloc: Global, device: D, findings: &mut Findings) {
+    let Ok(mut pages) = open(alloc, device) else {
+        return findings.require(false, "not opened again");
+    };
+    let has_first = is_full_of(&mut pages, 0, 7);
+    findings.require(has_first, "another first page");
+    let has_second = is_full_of(&mut pages, 1, 8);
+    findings.require(has_second, "another second page");
+    findings.require(pages.number() == 2, "another number");
 }
 
 // Makes an array of a page of sevens, where the device has 64 pages.
@@ -47,19 +55,6 @@ fn format_64<D: Device>(device: &mut D) -> Result<(), DeviceFault> {
     format(device, Format::Two, &[7; PAGE_SIZE])
 }
 
-// Commits a second page, of eights.
-fn commit_eights<D: Device>(pages: &mut CowPages<D>) -> Result<()> {
-    require(new_page(pages, &[8; PAGE_SIZE]).is_ok(), "no new page")?;
-    require(commit(pages, Format::Two).is_ok(), "no commit")
-}
-
-// Whether an array has both pages, after one commit.
-fn check_pages<D: Device>(pages: &mut CowPages<D>) -> Result<()> {
-    require(is_full_of(pages, 0, 7), "another first page")?;
-    require(is_full_of(pages, 1, 8), "another second page")?;
-    require(pages.number() == 2, "another number")
-}
-
 // Whether a page is full of this byte.
 fn is_full_of<D: Device>(pages: &mut CowPages<D>, page: u32, byte: u8) -> bool {
     let mut bytes = [0; PAGE_SIZE];
@@ -67,11 +62,14 @@ fn is_full_of<D: Device>(pages: &mut CowPages<D>, page: u32, byte: u8) -> bool {
 }
 
 /// Fills sector 3 of a new file of three pages with eights. No second file is made there, and a device that is opened reads them.
-pub fn lie_in_order(rt: &HostRuntime, path: &str) -> Result<()> {
+pub fn lie_in_order(rt: &HostRuntime, path: &str, findings: &mut Findings) -> Result<()> {
     fill_sector_3(&mut FileDevice::make(rt, path, 3)?)?;
-    check_bytes(rt, path)?;
-    require(is_there(FileDevice::make(rt, path, 3)), "made again")?;
-    check_sector_3(&mut FileDevice::open(rt, path)?)
+    let bytes = fs::read(rt, path)?;
+    findings.require(has_sector_3(bytes.as_slice()), "other bytes");
+    findings.require(is_there(FileDevice::make(rt, path, 3)), "made again");
+    let is_read = has_content(&mut FileDevice::open(rt, path)?, 3, 8);
+    findings.require(is_read, "another content");
+    Ok(())
 }
 
 // Whether a device was not made, since the file exists.
@@ -79,16 +77,12 @@ fn is_there(made: Result<FileDevice, FileFault>) -> bool {
     matches!(made, Err(FileFault::Exists))
 }
 
-// Sees whether the bytes of a file are those of three pages, of which sector 3 is full of eights.
-fn check_bytes(rt: &HostRuntime, path: &str) -> Result<()> {
-    let bytes = fs::read(rt, path)?;
-    require(has_sector_3(bytes.as_slice()), "other bytes")
-}
-
-// Sees whether sector 3 of a device is full of eights.
-fn check_sector_3(device: &mut FileDevice) -> Result<()> {
-    let content = content_of(device, 3)?;
-    require(content == [8; SECTOR_SIZE], "another content")
+// Whether a sector of a device is read, and full of this byte.
+fn has_content(device: &mut FileDevice, sector: u32, byte: u8) -> bool {
+    match content_of(device, sector) {
+        Ok(content) => content == [byte; SECTOR_SIZE],
+        Err(_) => false,
+    }
 }
 
 // Fills sector 3 of a device with eights.
@@ -118,18 +112,15 @@ fn has_sector_3(bytes: &[u8]) -> bool {
 
 /// Cuts the file of a device of two pages in the middle of its last sector. The system gives the first half of it and no more: the
 /// whole read fails.
-pub fn fails_cut_short(rt: &HostRuntime, path: &str) -> Result<()> {
+pub fn fails_cut_short(rt: &HostRuntime, path: &str, findings: &mut Findings) -> Result<()> {
     let mut device = FileDevice::make(rt, path, 2)?;
     set_length(rt, path, 8_192 - 256)?;
-    check_last(&mut device)
-}
-
-// Whether the last sector of a device of two pages fails, and the one before it has zeros.
-fn check_last<D: Device>(device: &mut D) -> Result<()> {
-    let whole = content_of(device, 14)?;
-    require(whole == [0; SECTOR_SIZE], "other bytes")?;
-    require(content_of(device, 15).is_err(), "half a sector")?;
-    require(device.failures() == 1, "other failures")
+    let is_whole = has_content(&mut device, 14, 0);
+    findings.require(is_whole, "other bytes");
+    let is_cut = content_of(&mut device, 15).is_err();
+    findings.require(is_cut, "half a sector");
+    findings.require(device.failures() == 1, "other failures");
+    Ok(())
 }
 
 // Cuts a file to a length, or grows it.
@@ -148,43 +139,35 @@ const LENGTHS: [(u64, u32); 5] = [
 ];
 
 /// Gives a file each of these lengths, and opens it.
-pub fn has_whole_pages(rt: &HostRuntime, path: &str) -> Result<()> {
+pub fn has_whole_pages(rt: &HostRuntime, path: &str, findings: &mut Findings) -> Result<()> {
     drop(FileDevice::make(rt, path, 2)?);
     for (length, sectors) in LENGTHS {
-        check_length(rt, path, length, sectors)?;
+        set_length(rt, path, length)?;
+        let found = FileDevice::open(rt, path)?.sectors();
+        findings.require(found == sectors, "other sectors");
     }
     Ok(())
 }
 
-// Sees whether a file of a length has so many sectors.
-fn check_length(rt: &HostRuntime, path: &str, length: u64, sectors: u32) -> Result<()> {
-    set_length(rt, path, length)?;
-    let found = FileDevice::open(rt, path)?.sectors();
-    require(found == sectors, "other sectors")
-}
-
 /// A device over a file that is opened to be read alone refuses to be written, and is read.
-pub fn is_only_read(rt: &HostRuntime, path: &str) -> Result<()> {
+pub fn is_only_read(rt: &HostRuntime, path: &str, findings: &mut Findings) -> Result<()> {
     drop(FileDevice::make(rt, path, 1)?);
     let file = SystemFile::opened(File::open(rt, path)?);
     let mut device = FileDevice::stand_over(file)?;
-    check_only_read(&mut device)
-}
-
-// Sees whether the first sector of a device is not written, and read.
-fn check_only_read(device: &mut FileDevice) -> Result<()> {
-    require(put(device, 0, 1).is_err(), "written")?;
-    require(device.failures() == 1, "other failures")?;
-    let content = content_of(device, 0)?;
-    require(content == [0; SECTOR_SIZE], "other bytes")
+    let is_refused = put(&mut device, 0, 1).is_err();
+    findings.require(is_refused, "written");
+    findings.require(device.failures() == 1, "other failures");
+    let is_read = has_content(&mut device, 0, 0);
+    findings.require(is_read, "other bytes");
+    Ok(())
 }
 
 /// No file is made in a folder that is not there, and none is opened that is not.
-pub fn finds_none(rt: &HostRuntime) -> Result<()> {
+pub fn finds_none(rt: &HostRuntime, findings: &mut Findings) {
     let made = FileDevice::make(rt, "no_such_folder.test/db", 1);
-    require(is_not_found(made), "made")?;
+    findings.require(is_not_found(made), "made");
     let found = FileDevice::open(rt, "no_such_file.test");
-    require(is_not_found(found), "opened")
+    findings.require(is_not_found(found), "opened");
 }
 
 // Whether there is no device, since there is no file.

@@ -1,5 +1,5 @@
 //! A record is appended and read, and sectors that are no journal.
-use crate::checks::require::require;
+use crate::checks::require::Findings;
 use anyhow::Result;
 use journal_records::{PART_SIZE, write_sectors};
 use sector_device::{Device, MemDevice, SECTOR_SIZE};
@@ -40,46 +40,45 @@ fn two_sectors(alloc: Global) -> Result<Vec<[u8; SECTOR_SIZE]>, AllocError> {
     write_sectors(alloc, 7, 9, &[5; 2 * PART_SIZE])
 }
 
-pub fn a_record_is_read_again(alloc: Global) -> Result<()> {
+pub fn a_record_is_read_again(alloc: Global, findings: &mut Findings) -> Result<()> {
     let mut device = MemDevice::new(alloc, 1)?;
     let is_appended = is_appended(&mut device, 2, &two_sectors(alloc)?);
-    require(is_appended, "it is appended")?;
-    check_roots(alloc, &mut device)
+    findings.require(is_appended, "it is appended");
+    check_roots(alloc, &mut device, findings);
+    Ok(())
 }
 
 // Sees which records three roots have.
-fn check_roots(alloc: Global, device: &mut MemDevice) -> Result<()> {
-    require(
-        matches!(found(alloc, device, 7), FoundJournal::Records(1, 9, 2)),
-        "one record of two sectors",
-    )?;
-    require(
-        matches!(found(alloc, device, 8), FoundJournal::Records(0, 9, 0)),
-        "none behind the next root",
-    )?;
-    require(
-        matches!(found(alloc, device, 6), FoundJournal::Damaged),
-        "a tag of a later root is a fault",
-    )
+fn check_roots(alloc: Global, device: &mut MemDevice, findings: &mut Findings) {
+    let is_one = matches!(found(alloc, device, 7), FoundJournal::Records(1, 9, 2));
+    findings.require(is_one, "one record of two sectors");
+    let is_none = matches!(found(alloc, device, 8), FoundJournal::Records(0, 9, 0));
+    findings.require(is_none, "none behind the next root");
+    let is_damaged = matches!(found(alloc, device, 6), FoundJournal::Damaged);
+    findings.require(is_damaged, "a tag of a later root is a fault");
 }
 
-pub fn sectors_that_are_no_journal(alloc: Global) -> Result<()> {
+pub fn sectors_that_are_no_journal(alloc: Global, findings: &mut Findings) -> Result<()> {
     let mut device = MemDevice::new(alloc, 1)?;
     let mut sectors = two_sectors(alloc)?;
     sectors.truncate(1);
-    check_cut_off(alloc, &mut device, &sectors)
+    check_cut_off(alloc, &mut device, &sectors, findings);
+    Ok(())
 }
 
 // Sees that a record that was cut off is none, and that one behind the end is a fault.
-fn check_cut_off(alloc: Global, device: &mut MemDevice, front: &[[u8; SECTOR_SIZE]]) -> Result<()> {
-    require(is_appended(device, 2, front), "its first sector")?;
-    require(
-        matches!(found(alloc, device, 7), FoundJournal::Records(0, 9, _)),
-        "no record, and its number",
-    )?;
-    require(is_appended(device, 4, front), "the same behind the end")?;
-    require(
-        matches!(found(alloc, device, 7), FoundJournal::Damaged),
-        "a record behind the end is a fault",
-    )
+fn check_cut_off(
+    alloc: Global,
+    device: &mut MemDevice,
+    front: &[[u8; SECTOR_SIZE]],
+    findings: &mut Findings,
+) {
+    let is_cut = is_appended(device, 2, front);
+    findings.require(is_cut, "its first sector");
+    let is_none = matches!(found(alloc, device, 7), FoundJournal::Records(0, 9, _));
+    findings.require(is_none, "no record, and its number");
+    let is_behind = is_appended(device, 4, front);
+    findings.require(is_behind, "the same behind the end");
+    let is_damaged = matches!(found(alloc, device, 7), FoundJournal::Damaged);
+    findings.require(is_damaged, "a record behind the end is a fault");
 }

@@ -1,17 +1,16 @@
 //! Laws and generic functions, each called at one concrete type.
-use crate::checks::require::require;
+use crate::stores::records::memory_of;
 use anyhow::Result;
 use sector_device::{
     HistoryDevice, MemDevice, both_contents_are_left, call_lifts, calls_join, each_moment_is_kept,
     present_lifts, read_leaves, run_goes_on, run_lifts, run_of_one, run_starts, run_weakens,
     runs_join,
 };
-use sql_types::name::Name;
 use std::alloc::Global;
 use std::marker::Brand;
 use store::{
-    MemStore, StoreFault, causes_join, fronts_do_not_order, items_elsewhere_stay,
-    memory_alone_is_refused, put_items_are_held, reads_join, removed_items_are_dropped,
+    StoreFault, causes_join, fronts_do_not_order, items_elsewhere_stay, memory_alone_is_refused,
+    put_items_are_held, reads_join, removed_items_are_dropped,
 };
 
 pub fn laws_of_runs(alloc: Global) -> Result<()> {
@@ -37,10 +36,7 @@ pub fn laws_of_stores(alloc: Global) -> Result<()> {
     removed_items_are_dropped::<u64>();
     items_elsewhere_stay::<u64>();
     fronts_do_not_order();
-    let Some(name) = Name::from_str(alloc, "root")? else {
-        return require(false, "no name");
-    };
-    let store = MemStore::new(alloc, &name)?;
+    let store = memory_of(alloc, "root")?;
     reads_join(&store, &store, &store);
     causes_join(&store, &store, &store, StoreFault::Device);
     memory_alone_is_refused(&store, &store, StoreFault::Memory);

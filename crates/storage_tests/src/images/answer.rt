@@ -1,10 +1,12 @@
 //! What the store says of an image.
 
+use crate::images::change::{ImageChange, changed};
 use crate::stores::map_calls::advance;
 use crate::stores::table::digest_with_entry;
+use crate::transcript::Transcript;
 use kv_store::{OpenFault, PageStore, StoreFault};
 use sector_device::{FileDevice, MemFile};
-use std::alloc::{AllocError, Global};
+use std::alloc::Global;
 use store::Cursor;
 
 /// How many records there are, and the digest of all of them in turn.
@@ -20,50 +22,49 @@ pub type ImageAnswer = Result<Contents, OpenFault>;
 /// A device over the bytes of an image.
 type ImageDevice = FileDevice<MemFile>;
 
-/// What the store says of an image.
-pub fn answer_to(alloc: Global, image: &[u8]) -> ImageAnswer {
-    let mut store = store_over(alloc, image)?;
+/// What the store says of an image with a change.
+pub fn answer_to(alloc: Global, image: &[u8], change: ImageChange) -> ImageAnswer {
+    let mut store = store_over(alloc, changed(alloc, image, change)?.as_slice())?;
     contents_of(alloc, &mut store)
 }
 
 /// The store on an image.
 fn store_over(alloc: Global, image: &[u8]) -> Result<PageStore<ImageDevice>, OpenFault> {
-    match PageStore::open(alloc, device_over(alloc, image)?) {
+    let Ok(device) = FileDevice::stand_over(MemFile::new(alloc, image)?) else {
+        return Err(OpenFault::Device);
+    };
+    match PageStore::open(alloc, device) {
         Ok(store) => Ok(store),
         Err((_, fault)) => Err(fault),
-    }
-}
-
-/// The device over an image.
-fn device_over(alloc: Global, image: &[u8]) -> Result<ImageDevice, OpenFault> {
-    let file = MemFile::new(alloc, image)?;
-    match FileDevice::stand_over(file) {
-        Ok(device) => Ok(device),
-        Err(_) => Err(OpenFault::Device),
     }
 }
 
 /// The records of a store that a cursor comes to.
 fn contents_of(alloc: Global, store: &mut PageStore<ImageDevice>) -> ImageAnswer {
     let mut cursor = Cursor::over(alloc, &[])?;
-    contents_from(&mut cursor, store)
+    match contents_from(&mut cursor, store) {
+        Ok(contents) => Ok(contents),
+        Err(StoreFault::Memory) => Err(OpenFault::Memory),
+        Err(_) => Err(OpenFault::Device),
+    }
 }
 
 /// The records of a store that are left to a cursor.
-fn contents_from(cursor: &mut Cursor, store: &mut PageStore<ImageDevice>) -> ImageAnswer {
+fn contents_from(
+    cursor: &mut Cursor,
+    store: &mut PageStore<ImageDevice>,
+) -> Result<Contents, StoreFault> {
     let mut contents = Contents {
         records: 0,
         digest: 1,
     };
     for _ in 0..u32::MAX {
-        match advance(cursor, store) {
-            Ok(true) => add(&mut contents, cursor.entry().key(), cursor.entry().value()),
-            Ok(false) => return Ok(contents),
-            Err(StoreFault::Memory) => return Err(OpenFault::Memory),
-            Err(_) => return Err(OpenFault::Device),
+        if !advance(cursor, store)? {
+            return Ok(contents);
         }
+        add(&mut contents, cursor.entry().key(), cursor.entry().value());
     }
-    Err(OpenFault::Device)
+    Err(StoreFault::Device)
 }
 
 /// Adds a record.
@@ -72,27 +73,31 @@ fn add(contents: &mut Contents, key: &[u8], value: &[u8]) {
     contents.digest = digest_with_entry(contents.digest, key, value);
 }
 
-/// Appends a line of an answer to an image of this name.
-pub fn push_line(out: &mut String, name: &str, answer: &ImageAnswer) -> Result<(), AllocError> {
+/// Tells an answer to an image of this name, on a line.
+pub fn tell_line(out: &mut Transcript, name: &str, answer: &ImageAnswer) {
+    out.put(name);
     match answer {
         Ok(contents) => {
-            let (records, digest) = (contents.records, contents.digest);
-            writeln!(out, "{name}: opened, {records} records, {digest:08x}")
+            out.put(": opened, ");
+            out.put_number(contents.records);
+            out.put(" records, ");
+            out.put_hex(contents.digest);
         }
-        Err(fault) => writeln!(out, "{name}: {fault:?}"),
+        Err(fault) => {
+            out.put(": ");
+            out.put_debug(*fault);
+        }
     }
+    out.put("\n");
 }
 
-/// Appends an answer in short.
-pub fn push_short(out: &mut String, answer: &ImageAnswer) -> Result<(), AllocError> {
+/// Tells an answer in short.
+pub fn tell_short(out: &mut Transcript, answer: &ImageAnswer) {
     match answer {
-        Ok(contents) => {
-            let digest = contents.digest;
-            write!(out, "{digest:08x}")
-        }
-        Err(OpenFault::WrongSize) => out.push_str("S"),
-        Err(OpenFault::NotADatabase) => out.push_str("N"),
-        Err(OpenFault::Damaged) => out.push_str("."),
-        Err(OpenFault::Device | OpenFault::Memory) => out.push_str("F"),
+        Ok(contents) => out.put_hex(contents.digest),
+        Err(OpenFault::WrongSize) => out.put("S"),
+        Err(OpenFault::NotADatabase) => out.put("N"),
+        Err(OpenFault::Damaged) => out.put("."),
+        Err(OpenFault::Device | OpenFault::Memory) => out.put("F"),
     }
 }

@@ -17,18 +17,12 @@ pub enum ImageChange {
 /// An image with a change.
 pub fn changed(alloc: Global, image: &[u8], change: ImageChange) -> Result<Vec<u8>, AllocError> {
     let mut changed = Vec::from_slice(alloc, image)?;
-    apply(&mut changed, change)?;
-    Ok(changed)
-}
-
-/// Changes an image.
-fn apply(image: &mut Vec<u8>, change: ImageChange) -> Result<(), AllocError> {
     match change {
-        ImageChange::Byte(at, value) => set(image, at, value),
-        ImageChange::Sector(sector) => clear_sector(image, sector),
-        ImageChange::Length(length) => image.resize(length, 0)?,
+        ImageChange::Byte(at, value) => set(&mut changed, at, value),
+        ImageChange::Sector(sector) => clear_sector(&mut changed, sector),
+        ImageChange::Length(length) => changed.resize(length, 0)?,
     }
-    Ok(())
+    Ok(changed)
 }
 
 /// Gives the byte at an offset this value, where there is one.

@@ -1,8 +1,8 @@
 //! How many images came to which outcome.
 
 use crate::images::answer::ImageAnswer;
+use crate::transcript::Transcript;
 use kv_store::OpenFault;
-use std::alloc::AllocError;
 
 /// How many images there were, how many of them were opened, and how many were refused for each reason.
 #[derive(Clone, Copy)]
@@ -41,18 +41,20 @@ impl OutcomeCounts {
         self.images = self.images.wrapping_add(1);
     }
 
-    /// Appends a line of a database's images.
-    pub fn push(&self, out: &mut String, name: &str) -> Result<(), AllocError> {
-        let (images, opened, failed) = (self.images, self.opened, self.failed);
-        let (wrong_size, not_a_database) = (self.wrong_size, self.not_a_database);
-        let damaged = self.damaged;
-        write!(
-            out,
-            "{name}: {images} images, {opened} opened, {wrong_size} WrongSize, "
-        )?;
-        writeln!(
-            out,
-            "{not_a_database} NotADatabase, {damaged} Damaged, {failed} failed"
-        )
+    /// Tells the counts of a database's images, on a line.
+    pub fn tell(&self, name: &str, out: &mut Transcript) {
+        out.put(name);
+        out.put(":");
+        for (count, what) in [
+            (self.images, " images,"),
+            (self.opened, " opened,"),
+            (self.wrong_size, " WrongSize,"),
+            (self.not_a_database, " NotADatabase,"),
+            (self.damaged, " Damaged,"),
+            (self.failed, " failed\n"),
+        ] {
+            out.put_after_blank(count);
+            out.put(what);
+        }
     }
 }

@@ -4,8 +4,9 @@ use crate::journals::devices::{JournalSwitch, SwitchAnswer, TestDevice};
 use crate::journals::script::{BatchScript, ScriptStep};
 use crate::journals::tally::TestTally;
 use crate::journals::test_stores::{TestStore, new_device, opened};
-use crate::journals::wanted::new_memory;
+use crate::journals::wanted::ROOT;
 use crate::stores::map_calls;
+use crate::stores::records::memory_of;
 use anyhow::{Result, bail};
 use kv_store::OpenFault;
 use store::{Batch, MemStore, StoreFault};
@@ -14,7 +15,7 @@ use store::{Batch, MemStore, StoreFault};
 /// device is opened once more.
 pub fn step_again(script: &BatchScript, tally: &mut TestTally) -> Result<()> {
     let store = opened_again(script, new_device(script.alloc, true)?)?;
-    let mut memory = new_memory(script.alloc)?;
+    let mut memory = memory_of(script.alloc, ROOT)?;
     let device = after_steps(script, store, &mut memory, tally)?;
     look_at_last(script, device, &mut memory, tally)
 }
@@ -47,7 +48,7 @@ fn look_at_last(
     Ok(())
 }
 
-/// A store after one more step.
+/// A store after one more step, which the store in memory has too where it is a commit.
 fn stepped(
     script: &BatchScript,
     store: TestStore,
@@ -55,26 +56,17 @@ fn stepped(
     step: ScriptStep,
     tally: &mut TestTally,
 ) -> Result<TestStore> {
+    let mut store = store;
     match step {
-        ScriptStep::Commit(index) => committed(script, store, memory, index, tally),
+        ScriptStep::Commit(index) => {
+            commit_both(script, &mut store, memory, index, tally)?;
+            Ok(store)
+        }
         ScriptStep::Turn(switch) => {
             let device = turned_again(script, store.into_device(), switch, tally);
             opened_again(script, device)
         }
     }
-}
-
-/// A store after the commit of an index, which the store in memory has too.
-fn committed(
-    script: &BatchScript,
-    store: TestStore,
-    memory: &mut MemStore,
-    index: usize,
-    tally: &mut TestTally,
-) -> Result<TestStore> {
-    let mut store = store;
-    commit_both(script, &mut store, memory, index, tally)?;
-    Ok(store)
 }
 
 /// Makes the commit of an index in a store, again where it is refused memory, and in the store in memory.

@@ -43,7 +43,8 @@ fn fail_call(
     if commit_failing(script, &mut store, index, event, tally)? {
         return Ok(true);
     }
-    check_restarts(script, index, store, tally)?;
+    let image = TestImage::of(script.alloc, store.into_device())?;
+    check_restarts(script, index, &image, tally)?;
     Ok(false)
 }
 
@@ -74,19 +75,8 @@ fn commit_failing(
     Ok(false)
 }
 
-/// Sees what the device has, as it is and started again.
-fn check_restarts(
-    script: &BatchScript,
-    index: usize,
-    store: TestStore,
-    tally: &mut TestTally,
-) -> Result<()> {
-    let image = TestImage::of(script.alloc, store.into_device())?;
-    check_image(script, index, &image, tally)
-}
-
 /// Sees what a device has, as it is and started again by each choice of its unsynced sectors.
-fn check_image(
+fn check_restarts(
     script: &BatchScript,
     index: usize,
     image: &TestImage,

@@ -2,10 +2,12 @@
 
 use crate::journals::script::BatchScript;
 use crate::journals::test_stores::{TestStore, new_device, opened};
-use crate::journals::wanted::new_memory;
+use crate::journals::wanted::ROOT;
 use crate::stores::call::{CallWords, number_in};
 use crate::stores::map_calls::commit;
+use crate::stores::records::memory_of;
 use crate::stores::table::add_change;
+use crate::transcript::Transcript;
 use anyhow::{Result, bail};
 use kv_store::DEFAULT_CACHE_PAGES;
 use std::alloc::Global;
@@ -36,7 +38,7 @@ impl Filled {
         let store = opened(script, new_device(script.alloc, has_journal)?)?;
         Ok(Filled {
             store,
-            memory: new_memory(script.alloc)?,
+            memory: memory_of(script.alloc, ROOT)?,
         })
     }
 
@@ -67,8 +69,8 @@ struct StorePair {
     size: usize,
 }
 
-/// Fills the two stores that a line names, changes rows of them in so many rounds, and appends what came of it.
-pub fn fill(call: &CallWords<'_>, out: &mut String) -> Result<()> {
+/// Fills the two stores that a line names, changes rows of them in so many rounds, and tells what came of it.
+pub fn fill(call: &CallWords<'_>, out: &mut Transcript) -> Result<()> {
     let mut pair = StorePair::new(call.alloc, number_in(call.second) as usize)?;
     pair.fill_and_change(call, out)
 }
@@ -86,16 +88,15 @@ impl StorePair {
         })
     }
 
-    /// Fills the stores, changes rows of them in so many rounds as a call says, and appends what came of it.
-    fn fill_and_change(&mut self, call: &CallWords<'_>, out: &mut String) -> Result<()> {
+    /// Fills the stores, changes rows of them in so many rounds as a call says, and tells what came of it.
+    fn fill_and_change(&mut self, call: &CallWords<'_>, out: &mut Transcript) -> Result<()> {
         let rows = self.fill()?;
         let alone = self.change(number_in(call.first), rows)?;
         let is_same = self.journaled.is_same()? && self.plain.is_same()?;
-        let word = call.word;
-        writeln!(
-            out,
-            "{word}: full {alone} times where the other is not, all that was taken is there: {is_same}"
-        )?;
+        out.put_all(&[call.word, ": full"]);
+        out.put_after_blank(u64::from(alone));
+        out.put(" times where the other is not, all that was taken is there: ");
+        out.put(if is_same { "true\n" } else { "false\n" });
         Ok(())
     }
 
@@ -129,7 +130,7 @@ impl StorePair {
     /// Puts a row in both stores. Whether the one without a journal takes it, and whether the other does.
     fn put(&mut self, row: u32, byte: u8) -> Result<(bool, bool)> {
         let batch = self.row_batch(row, byte)?;
-        self.commit(&batch)
+        Ok((self.plain.commit(&batch)?, self.journaled.commit(&batch)?))
     }
 
     /// A batch that puts a row.
@@ -138,11 +139,6 @@ impl StorePair {
         let mut batch = Batch::new(self.alloc);
         add_change(&mut batch, &key_of(row), Some(value.as_slice()))?;
         Ok(batch)
-    }
-
-    /// Commits a batch in both stores. Whether the one without a journal takes it, and whether the other does.
-    fn commit(&mut self, batch: &Batch) -> Result<(bool, bool)> {
-        Ok((self.plain.commit(batch)?, self.journaled.commit(batch)?))
     }
 }
 

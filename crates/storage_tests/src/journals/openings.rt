@@ -5,7 +5,7 @@ use crate::journals::failing::has;
 use crate::journals::images::TestImage;
 use crate::journals::script::BatchScript;
 use crate::journals::tally::TestTally;
-use crate::journals::test_stores::{TestStore, new_device, opened};
+use crate::journals::test_stores::{TestStore, commit_first, new_device, opened};
 use anyhow::Result;
 use kv_store::OpenFault;
 use sector_device::Device;
@@ -16,7 +16,8 @@ const MAX_CALLS: u64 = 2_048;
 /// Makes each call of an opening fail, behind each commit of a script.
 pub fn fail_openings(script: &BatchScript, tally: &mut TestTally) -> Result<()> {
     for commits in 0..script.len().saturating_add(1) {
-        fail_calls(script, &image_after(script, commits)?, commits, tally)?;
+        let image = image_after(script, commits, tally)?;
+        fail_calls(script, &image, commits, tally)?;
     }
     Ok(())
 }
@@ -37,18 +38,10 @@ fn fail_calls(
 }
 
 /// What a device holds on which so many commits were made.
-fn image_after(script: &BatchScript, commits: usize) -> Result<TestImage> {
+fn image_after(script: &BatchScript, commits: usize, tally: &mut TestTally) -> Result<TestImage> {
     let mut store = opened(script, new_device(script.alloc, true)?)?;
-    make_first(script, &mut store, commits)?;
+    commit_first(script, &mut store, commits, tally)?;
     TestImage::of(script.alloc, store.into_device())
-}
-
-/// Makes so many commits, the first ones, none of which may fail.
-fn make_first(script: &BatchScript, store: &mut TestStore, commits: usize) -> Result<()> {
-    for index in 0..commits {
-        store.commit(&script.batch(index, 0)?)?;
-    }
-    Ok(())
 }
 
 /// Makes a call fail that comes after so many. Answers whether the opening makes no more calls than these.

@@ -1,10 +1,10 @@
 //! The steps of a script, and its batches.
 
 use crate::journals::devices::JournalSwitch;
-use crate::stores::call::{CallWords, bytes_in, number_in};
-use crate::stores::table::add_change;
-use anyhow::{Result, bail};
-use std::alloc::Global;
+use crate::stores::call::CallWords;
+use crate::stores::table::{Changeable, add_change, change_by};
+use anyhow::Result;
+use std::alloc::{AllocError, Global};
 use store::Batch;
 
 /// A step of a script.
@@ -38,7 +38,7 @@ impl Drop for BatchScript {
 
 impl BatchScript {
     /// The script that words make.
-    pub fn new(alloc: Global, cache: usize, words: &str) -> Result<BatchScript> {
+    pub fn new(alloc: Global, cache: usize, words: &str) -> Result<BatchScript, AllocError> {
         let mut script = BatchScript {
             alloc,
             cache,
@@ -53,7 +53,7 @@ impl BatchScript {
     }
 
     /// Takes a word: it ends the batch that the words before it began, is a step by itself, or goes on with a batch.
-    fn take(&mut self, word: &str, batch: &mut String) -> Result<()> {
+    fn take(&mut self, word: &str, batch: &mut String) -> Result<(), AllocError> {
         match word {
             "commit" => {
                 self.steps.push(ScriptStep::Commit(self.batches.len()))?;
@@ -77,44 +77,54 @@ impl BatchScript {
 
     /// The batch of this index, as it is made in a life. It is empty where there is none.
     pub fn batch(&self, index: usize, life: u8) -> Result<Batch> {
-        let mut batch = Batch::new(self.alloc);
+        let mut made = LifeBatch {
+            batch: Batch::new(self.alloc),
+            alloc: self.alloc,
+            life,
+        };
         if let Some(words) = self.batches.get(index) {
-            for word in words.split(' ') {
-                add_changes(&mut batch, &CallWords::new(self.alloc, word), life)?;
+            made.add(words)?;
+        }
+        Ok(made.batch)
+    }
+}
+
+/// A batch that is made in a life.
+#[derive(Drop)]
+struct LifeBatch {
+    batch: Batch,
+    alloc: Global,
+    life: u8,
+}
+
+impl LifeBatch {
+    /// Adds the changes that words write.
+    fn add(&mut self, words: &str) -> Result<()> {
+        for word in words.split(' ') {
+            let call = CallWords::new(self.alloc, word);
+            if !word.is_empty() {
+                change_by(self, &call)?;
             }
         }
-        Ok(batch)
+        Ok(())
     }
 }
 
-/// Adds the changes that a word writes, as they are made in a life.
-fn add_changes(batch: &mut Batch, call: &CallWords<'_>, life: u8) -> Result<()> {
-    match call.name {
-        "" => Ok(()),
-        "put" => put(batch, call, life),
-        "remove" => add_change(batch, &bytes_in(call.alloc, call.first)?, None),
-        "rise" => rise(batch, call, &value_in(call, call.third, life)?),
-        _ => bail!("no change of a store"),
+impl Changeable for LifeBatch {
+    fn change(&mut self, key: &[u8], value: Option<&[u8]>) -> Result<()> {
+        match value {
+            Some(value) => {
+                let value = in_life(self.alloc, value, self.life)?;
+                add_change(&mut self.batch, key, Some(value.as_slice()))
+            }
+            None => add_change(&mut self.batch, key, None),
+        }
     }
-}
-
-/// Puts a value at a key.
-fn put(batch: &mut Batch, call: &CallWords<'_>, life: u8) -> Result<()> {
-    let key = bytes_in(call.alloc, call.first)?;
-    add_change(batch, &key, Some(&value_in(call, call.second, life)?))
-}
-
-/// Puts a value at each number of a range.
-fn rise(batch: &mut Batch, call: &CallWords<'_>, value: &[u8]) -> Result<()> {
-    for number in number_in(call.first)..number_in(call.second) {
-        add_change(batch, &number.to_be_bytes(), Some(value))?;
-    }
-    Ok(())
 }
 
 /// The bytes of a value, as it is put in a life.
-fn value_in(call: &CallWords<'_>, argument: &str, life: u8) -> Result<Vec<u8>> {
-    let mut value = bytes_in(call.alloc, argument)?;
+fn in_life(alloc: Global, value: &[u8], life: u8) -> Result<Vec<u8>, AllocError> {
+    let mut value = Vec::from_slice(alloc, value)?;
     for byte in value.iter_mut() {
         *byte = byte.wrapping_add(life);
     }

@@ -13,11 +13,11 @@ use store::StoreFault;
 /// More writes than a commit makes on 64 pages.
 const MAX_WRITES: u64 = 1_024;
 
-/// What a device holds after a stop: the lives in which the commits before the one that was under way were made, the life of that
-/// one, whether it was answered, and the number before it.
+/// What a device holds after a stop: the lives in which the commits were made, of which the last was under way, whether that one was
+/// answered, and the number before it.
 struct Stopped {
     image: TestImage,
-    before: Vec<u8>,
+    lives: Vec<u8>,
     life: u8,
     is_answered: bool,
     number: u64,
@@ -28,7 +28,7 @@ impl Drop for Stopped {
     fn drop(self) {
         let Stopped {
             image: _,
-            before: _,
+            lives: _,
             life: _,
             is_answered: _,
             number: _,
@@ -41,11 +41,17 @@ impl Stopped {
     fn restarted(&self, choice: SectorChoice) -> Result<Stopped, AllocError> {
         Ok(Stopped {
             image: self.image.restarted(choice)?,
-            before: self.before.clone()?,
+            lives: self.lives.clone()?,
             life: self.life,
             is_answered: self.is_answered,
             number: self.number,
         })
+    }
+
+    /// The lives of the commits before the one that was under way.
+    fn before(&self) -> &[u8] {
+        let commits = self.lives.len().saturating_sub(1);
+        self.lives.get(..commits).unwrap_or(&[])
     }
 }
 
@@ -165,7 +171,7 @@ impl Stops {
         tally.count_second();
         let mut store = opened(script, stopped.image.device()?)?;
         match found(script, &mut store, stopped, tally)? {
-            Some(found) => self.go_on(script, store, stopped, &found, tally),
+            Some(found) => self.go_on(script, store, stopped, found, tally),
             None => Ok(()),
         }
     }
@@ -204,19 +210,19 @@ fn stopped_after(
     tally: &mut TestTally,
 ) -> Result<Stopped> {
     let mut store = opened(script, next.image.device()?)?;
-    let before = made_before(script, &mut store, next, tally)?;
+    let lives = made_before(script, &mut store, next, tally)?;
     let number = store.number();
     let is_answered = is_answered(script, &mut store, next, writes, tally)?;
     Ok(Stopped {
         image: TestImage::of(script.alloc, store.into_device())?,
-        before,
+        lives,
         life: next.life,
         is_answered,
         number,
     })
 }
 
-/// Makes the commits between, before one that is to be stopped. Answers the lives of all that the device has then.
+/// Makes the commits between, before one that is to be stopped. Answers the lives of all that the device has then, and of that one.
 fn made_before(
     script: &BatchScript,
     store: &mut TestStore,
@@ -228,6 +234,7 @@ fn made_before(
         commit_whole(script, store, ahead, next.life, tally)?;
         made.push(next.life)?;
     }
+    made.push(next.life)?;
     Ok(made)
 }
 
@@ -248,32 +255,21 @@ fn is_answered(
     Ok(answer.is_ok())
 }
 
-/// The commits that a device has which was started again: those before, or these and the one that was under way.
-fn found(
+/// The commits that a device has which was started again: all, or those before the one that was under way, if it was not answered.
+fn found<'a>(
     script: &BatchScript,
     store: &mut TestStore,
-    stopped: &Stopped,
+    stopped: &'a Stopped,
     tally: &mut TestTally,
-) -> Result<Option<Vec<u8>>> {
+) -> Result<Option<&'a [u8]>> {
     let number = store.number();
     let is_next = stopped.number <= number && number <= stopped.number.saturating_add(1);
     tally.disagree(is_next, "a number that is none of the two");
-    let after = with(script.alloc, &stopped.before, stopped.life)?;
-    if has(script, store, &after)? {
-        return Ok(Some(after));
+    if has(script, store, &stopped.lives)? {
+        return Ok(Some(stopped.lives.as_slice()));
     }
-    found_before(script, store, stopped, tally)
-}
-
-/// The commits before the one that was under way, where a device has these alone and may.
-fn found_before(
-    script: &BatchScript,
-    store: &mut TestStore,
-    stopped: &Stopped,
-    tally: &mut TestTally,
-) -> Result<Option<Vec<u8>>> {
-    if !stopped.is_answered && has(script, store, &stopped.before)? {
-        return Ok(Some(stopped.before.clone()?));
+    if !stopped.is_answered && has(script, store, stopped.before())? {
+        return Ok(Some(stopped.before()));
     }
     tally.disagree(false, "other records after a stop");
     Ok(None)

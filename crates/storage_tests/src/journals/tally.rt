@@ -1,14 +1,15 @@
 //! What was counted in a test.
 
 use crate::stores::call::CallWords;
-use std::alloc::{AllocError, Global};
+use crate::transcript::Transcript;
+use std::alloc::Global;
 
 /// What was counted in a test: two numbers, and a line for each disagreement.
 pub struct TestTally {
     pub first: u64,
     pub second: u64,
     disagreements: u64,
-    told: String,
+    told: Transcript,
 }
 
 // Written and not derived: where a value is dropped this is one call, and not its parts one by one.
@@ -30,7 +31,7 @@ impl TestTally {
             first: 0,
             second: 0,
             disagreements: 0,
-            told: String::new(alloc),
+            told: Transcript::new(alloc),
         }
     }
 
@@ -44,29 +45,27 @@ impl TestTally {
         self.second = self.second.saturating_add(1);
     }
 
-    /// Counts a disagreement and tells of it, unless all is as it should be. Where there is no memory to tell of it, it is counted.
+    /// Counts a disagreement and tells of it, unless all is as it should be.
     pub fn disagree(&mut self, is_so: bool, told: &str) {
         if !is_so {
             self.disagreements = self.disagreements.saturating_add(1);
-            let _is_told = writeln!(self.told, "  {told}");
+            self.told.put_all(&["  ", told, "\n"]);
         }
     }
 
-    /// Appends the counts, unless the test is not to tell them, and a line for each disagreement.
-    pub fn push(
-        &self,
-        call: &CallWords<'_>,
-        is_counted: bool,
-        out: &mut String,
-    ) -> Result<(), AllocError> {
-        let (word, first, second) = (call.word, self.first, self.second);
-        write!(out, "{word}: ")?;
+    /// Tells the counts, unless the test is not to tell them, and each disagreement, on lines.
+    pub fn tell(&self, call: &CallWords<'_>, is_counted: bool, out: &mut Transcript) {
+        out.put_all(&[call.word, ":"]);
         if is_counted {
             let (firsts, seconds) = counted(call.name);
-            write!(out, "{first} {firsts}, {second} {seconds}, ")?;
+            out.put_after_blank(self.first);
+            out.put_all(&[" ", firsts, ","]);
+            out.put_after_blank(self.second);
+            out.put_all(&[" ", seconds, ","]);
         }
-        writeln!(out, "{} disagreements", self.disagreements)?;
-        out.push_str(&self.told)
+        out.put_after_blank(self.disagreements);
+        out.put(" disagreements\n");
+        out.put_transcript(&self.told);
     }
 }
 

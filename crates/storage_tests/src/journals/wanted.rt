@@ -7,14 +7,12 @@ use anyhow::Result;
 use std::alloc::{AllocError, Global};
 use store::MemStore;
 
-/// The store in memory of a new database whose administrator is root.
-pub fn new_memory(alloc: Global) -> Result<MemStore> {
-    memory_of(alloc, "root")
-}
+/// The administrator of the new databases.
+pub const ROOT: &str = "root";
 
 /// A store in memory after the first commits of a script, each made in the life that stands at its place.
 pub fn wanted_after(script: &BatchScript, lives: &[u8]) -> Result<MemStore> {
-    let mut memory = new_memory(script.alloc)?;
+    let mut memory = memory_of(script.alloc, ROOT)?;
     commit_first(script, lives, &mut memory)?;
     Ok(memory)
 }

@@ -1,7 +1,8 @@
 //! Calls as words write them.
 
+use crate::transcript::Transcript;
 use anyhow::Result;
-use std::alloc::{AllocError, Global};
+use std::alloc::Global;
 use std::fmt::Debug;
 use storage_sizes::PAGE_SIZE;
 
@@ -32,40 +33,41 @@ impl<'a> CallWords<'a> {
         }
     }
 
-    /// Appends a line of the call and its answer.
-    pub fn answer(&self, out: &mut String, answer: &str) -> Result<(), AllocError> {
-        let word = self.word;
-        writeln!(out, "{word} {answer}")
+    /// Tells the call and its answer, on a line.
+    pub fn answer(&self, out: &mut Transcript, answer: &str) {
+        out.put_all(&[self.word, " ", answer, "\n"]);
     }
 
-    /// Appends a line of the call and a fault.
-    pub fn answer_fault<F: Debug + Drop>(
-        &self,
-        out: &mut String,
-        fault: F,
-    ) -> Result<(), AllocError> {
-        let word = self.word;
-        writeln!(out, "{word} {fault:?}")
+    /// Tells the call and a fault, on a line.
+    pub fn answer_fault<F: Debug + Drop>(&self, out: &mut Transcript, fault: F) {
+        out.put_all(&[self.word, " "]);
+        out.put_debug(fault);
+        out.put("\n");
     }
 
-    /// Appends a line of the call and bytes, which are written as an argument is: of equal bytes at the end, more than three
+    /// Tells the call and a number, on a line.
+    pub fn answer_number(&self, out: &mut Transcript, number: u64) {
+        out.put(self.word);
+        out.put_after_blank(number);
+        out.put("\n");
+    }
+
+    /// Tells the call and bytes, on a line. The bytes are written as an argument is: of equal ones at the end, more than three
     /// are counted.
-    pub fn answer_bytes(&self, out: &mut String, bytes: &[u8]) -> Result<(), AllocError> {
-        let word = self.word;
+    pub fn answer_bytes(&self, out: &mut Transcript, bytes: &[u8]) {
         let last = bytes.last().copied().unwrap_or(0);
         let equal = equal_at_end(bytes, last);
         let counted = if equal > 3 { equal } else { 0 };
-        let front = bytes
-            .get(..bytes.len().saturating_sub(counted))
-            .unwrap_or(bytes);
-        let digits = hex::encode(self.alloc, front)?;
-        if counted == 0 {
-            writeln!(out, "{word} {digits}")
-        } else if front.is_empty() {
-            writeln!(out, "{word} {counted}*{last:02x}")
-        } else {
-            writeln!(out, "{word} {digits}+{counted}*{last:02x}")
+        let uncounted = bytes.len().saturating_sub(counted);
+        out.put_all(&[self.word, " "]);
+        out.put_bytes(bytes.get(..uncounted).unwrap_or(bytes));
+        if counted > 0 {
+            out.put(if uncounted > 0 { "+" } else { "" });
+            out.put_number(counted as u64);
+            out.put("*");
+            out.put_bytes(&[last]);
         }
+        out.put("\n");
     }
 }
 

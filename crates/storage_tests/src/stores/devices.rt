@@ -6,13 +6,15 @@ use crate::stores::call::{CallWords, bytes_in, number_in};
 use crate::stores::callee::{Callee, make_calls};
 use crate::stores::records::Records;
 use crate::stores::trees::answer_pages;
+use crate::transcript::Transcript;
 use anyhow::{Result, bail};
 use cow_pages::CowPages;
 use device_store::DeviceStore;
 use journal_store::JournalStore;
 use kv_store::{MAX_CACHE_PAGES, PageStore};
 use sector_device::{Device, Guarded, MAX_MEMORY_PAGES, MemDevice, SECTOR_SIZE};
-use std::alloc::Global;
+use std::alloc::{AllocError, Global};
+use std::mem;
 use store::{Batch, Entry, MAX_KEY_LENGTH, MAX_VALUE_LENGTH};
 
 /// A store on a device in memory, with a journal or without.
@@ -26,35 +28,28 @@ struct OpenStore {
     reads: u64,
 }
 
-/// Does what a line says that is about the device. Gives the device back, or the one in its place.
+/// Does what a line says that is about the device, which it changes, or puts another one in its place.
 pub fn run_on_device(
-    device: MemDevice,
+    device: &mut MemDevice,
     first: &CallWords<'_>,
     calls: &str,
-    out: &mut String,
-) -> Result<MemDevice> {
+    out: &mut Transcript,
+) -> Result<()> {
     match first.name {
-        "device" | "journaled" => new_device(first),
+        "device" | "journaled" => make_new(device, first),
+        "turn" => turn(device, first),
+        "sector" => put_sector(device, first),
+        "restart" => restart(device, first),
+        "pages" => tell_pages(device, first, out),
         "open" => open(device, first, calls, out),
-        "pages" => count_pages(device, first, out),
-        _ => changed(device, first),
+        _ => bail!("a line begins with no word"),
     }
 }
 
-/// A device that is changed, or started again.
-fn changed(device: MemDevice, call: &CallWords<'_>) -> Result<MemDevice> {
-    let mut device = device;
-    change(&mut device, call)?;
-    Ok(device)
-}
-
-/// Changes a device, or starts it again.
-fn change(device: &mut MemDevice, call: &CallWords<'_>) -> Result<()> {
-    match call.name {
-        "turn" => turn(device, call),
-        "sector" => put_sector(device, call),
-        _ => restart(device, call),
-    }
+/// Puts a new device in the place of one.
+fn make_new(device: &mut MemDevice, call: &CallWords<'_>) -> Result<()> {
+    *device = new_device(call)?;
+    Ok(())
 }
 
 /// A new device, with a store of one record where a key is named.
@@ -150,53 +145,61 @@ fn restart(device: &mut MemDevice, call: &CallWords<'_>) -> Result<()> {
     Ok(())
 }
 
-/// Appends how many pages of the tree on a device there are. Gives the device back.
-fn count_pages(device: MemDevice, call: &CallWords<'_>, out: &mut String) -> Result<MemDevice> {
-    match CowPages::open(call.alloc, device) {
-        Ok(pages) => count_in(pages, call, out),
+/// Takes a device, and leaves one of no pages.
+fn taken(device: &mut MemDevice, alloc: Global) -> Result<MemDevice, AllocError> {
+    Ok(mem::replace(device, MemDevice::new(alloc, 0)?))
+}
+
+/// Tells how many pages of the tree on a device there are.
+fn tell_pages(device: &mut MemDevice, call: &CallWords<'_>, out: &mut Transcript) -> Result<()> {
+    match CowPages::open(call.alloc, taken(device, call.alloc)?) {
+        Ok(pages) => {
+            *device = told_pages(pages, call, out);
+            Ok(())
+        }
         Err(_) => bail!("no pages on the device"),
     }
 }
 
-/// Appends how many pages of the tree in an array there are. Gives the device back.
-fn count_in(
-    pages: CowPages<MemDevice>,
-    call: &CallWords<'_>,
-    out: &mut String,
-) -> Result<MemDevice> {
+/// Tells how many pages of the tree in an array there are. Gives the device back.
+fn told_pages(pages: CowPages<MemDevice>, call: &CallWords<'_>, out: &mut Transcript) -> MemDevice {
     let mut pages = pages;
-    answer_pages(&mut pages, call, out)?;
-    Ok(pages.into_device())
+    answer_pages(&mut pages, call, out);
+    pages.into_device()
 }
 
-/// Opens the store on a device and makes calls of it, or appends why it is not opened. Gives the device back.
+/// Opens the store on a device and makes calls of it, or tells why it is not opened.
 fn open(
-    device: MemDevice,
+    device: &mut MemDevice,
     first: &CallWords<'_>,
     calls: &str,
-    out: &mut String,
-) -> Result<MemDevice> {
+    out: &mut Transcript,
+) -> Result<()> {
     let cache = number_in(first.first) as usize;
     if cache == 0 || cache > MAX_CACHE_PAGES {
         bail!("no cache has so many pages");
     }
-    match DeviceStore::open_with(first.alloc, Guarded::new(device), cache) {
-        Ok(store) => run_on_store(store, first, calls, out),
-        Err((device, fault)) => {
-            let device = device.into_device();
-            first.answer_fault(out, fault)?;
-            Ok(device)
+    let taken = taken(device, first.alloc)?;
+    match DeviceStore::open_with(first.alloc, Guarded::new(taken), cache) {
+        Ok(store) => {
+            let (left, answer) = run_on_store(store, first, calls, out);
+            *device = left;
+            answer
+        }
+        Err((left, fault)) => {
+            *device = left.into_device();
+            Ok(first.answer_fault(out, fault))
         }
     }
 }
 
-/// Makes calls of a store on a device. Gives the device back.
+/// Makes calls of a store on a device. Gives the device back, and what came of the calls.
 fn run_on_store(
     store: MemoryDeviceStore,
     first: &CallWords<'_>,
     calls: &str,
-    out: &mut String,
-) -> Result<MemDevice> {
+    out: &mut Transcript,
+) -> (MemDevice, Result<()>) {
     let mut open = OpenStore {
         reads: store.device().device().reads(),
         records: Records {
@@ -205,9 +208,7 @@ fn run_on_store(
         },
     };
     let answer = make_calls(first.alloc, &mut open, calls, out);
-    let device = open.into_device();
-    answer?;
-    Ok(device)
+    (open.into_device(), answer)
 }
 
 impl OpenStore {
@@ -220,16 +221,15 @@ impl OpenStore {
 }
 
 impl Callee for OpenStore {
-    fn make(&mut self, call: &CallWords<'_>, out: &mut String) -> Result<()> {
+    fn make(&mut self, call: &CallWords<'_>, out: &mut Transcript) -> Result<()> {
         let device = self.records.store.device().device();
         match call.name {
             "stop" => device.stop_after(u64::from(number_in(call.first))),
             "fail" => device.fail_call(u64::from(number_in(call.first))),
             "reads" => {
-                let (word, reads) = (call.word, device.reads());
-                let since = reads.saturating_sub(self.reads);
+                let reads = device.reads();
+                call.answer_number(out, reads.saturating_sub(self.reads));
                 self.reads = reads;
-                writeln!(out, "{word} {since}")?;
             }
             _ => self.records.make(call, out)?,
         }

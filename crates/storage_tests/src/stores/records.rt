@@ -3,10 +3,11 @@
 use crate::stores::call::CallWords;
 use crate::stores::callee::{Callee, make_calls};
 use crate::stores::map_calls::{commit, commit_migration, look_up, scan_from};
-use crate::stores::table::{Table, add_change, make_on};
+use crate::stores::table::{Changeable, Table, add_change, make_on};
+use crate::transcript::Transcript;
 use anyhow::{Result, bail};
 use sql_types::name::Name;
-use std::alloc::{AllocError, Global};
+use std::alloc::Global;
 use store::{Batch, Entry, MemStore, Spelling, Store, StoreFault};
 
 /// A store, and the changes that are to be committed next.
@@ -17,13 +18,13 @@ pub struct Records<S: Store> {
 }
 
 impl<S: Store> Records<S> {
-    /// Begins the next changes, and appends whether those before were committed.
+    /// Begins the next changes, and tells whether those before were committed.
     fn begin_next(
         &mut self,
         answer: Result<(), StoreFault>,
         call: &CallWords<'_>,
-        out: &mut String,
-    ) -> Result<(), AllocError> {
+        out: &mut Transcript,
+    ) {
         self.batch = Batch::new(call.alloc);
         match answer {
             Ok(()) => call.answer(out, "ok"),
@@ -31,19 +32,25 @@ impl<S: Store> Records<S> {
         }
     }
 
-    /// Appends the number of the last commit, and how often no room was found and a failure met.
-    fn answer_number(&self, call: &CallWords<'_>, out: &mut String) -> Result<(), AllocError> {
-        let (word, number) = (call.word, self.store.number());
-        let (fulls, failures) = (self.store.fulls(), self.store.failures());
-        writeln!(out, "{word} {number}, {fulls} full, {failures} failed")
+    /// Tells the number of the last commit, and how often no room was found and a failure met.
+    fn answer_number(&self, call: &CallWords<'_>, out: &mut Transcript) {
+        out.put(call.word);
+        out.put_after_blank(self.store.number());
+        out.put(",");
+        out.put_after_blank(self.store.fulls());
+        out.put(" full,");
+        out.put_after_blank(self.store.failures());
+        out.put(" failed\n");
+    }
+}
+
+impl<S: Store> Changeable for Records<S> {
+    fn change(&mut self, key: &[u8], value: Option<&[u8]>) -> Result<()> {
+        add_change(&mut self.batch, key, value)
     }
 }
 
 impl<S: Store> Table for Records<S> {
-    fn change(&mut self, key: &[u8], value: Option<&[u8]>) -> Result<()> {
-        add_change(&mut self.batch, key, value)
-    }
-
     fn get(&mut self, key: &[u8], out: &mut Entry) -> Result<bool, StoreFault> {
         look_up(&mut self.store, key, out)
     }
@@ -54,18 +61,18 @@ impl<S: Store> Table for Records<S> {
 }
 
 impl<S: Store> Callee for Records<S> {
-    fn make(&mut self, call: &CallWords<'_>, out: &mut String) -> Result<()> {
+    fn make(&mut self, call: &CallWords<'_>, out: &mut Transcript) -> Result<()> {
         match call.name {
             "commit" => {
                 let answer = commit(&mut self.store, &self.batch);
-                self.begin_next(answer, call, out)?;
+                self.begin_next(answer, call, out);
             }
             "migrate" => {
                 let answer = commit_migration(&mut self.store, &self.batch);
-                self.begin_next(answer, call, out)?;
+                self.begin_next(answer, call, out);
             }
-            "spelling" => call.answer(out, word_of(self.store.spelling()))?,
-            "number" => self.answer_number(call, out)?,
+            "spelling" => call.answer(out, word_of(self.store.spelling())),
+            "number" => self.answer_number(call, out),
             _ => make_on(self, call, out)?,
         }
         Ok(())
@@ -81,7 +88,7 @@ fn word_of(spelling: Spelling) -> &'static str {
 }
 
 /// Makes calls of the store in memory of a new database.
-pub fn run_in_memory(first: &CallWords<'_>, calls: &str, out: &mut String) -> Result<()> {
+pub fn run_in_memory(first: &CallWords<'_>, calls: &str, out: &mut Transcript) -> Result<()> {
     let mut records = Records {
         store: memory_of(first.alloc, first.first)?,
         batch: Batch::new(first.alloc),

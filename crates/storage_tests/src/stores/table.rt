@@ -1,15 +1,19 @@
 //! The calls that trees and stores have in common.
 
 use crate::stores::call::{CallWords, bytes_in, number_in};
+use crate::transcript::Transcript;
 use anyhow::{Result, bail};
-use std::alloc::{AllocError, Global};
+use std::alloc::Global;
 use store::{Batch, Entry, MAX_KEY_LENGTH, MAX_VALUE_LENGTH, StoreFault};
+
+/// What puts and removals change: a tree, or the next batch of a store.
+pub trait Changeable {
+    /// Puts a value at a key, or removes the key.
+    fn change(&mut self, key: &[u8], value: Option<&[u8]>) -> Result<()>;
+}
 
 /// A map of keys and values, as a tree and a store are.
 pub trait Table {
-    /// Puts a value at a key, or removes the key.
-    fn change(&mut self, key: &[u8], value: Option<&[u8]>) -> Result<()>;
-
     /// Reads the entry of a key. Answers whether there is one.
     fn get(&mut self, key: &[u8], out: &mut Entry) -> Result<bool, StoreFault>;
 
@@ -67,41 +71,58 @@ impl Walk {
             digest: 1,
         }
     }
+
+    /// Tells what was met, on a line.
+    fn tell(&self, call: &CallWords<'_>, out: &mut Transcript) {
+        out.put(call.word);
+        out.put_after_blank(u64::from(self.entries));
+        out.put(" entries,");
+        out.put_after_blank(u64::from(self.entries_found));
+        out.put(" found, ");
+        out.put_hex(self.digest);
+        out.put("\n");
+    }
 }
 
 /// Makes a call of a table.
-pub fn make_on<T: Table>(table: &mut T, call: &CallWords<'_>, out: &mut String) -> Result<()> {
+pub fn make_on<T: Changeable + Table>(
+    table: &mut T,
+    call: &CallWords<'_>,
+    out: &mut Transcript,
+) -> Result<()> {
     match call.name {
-        "put" => put(table, call),
-        "remove" => table.change(&bytes_in(call.alloc, call.first)?, None),
-        "rise" => rise(table, call, &bytes_in(call.alloc, call.third)?),
-        "get" => Ok(get(table, call, &bytes_in(call.alloc, call.first)?, out)?),
+        "get" => Ok(get(table, call, &bytes_in(call.alloc, call.first)?, out)),
         "scan" => scan(table, call, out),
+        _ => change_by(table, call),
+    }
+}
+
+/// Makes the changes that a call writes.
+pub fn change_by<C: Changeable>(changed: &mut C, call: &CallWords<'_>) -> Result<()> {
+    match call.name {
+        "put" => put(changed, call),
+        "remove" => changed.change(&bytes_in(call.alloc, call.first)?, None),
+        "rise" => rise(changed, call, &bytes_in(call.alloc, call.third)?),
         _ => bail!("no call of a tree or a store"),
     }
 }
 
 /// Puts a value at a key.
-fn put<T: Table>(table: &mut T, call: &CallWords<'_>) -> Result<()> {
+fn put<C: Changeable>(changed: &mut C, call: &CallWords<'_>) -> Result<()> {
     let key = bytes_in(call.alloc, call.first)?;
-    table.change(&key, Some(&bytes_in(call.alloc, call.second)?))
+    changed.change(&key, Some(&bytes_in(call.alloc, call.second)?))
 }
 
 /// Puts a value at each number of a range.
-fn rise<T: Table>(table: &mut T, call: &CallWords<'_>, value: &[u8]) -> Result<()> {
+fn rise<C: Changeable>(changed: &mut C, call: &CallWords<'_>, value: &[u8]) -> Result<()> {
     for number in number_in(call.first)..number_in(call.second) {
-        table.change(&number.to_be_bytes(), Some(value))?;
+        changed.change(&number.to_be_bytes(), Some(value))?;
     }
     Ok(())
 }
 
-/// Appends the value of a key.
-fn get<T: Table>(
-    table: &mut T,
-    call: &CallWords<'_>,
-    key: &[u8],
-    out: &mut String,
-) -> Result<(), AllocError> {
+/// Tells the value of a key.
+fn get<T: Table>(table: &mut T, call: &CallWords<'_>, key: &[u8], out: &mut Transcript) {
     let mut entry = Entry::new(call.alloc);
     match table.get(key, &mut entry) {
         Ok(true) => call.answer_bytes(out, entry.value()),
@@ -110,12 +131,11 @@ fn get<T: Table>(
     }
 }
 
-/// Appends how many entries a scan meets, how many of them a look-up finds too, and their digest.
-fn scan<T: Table>(table: &mut T, call: &CallWords<'_>, out: &mut String) -> Result<()> {
+/// Tells how many entries a scan meets, how many of them a look-up finds too, and their digest.
+fn scan<T: Table>(table: &mut T, call: &CallWords<'_>, out: &mut Transcript) -> Result<()> {
     let mut scan = Walk::new(call.alloc);
     scan_all(table, &mut scan)?;
-    let (word, entries, found, digest) = (call.word, scan.entries, scan.entries_found, scan.digest);
-    writeln!(out, "{word} {entries} entries, {found} found, {digest:08x}")?;
+    scan.tell(call, out);
     Ok(())
 }
 

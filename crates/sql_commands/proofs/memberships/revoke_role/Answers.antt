@@ -1,24 +1,11 @@
-use Rattle.std.proofs.Common.{◌≡◌, refl}
-use Rattle.std.specs.Prelude.{true}
-use Rattle.sql_grammar.specs.LookAhead.{is_determined}
+use Rattle.std.proofs.Common.{refl}
 use Rattle.sql_commands.specs.Commands.{revoke_role}
-use Rattle.sql_commands.proofs.Walks.{fails, read, start, token, phrase, no_token, no_phrase, lost_token, lost_phrase}
+use Rattle.sql_commands.proofs.Walks.{fails, read, phrase, lost_phrase}
+use Rattle.sql_commands.proofs.Stepwise.{begin, token, next}
 use Rattle.sql_commands.proofs.memberships.revoke_role.Goals as goal
 
-determined : is_determined revoke_role ≡ true
-determined = refl
-
-pub returns-in_err-at_roles : goal.returns-in_err-at_roles
-returns-in_err-at_roles c = fails revoke_role c.from_residual.result determined (lost_phrase (lost_phrase (lost_token (lost_phrase (no_token start c.in_err-at_roles.ensures))))) c.from_residual.ensures.1
-
 pub returns-in_err-roles : goal.returns-in_err-roles
-returns-in_err-roles c = fails revoke_role c.from_residual-in_err-roles.result determined (lost_phrase (lost_phrase (lost_token (no_phrase (token start c.in_ok-at_roles.ensures) c.in_err-roles.ensures)))) c.from_residual-in_err-roles.ensures.1
-
-pub returns-in_err-at_members : goal.returns-in_err-at_members
-returns-in_err-at_members c = fails revoke_role c.from_residual-in_err-at_members.result determined (lost_phrase (lost_phrase (no_token (phrase (token start c.in_ok-at_roles.ensures) c.in_ok-roles.ensures) c.in_err-at_members.ensures))) c.from_residual-in_err-at_members.ensures.1
-
-pub returns-in_err-members : goal.returns-in_err-members
-returns-in_err-members c = fails revoke_role c.from_residual-in_err-members.result determined (lost_phrase (no_phrase (token (phrase (token start c.in_ok-at_roles.ensures) c.in_ok-roles.ensures) c.in_ok-at_members.ensures) c.in_err-members.ensures)) c.from_residual-in_err-members.ensures.1
+returns-in_err-roles c = fails revoke_role c.from_residual.result refl (lost_phrase (next (token (next (token begin c.token-read.ensures) c.then-read.ensures) c.token-read-2.ensures) c.in_err-roles.ensures).met) c.from_residual.ensures.1
 
 pub returns : goal.returns
-returns c = read determined (phrase (phrase (token (phrase (token start c.in_ok-at_roles.ensures) c.in_ok-roles.ensures) c.in_ok-at_members.ensures) c.in_ok-members.ensures) c.optional_word_of-behavior.ensures)
+returns c = read refl (phrase (next (token (next (token begin c.token-read.ensures) c.then-read.ensures) c.token-read-2.ensures) c.in_ok-roles.ensures).met c.optional_word_of-behavior.ensures)

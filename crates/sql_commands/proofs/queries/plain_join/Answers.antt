@@ -1,24 +1,10 @@
-use Rattle.std.proofs.Common.{◌≡◌, refl}
-use Rattle.std.specs.Prelude.{true}
-use Rattle.sql_grammar.specs.LookAhead.{is_determined}
+use Rattle.std.proofs.Common.{refl}
 use Rattle.sql_commands.specs.Commands.{plain_join}
-use Rattle.sql_commands.proofs.Walks.{fails, read, start, token, phrase, no_token, no_phrase, lost_token, lost_phrase}
+use Rattle.sql_commands.proofs.Stepwise.{begin, next, token, done, failed}
 use Rattle.sql_commands.proofs.queries.plain_join.Goals as goal
 
-determined : is_determined plain_join ≡ true
-determined = refl
-
-pub returns-in_err-at_table : goal.returns-in_err-at_table
-returns-in_err-at_table c = fails plain_join c.from_residual.result determined (lost_phrase (lost_token (lost_phrase (no_token start c.in_err-at_table.ensures)))) c.from_residual.ensures.1
-
 pub returns-in_err-table : goal.returns-in_err-table
-returns-in_err-table c = fails plain_join c.from_residual-in_err-table.result determined (lost_phrase (lost_token (no_phrase (token start c.in_ok-at_table.ensures) c.in_err-table.ensures))) c.from_residual-in_err-table.ensures.1
-
-pub returns-in_err-at_condition : goal.returns-in_err-at_condition
-returns-in_err-at_condition c = fails plain_join c.from_residual-in_err-at_condition.result determined (lost_phrase (no_token (phrase (token start c.in_ok-at_table.ensures) c.in_ok-table.ensures) c.in_err-at_condition.ensures)) c.from_residual-in_err-at_condition.ensures.1
-
-pub returns-in_err-condition : goal.returns-in_err-condition
-returns-in_err-condition c = fails plain_join c.from_residual-in_err-condition.result determined (no_phrase (token (phrase (token start c.in_ok-at_table.ensures) c.in_ok-table.ensures) c.in_ok-at_condition.ensures) c.in_err-condition.ensures) c.from_residual-in_err-condition.ensures.1
+returns-in_err-table c = failed plain_join c.from_residual.result refl (next (token (next (token begin c.token-read.ensures) c.then-read.ensures) c.token-read-2.ensures) c.in_err-table.ensures) c.from_residual.ensures.1
 
 pub returns : goal.returns
-returns c = read determined (phrase (token (phrase (token start c.in_ok-at_table.ensures) c.in_ok-table.ensures) c.in_ok-at_condition.ensures) c.in_ok-condition.ensures)
+returns c = done refl (next (token (next (token begin c.token-read.ensures) c.then-read.ensures) c.token-read-2.ensures) c.in_ok-table.ensures)

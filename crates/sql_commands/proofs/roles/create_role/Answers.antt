@@ -1,24 +1,10 @@
-use Rattle.std.proofs.Common.{◌≡◌, refl}
-use Rattle.std.specs.Prelude.{true}
-use Rattle.sql_grammar.specs.LookAhead.{is_determined}
+use Rattle.std.proofs.Common.{refl}
 use Rattle.sql_commands.specs.Commands.{create_role}
-use Rattle.sql_commands.proofs.Walks.{fails, read, start, token, phrase, no_token, no_phrase, lost_token, lost_phrase}
+use Rattle.sql_commands.proofs.Stepwise.{begin, next, token, done, failed}
 use Rattle.sql_commands.proofs.roles.create_role.Goals as goal
 
-determined : is_determined create_role ≡ true
-determined = refl
-
-pub returns-in_err-at_role : goal.returns-in_err-at_role
-returns-in_err-at_role c = fails create_role c.from_residual.result determined (lost_phrase (lost_phrase (lost_phrase (lost_token (no_token start c.in_err-at_role.ensures))))) c.from_residual.ensures.1
-
-pub returns-in_err-at_name : goal.returns-in_err-at_name
-returns-in_err-at_name c = fails create_role c.from_residual-in_err-at_name.result determined (lost_phrase (lost_phrase (lost_phrase (no_token (token start c.in_ok-at_role.ensures) c.in_err-at_name.ensures)))) c.from_residual-in_err-at_name.ensures.1
-
 pub returns-in_err-role : goal.returns-in_err-role
-returns-in_err-role c = fails create_role c.from_residual-in_err-role.result determined (lost_phrase (lost_phrase (no_phrase (token (token start c.in_ok-at_role.ensures) c.in_ok-at_name.ensures) c.in_err-role.ensures))) c.from_residual-in_err-role.ensures.1
-
-pub returns-in_err-attributes : goal.returns-in_err-attributes
-returns-in_err-attributes c = fails create_role c.from_residual-in_err-attributes.result determined (no_phrase (phrase (phrase (token (token start c.in_ok-at_role.ensures) c.in_ok-at_name.ensures) c.in_ok-role.ensures) c.skip-at_attributes.ensures) c.in_err-attributes.ensures) c.from_residual-in_err-attributes.ensures.1
+returns-in_err-role c = failed create_role c.from_residual.result refl (next (next (next (token (token begin c.token-read.ensures) c.token-read-2.ensures) c.then-read.ensures) c.skip-read.ensures) c.in_err-role.ensures) c.from_residual.ensures.1
 
 pub returns : goal.returns
-returns c = read determined (phrase (phrase (phrase (token (token start c.in_ok-at_role.ensures) c.in_ok-at_name.ensures) c.in_ok-role.ensures) c.skip-at_attributes.ensures) c.in_ok-attributes.ensures)
+returns c = done refl (next (next (next (token (token begin c.token-read.ensures) c.token-read-2.ensures) c.then-read.ensures) c.skip-read.ensures) c.in_ok-role.ensures)

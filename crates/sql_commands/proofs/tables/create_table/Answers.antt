@@ -1,24 +1,10 @@
-use Rattle.std.proofs.Common.{◌≡◌, refl}
-use Rattle.std.specs.Prelude.{true}
-use Rattle.sql_grammar.specs.LookAhead.{is_determined}
+use Rattle.std.proofs.Common.{refl}
 use Rattle.sql_commands.specs.Commands.{create_table}
-use Rattle.sql_commands.proofs.Walks.{fails, read, start, token, phrase, no_token, no_phrase, lost_token, lost_phrase}
+use Rattle.sql_commands.proofs.Stepwise.{begin, next, token, done, failed}
 use Rattle.sql_commands.proofs.tables.create_table.Goals as goal
 
-determined : is_determined create_table ≡ true
-determined = refl
-
-pub returns-in_err-at_table : goal.returns-in_err-at_table
-returns-in_err-at_table c = fails create_table c.from_residual.result determined (lost_phrase (lost_phrase (lost_token (no_token start c.in_err-at_table.ensures)))) c.from_residual.ensures.1
-
-pub returns-in_err-at_name : goal.returns-in_err-at_name
-returns-in_err-at_name c = fails create_table c.from_residual-in_err-at_name.result determined (lost_phrase (lost_phrase (no_token (token start c.in_ok-at_table.ensures) c.in_err-at_name.ensures))) c.from_residual-in_err-at_name.ensures.1
-
 pub returns-in_err-table : goal.returns-in_err-table
-returns-in_err-table c = fails create_table c.from_residual-in_err-table.result determined (lost_phrase (no_phrase (token (token start c.in_ok-at_table.ensures) c.in_ok-at_name.ensures) c.in_err-table.ensures)) c.from_residual-in_err-table.ensures.1
-
-pub returns-in_err-elements : goal.returns-in_err-elements
-returns-in_err-elements c = fails create_table c.from_residual-in_err-elements.result determined (no_phrase (phrase (token (token start c.in_ok-at_table.ensures) c.in_ok-at_name.ensures) c.in_ok-table.ensures) c.in_err-elements.ensures) c.from_residual-in_err-elements.ensures.1
+returns-in_err-table c = failed create_table c.from_residual.result refl (next (next (token (token begin c.token-read.ensures) c.token-read-2.ensures) c.then-read.ensures) c.in_err-table.ensures) c.from_residual.ensures.1
 
 pub returns : goal.returns
-returns c = read determined (phrase (phrase (token (token start c.in_ok-at_table.ensures) c.in_ok-at_name.ensures) c.in_ok-table.ensures) c.in_ok-elements.ensures)
+returns c = done refl (next (next (token (token begin c.token-read.ensures) c.token-read-2.ensures) c.then-read.ensures) c.in_ok-table.ensures)

@@ -1,15 +1,10 @@
-use Rattle.std.proofs.Common.{◌≡◌, refl}
-use Rattle.std.specs.Prelude.{true}
-use Rattle.sql_grammar.specs.LookAhead.{is_determined}
+use Rattle.std.proofs.Common.{refl}
 use Rattle.sql_commands.specs.Commands.{rollback}
 use Rattle.sql_commands.proofs.Walks.{fails, read, start, token, phrase, no_token, lost_phrase}
 use Rattle.sql_commands.proofs.transactions.rollback.Goals as goal
 
-determined : is_determined rollback ≡ true
-determined = refl
-
 pub returns-in_err-at_work : goal.returns-in_err-at_work
-returns-in_err-at_work c = fails rollback c.from_residual.result determined (lost_phrase (no_token start c.in_err-at_work.ensures)) c.from_residual.ensures.1
+returns-in_err-at_work c = fails rollback c.from_residual.result refl (lost_phrase (no_token start c.in_err-at_work.ensures)) c.from_residual.ensures.1
 
 pub returns : goal.returns
-returns c = read determined (phrase (token start c.in_ok-at_work.ensures) c.skip_work-end.ensures)
+returns c = read refl (phrase (token start c.in_ok-at_work.ensures) c.skip_work-end.ensures)

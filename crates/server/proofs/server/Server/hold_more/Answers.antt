@@ -39,5 +39,5 @@ returns-in-Ok-clause-carries g c sound runs db holder e w p =
 pub returns-in-Err-clause-carries : goal.returns-in-Err-clause-carries
 returns-in-Err-clause-carries g c sound runs db holder e w p =
     let old = record c.args.self.now { slot = Some c.args.slot } in
-    out_of_memory g.X.Decide.Reads g.S.Map.state old _ db holder e sound (g.met.S.Map.only_now old.store) (λ x left. g.met.S.Store.settled old.store x sound w.unfailed left) w runs
+    out_of_memory g.X.Decide.Reads g.S.Map.state old (record old { slot = Some c.add.new.self }) db holder e sound (g.met.S.Map.only_now old.store) (λ x left. g.met.S.Store.settled old.store x sound w.unfailed left) w runs
     refl refl (ap (λ (z : Slot). Some z) c.in-Err.ensures.err) refl refl p.3
