@@ -53,28 +53,42 @@ pub fn name_at(alloc: Global, bytes: &[u8]) -> Result<(Name, &[u8]), Fault>
     }
 }
 
-/// Whether a bit is set that stands in a byte alone, or `None` where the byte is neither 0 nor 1.
-pub fn bit_of(byte: u8) -> Option<bool>
-    ensures { MatchOption result
-        ((b : Bool) → bit b ≡ byte → ⊥)
-        (λ b. bit b ≡ byte) }
-{
-    match byte {
-        0 => Some(false),
-        1 => Some(true),
-        _ => None,
+/// What stands in a byte of its own.
+pub trait Coded: Copy {
+    /// The byte of a value.
+    ghost code: { Self → ℕ };
+
+    /// The value of a byte, or `None` where it is the byte of none.
+    fn of_byte(byte: u8) -> Option<Self>
+        ensures { MatchOption result
+            ((value : Self) → code value ≡ byte → ⊥)
+            (λ value. code value ≡ byte) };
+}
+
+impl Coded for bool {
+    ghost use Rattle.stored_database.specs.Spelling.{bit};
+
+    ghost code = { bit };
+
+    fn of_byte(byte: u8) -> Option<bool> {
+        match byte {
+            0 => Some(false),
+            1 => Some(true),
+            _ => None,
+        }
     }
 }
 
-/// The two bytes with which the bytes begin, and the bytes after them.
-pub fn two_bytes_at(bytes: &[u8]) -> Option<(u8, u8, &[u8])>
+/// The values of the two bytes with which the bytes begin, and the bytes after them.
+pub fn two_at<A: Coded, B: Coded>(bytes: &[u8]) -> Option<(A, B, &[u8])>
     ensures { MatchOption result
-        ((first second : ℕ) (rest : List ℕ) → bytes.now ≡ first ∷ second ∷ rest → ⊥)
-        (λ r. bytes.now ≡ r.0 ∷ r.1 ∷ r.2.now) }
+        ((first : A) (second : B) (rest : List ℕ)
+        → bytes.now ≡ A.code first ∷ B.code second ∷ rest → ⊥)
+        (λ r. bytes.now ≡ A.code r.0 ∷ B.code r.1 ∷ r.2.now) }
 {
     let (first, rest) = bytes.split_first()?;
     let (second, rest) = rest.split_first()?;
-    Some((*first, *second, rest))
+    Some((A::of_byte(*first)?, B::of_byte(*second)?, rest))
 }
 
 /// The bit that is all there is, or `None` where that is no bit.
@@ -84,7 +98,7 @@ pub fn only_bit(bytes: &[u8]) -> Option<bool>
         (λ b. bit b ∷ [] ≡ bytes.now) }
 {
     match bytes {
-        [byte] => bit_of(*byte),
+        [byte] => bool::of_byte(*byte),
         _ => None,
     }
 }

@@ -1,6 +1,6 @@
 //! Policies from their records.
 
-ghost use Rattle.std.specs.Prelude.{◌≡◌, ◌∷◌, ◌++◌, ℕ, List, MatchOption};
+ghost use Rattle.std.specs.Prelude.{◌≡◌};
 ghost use Rattle.sql_ast.specs.declared.policy.PolicyCommand.{PolicyCommand};
 ghost use Rattle.sql_ast.specs.declared.policy.PolicyKind.{PolicyKind};
 ghost use Rattle.stored_database.specs.Items.{AreStoredRoles};
@@ -8,7 +8,7 @@ ghost use Rattle.stored_database.specs.Spelling.{command_number, kind_number, po
 ghost use Rattle.catalogue_records.specs.Clauses.{IsPolicyAlone};
 ghost use Rattle.catalogue_records.specs.Decoding.{Decodes, DecodesFront};
 
-use crate::bytes::{after_table, decode_name, two_bytes_at};
+use crate::bytes::{Coded, after_table, decode_name, two_at};
 use crate::clauses::decode_clauses;
 use crate::descriptors::action_of;
 use crate::parts::{EndedName, parts_at};
@@ -64,43 +64,34 @@ impl<'a> ItemReader for PolicyReader<'a> {
     }
 }
 
-// The kind of a number, or `None` where it is the number of none.
-fn kind_of(number: u8) -> Option<PolicyKind>
-    ensures { MatchOption result
-        ((kind : PolicyKind) → kind_number kind ≡ number → ⊥)
-        (λ kind. kind_number kind ≡ number) }
-{
-    match number {
-        1 => Some(PolicyKind::Permissive),
-        2 => Some(PolicyKind::Restrictive),
-        _ => None,
+impl Coded for PolicyKind {
+    ghost use Rattle.stored_database.specs.Spelling.{kind_number};
+
+    ghost code = { kind_number };
+
+    fn of_byte(byte: u8) -> Option<PolicyKind> {
+        match byte {
+            1 => Some(PolicyKind::Permissive),
+            2 => Some(PolicyKind::Restrictive),
+            _ => None,
+        }
     }
 }
 
-// The command of a number, or `None` where it is the number of none.
-fn command_of(number: u8) -> Option<PolicyCommand>
-    ensures { MatchOption result
-        ((command : PolicyCommand) → command_number command ≡ number → ⊥)
-        (λ command. command_number command ≡ number) }
-{
-    if number == 0 {
-        return Some(PolicyCommand::All);
-    }
-    match action_of(number) {
-        Some(action) => Some(PolicyCommand::Only(action)),
-        None => None,
-    }
-}
+impl Coded for PolicyCommand {
+    ghost use Rattle.stored_database.specs.Spelling.{command_number};
 
-// The two bytes with which the bytes begin: the kind of a policy and its command.
-fn kind_at(bytes: &[u8]) -> Option<(PolicyKind, PolicyCommand, &[u8])>
-    ensures { MatchOption result
-        ((kind : PolicyKind) (command : PolicyCommand) (rest : List ℕ)
-        → bytes.now ≡ kind_number kind ∷ command_number command ∷ rest → ⊥)
-        (λ r. bytes.now ≡ kind_number r.0 ∷ command_number r.1 ∷ r.2.now) }
-{
-    let (kind, command, rest) = two_bytes_at(bytes)?;
-    Some((kind_of(kind)?, command_of(command)?, rest))
+    ghost code = { command_number };
+
+    fn of_byte(byte: u8) -> Option<PolicyCommand> {
+        if byte == 0 {
+            return Some(PolicyCommand::All);
+        }
+        match action_of(byte) {
+            Some(action) => Some(PolicyCommand::Only(action)),
+            None => None,
+        }
+    }
 }
 
 // The roles that stand after their number, or PUBLIC where that is 0.
@@ -128,7 +119,7 @@ fn decode_policy(alloc: Global, id: u32, table: &Name, entry: &Entry) -> Result<
     if entry.value().len() > MAX_VALUE_LENGTH {
         return Err(Fault::Damaged);
     }
-    let Some((kind, command, rest)) = kind_at(entry.value()) else {
+    let Some((kind, command, rest)) = two_at::<PolicyKind, PolicyCommand>(entry.value()) else {
         return Err(Fault::Damaged);
     };
     let name = match decode_name(alloc, name) {

@@ -1,14 +1,14 @@
 //! Tables from their records: all but their privilege descriptors and policies, which have records
 //! of their own.
 
-ghost use Rattle.std.specs.Prelude.{◌≡◌, ◌∷◌, [], ◌++◌, ◌<◌, ◌^◌, ◌+◌, ℕ, Bool, List, IfSome, MatchOption};
+ghost use Rattle.std.specs.Prelude.{◌≡◌, [], ◌++◌, ◌<◌, ◌^◌, ◌+◌, ℕ, Bool, List, IfSome, MatchOption};
 ghost use Rattle.byteorder.specs.Endian.{big_bytes};
 ghost use Rattle.sql_ast.specs.declared.columns.ColumnType.{ColumnType};
-ghost use Rattle.stored_database.specs.Spelling.{bit, column_bytes, flag, layout_bytes, table_record, type_number};
+ghost use Rattle.stored_database.specs.Spelling.{column_bytes, flag, layout_bytes, table_record, type_number};
 ghost use Rattle.catalogue_records.specs.Decoding.{Decodes, DecodesFront};
 ghost use Rattle.catalogue_records.specs.Parts.{HasName, IsStoredLayout, IsTableAlone, key_bytes};
 
-use crate::bytes::{bit_of, decode_name, name_at, two_bytes_at};
+use crate::bytes::{Coded, decode_name, name_at, two_at};
 use crate::parts::{RecordPart, parts_at};
 use crate::walk::ItemReader;
 use byteorder::{BigEndian, ByteOrder};
@@ -99,29 +99,19 @@ impl RecordPart for ColumnPart {
     }
 }
 
-// The type of a number, or `None` where it is the number of none.
-fn type_of(number: u8) -> Option<ColumnType>
-    ensures { MatchOption result
-        ((kind : ColumnType) → type_number kind ≡ number → ⊥)
-        (λ kind. type_number kind ≡ number) }
-{
-    match number {
-        1 => Some(ColumnType::BigInt),
-        2 => Some(ColumnType::Text),
-        3 => Some(ColumnType::Boolean),
-        _ => None,
-    }
-}
+impl Coded for ColumnType {
+    ghost use Rattle.stored_database.specs.Spelling.{type_number};
 
-// The two bytes with which the bytes begin: the type of a column, and whether it is NOT NULL.
-fn column_kind_at(bytes: &[u8]) -> Option<(ColumnType, bool, &[u8])>
-    ensures { MatchOption result
-        ((kind : ColumnType) (not_null : Bool) (rest : List ℕ)
-        → bytes.now ≡ type_number kind ∷ bit not_null ∷ rest → ⊥)
-        (λ r. bytes.now ≡ type_number r.0 ∷ bit r.1 ∷ r.2.now) }
-{
-    let (number, not_null, rest) = two_bytes_at(bytes)?;
-    Some((type_of(number)?, bit_of(not_null)?, rest))
+    ghost code = { type_number };
+
+    fn of_byte(byte: u8) -> Option<ColumnType> {
+        match byte {
+            1 => Some(ColumnType::BigInt),
+            2 => Some(ColumnType::Text),
+            3 => Some(ColumnType::Boolean),
+            _ => None,
+        }
+    }
 }
 
 fn column_at(alloc: Global, bytes: &[u8]) -> Result<(Column, &[u8]), Fault>
@@ -131,7 +121,7 @@ fn column_at(alloc: Global, bytes: &[u8]) -> Result<(Column, &[u8]), Fault>
         Ok(front) => front,
         Err(fault) => return Err(fault),
     };
-    let Some((column_type, not_null, rest)) = column_kind_at(rest) else {
+    let Some((column_type, not_null, rest)) = two_at::<ColumnType, bool>(rest) else {
         return Err(Fault::Damaged);
     };
     let column = Column {

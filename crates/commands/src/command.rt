@@ -19,7 +19,7 @@ use std::fmt;
 
 /// What a command line asks for. Words are as they were given; numbers are in the range of their
 /// option.
-#[derive(Clone, Copy, Debug)]
+#[derive(Clone, Copy)]
 pub enum Order<'a> {
     /// `format FILE --pages N --admin NAME`: makes FILE, a database of N pages whose one role is the
     /// superuser NAME. With `--journal` it has a journal.
@@ -89,7 +89,7 @@ pub enum Order<'a> {
 }
 
 /// Why a command line is refused.
-#[derive(Debug, Drop)]
+#[derive(Drop)]
 pub enum UsageFault<'a> {
     /// The words do not fit the grammar. The error's text names the wrong word.
     Grammar(Error),

@@ -6,7 +6,7 @@ ghost use Rattle.commands.specs.Numbers.{IsNumberFor, NoNumberFor, least_of, mos
 use std::fmt;
 
 /// A number that a command takes.
-#[derive(Clone, Copy, Debug, PartialEq, Eq)]
+#[derive(Clone, Copy, PartialEq, Eq)]
 pub enum NumberOption {
     /// `--pages N`: the pages of the file, 64 to 65,536.
     Pages,

@@ -21,7 +21,7 @@ const READ_SIZE: usize = 8_192;
 
 /// Why a connection ended. Whichever way it did, the sessions were closed, unless the server has
 /// stopped.
-#[derive(Clone, Copy, Debug, PartialEq, Eq)]
+#[derive(Clone, Copy, PartialEq, Eq)]
 pub enum End {
     /// The input is at its end. Every event that it spells was answered; bytes of a frame that is
     /// not there to its end were not.

@@ -6,7 +6,7 @@ use std::alloc::AllocError;
 use store::{Fault, StoreFault};
 
 /// Why records were not copied.
-#[derive(Clone, Copy, Debug, Drop, PartialEq, Eq)]
+#[derive(Clone, Copy, Drop, PartialEq, Eq)]
 pub enum RecordCopyFault {
     /// A read of the source failed: `Memory` where an allocation failed, in the copy too; `Device`;
     /// `Damaged` where a record is of no size that a store takes.

@@ -7,7 +7,7 @@ pub trait Watch {
 }
 
 /// Nobody is told.
-#[derive(Clone, Copy, Debug, Drop)]
+#[derive(Clone, Copy, Drop)]
 pub struct Unwatched;
 
 impl Watch for Unwatched {

@@ -12,7 +12,7 @@ use page_roots::{ENTRIES_PER_MAP_PAGE, Format, MAX_MAP_PAGES, Root};
 use std::mem::swap;
 
 /// Why a commit was refused, or failed.
-#[derive(Clone, Copy, Debug, Drop, PartialEq, Eq)]
+#[derive(Clone, Copy, Drop, PartialEq, Eq)]
 pub enum CommitFault {
     /// No page is left for a map page.
     Full,

@@ -7,7 +7,7 @@ use device_store::OpenFault;
 use store::Fault;
 
 /// Why a database was not copied.
-#[derive(Clone, Copy, Debug, Drop, PartialEq, Eq)]
+#[derive(Clone, Copy, Drop, PartialEq, Eq)]
 pub enum DatabaseCopyFault {
     /// No store was opened over the pages of the source. Nothing was written.
     Pages(OpenFault),

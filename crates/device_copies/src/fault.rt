@@ -1,7 +1,7 @@
 //! Why records were not copied to a device.
 
 /// Why records were not copied to a device.
-#[derive(Clone, Copy, Debug, Drop, PartialEq, Eq)]
+#[derive(Clone, Copy, Drop, PartialEq, Eq)]
 pub enum DeviceCopyFault {
     /// An allocation failed.
     Memory,

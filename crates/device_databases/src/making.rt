@@ -23,7 +23,7 @@ const ROLE: u8 = 1;
 const SUPERUSER_WITH_LOGIN: u8 = 3;
 
 /// Why a new database was not made.
-#[derive(Clone, Copy, Debug, Drop, PartialEq, Eq)]
+#[derive(Clone, Copy, Drop, PartialEq, Eq)]
 pub enum MakeFault {
     /// An allocation failed, before anything was written.
     Memory,

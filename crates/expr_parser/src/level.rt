@@ -12,7 +12,7 @@ use std::alloc::{AllocError, Global};
 
 /// A level of precedence, whose operators join operands to a chain that groups to the left: OR,
 /// AND, `+` and `-`, or `*`, `/` and `%`.
-#[derive(Clone, Copy, PartialEq, Eq, Debug)]
+#[derive(Clone, Copy, PartialEq, Eq)]
 pub enum Level {
     Or,
     And,
@@ -21,7 +21,7 @@ pub enum Level {
 }
 
 /// What joins two operands of a chain.
-#[derive(Clone, Copy, PartialEq, Eq, Debug)]
+#[derive(Clone, Copy, PartialEq, Eq)]
 pub enum Connective {
     Or,
     And,

@@ -10,7 +10,7 @@ use opening::OpeningFault;
 use sector_device::SystemCause;
 
 /// Why the database in a file was not copied to a new file.
-#[derive(Clone, Copy, Debug, PartialEq, Eq)]
+#[derive(Clone, Copy, PartialEq, Eq)]
 pub enum FileCopyFault {
     /// The file was refused, for this fault of `read_file`.
     File(CommandFault),

@@ -18,7 +18,7 @@ use systems::{Access, System};
 
 /// How a command over a file ended, and whether standard error took the line that says that the file
 /// was migrated, where it was owed one.
-#[derive(Debug, Drop)]
+#[derive(Drop)]
 pub struct CommandEnd<T> {
     pub outcome: Result<T, CommandFault>,
     pub told: bool,

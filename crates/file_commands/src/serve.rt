@@ -22,7 +22,7 @@ use std::time::Duration;
 use systems::{ListenPlace, System};
 
 /// How much a server serves.
-#[derive(Clone, Copy, Debug)]
+#[derive(Clone, Copy)]
 pub struct Limits {
     /// How many connections, at most.
     pub connections: u32,

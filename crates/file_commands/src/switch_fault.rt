@@ -11,7 +11,7 @@ use store::StoreFault;
 
 /// Why the journal of the database in a file was not turned on or off. The database stays, whatever
 /// it is.
-#[derive(Clone, Copy, Debug, PartialEq, Eq)]
+#[derive(Clone, Copy, PartialEq, Eq)]
 pub enum FileSwitchFault {
     /// The file was refused, for this fault of `read_file`; a call of its device failed; or an
     /// allocation did.

@@ -12,11 +12,11 @@ use std::cmp::{Ordering, Reverse};
 
 /// A value of one column of ORDER BY: numbers by size, texts by their bytes, false before true, and nulls last (SQL:2016
 /// Foundation, 10.10). Of two values of different types, which no column has, the number comes first, then the text.
-#[derive(Debug, Drop)]
+#[derive(Drop)]
 pub struct SortValue(pub Value);
 
 /// A value in the direction of its key.
-#[derive(Debug, Drop, PartialEq, Eq, PartialOrd, Ord)]
+#[derive(Drop, PartialEq, Eq, PartialOrd, Ord)]
 pub enum Directed {
     Ascending(SortValue),
     Descending(Reverse<SortValue>),

@@ -13,7 +13,7 @@ use sql_types::state::{Refusal, SqlState};
 use std::alloc::{AllocError, Global};
 
 /// What a REVOKE takes (SQL:2016 Foundation, 12.7, `<revoke option extension>`).
-#[derive(Clone, Copy, Debug, PartialEq, Eq)]
+#[derive(Clone, Copy, PartialEq, Eq)]
 pub enum Revoked {
     /// The privilege with its grant option.
     Privilege,

@@ -16,7 +16,7 @@ pub const PART_SIZE: usize = 488;
 const _: () = prove!(TAG_SIZE + PART_SIZE == SECTOR_SIZE);
 
 /// What a sector says of the part in it.
-#[derive(Clone, Copy, Debug, PartialEq, Eq, Drop)]
+#[derive(Clone, Copy, PartialEq, Eq, Drop)]
 pub struct SectorTag {
     /// The number of the root whose pages the record follows, at least 1.
     pub root: u64,
@@ -29,7 +29,7 @@ pub struct SectorTag {
 }
 
 /// What the bytes of a sector say.
-#[derive(Clone, Copy, Debug, PartialEq, Eq, Drop)]
+#[derive(Clone, Copy, PartialEq, Eq, Drop)]
 pub enum JournalSector {
     /// All bytes are zero.
     Blank,

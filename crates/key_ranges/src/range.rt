@@ -19,7 +19,7 @@ use sql_types::value::{Value, ValueRef};
 use std::alloc::{AllocError, Global};
 
 /// Keys of records of one table.
-#[derive(Debug, Drop)]
+#[derive(Drop)]
 pub enum KeyRange {
     /// One key, for a look-up.
     Point(Items<u8>),

@@ -16,7 +16,7 @@ use std::alloc::{AllocError, Global};
 use store::{Entry, Spelling};
 
 /// Why a new store was not made.
-#[derive(Clone, Copy, Debug, Drop, PartialEq, Eq)]
+#[derive(Clone, Copy, Drop, PartialEq, Eq)]
 pub enum FormatFault {
     /// An allocation failed, before anything was written.
     Memory,

@@ -10,7 +10,7 @@ use page_roots::ENTRIES_PER_MAP_PAGE;
 use sector_device::Device;
 
 /// Whether a commit may take the reserve: pages that stay free on a device that puts have filled, so that it can be emptied.
-#[derive(Clone, Copy, Debug, PartialEq, Eq)]
+#[derive(Clone, Copy, PartialEq, Eq)]
 pub enum Reserve {
     /// The reserve is kept: a commit after which more pages are in use than before leaves it free.
     Kept,

@@ -4,7 +4,7 @@ use device_store::OpenFault;
 use opening::OpeningFault;
 
 /// Why no database was opened on a device, and so no life began.
-#[derive(Clone, Copy, Debug, PartialEq, Eq, Drop)]
+#[derive(Clone, Copy, PartialEq, Eq, Drop)]
 pub enum DatabaseFault {
     /// No store was opened over the pages of the device.
     Pages(OpenFault),

@@ -12,7 +12,7 @@ use storage_sizes::MAX_PAGES;
 pub type PageNo = u32;
 
 /// Each page of the device is taken.
-#[derive(Clone, Copy, Debug, PartialEq, Eq)]
+#[derive(Clone, Copy, PartialEq, Eq)]
 pub struct Full;
 
 /// The pages of a device, each taken or free. Contracts see for each page whether it is taken. Page

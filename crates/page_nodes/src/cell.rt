@@ -9,7 +9,7 @@ use std::alloc::AllocError;
 use storage_sizes::{MAX_KEY_LENGTH, MAX_VALUE_LENGTH, comes_before};
 
 /// The two kinds of nodes.
-#[derive(Clone, Copy, Debug, Drop, PartialEq, Eq)]
+#[derive(Clone, Copy, Drop, PartialEq, Eq)]
 pub enum NodeKind {
     /// Each cell has a value.
     Leaf,

@@ -20,7 +20,7 @@ pub struct Edit {
 }
 
 /// Where cells that are too long for one page are to be cut.
-#[derive(Clone, Copy, Debug, Drop, PartialEq, Eq)]
+#[derive(Clone, Copy, Drop, PartialEq, Eq)]
 pub enum CutPlace {
     /// Near the middle: both parts have room for more cells.
     Middle,

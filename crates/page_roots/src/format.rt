@@ -7,7 +7,7 @@ use storage_sizes::Spelling;
 
 /// The format of a device, by the number that stands in its root: how its records are spelled, and whether the six sectors
 /// behind its root sectors are a journal.
-#[derive(Clone, Copy, Debug, PartialEq, Eq, Drop)]
+#[derive(Clone, Copy, PartialEq, Eq, Drop)]
 pub enum Format {
     /// Records of the first spelling, and no journal.
     One,

@@ -1,6 +1,7 @@
 -- An inner node follows one of its children.
 use Rattle.std.proofs.Common.{◌≡◌, ◌≢◌, ⊎_elim, inl, inr, ℕ, Option, Some, List, [], ◌∷◌, ◌++◌, refl, sym, ap, ◌∙◌, subst}
 use Rattle.std.proofs.lemmas.List.{append-nil}
+use Rattle.std.specs.Prelude.{IsSome}
 use Rattle.pages.specs.State.{Array, PagesState, OnlyReads, Frees}
 use Rattle.page_nodes.specs.declared.cell.NodeKind.TheVariants.{Inner}
 use Rattle.page_nodes.specs.Map.{Entry}
@@ -27,6 +28,11 @@ given_back S T U page d low high key child first cs from before between after by
       around = around_keep T.array U.array page d low high key child first cs from before after one (λ q m. only_reads.same q) (some_as T.array U.array page (only_reads.same page) one.there);
       node = read_holds T.array page Inner first cs bytes (h.0, w.others page other ∙ h.1, h.2) found;
     }
+
+-- the node is in use, also where its child's page is freed
+pub stays_used : (S T : PagesState) (page child : ℕ) (before between after : Forest) → Meets child between → IsBetween page before between after → IsSome (S.array page) → Frees child S T → IsSome (T.array page)
+stays_used S T page child before between after met bt there w =
+    some_as S.array T.array page (w.others page (λ at. bt.page_apart (subst (λ (n : ℕ). Meets n between) (sym at) met))) there
 
 -- what became of the node, seen from before
 follow_moves : (S T U : PagesState) (low : List ℕ) (page : ℕ) (before between now after : Forest) → Moves S.array T.array between now → OnlyReads T U

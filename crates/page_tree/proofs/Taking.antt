@@ -78,6 +78,12 @@ module _ {P : Type 0} (g : Ghosts P) where
   pub same_taken : (p : P) → TakesPages g p p [] 0
   same_taken p = none_taken p p 0 (λ l page own. inl own)
 
+  pub own_none : (p q r : P) → GetOwn [] (g.own p) (g.own q) → GetOwn [] (g.own q) (g.own r) → GetOwn [] (g.own p) (g.own r)
+  own_none p q r first second = λ l page own. elim (second l page own) [
+    | inl mid ↦ first l page mid
+    | inr at ↦ inr at
+  ]
+
   -- one page is taken
   pub one_taken : (p q : P) (page n : ℕ) → GetOwn (page ∷ []) (g.own p) (g.own q) → TakesPages g p q (page ∷ []) n
   one_taken p q page n one = record { others = []; few = omega arith; only = one }

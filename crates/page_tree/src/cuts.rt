@@ -9,7 +9,7 @@ ghost use Rattle.page_tree.specs.declared.cuts.SplitPoint.TheVariants.{End, Afte
 use page_nodes::{Cut, CutPlace, NodeKind, cell_at, cut_for, fits};
 
 /// Where cells that are too long for one page are to be cut.
-#[derive(Clone, Copy, Debug, Drop, PartialEq, Eq)]
+#[derive(Clone, Copy, Drop, PartialEq, Eq)]
 pub enum SplitPoint {
     /// Near the middle: both parts have room for more cells.
     Middle,

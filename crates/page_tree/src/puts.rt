@@ -55,10 +55,10 @@ pub fn place_for(edit: Edit) -> SplitPoint
 
 /// Whether a leaf has a cell of one key, and another key belongs right after it. False where these bytes are no leaf.
 fn comes_next(bytes: &[u8; PAGE_SIZE], last: &[u8], key: &[u8]) -> bool {
-    let (Some(before), Some(place)) = (
-        seek(bytes, NodeKind::Leaf, last),
-        seek(bytes, NodeKind::Leaf, key),
-    ) else {
+    let Some(before) = seek(bytes, NodeKind::Leaf, last) else {
+        return false;
+    };
+    let Some(place) = seek(bytes, NodeKind::Leaf, key) else {
         return false;
     };
     match cell_at(bytes, NodeKind::Leaf, before.at) {

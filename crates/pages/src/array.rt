@@ -7,11 +7,11 @@ ghost use Rattle.page_nodes.specs.Views.{bytes_of};
 ghost use Rattle.pages.specs.State.{PagesState, OnlyReads, Writes, Takes, Frees, OwnPages, GetOwn, HasNoOwn};
 
 use page_nodes::PageView;
-use std::alloc::{AllocError, AllocFailed};
+use std::alloc::AllocError;
 use storage_sizes::PAGE_SIZE;
 
 /// Why a call on pages failed.
-#[derive(Clone, Copy, Debug, Drop, PartialEq, Eq)]
+#[derive(Clone, Copy, Drop, PartialEq, Eq)]
 pub enum PageFault {
     /// No page is left.
     Full,
@@ -27,14 +27,6 @@ impl From<AllocError> for PageFault {
     ghost from_gives = { λ _ fault. fault ≡ faults.Memory };
 
     fn from(_refused: AllocError) -> PageFault {
-        PageFault::Memory
-    }
-}
-
-impl<T: Drop> From<AllocFailed<T>> for PageFault {
-    ghost from_gives = { λ _ fault. fault ≡ faults.Memory };
-
-    fn from(_refused: AllocFailed<T>) -> PageFault {
         PageFault::Memory
     }
 }

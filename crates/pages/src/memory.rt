@@ -5,7 +5,7 @@ ghost use Rattle.pages.specs.Memory.{state_of, fetched_bytes, FailedWith, AreUse
 
 use crate::array::{PageFault, Pages};
 use page_nodes::PageView;
-use std::alloc::Global;
+use std::alloc::{AllocError, Global};
 use storage_sizes::{MAX_PAGES, PAGE_SIZE};
 
 /// An array of at most 65,536 pages in memory.
@@ -141,7 +141,7 @@ impl Pages for MemPages {
         if page < self.pages.len() {
             self.pages[page] = Some(*bytes);
         } else {
-            self.pages.push(Some(*bytes))?;
+            self.pages.push(Some(*bytes)).map_err(AllocError::from)?;
         }
         self.used = page + 1;
         Ok(page as u32)

@@ -17,7 +17,7 @@ use std::marker::Model;
 use storage_sizes::{MAX_ROW_KEY_LENGTH, MAX_VALUE_LENGTH};
 
 // The value of each column at its index.
-#[derive(Debug, Drop)]
+#[derive(Drop)]
 struct Cells<'a> {
     values: [ValueRef<'a>; MAX_COLUMNS],
     ghost wide: { length values ≡ 16 },
@@ -25,7 +25,7 @@ struct Cells<'a> {
 
 /// A row whose texts stand in the bytes of its record, which contracts see as its values. It takes
 /// 400 bytes, so it is read into a place that stays where it is.
-#[derive(Debug, Drop)]
+#[derive(Drop)]
 pub struct RowRef<'a> {
     cells: Cells<'a>,
     width: usize,

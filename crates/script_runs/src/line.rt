@@ -5,7 +5,7 @@ ghost use Rattle.script_runs.specs.ScriptLine.{Request, Spells, ReadsAs};
 ghost use Rattle.script_runs.specs.ScriptLine.{is_name_byte, is_session_name, IsNameSplit};
 
 /// What a line of a script requests.
-#[derive(Clone, Copy, Debug)]
+#[derive(Clone, Copy)]
 pub enum Line<'a> {
     /// An empty line, or one that begins with `#`: it requests nothing.
     Skipped,

@@ -24,7 +24,7 @@ const MAX_SESSIONS: usize = 256;
 
 /// How a script ended. The lines before that at which it ended were run, and whichever way it
 /// ended, the sessions were closed, unless the server has stopped.
-#[derive(Clone, Copy, Debug, PartialEq, Eq)]
+#[derive(Clone, Copy, PartialEq, Eq)]
 pub enum ScriptEnd {
     /// Every line was run, and every answer told.
     Done,

@@ -2,7 +2,7 @@
 use crate::SECTOR_SIZE;
 
 /// What a call did to the sectors.
-#[derive(Clone, Copy, Debug, PartialEq, Eq)]
+#[derive(Clone, Copy, PartialEq, Eq)]
 pub enum Call {
     /// A read, which changed nothing.
     Read,

@@ -1,14 +1,14 @@
 //! What is read of a journal.
 
 /// A record: its number, and the bytes of its parts, one after the other.
-#[derive(Debug, Drop)]
+#[derive(Drop)]
 pub struct JournalRecord {
     pub number: u64,
     pub bytes: Vec<u8>,
 }
 
 /// The journal of a root.
-#[derive(Debug, Drop)]
+#[derive(Drop)]
 pub struct Journal {
     /// Its records, the first of them first.
     pub records: Vec<JournalRecord>,

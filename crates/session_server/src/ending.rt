@@ -92,7 +92,7 @@ impl fmt::Display for ProgramFault {
 impl Error for ProgramFault {}
 
 /// What a fault means for the file or the place that it is about, and what to do.
-#[derive(Clone, Copy, Debug)]
+#[derive(Clone, Copy)]
 pub struct Reason(pub ProgramFault);
 
 impl fmt::Display for Reason {
@@ -155,7 +155,7 @@ impl fmt::Display for Reason {
 }
 
 /// What the end of the program's work is about.
-#[derive(Clone, Copy, Debug)]
+#[derive(Clone, Copy)]
 pub enum Subject<'a> {
     /// A file, a script or a socket, by its path.
     Named(&'a str),
@@ -206,7 +206,7 @@ impl From<OpeningFault> for ProgramFault {
 }
 
 /// How the program's work ended.
-#[derive(Clone, Copy, Debug, PartialEq, Eq)]
+#[derive(Clone, Copy, PartialEq, Eq)]
 pub enum Ending {
     /// It was done.
     Done,
@@ -250,7 +250,7 @@ impl From<Served> for Ending {
 }
 
 /// The exit status of the program, and whether standard error took the lines that it is owed.
-#[derive(Clone, Copy, Debug, PartialEq, Eq)]
+#[derive(Clone, Copy, PartialEq, Eq)]
 pub struct Exit {
     pub status: u8,
     pub told: bool,

@@ -17,7 +17,7 @@ use std::marker::Model;
 pub const MAX_COLUMNS: usize = 16;
 
 /// The type of a column's values (SQL:2016 Foundation, 4.2 to 4.5; PostgreSQL manual, "Data Types").
-#[derive(Clone, Copy, Debug, PartialEq, Eq)]
+#[derive(Clone, Copy, PartialEq, Eq)]
 pub enum ColumnType {
     BigInt,
     Text,
@@ -25,7 +25,7 @@ pub enum ColumnType {
 }
 
 /// A column of a table.
-#[derive(Debug, Drop)]
+#[derive(Drop)]
 pub struct Column {
     pub name: Name,
     pub column_type: ColumnType,
@@ -47,7 +47,7 @@ impl TryCopy for Column {
 /// The columns of a table and its primary key, which contracts see as a [`Layout`]: 1 to 16 columns
 /// whose names differ, and the indices from 0 of the key's columns in the key's order: one or more,
 /// which differ and are NOT NULL.
-#[derive(Debug, Drop)]
+#[derive(Drop)]
 pub struct Columns {
     columns: Items<Column>,
     key: Items<usize>,

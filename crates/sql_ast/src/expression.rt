@@ -10,7 +10,7 @@ use sql_types::value::Value;
 use std::alloc::{AllocError, Global};
 
 /// The operator of a comparison (SQL:2016 Foundation, 8.2).
-#[derive(Clone, Copy, Debug, PartialEq, Eq)]
+#[derive(Clone, Copy, PartialEq, Eq)]
 pub enum Comparison {
     Equal,
     NotEqual,
@@ -22,7 +22,7 @@ pub enum Comparison {
 
 /// The operator between two numbers (SQL:2016 Foundation, 6.29; `%` as in the PostgreSQL manual,
 /// "Mathematical Functions and Operators").
-#[derive(Clone, Copy, Debug, PartialEq, Eq)]
+#[derive(Clone, Copy, PartialEq, Eq)]
 pub enum Operation {
     Add,
     Subtract,
@@ -32,7 +32,7 @@ pub enum Operation {
 }
 
 /// A column as it is written: its name, and before it the name of its table where that is given.
-#[derive(Debug, Drop, PartialEq, Eq)]
+#[derive(Drop, PartialEq, Eq)]
 pub struct ColumnName {
     pub table: Option<Name>,
     pub column: Name,

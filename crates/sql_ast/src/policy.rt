@@ -10,21 +10,21 @@ use std::alloc::{AllocError, Global};
 
 /// How a policy joins the others of its table: one permissive policy at least and every restrictive
 /// one must be true of a row (PostgreSQL manual, CREATE POLICY).
-#[derive(Clone, Copy, Debug, PartialEq, Eq)]
+#[derive(Clone, Copy, PartialEq, Eq)]
 pub enum PolicyKind {
     Permissive,
     Restrictive,
 }
 
 /// The commands that a policy is for (PostgreSQL manual, CREATE POLICY).
-#[derive(Clone, Copy, Debug, PartialEq, Eq)]
+#[derive(Clone, Copy, PartialEq, Eq)]
 pub enum PolicyCommand {
     All,
     Only(Action),
 }
 
 /// The roles that a policy concerns (PostgreSQL manual, CREATE POLICY).
-#[derive(Debug, Drop)]
+#[derive(Drop)]
 pub enum PolicyRoles {
     /// Every role.
     Public,

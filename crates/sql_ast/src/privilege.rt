@@ -5,7 +5,7 @@ use sql_types::try_copy::TryCopy;
 use std::alloc::{AllocError, Global};
 
 /// What a privilege on a table allows (SQL:2016 Foundation, 12.3, `<action>`).
-#[derive(Clone, Copy, Debug, PartialEq, Eq)]
+#[derive(Clone, Copy, PartialEq, Eq)]
 pub enum Action {
     Select,
     Insert,
@@ -15,7 +15,7 @@ pub enum Action {
 
 /// A privilege on a table, or on one of its columns (SQL:2016 Foundation, 12.3, `<action>` with its
 /// `<privilege column list>`).
-#[derive(Clone, Copy, Debug, PartialEq, Eq)]
+#[derive(Clone, Copy, PartialEq, Eq)]
 pub struct Privilege {
     pub action: Action,
     /// The index from 0 of the column in the layout of the table, or `None` for the whole table.
@@ -23,7 +23,7 @@ pub struct Privilege {
 }
 
 /// Who has a privilege, or whom a policy concerns (SQL:2016 Foundation, 12.3, `<grantee>`).
-#[derive(Debug, Drop, PartialEq, Eq)]
+#[derive(Drop, PartialEq, Eq)]
 pub enum Grantee {
     /// Every role.
     Public,
@@ -40,7 +40,7 @@ impl TryCopy for Grantee {
 }
 
 /// Who granted a privilege.
-#[derive(Debug, Drop, PartialEq, Eq)]
+#[derive(Drop, PartialEq, Eq)]
 pub enum Grantor {
     /// `_SYSTEM`, which grants an owner the privileges on a new table.
     System,
@@ -57,7 +57,7 @@ impl TryCopy for Grantor {
 }
 
 /// A privilege descriptor (SQL:2016 Foundation, "Privileges").
-#[derive(Debug, Drop, PartialEq, Eq)]
+#[derive(Drop, PartialEq, Eq)]
 pub struct Descriptor {
     pub grantor: Grantor,
     pub grantee: Grantee,

@@ -5,7 +5,7 @@ use sql_types::try_copy::TryCopy;
 use std::alloc::{AllocError, Global};
 
 /// An attribute of a role as it is written (PostgreSQL manual, CREATE ROLE).
-#[derive(Clone, Copy, Debug, PartialEq, Eq)]
+#[derive(Clone, Copy, PartialEq, Eq)]
 pub enum RoleAttribute {
     Superuser,
     NoSuperuser,
@@ -17,7 +17,7 @@ pub enum RoleAttribute {
 
 /// The attributes that a role has. They are never inherited (PostgreSQL manual, "Role
 /// Membership").
-#[derive(Clone, Copy, Debug, PartialEq, Eq)]
+#[derive(Clone, Copy, PartialEq, Eq)]
 pub struct RoleAttributes {
     /// It has every privilege, and row security does not concern it.
     pub superuser: bool,
@@ -28,7 +28,7 @@ pub struct RoleAttributes {
 }
 
 /// A role of the database.
-#[derive(Debug, Drop, PartialEq, Eq)]
+#[derive(Drop, PartialEq, Eq)]
 pub struct Role {
     pub name: Name,
     pub attributes: RoleAttributes,
@@ -46,7 +46,7 @@ impl TryCopy for Role {
 
 /// That a role is granted to a member (SQL:2016 Foundation, "Roles"; PostgreSQL manual, "Role
 /// Membership").
-#[derive(Debug, Drop, PartialEq, Eq)]
+#[derive(Drop, PartialEq, Eq)]
 pub struct Membership {
     pub role: Name,
     pub member: Name,

@@ -12,7 +12,7 @@ use std::alloc::{AllocError, Global};
 
 /// Where a column is: the index of its table in a scope and its own index in that table, each
 /// counted from 0.
-#[derive(Clone, Copy, Debug, PartialEq, Eq)]
+#[derive(Clone, Copy, PartialEq, Eq)]
 pub struct ColumnIndex {
     pub table: usize,
     pub column: usize,
@@ -25,14 +25,14 @@ impl TryCopy for ColumnIndex {
 }
 
 /// A table under the name that it has in a statement: its alias where it has one.
-#[derive(Clone, Copy, Debug)]
+#[derive(Clone, Copy)]
 pub struct ScopeTable<'a> {
     pub name: &'a Name,
     pub columns: &'a Columns,
 }
 
 /// The tables whose columns an expression may name, in the order of the text.
-#[derive(Clone, Copy, Debug)]
+#[derive(Clone, Copy)]
 pub struct Scope<'a> {
     pub tables: &'a [ScopeTable<'a>],
 }

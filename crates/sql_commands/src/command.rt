@@ -18,7 +18,7 @@ use sql_lexer::token::Token;
 use std::alloc::Global;
 
 /// Which command a statement is.
-#[derive(Clone, Copy, PartialEq, Eq, Debug)]
+#[derive(Clone, Copy, PartialEq, Eq)]
 pub enum Command {
     Select,
     SelectCount,

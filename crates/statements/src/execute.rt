@@ -21,7 +21,7 @@ use store::{Map, Stop};
 use table_statements::{alter_table, create_table, drop_table};
 
 /// What carries out every statement over the database: each by what its kind says of it.
-#[derive(Clone, Copy, Debug)]
+#[derive(Clone, Copy)]
 pub struct Statements;
 
 impl Execute for Statements {

@@ -4,7 +4,7 @@ ghost use Rattle.storage_sizes.specs.Spellings.{current};
 
 /// How the records of a store are spelled. All are spelled alike in both spellings but those of
 /// privilege descriptors, whose keys have a place for a column in the second.
-#[derive(Clone, Copy, Debug, PartialEq, Eq, Drop)]
+#[derive(Clone, Copy, PartialEq, Eq, Drop)]
 pub enum Spelling {
     /// A descriptor is for a whole table.
     First,

@@ -14,7 +14,6 @@ use std::marker::Model;
 
 /// Puts and removals, each key once, in the order of the keys. Each has a size that a store takes,
 /// so the caller of `commit` owes nothing. Contracts see a batch as its changes.
-#[derive(Debug)]
 pub struct Batch {
     changes: Pieces,
     alloc: Global,

@@ -9,7 +9,7 @@ use std::marker::Model;
 
 /// A key and its value afterwards, or none where the key is removed, in one allocation. Contracts
 /// see it as the pair of the two.
-#[derive(Debug, Drop)]
+#[derive(Drop)]
 pub struct Change {
     // The key, and behind it the value, where one is put.
     bytes: Vec<u8>,

@@ -12,7 +12,6 @@ use storage_sizes::comes_before;
 
 /// Where a walk goes on, where it stops, and the entry that it found last. A step takes memory
 /// only for a key or a value that is longer than all before it.
-#[derive(Debug)]
 pub struct Cursor {
     next: Vec<u8>,
     stop: Vec<u8>,

@@ -6,7 +6,7 @@ use std::marker::Model;
 
 /// A key and its value, which contracts see as the pair of their bytes. A read fills one, which
 /// keeps its memory for the next read.
-#[derive(Debug, Drop)]
+#[derive(Drop)]
 pub struct Entry {
     key: Vec<u8>,
     value: Vec<u8>,
@@ -65,7 +65,7 @@ impl Entry {
 }
 
 /// A key and its value, where a map has them. Contracts see the pair of their bytes.
-#[derive(Debug, Drop)]
+#[derive(Drop)]
 pub struct EntryRef<'a> {
     pub key: &'a [u8],
     pub value: &'a [u8],

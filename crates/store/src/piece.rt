@@ -15,7 +15,7 @@ use storage_sizes::{comes_before, is_same_key};
 
 /// A run of changes in the order of their keys, as a batch keeps them. Contracts see it as its
 /// changes.
-#[derive(Debug, Drop)]
+#[derive(Drop)]
 pub struct Piece {
     changes: Vec<Change>,
     // How many of the changes put a value.

@@ -17,7 +17,7 @@ pub(crate) const MAX_PIECE_LENGTH: usize = 512;
 /// Changes in the order of their keys, in a list of pieces none of which is empty. A key is found
 /// by two binary searches, for its piece and in it. A put moves the changes of one piece at most,
 /// and the list of pieces.
-#[derive(Debug, Drop)]
+#[derive(Drop)]
 pub(crate) struct Pieces {
     pub(crate) list: Vec<Piece>,
     // The place next to the last put, removal or search. Any will do: it is only tried first.
@@ -28,7 +28,7 @@ pub(crate) struct Pieces {
 }
 
 /// Where a change stands: the index of its piece, and its own in the piece.
-#[derive(Clone, Copy, Debug)]
+#[derive(Clone, Copy)]
 pub struct Place {
     piece: usize,
     at: usize,

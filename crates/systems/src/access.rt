@@ -1,7 +1,7 @@
 //! What a device is opened for.
 
 /// What a device is opened for.
-#[derive(Clone, Copy, Debug, PartialEq, Eq)]
+#[derive(Clone, Copy, PartialEq, Eq)]
 pub enum Access {
     /// To be read, beside others that read it.
     Read,

@@ -1,7 +1,7 @@
 //! Places to listen at.
 
 /// Where a server listens.
-#[derive(Clone, Copy, Debug)]
+#[derive(Clone, Copy)]
 pub enum ListenPlace<'a> {
     /// A port of 127.0.0.1. For port 0 the system chooses one.
     Port(u16),

@@ -21,7 +21,7 @@ use std::alloc::{AllocError, Global};
 use store::{EntryRef, Fault, Map, Stop};
 
 /// Whether a walk goes on behind a row.
-#[derive(Debug, Clone, Copy)]
+#[derive(Clone, Copy)]
 pub enum Flow {
     /// The next row is visited.
     Continue,

@@ -12,7 +12,7 @@ use store::{Batch, Change};
 /// The changes of the statements of a transaction: one list, into which each statement's changes
 /// go, and one more for each time that an allocation failed on the way. Contracts see them as these
 /// lists, of which the last that names a key decides on it.
-#[derive(Debug, Drop)]
+#[derive(Drop)]
 pub struct ChangeLists {
     lists: Vec<Batch>,
     alloc: Global,

@@ -17,7 +17,7 @@ const MIN_LENGTH: usize = 5;
 const MAX_LENGTH: usize = 131_072;
 
 // An event whose texts are lent by its frame.
-#[derive(Clone, Copy, Debug)]
+#[derive(Clone, Copy)]
 pub(crate) enum EventView<'a> {
     Open { session: u32, login: &'a str },
     Statement { session: u32, text: &'a str },
@@ -25,7 +25,7 @@ pub(crate) enum EventView<'a> {
 }
 
 // The next frame of a stream: not there to its end, bad, or the whole frame of an event, of so many bytes.
-#[derive(Clone, Copy, Debug)]
+#[derive(Clone, Copy)]
 pub(crate) enum FrameView<'a> {
     Incomplete,
     Bad,

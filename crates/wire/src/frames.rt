@@ -11,7 +11,7 @@ use std::alloc::{AllocError, Global};
 use std::marker::Model;
 
 /// What a piece of a stream completed: events, and whether a bad frame follows them.
-#[derive(Debug, Drop)]
+#[derive(Drop)]
 pub struct Fed {
     pub events: Vec<Event>,
     pub bad: bool,

@@ -14,11 +14,11 @@ returns-then-value-gt-MAX_VALUE_LENGTH c p is =
 pub returns-in-Ok-decode_clauses : goal.returns-in-Ok-decode_clauses
 returns-in-Ok-decode_clauses c =
     let few : length c.args.entry.now.1 ≤ 1200 = search rules in
-    policy_whole c.args.id c.in-Some.name.now c.in-Some-kind_at.rest.now c.in-Ok-roles_at.front.1.now c.args.entry.now c.args.table.now c.in_ok-table.table c.in-Ok.name
-    c.in-Some-kind_at.kind c.in-Some-kind_at.command c.in-Ok-roles_at.front.0 c.in-Ok-decode_clauses.using c.in-Ok-decode_clauses.check
-    (sym c.key.ensures ∙ c.in-Some.ensures) few (sym c.value-2.ensures ∙ c.in-Some-kind_at.ensures) c.in-Ok.ensures c.in_ok-table.ensures c.in-Ok-roles_at.ensures.0 c.in-Ok-decode_clauses.ensures
+    policy_whole c.args.id c.in-Some.name.now c.in-Some-two_at.rest.now c.in-Ok-roles_at.front.1.now c.args.entry.now c.args.table.now c.in_ok-table.table c.in-Ok.name
+    c.in-Some-two_at.kind c.in-Some-two_at.command c.in-Ok-roles_at.front.0 c.in-Ok-decode_clauses.using c.in-Ok-decode_clauses.check
+    (sym c.key.ensures ∙ c.in-Some.ensures) few (sym c.value-2.ensures ∙ c.in-Some-two_at.ensures) c.in-Ok.ensures c.in_ok-table.ensures c.in-Ok-roles_at.ensures.0 c.in-Ok-decode_clauses.ensures
 
 pub returns-in-Err-decode_clauses : goal.returns-in-Err-decode_clauses
 returns-in-Err-decode_clauses c =
-    no_clauses c.args.id c.in-Some-kind_at.rest.now c.in-Ok-roles_at.front.1.now c.args.entry.now c.args.table.now c.in-Some-kind_at.kind c.in-Some-kind_at.command c.in-Ok-roles_at.front.0
-    c.in-Err-decode_clauses.fault (sym c.value-2.ensures ∙ c.in-Some-kind_at.ensures) c.in-Ok-roles_at.ensures.1 c.in-Err-decode_clauses.ensures
+    no_clauses c.args.id c.in-Some-two_at.rest.now c.in-Ok-roles_at.front.1.now c.args.entry.now c.args.table.now c.in-Some-two_at.kind c.in-Some-two_at.command c.in-Ok-roles_at.front.0
+    c.in-Err-decode_clauses.fault (sym c.value-2.ensures ∙ c.in-Some-two_at.ensures) c.in-Ok-roles_at.ensures.1 c.in-Err-decode_clauses.ensures

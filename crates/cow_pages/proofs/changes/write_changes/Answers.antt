@@ -1,10 +1,12 @@
 use Rattle.std.proofs.Common.{◌∙◌, arith, inl}
 use Rattle.sector_device.specs.Timeline.{weakened}
 use Rattle.cow_pages.specs.DirtyPages.{dirty_bytes}
-use Rattle.cow_pages.proofs.Answered.{failed}
+use Rattle.cow_pages.proofs.Answered.{failed, on_err_also}
 use Rattle.cow_pages.proofs.Meaning.{settled_recoverable}
 use Rattle.cow_pages.proofs.Overlaid.{leaves_durable, settled_still, durable_still, array_written, leaves_both}
 use Rattle.std.proofs.lemmas.Result.{err_from_is_err_and, MatchResult-weaker}
+use Rattle.sector_device.specs.Device.{history_joined}
+use Rattle.cow_pages.specs.PreservedLaws.{failed_later}
 use Rattle.cow_pages.proofs.changes.write_changes.Goals as goal
 
 pub write_pages-requires-clause-inside : goal.write_pages-requires-clause-inside
@@ -50,3 +52,16 @@ returns-clause-writes g c can =
           (λ x is. (is.0, λ l. is.1 l ∙ array_written _ mid w alone written m.working.items l))
           (λ e is. (is.0, λ l. is.1 l ∙ durable_still _ mid w m.root m.durable.items c.requires.outside can.settled history.sectors alone l));
     }
+
+pub returns-clause-history : goal.returns-clause-history
+returns-clause-history g c =
+    history_joined _ (g.D.Device.state c.write_pages.new.device) (g.D.Device.state c.write_next.new.device) c.write_pages.ensures.history c.write_next.ensures.history
+
+pub returns-clause-cached : goal.returns-clause-cached
+returns-clause-cached g c first agrees =
+    c.write_next.ensures.cached (c.write_pages.ensures.history.faithful first) (c.write_pages.ensures.cached first agrees)
+
+pub returns-clause-cause : goal.returns-clause-cause
+returns-clause-cause g c =
+    on_err_also c.write_next.result c.write_next.ensures.cause
+    (failed_later _ (g.D.Device.state c.write_pages.new.device) (g.D.Device.state c.write_next.new.device) c.write_pages.ensures.history c.write_next.ensures.history)

@@ -5,6 +5,8 @@ use Rattle.cow_pages.specs.DirtyPages.{dirty_bytes, index_of}
 use Rattle.cow_pages.proofs.Bytes.{page_is}
 use Rattle.cow_pages.proofs.Cached.{less_agrees, written_agrees, put_agrees}
 use Rattle.cow_pages.proofs.Overlaid.{some_dirty, leaves_more, alone_more, written_now, written_more}
+use Rattle.cow_pages.specs.PreservedLaws.{failed_later}
+use Rattle.cow_pages.proofs.Answered.{on_err_always}
 use Rattle.cow_pages.proofs.changes.write_pages.Goals as goal
 
 pub write_page-requires-clause-inside : goal.write_page-requires-clause-inside
@@ -90,3 +92,12 @@ pub returns-clause-written : goal.returns-clause-written
 returns-clause-written g c first page bytes waits =
     let inside = c.len-index-end.ensures.inside page (some_dirty (dirty_bytes c.args.dirty.now page) bytes waits) in
     c.loop-index.invariant.written first page bytes waits (omega (arith, inside, c.loop-index-test.false))
+
+pub returns-in_err-write_page-clause-history : goal.returns-in_err-write_page-clause-history
+returns-in_err-write_page-clause-history g c =
+    history_joined _ (g.D.Device.state c.loop-index.device) (g.D.Device.state c.write_page.new.device) c.loop-index.invariant.history c.write_page.ensures.history
+
+pub returns-in_err-write_page-clause-cause : goal.returns-in_err-write_page-clause-cause
+returns-in_err-write_page-clause-cause g c =
+    on_err_always c.from_residual.result
+    (failed_later _ (g.D.Device.state c.loop-index.device) (g.D.Device.state c.write_page.new.device) c.loop-index.invariant.history c.write_page.ensures.history c.in_err-write_page.ensures.cause)

@@ -4,8 +4,9 @@ use Rattle.sector_device.specs.Device.{Writes, history_joined}
 use Rattle.page_roots.specs.Root.{home}
 use Rattle.page_roots.specs.Sector.{root_at}
 use Rattle.cow_pages.proofs.Meaning.{settled_recoverable}
-use Rattle.cow_pages.proofs.Answered.{on_ok_also, on_err_always, failed}
+use Rattle.cow_pages.proofs.Answered.{on_ok_also, on_err_always, failed, on_err_also}
 use Rattle.cow_pages.proofs.Staged.{synced_first, next_held, root_written, read_across, crossing_recoverable, switched, after_roots}
+use Rattle.cow_pages.specs.PreservedLaws.{failed_later}
 use Rattle.cow_pages.proofs.root_switch.switch.Goals as goal
 
 pub returns-in_err-sync-clause-switches : goal.returns-in_err-sync-clause-switches
@@ -69,3 +70,17 @@ pub returns-clause-history : goal.returns-clause-history
 returns-clause-history g c =
     let state = g.D.Device.state in
     history_joined _ (state c.write.new.self) (state c.sync-2.new.self) (history_joined _ _ (state c.write.new.self) c.sync.ensures.history c.write.ensures.history) c.sync-2.ensures.history
+
+pub returns-in_err-write-clause-history : goal.returns-in_err-write-clause-history
+returns-in_err-write-clause-history g c =
+    history_joined _ (g.D.Device.state c.sync.new.self) (g.D.Device.state c.write.new.self) c.sync.ensures.history c.write.ensures.history
+
+pub returns-in_err-write-clause-cause : goal.returns-in_err-write-clause-cause
+returns-in_err-write-clause-cause g c =
+    on_err_always c.from_residual-in_err-write.result
+    (failed_later _ (g.D.Device.state c.sync.new.self) (g.D.Device.state c.write.new.self) c.sync.ensures.history c.write.ensures.history c.in_err-write.ensures.cause)
+
+pub returns-clause-cause : goal.returns-clause-cause
+returns-clause-cause g c =
+    let two = history_joined _ (g.D.Device.state c.sync.new.self) (g.D.Device.state c.write.new.self) c.sync.ensures.history c.write.ensures.history in
+    on_err_also c.sync-2.result c.sync-2.ensures.cause (failed_later _ (g.D.Device.state c.write.new.self) (g.D.Device.state c.sync-2.new.self) two c.sync-2.ensures.history)

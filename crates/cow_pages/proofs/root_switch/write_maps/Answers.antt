@@ -6,6 +6,8 @@ use Rattle.cow_pages.proofs.Cached.{less_agrees, written_agrees}
 use Rattle.cow_pages.proofs.Along.{bytes_along}
 use Rattle.cow_pages.proofs.Writing.{other_page}
 use Rattle.cow_pages.proofs.Committing.{leaves_more, alone_more}
+use Rattle.cow_pages.specs.PreservedLaws.{failed_later}
+use Rattle.cow_pages.proofs.Answered.{on_err_always}
 use Rattle.cow_pages.proofs.root_switch.write_maps.Goals as goal
 
 pub returns-in_err-write_page-clause-any_moment : goal.returns-in_err-write_page-clause-any_moment
@@ -68,3 +70,12 @@ pub write_page-requires-clause-not_beside : goal.write_page-requires-clause-not_
 write_page-requires-clause-not_beside g c k lt beside =
     let behind = g.met.D.Device.beside_behind c.loop-index.device _ beside in
     omega (arith, c.if-page-ne0.true, behind.1)
+
+pub returns-in_err-write_page-clause-history : goal.returns-in_err-write_page-clause-history
+returns-in_err-write_page-clause-history g c =
+    history_joined _ (g.D.Device.state c.loop-index.device) (g.D.Device.state c.write_page.new.device) c.loop-index.invariant.history c.write_page.ensures.history
+
+pub returns-in_err-write_page-clause-cause : goal.returns-in_err-write_page-clause-cause
+returns-in_err-write_page-clause-cause g c =
+    on_err_always c.from_residual.result
+    (failed_later _ (g.D.Device.state c.loop-index.device) (g.D.Device.state c.write_page.new.device) c.loop-index.invariant.history c.write_page.ensures.history c.in_err-write_page.ensures.cause)

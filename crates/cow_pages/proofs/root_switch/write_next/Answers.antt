@@ -2,9 +2,11 @@ use Rattle.std.proofs.Common.{◌<◌, ℕ, List, get_or, ap, ◌∙◌}
 use Rattle.std.proofs.lemmas.Result.{err_from_is_err_and, MatchResult-weaker}
 use Rattle.cow_pages.specs.Held.{part_of}
 use Rattle.cow_pages.proofs.Meaning.{settled_recoverable}
-use Rattle.cow_pages.proofs.Answered.{failed}
+use Rattle.cow_pages.proofs.Answered.{failed, on_err_also}
 use Rattle.cow_pages.proofs.Cached.{roots_agree}
 use Rattle.cow_pages.proofs.Committing.{leaves_before, working_same, durable_same, settled_mid, can_switch, leaves_across}
+use Rattle.sector_device.specs.Device.{history_joined}
+use Rattle.cow_pages.specs.PreservedLaws.{failed_later}
 use Rattle.cow_pages.proofs.root_switch.write_next.Goals as goal
 
 pub returns-in_err-write_maps-clause-writes : goal.returns-in_err-write_maps-clause-writes
@@ -39,3 +41,12 @@ returns-clause-cached g c first agrees =
     let mid = g.D.Device.state c.write_maps.new.device in
     roots_agree c.write_maps.new.cache mid.content (g.D.Device.state c.switch.new.device).content (c.write_maps.ensures.cached first agrees)
     (c.switch.ensures.others (c.write_maps.ensures.history.faithful first))
+
+pub returns-clause-history : goal.returns-clause-history
+returns-clause-history g c =
+    history_joined _ (g.D.Device.state c.write_maps.new.device) (g.D.Device.state c.switch.new.device) c.write_maps.ensures.history c.switch.ensures.history
+
+pub returns-clause-cause : goal.returns-clause-cause
+returns-clause-cause g c =
+    on_err_also c.switch.result c.switch.ensures.cause
+    (failed_later _ (g.D.Device.state c.write_maps.new.device) (g.D.Device.state c.switch.new.device) c.write_maps.ensures.history c.switch.ensures.history)

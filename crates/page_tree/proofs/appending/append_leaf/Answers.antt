@@ -6,6 +6,7 @@ use Rattle.page_tree.proofs.Faults.{fails, memory_is}
 use Rattle.page_tree.proofs.LeafChanges.{first_is}
 use Rattle.page_tree.proofs.RemovalNodes.{copied_slice}
 use Rattle.page_tree.proofs.LeavesBehind.{first_entry, in_scratch, leaf_appended}
+use Rattle.page_tree.proofs.Taking.{same_taken}
 use Rattle.page_tree.proofs.appending.append_leaf.Goals as goal
 
 pub returns-in_err-leaf-clause-changed : goal.returns-in_err-leaf-clause-changed
@@ -33,3 +34,23 @@ returns-clause-changed g c puts sound used es d low high first rest whole bound 
     let last = subst (λ (key : List ℕ). ComesLast key es) (c.key.ensures ∙ ap (λ (x : Change). x.0) (first_is first item.result rest c.args.changes.now 0 whole item.is refl)) ((c.if-not-ends_before.ensures es node).0 refl) in
     let taken = c.in_ok-second.ensures.taken sound h.0 h.1 k.sizes k.spelled (omega (arith, k.count_is)) in
     (a.within, leaf_appended (g.P.Pages.state c.args.pages.now) (g.P.Pages.state c.write_back.new.pages) d low first.0 high c.args.page c.in_ok-second.second _ es cs h.0 h.1 s last reaches a.within h.2 taken)
+
+pub returns-then-is_empty-clause-takes : goal.returns-then-is_empty-clause-takes
+returns-then-is_empty-clause-takes g c = same_taken g.P.Pages c.args.pages.now
+
+pub returns-then-not-ends_before-clause-takes : goal.returns-then-not-ends_before-clause-takes
+returns-then-not-ends_before-clause-takes g c = same_taken g.P.Pages c.args.pages.now
+
+pub returns-in_err-leaf-clause-takes : goal.returns-in_err-leaf-clause-takes
+returns-in_err-leaf-clause-takes g c =
+    fails c.from_residual.result c.in_err-leaf.field-0.0 _ _ c.from_residual.ensures.1 (λ is. absurd (c.in_err-leaf.ensures.faults is))
+
+pub returns-then-made-eq0-clause-takes : goal.returns-then-made-eq0-clause-takes
+returns-then-made-eq0-clause-takes g c = same_taken g.P.Pages c.args.pages.now
+
+pub returns-in_err-second-clause-takes : goal.returns-in_err-second-clause-takes
+returns-in_err-second-clause-takes g c =
+    fails c.from_residual-in_err-second.result c.in_err-second.field-0.0 _ _ c.from_residual-in_err-second.ensures.1 (λ is. c.in_err-second.ensures.takes is)
+
+pub returns-clause-takes : goal.returns-clause-takes
+returns-clause-takes g c = c.in_ok-second.ensures.takes

@@ -160,3 +160,21 @@ returns-in_ok-left-in-Inner-clause-takes g t c sound s first rest whole at bound
     let before = taken g t (goal.at.returns-in_ok-left-in-Inner-clause-takes g t c).After-follow_child sound s first rest whole at d f.w.depth f.deep in
     subst (λ (n : ℕ). TakesPages g.P.Pages c.args.pages.now c.follow_child.new.pages [] (most_left n c.in_ok-left-in-Inner.left)) (sym f.deep)
     (c.in_ok-left-in-Inner.ensures.takes c.args.pages.now f.w.depth (λ child is. deep_child _ _ _ _ _ _ _ _ child is f.described) before)
+
+pub returns-in-Leaf-clause-preserved : goal.returns-in-Leaf-clause-preserved
+returns-in-Leaf-clause-preserved g t c =
+    g.P.Pages.preserved_joined c.args.pages.now c.fetch_node.new.pages c.change_leaf.new.pages c.in_ok-fetch_node.ensures.preserved c.change_leaf.ensures.preserved
+
+pub returns-in_err-below-in-Inner-clause-preserved : goal.returns-in_err-below-in-Inner-clause-preserved
+returns-in_err-below-in-Inner-clause-preserved g t c =
+    g.P.Pages.preserved_joined c.args.pages.now c.fetch_node.new.pages c.change_below.new.pages c.in_ok-fetch_node.ensures.preserved c.in_err-below-in-Inner.ensures.preserved
+
+pub returns-in_default-clause-preserved : goal.returns-in_default-clause-preserved
+returns-in_default-clause-preserved g t c =
+    g.P.Pages.preserved_joined c.args.pages.now c.fetch_node.new.pages c.change_below.new.pages c.in_ok-fetch_node.ensures.preserved c.in_ok-below-in-Inner.ensures.preserved
+
+pub returns-then-levels-eq0-clause-changed : goal.returns-then-levels-eq0-clause-changed
+returns-then-levels-eq0-clause-changed g t c sound s first rest whole at bound = absurd (omega (arith, at.shallow, c.if-levels-eq0.true))
+
+pub returns-then-levels-eq0-clause-takes : goal.returns-then-levels-eq0-clause-takes
+returns-then-levels-eq0-clause-takes g t c sound s first rest whole at bound = absurd (omega (arith, at.shallow, c.if-levels-eq0.true))

@@ -66,3 +66,15 @@ returns-in_err-settle_root-in-Some-clause-takes g c sound map represents =
     let d = represents.is_tree.depth in
     let taken = subst (λ (o : Option Changed). TakesPages g.P.Pages c.args.pages.now c.change_below.new.pages [] (most_changed d o)) c.in-Some.is (c.in_ok-changed.ensures.takes sound _ b.first b.rest b.whole b.at c.clear.ensures) in
     err_fails c.from_residual-in_err-settle_root-in-Some.result c.in_err-settle_root-in-Some.field-0.0 _ c.from_residual-in_err-settle_root-in-Some.ensures.1 (c.in_err-settle_root-in-Some.ensures.takes c.args.pages.now d taken)
+
+pub returns-in-None-clause-preserved : goal.returns-in-None-clause-preserved
+returns-in-None-clause-preserved g c =
+    g.P.Pages.preserved_joined c.args.pages.now c.change_below.new.pages c.put_first.new.pages c.in_ok-changed.ensures.preserved c.put_first.ensures.preserved
+
+pub returns-in_err-settle_root-in-Some-clause-preserved : goal.returns-in_err-settle_root-in-Some-clause-preserved
+returns-in_err-settle_root-in-Some-clause-preserved g c =
+    g.P.Pages.preserved_joined c.args.pages.now c.change_below.new.pages c.settle_root.new.pages c.in_ok-changed.ensures.preserved c.in_err-settle_root-in-Some.ensures.preserved
+
+pub returns-in_ok-settle_root-in-Some-clause-preserved : goal.returns-in_ok-settle_root-in-Some-clause-preserved
+returns-in_ok-settle_root-in-Some-clause-preserved g c =
+    g.P.Pages.preserved_joined c.args.pages.now c.change_below.new.pages c.settle_root.new.pages c.in_ok-changed.ensures.preserved c.in_ok-settle_root-in-Some.ensures.preserved

@@ -128,3 +128,11 @@ check_children-returns-clause-checked g t c sound first cs node =
     ends (g.P.Pages.state c.args.pages.now).array c.args.met.now c.loop-i.met c.args.bytes.now c.args.depth c.args.low.now first cs c.loop-i.key.now c.loop-i.child c.loop-i.at c.loop-i.i _ (c.loop-i.invariant.progress sound first cs node) (numbered_of g.P.Pages c.args.pages.now sound) c.loop-i-test.false c.check_below-2.new.met (lent_bytes c.args.high) whole
     (checked_same (g.P.Pages.state c.args.pages.now).array (g.P.Pages.state c.loop-i.pages).array c.loop-i.met c.check_below-2.new.met c.args.depth (lent_bytes c.args.high) _ whole only_reads.same is))
     (c.check_below-2.ensures.checked only_reads.sound)
+
+pub check_below-returns-then-not-mark-clause-reads : goal.check_below-returns-then-not-mark-clause-reads
+check_below-returns-then-not-mark-clause-reads g t c =
+    reads_none g.P.Pages c.args.pages.now (g.met.P.Pages.writes_nothing_same c.args.pages.now)
+
+pub check_below-returns-else-depth-eq0-clause-reads : goal.check_below-returns-else-depth-eq0-clause-reads
+check_below-returns-else-depth-eq0-clause-reads g t c =
+    reads_joined g.P.Pages c.args.pages.now c.read_if_used.new.pages c.check_children.new.pages c.in_ok-read_if_used.ensures.reads c.check_children.ensures.reads

@@ -5,6 +5,7 @@ use Rattle.page_tree.specs.Counts.{count_within, is_within}
 use Rattle.page_tree.proofs.Faults.{caused_since, fails}
 use Rattle.page_tree.proofs.Represented.{map_of_same, map_rises}
 use Rattle.page_tree.proofs.Spans.{ahead_rises, ends, goes_on, none_counted, none_yet}
+use Rattle.page_tree.proofs.Made.{reads_then}
 use Rattle.page_tree.proofs.counting.count.Goals as goal
 
 pub loop-init : goal.loop-init
@@ -67,3 +68,45 @@ loop-preserved g c =
           (c.in_ok-passed.ensures map rising)
           (c.saturating_add-count.ensures ∙ ap (λ (n : ℕ). min (n + c.in_ok-passed.passed) (2 ^ 64 - 1)) c.saturating_add.ensures);
     }
+
+pub returns-in_err-step-clause-preserved : goal.returns-in_err-step-clause-preserved
+returns-in_err-step-clause-preserved g c =
+    g.P.Pages.preserved_joined c.args.pages.now c.loop.pages c.step.new.pages c.loop.invariant.preserved c.in_err-step.ensures.preserved
+
+pub returns-in_err-step-clause-only_reads : goal.returns-in_err-step-clause-only_reads
+returns-in_err-step-clause-only_reads g c sound =
+    let one = c.loop.invariant.only_reads sound in
+    reads_then (g.P.Pages.state c.args.pages.now) (g.P.Pages.state c.loop.pages) (g.P.Pages.state c.step.new.pages) one (c.in_err-step.ensures.only_reads one.sound)
+
+pub returns-then-not-branch-clause-preserved : goal.returns-then-not-branch-clause-preserved
+returns-then-not-branch-clause-preserved g c =
+    g.P.Pages.preserved_joined c.args.pages.now c.loop.pages c.step.new.pages c.loop.invariant.preserved c.in_ok-step.ensures.preserved
+
+pub returns-then-not-branch-clause-only_reads : goal.returns-then-not-branch-clause-only_reads
+returns-then-not-branch-clause-only_reads g c sound =
+    let one = c.loop.invariant.only_reads sound in
+    reads_then (g.P.Pages.state c.args.pages.now) (g.P.Pages.state c.loop.pages) (g.P.Pages.state c.step.new.pages) one (c.in_ok-step.ensures.only_reads one.sound)
+
+pub returns-then-not-is_within-clause-preserved : goal.returns-then-not-is_within-clause-preserved
+returns-then-not-is_within-clause-preserved g c =
+    g.P.Pages.preserved_joined c.args.pages.now c.loop.pages c.step.new.pages c.loop.invariant.preserved c.in_ok-step.ensures.preserved
+
+pub returns-then-not-is_within-clause-only_reads : goal.returns-then-not-is_within-clause-only_reads
+returns-then-not-is_within-clause-only_reads g c sound =
+    let one = c.loop.invariant.only_reads sound in
+    reads_then (g.P.Pages.state c.args.pages.now) (g.P.Pages.state c.loop.pages) (g.P.Pages.state c.step.new.pages) one (c.in_ok-step.ensures.only_reads one.sound)
+
+pub returns-in_err-passed-clause-preserved : goal.returns-in_err-passed-clause-preserved
+returns-in_err-passed-clause-preserved g c =
+    g.P.Pages.preserved_joined c.args.pages.now c.loop.pages c.step.new.pages c.loop.invariant.preserved c.in_ok-step.ensures.preserved
+
+pub returns-in_err-passed-clause-only_reads : goal.returns-in_err-passed-clause-only_reads
+returns-in_err-passed-clause-only_reads g c sound =
+    let one = c.loop.invariant.only_reads sound in
+    reads_then (g.P.Pages.state c.args.pages.now) (g.P.Pages.state c.loop.pages) (g.P.Pages.state c.step.new.pages) one (c.in_ok-step.ensures.only_reads one.sound)
+
+pub returns-then-not-branch-clause-works : goal.returns-then-not-branch-clause-works
+returns-then-not-branch-clause-works g c works = c.in_ok-step.ensures.works (c.loop.invariant.works works)
+
+pub returns-then-not-is_within-clause-works : goal.returns-then-not-is_within-clause-works
+returns-then-not-is_within-clause-works g c works = c.in_ok-step.ensures.works (c.loop.invariant.works works)

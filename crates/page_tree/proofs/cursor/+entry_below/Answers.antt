@@ -8,6 +8,7 @@ use Rattle.page_tree.proofs.Trees.{full_right}
 use Rattle.page_tree.proofs.Descent.{lent_as, at_keep, node_at, leaf_at, inner_at, step, children_full}
 use Rattle.page_tree.proofs.Place.{placed}
 use Rattle.page_tree.proofs.Scans.{first_tree, first_tree_at, first_tree_full, found_as, given_here, given_none, later_first_tree, later_page, given_later, leaf_entries, place_here, place_later}
+use Rattle.page_tree.proofs.Made.{reads_then}
 use Rattle.page_tree.proofs.cursor.+entry_below.Goals as goal
 
 pub returns-in_err-fetch_node-clause-found : goal.returns-in_err-fetch_node-clause-found
@@ -86,3 +87,36 @@ returns-in-Some-later-clause-found g t c sound s at =
       place_later A s.tree s.depth s.low s.high c.args.page c.args.key.now i p r c.least_below.new.cursor is.1,
     ))
     (c.least_below.ensures.found later_reads.sound _ r.from there)
+
+pub returns-in_err-found-in-Inner-clause-preserved : goal.returns-in_err-found-in-Inner-clause-preserved
+returns-in_err-found-in-Inner-clause-preserved g t c =
+    g.P.Pages.preserved_joined c.args.pages.now c.fetch_node.new.pages c.entry_below.new.pages c.in_ok-fetch_node.ensures.preserved c.in_err-found-in-Inner.ensures.preserved
+
+pub returns-in_err-found-in-Inner-clause-only_reads : goal.returns-in_err-found-in-Inner-clause-only_reads
+returns-in_err-found-in-Inner-clause-only_reads g t c sound =
+    let one = c.in_ok-fetch_node.ensures.only_reads sound in
+    reads_then (g.P.Pages.state c.args.pages.now) (g.P.Pages.state c.fetch_node.new.pages) (g.P.Pages.state c.entry_below.new.pages) one (c.in_err-found-in-Inner.ensures.only_reads one.sound)
+
+pub returns-then-found-clause-preserved : goal.returns-then-found-clause-preserved
+returns-then-found-clause-preserved g t c =
+    g.P.Pages.preserved_joined c.args.pages.now c.fetch_node.new.pages c.entry_below.new.pages c.in_ok-fetch_node.ensures.preserved c.in_ok-found-in-Inner.ensures.preserved
+
+pub returns-then-found-clause-only_reads : goal.returns-then-found-clause-only_reads
+returns-then-found-clause-only_reads g t c sound =
+    let one = c.in_ok-fetch_node.ensures.only_reads sound in
+    reads_then (g.P.Pages.state c.args.pages.now) (g.P.Pages.state c.fetch_node.new.pages) (g.P.Pages.state c.entry_below.new.pages) one (c.in_ok-found-in-Inner.ensures.only_reads one.sound)
+
+pub returns-in_default-later-clause-preserved : goal.returns-in_default-later-clause-preserved
+returns-in_default-later-clause-preserved g t c =
+    g.P.Pages.preserved_joined c.args.pages.now c.fetch_node.new.pages c.entry_below.new.pages c.in_ok-fetch_node.ensures.preserved c.in_ok-found-in-Inner.ensures.preserved
+
+pub returns-in_default-later-clause-only_reads : goal.returns-in_default-later-clause-only_reads
+returns-in_default-later-clause-only_reads g t c sound =
+    let one = c.in_ok-fetch_node.ensures.only_reads sound in
+    reads_then (g.P.Pages.state c.args.pages.now) (g.P.Pages.state c.fetch_node.new.pages) (g.P.Pages.state c.entry_below.new.pages) one (c.in_ok-found-in-Inner.ensures.only_reads one.sound)
+
+pub returns-in-Some-later-clause-only_reads : goal.returns-in-Some-later-clause-only_reads
+returns-in-Some-later-clause-only_reads g t c sound =
+    let one = c.in_ok-fetch_node.ensures.only_reads sound in
+    let two = reads_then (g.P.Pages.state c.args.pages.now) (g.P.Pages.state c.fetch_node.new.pages) (g.P.Pages.state c.entry_below.new.pages) one (c.in_ok-found-in-Inner.ensures.only_reads one.sound) in
+    reads_then (g.P.Pages.state c.args.pages.now) (g.P.Pages.state c.entry_below.new.pages) (g.P.Pages.state c.least_below.new.pages) two (c.least_below.ensures.only_reads two.sound)

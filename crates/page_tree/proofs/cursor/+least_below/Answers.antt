@@ -5,6 +5,7 @@ use Rattle.page_tree.specs.Kept.{KeepsPlace}
 use Rattle.page_tree.proofs.Faults.{fails, gives_since, gives_unless_memory}
 use Rattle.page_tree.proofs.Descent.{lent_as, at_keep, node_at, leaf_at, inner_at, children_full}
 use Rattle.page_tree.proofs.Scans.{first_tree, first_tree_at, first_tree_full, found_as, leaf_first, leaf_entries, head_first_tree, least_inner, place_least}
+use Rattle.page_tree.proofs.Made.{reads_then}
 use Rattle.page_tree.proofs.cursor.+least_below.Goals as goal
 
 pub returns-in_err-fetch_node-clause-found : goal.returns-in_err-fetch_node-clause-found
@@ -38,3 +39,12 @@ returns-in-Inner-clause-found g t c sound s key at =
       place_least A s.tree s.depth s.low s.high c.args.page i.at r c.least_below.new.cursor is.1,
     ))
     (c.least_below.ensures.found only_reads.sound _ r.from below)
+
+pub returns-in-Inner-clause-preserved : goal.returns-in-Inner-clause-preserved
+returns-in-Inner-clause-preserved g t c =
+    g.P.Pages.preserved_joined c.args.pages.now c.fetch_node.new.pages c.least_below.new.pages c.in_ok-fetch_node.ensures.preserved c.least_below.ensures.preserved
+
+pub returns-in-Inner-clause-only_reads : goal.returns-in-Inner-clause-only_reads
+returns-in-Inner-clause-only_reads g t c sound =
+    let one = c.in_ok-fetch_node.ensures.only_reads sound in
+    reads_then (g.P.Pages.state c.args.pages.now) (g.P.Pages.state c.fetch_node.new.pages) (g.P.Pages.state c.least_below.new.pages) one (c.least_below.ensures.only_reads one.sound)

@@ -1,4 +1,4 @@
-use Rattle.std.proofs.Common.{refl, ◌∷◌, arith}
+use Rattle.std.proofs.Common.{refl, ◌∷◌, arith, []}
 use Rattle.page_nodes.specs.Map.{without}
 use Rattle.page_nodes.specs.Search.{pair_from}
 use Rattle.page_tree.specs.Forest.{no_trees, inner, entries}
@@ -6,7 +6,7 @@ use Rattle.page_tree.proofs.Faults.{fails, gives_since}
 use Rattle.page_tree.proofs.Descent.{numbered_of}
 use Rattle.page_tree.proofs.RemovalJoins.{parent_keep, becomes_read}
 use Rattle.page_tree.proofs.LeafJoins.{beside_in, left_holds, right_holds, without_right_leaf, not_joined, reads_nothing, found_is}
-use Rattle.page_tree.proofs.Taking.{none_taken, takes_since}
+use Rattle.page_tree.proofs.Taking.{none_taken, takes_since, taken_in_all, same_taken}
 use Rattle.page_tree.proofs.joining.join_leaves.Goals as goal
 
 pub returns-in_default-clause-joined : goal.returns-in_default-clause-joined
@@ -56,3 +56,27 @@ returns-clause-joined g c sound d low high first cell cs children flat par holds
 pub returns-clause-takes : goal.returns-clause-takes
 returns-clause-takes g c =
     takes_since g.P.Pages c.args.pages.now c.copy_leaves.new.pages c.store_joined.new.pages c.store_joined.result (λ _. 2) (λ _. 2) 0 1 1 (none_taken g.P.Pages c.args.pages.now c.copy_leaves.new.pages 0 c.in_ok-copied.ensures.own) (λ x. omega arith) (omega arith) c.store_joined.ensures.takes
+
+pub returns-clause-preserved : goal.returns-clause-preserved
+returns-clause-preserved g c =
+    g.P.Pages.preserved_joined c.args.pages.now c.copy_leaves.new.pages c.store_joined.new.pages c.in_ok-copied.ensures.preserved c.store_joined.ensures.preserved
+
+pub returns-in_default-copied-clause-takes : goal.returns-in_default-copied-clause-takes
+returns-in_default-copied-clause-takes g c =
+    none_taken g.P.Pages c.args.pages.now c.copy_leaves.new.pages 2 c.in_ok-copied.ensures.own
+
+pub returns-in_err-taken-clause-takes : goal.returns-in_err-taken-clause-takes
+returns-in_err-taken-clause-takes g c =
+    fails c.from_residual.result c.in_err-taken.field-0.0 _ _ c.from_residual.ensures.1 (λ is. absurd (c.in_err-taken.ensures.faults is))
+
+pub returns-in_default-clause-takes : goal.returns-in_default-clause-takes
+returns-in_default-clause-takes g c =
+    taken_in_all g.P.Pages c.args.pages.now c.args.pages.now [] 0 2 (same_taken g.P.Pages c.args.pages.now) (omega arith)
+
+pub returns-then-not-may_join-clause-takes : goal.returns-then-not-may_join-clause-takes
+returns-then-not-may_join-clause-takes g c =
+    taken_in_all g.P.Pages c.args.pages.now c.args.pages.now [] 0 2 (same_taken g.P.Pages c.args.pages.now) (omega arith)
+
+pub returns-in_err-copied-clause-takes : goal.returns-in_err-copied-clause-takes
+returns-in_err-copied-clause-takes g c =
+    fails c.from_residual-in_err-copied.result c.in_err-copied.field-0.0 _ _ c.from_residual-in_err-copied.ensures.1 (λ is. absurd (c.in_err-copied.ensures.faults is))

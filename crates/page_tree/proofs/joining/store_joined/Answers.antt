@@ -6,7 +6,7 @@ use Rattle.page_tree.proofs.Trees.{some_there}
 use Rattle.page_tree.proofs.RemovalPages.{some_as}
 use Rattle.page_tree.proofs.RemovalNodes.{copied_slice}
 use Rattle.page_tree.proofs.LeafJoins.{left_holds, right_holds, left_other, page_left, page_right, joined_leaves}
-use Rattle.page_tree.proofs.Taking.{none_taken, taken_then, takes_since, write_takes}
+use Rattle.page_tree.proofs.Taking.{none_taken, taken_then, takes_since, write_takes, not_read}
 use Rattle.page_tree.proofs.joining.store_joined.Goals as goal
 
 pub returns-in_err-free_page-clause-stored : goal.returns-in_err-free_page-clause-stored
@@ -59,3 +59,17 @@ returns-clause-takes g c =
     let wrote = taken_then g.P.Pages c.args.pages.now c.free_page.new.self c.write_cells.new.pages [] [] 0 1 1 (none_taken g.P.Pages c.args.pages.now c.free_page.new.self 0 c.in_ok-free_page.ensures.own) c.in_ok-write_cells.ensures.takes (omega arith) in
     takes_since g.P.Pages c.args.pages.now c.write_cells.new.pages c.write.new.self c.write.result (λ _. 1) (λ _. 2) 1 0 1 wrote (λ x. omega arith) (omega arith)
     (write_takes g.P.Pages c.write_cells.new.pages c.write.new.self c.args.page c.write.result c.write.ensures.own c.write.ensures.full)
+
+pub returns-in_err-write_cells-clause-preserved : goal.returns-in_err-write_cells-clause-preserved
+returns-in_err-write_cells-clause-preserved g c =
+    g.P.Pages.preserved_joined c.args.pages.now c.free_page.new.self c.write_cells.new.pages c.in_ok-free_page.ensures.preserved c.in_err-write_cells.ensures.preserved
+
+pub returns-in_err-free_page-clause-takes : goal.returns-in_err-free_page-clause-takes
+returns-in_err-free_page-clause-takes g c =
+    fails c.from_residual.result c.in_err-free_page.field-0.0 _ _ c.from_residual.ensures.1 (λ is. not_read c.in_err-free_page.field-0.0 c.in_err-free_page.ensures.faults is)
+
+pub returns-in_err-write_cells-clause-takes : goal.returns-in_err-write_cells-clause-takes
+returns-in_err-write_cells-clause-takes g c =
+    let free = none_taken g.P.Pages c.args.pages.now c.free_page.new.self 0 c.in_ok-free_page.ensures.own in
+    fails c.from_residual-in_err-write_cells.result c.in_err-write_cells.field-0.0 _ _ c.from_residual-in_err-write_cells.ensures.1
+    (λ is. taken_then g.P.Pages c.args.pages.now c.free_page.new.self c.write_cells.new.pages [] [] 0 0 1 free (c.in_err-write_cells.ensures.takes is) (omega arith))

@@ -129,3 +129,26 @@ returns-in-Some-made-clause-takes g t c sound s at =
     let below = taken_then g.P.Pages c.args.pages.now c.read_node.new.pages c.put_below.new.pages [] (child ∷ []) 0 most most read (c.in_ok-made-in-Inner.ensures.takes only_reads.sound _ w.there) (omega arith) in
     put_after g.P.Pages c.args.pages.now c.put_below.new.pages c.put_child.new.pages c.args.page (2 * s.depth) s.depth c.put_child.result
     (taken_in_all g.P.Pages c.args.pages.now c.put_below.new.pages (child ∷ []) most (2 * s.depth) below (omega (arith, i.deep, one_made c.in_ok-made-in-Inner.made))) (omega arith) c.put_child.ensures.takes
+
+pub returns-in-Leaf-clause-preserved : goal.returns-in-Leaf-clause-preserved
+returns-in-Leaf-clause-preserved g t c =
+    g.P.Pages.preserved_joined c.args.pages.now c.read_node.new.pages c.put_entry.new.pages c.in_ok-read_node.ensures.preserved c.put_entry.ensures.preserved
+
+pub returns-in_err-made-in-Inner-clause-preserved : goal.returns-in_err-made-in-Inner-clause-preserved
+returns-in_err-made-in-Inner-clause-preserved g t c =
+    g.P.Pages.preserved_joined c.args.pages.now c.read_node.new.pages c.put_below.new.pages c.in_ok-read_node.ensures.preserved c.in_err-made-in-Inner.ensures.preserved
+
+pub returns-in_default-made-clause-preserved : goal.returns-in_default-made-clause-preserved
+returns-in_default-made-clause-preserved g t c =
+    g.P.Pages.preserved_joined c.args.pages.now c.read_node.new.pages c.put_below.new.pages c.in_ok-read_node.ensures.preserved c.in_ok-made-in-Inner.ensures.preserved
+
+pub returns-then-levels-eq0-clause-put : goal.returns-then-levels-eq0-clause-put
+returns-then-levels-eq0-clause-put g t c sound s at = absurd (omega (arith, at.shallow, c.if-levels-eq0.true))
+
+pub returns-then-levels-eq0-clause-takes : goal.returns-then-levels-eq0-clause-takes
+returns-then-levels-eq0-clause-takes g t c sound s at = absurd (omega (arith, at.shallow, c.if-levels-eq0.true))
+
+pub returns-in_default-clause-takes : goal.returns-in_default-clause-takes
+returns-in_default-clause-takes g t c sound s at =
+    let i = inner_at g.P.Pages c.args.pages.now sound s c.args.page c.args.key.now c.args.levels c.read_node.new.bytes c.ranges.page.fits at _ (c.in_ok-read_node.ensures.found sound) c.in-Inner.is in
+    absurd (c.in_default.ensures i.at.head.1 i.at.rest (lent_as c.plain.ensures i.node))

@@ -64,3 +64,11 @@ returns-clause-takes g c =
     grow_takes g.P.Pages c.args.pages.now c.new_page.new.self c.write.new.self first c.write.result
     (taken_then g.P.Pages c.args.pages.now c.read.new.self c.new_page.new.self [] (first ∷ []) 0 0 0 (none_taken g.P.Pages c.args.pages.now c.read.new.self 0 c.in_ok-read.ensures.own)
     (one_taken g.P.Pages c.read.new.self c.new_page.new.self first 0 c.in_ok-first.ensures.own) (omega arith)) c.write.ensures.full
+
+pub returns-in_err-first-clause-preserved : goal.returns-in_err-first-clause-preserved
+returns-in_err-first-clause-preserved g c =
+    g.P.Pages.preserved_joined c.args.pages.now c.read.new.self c.new_page.new.self c.in_ok-read.ensures.preserved c.in_err-first.ensures.preserved
+
+pub returns-in_err-set_only_cell-clause-preserved : goal.returns-in_err-set_only_cell-clause-preserved
+returns-in_err-set_only_cell-clause-preserved g c =
+    g.P.Pages.preserved_joined c.args.pages.now c.read.new.self c.new_page.new.self c.in_ok-read.ensures.preserved c.in_ok-first.ensures.preserved

@@ -39,3 +39,7 @@ pub returns-clause-takes : goal.returns-clause-takes
 returns-clause-takes g c =
     put_after g.P.Pages c.args.pages.now c.read.new.self c.store_cells.new.pages c.args.page 0 0 c.store_cells.result
     (none_taken g.P.Pages c.args.pages.now c.read.new.self 0 c.in_ok-read.ensures.own) (omega arith) c.store_cells.ensures.takes
+
+pub returns-clause-preserved : goal.returns-clause-preserved
+returns-clause-preserved g c =
+    g.P.Pages.preserved_joined c.args.pages.now c.read.new.self c.store_cells.new.pages c.in_ok-read.ensures.preserved c.store_cells.ensures.preserved

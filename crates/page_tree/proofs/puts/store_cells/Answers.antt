@@ -63,3 +63,11 @@ pub returns-clause-takes : goal.returns-clause-takes
 returns-clause-takes g c =
     let wrote = one_taken g.P.Pages c.args.pages.now c.write-2.new.self c.args.page 0 c.in_ok-write-2.ensures.own in
     taken_and g.P.Pages c.args.pages.now c.write-2.new.self c.write_back.new.pages (c.args.page ∷ []) [] 0 1 1 wrote c.in_ok-made.ensures.takes (omega arith)
+
+pub returns-in_err-made-clause-preserved : goal.returns-in_err-made-clause-preserved
+returns-in_err-made-clause-preserved g c =
+    g.P.Pages.preserved_joined c.args.pages.now c.write-2.new.self c.write_back.new.pages c.in_ok-write-2.ensures.preserved c.in_err-made.ensures.preserved
+
+pub returns-clause-preserved : goal.returns-clause-preserved
+returns-clause-preserved g c =
+    g.P.Pages.preserved_joined c.args.pages.now c.write-2.new.self c.write_back.new.pages c.in_ok-write-2.ensures.preserved c.in_ok-made.ensures.preserved

@@ -52,3 +52,7 @@ returns-clause-takes g c =
     (taken_in_all g.P.Pages c.args.pages.now c.write.new.self (0 ∷ []) 0 1
     (taken_then g.P.Pages c.args.pages.now c.read.new.self c.write.new.self [] (0 ∷ []) 0 0 0 (none_taken g.P.Pages c.args.pages.now c.read.new.self 0 c.in_ok-read.ensures.own)
     (one_taken g.P.Pages c.read.new.self c.write.new.self 0 0 c.in_ok-write.ensures.own) (omega arith)) (omega arith)) c.free_page.ensures.own c.free_page.ensures.faults
+
+pub returns-in_err-write-clause-preserved : goal.returns-in_err-write-clause-preserved
+returns-in_err-write-clause-preserved g c =
+    g.P.Pages.preserved_joined c.args.pages.now c.read.new.self c.write.new.self c.in_ok-read.ensures.preserved c.in_err-write.ensures.preserved

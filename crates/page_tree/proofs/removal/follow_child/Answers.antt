@@ -1,19 +1,20 @@
-use Rattle.std.proofs.Common.{ℕ, Option, Some, None, ◌∷◌, ap, ◌∙◌, arith, ◌+◌, ◌*◌, suc, [], subst, ◌-◌}
+use Rattle.std.proofs.Common.{ℕ, Option, Some, None, ◌∷◌, ap, ◌∙◌, arith, ◌+◌, ◌*◌, suc, [], subst, ◌-◌, Err}
 use Rattle.page_nodes.specs.declared.cell.NodeKind.TheVariants.{Inner}
 use Rattle.page_nodes.specs.Map.{with_entry}
 use Rattle.page_nodes.specs.Node.{four_bytes}
 use Rattle.page_tree.specs.Forest.{no_trees, inner, append, entries, next}
 use Rattle.page_tree.specs.declared.removal.Underflow.TheVariants.{Nothing, Child, Trees, FewCells}
-use Rattle.page_tree.proofs.Faults.{fails, caused_since, gives_since}
+use Rattle.page_tree.proofs.Faults.{fails, caused_since, gives_since, caused_used}
 use Rattle.page_tree.proofs.PutKeys.{with_some}
 use Rattle.page_tree.proofs.RemovalTrees.{stored, stored_becomes}
 use Rattle.page_tree.proofs.RemovalJoins.{read_holds, becomes_read, parent_keep}
 use Rattle.page_tree.proofs.LeafJoins.{holds_then}
 use Rattle.page_tree.proofs.RemovalSteps.{followed_parent, same_becomes}
-use Rattle.page_tree.proofs.RemovalFollows.{given_back, emptied_meets, after_emptied, child_meets, left_between, left_spells, after_left, left_as}
+use Rattle.page_tree.proofs.RemovalFollows.{given_back, emptied_meets, after_emptied, child_meets, left_between, left_spells, after_left, left_as, stays_used}
 use Rattle.page_tree.proofs.Taking.{none_taken, taken_then, takes_since, removed_next, merged_next, not_read, one_made, taken_in_all}
 use Rattle.page_tree.specs.declared.removal.Underflow.{Underflow}
 use Rattle.page_tree.specs.Taking.{TakesPages, count_made, most_left, most_stored, most_merged}
+use Rattle.pages.specs.declared.array.PageFault.{PageFault}
 use Rattle.page_tree.proofs.removal.follow_child.Goals as goal
 
 pub returns-in_err-split-in-Trees-clause-followed : goal.returns-in_err-split-in-Trees-clause-followed
@@ -175,3 +176,53 @@ returns-in_err-join_leaves-in-FewCells-clause-preserved g c = g.P.Pages.preserve
 
 pub returns-in_ok-join_leaves-in-FewCells-clause-preserved : goal.returns-in_ok-join_leaves-in-FewCells-clause-preserved
 returns-in_ok-join_leaves-in-FewCells-clause-preserved g c = g.P.Pages.preserved_joined c.args.pages.now c.read-in-FewCells.new.self c.join_leaves.new.pages c.in_ok-read-in-FewCells.ensures.preserved c.in_ok-join_leaves-in-FewCells.ensures.preserved
+
+pub returns-in_err-read-in-Nothing-clause-preserved : goal.returns-in_err-read-in-Nothing-clause-preserved
+returns-in_err-read-in-Nothing-clause-preserved g c =
+    g.P.Pages.preserved_joined c.args.pages.now c.free_page.new.self c.read.new.self c.in_ok-free_page-in-Nothing.ensures.preserved c.in_err-read-in-Nothing.ensures.preserved
+
+pub returns-in_err-free_page-in-Nothing-clause-followed : goal.returns-in_err-free_page-in-Nothing-clause-followed
+returns-in_err-free_page-in-Nothing-clause-followed g c sound w between around left apart holds =
+    let old = g.P.Pages.state c.args.pages.now in
+    let e = left_as old.array w.depth w.from (next w.after w.high) c.args.child c.args.scratch.now.separator.items between c.args.underflow Nothing c.in-Nothing.is left in
+    fails c.from_residual.result c.in_err-free_page-in-Nothing.field-0.0 _ _ c.from_residual.ensures.1
+    (caused_used _ c.in_err-free_page-in-Nothing.field-0.0 (old.array c.args.child) e.there (λ bad. c.in_err-free_page-in-Nothing.ensures.malformed sound (ap (λ (x : PageFault). Err x) bad)) (c.in_err-free_page-in-Nothing.ensures.cause sound))
+
+pub returns-in_err-read-in-Nothing-clause-followed : goal.returns-in_err-read-in-Nothing-clause-followed
+returns-in_err-read-in-Nothing-clause-followed g c sound w between around left apart holds =
+    let old = g.P.Pages.state c.args.pages.now in
+    let one = g.P.Pages.state c.free_page.new.self in
+    let e = left_as old.array w.depth w.from (next w.after w.high) c.args.child c.args.scratch.now.separator.items between c.args.underflow Nothing c.in-Nothing.is left in
+    let frees = c.in_ok-free_page-in-Nothing.ensures.freed sound e.there in
+    let there = stays_used old one c.args.page c.args.child w.before between w.after (emptied_meets old one one one w.depth w.low w.high c.args.page c.args.child w.from w.before between w.after (λ y. Unit {0}) e) apart around.there frees in
+    fails c.from_residual-in_err-read-in-Nothing.result c.in_err-read-in-Nothing.field-0.0 _ _ c.from_residual-in_err-read-in-Nothing.ensures.1
+    (caused_since g.P.Pages c.args.pages.now c.free_page.new.self c.read.new.self c.in_err-read-in-Nothing.field-0.0 c.in_ok-free_page-in-Nothing.ensures.preserved
+    (caused_used _ c.in_err-read-in-Nothing.field-0.0 (one.array c.args.page) there (λ bad. c.in_err-read-in-Nothing.ensures.malformed frees.sound (ap (λ (x : PageFault). Err x) bad)) (c.in_err-read-in-Nothing.ensures.cause frees.sound)))
+
+pub returns-in_err-read-in-Child-clause-preserved : goal.returns-in_err-read-in-Child-clause-preserved
+returns-in_err-read-in-Child-clause-preserved g c =
+    g.P.Pages.preserved_joined c.args.pages.now c.free_page-in-Child.new.self c.read-in-Child.new.self c.in_ok-free_page-in-Child.ensures.preserved c.in_err-read-in-Child.ensures.preserved
+
+pub returns-in_err-free_page-in-Child-clause-followed : goal.returns-in_err-free_page-in-Child-clause-followed
+returns-in_err-free_page-in-Child-clause-followed g c sound w between around left apart holds =
+    let old = g.P.Pages.state c.args.pages.now in
+    let e = left_as old.array w.depth w.from (next w.after w.high) c.args.child c.args.scratch.now.separator.items between c.args.underflow (Child c.in-Child.left) c.in-Child.is left in
+    fails c.from_residual-in_err-free_page-in-Child.result c.in_err-free_page-in-Child.field-0.0 _ _ c.from_residual-in_err-free_page-in-Child.ensures.1
+    (caused_used _ c.in_err-free_page-in-Child.field-0.0 (old.array c.args.child) e.there (λ bad. c.in_err-free_page-in-Child.ensures.malformed sound (ap (λ (x : PageFault). Err x) bad)) (c.in_err-free_page-in-Child.ensures.cause sound))
+
+pub returns-in_err-read-in-Child-clause-followed : goal.returns-in_err-read-in-Child-clause-followed
+returns-in_err-read-in-Child-clause-followed g c sound w between around left apart holds =
+    let old = g.P.Pages.state c.args.pages.now in
+    let one = g.P.Pages.state c.free_page-in-Child.new.self in
+    let e = left_as old.array w.depth w.from (next w.after w.high) c.args.child c.args.scratch.now.separator.items between c.args.underflow (Child c.in-Child.left) c.in-Child.is left in
+    let frees = c.in_ok-free_page-in-Child.ensures.freed sound e.there in
+    let there = stays_used old one c.args.page c.args.child w.before between w.after (child_meets old one one one w.depth w.low w.high c.args.page c.args.child w.from w.before between w.after (λ y. Unit {0}) c.in-Child.left e) apart around.there frees in
+    fails c.from_residual-in_err-read-in-Child.result c.in_err-read-in-Child.field-0.0 _ _ c.from_residual-in_err-read-in-Child.ensures.1
+    (caused_since g.P.Pages c.args.pages.now c.free_page-in-Child.new.self c.read-in-Child.new.self c.in_err-read-in-Child.field-0.0 c.in_ok-free_page-in-Child.ensures.preserved
+    (caused_used _ c.in_err-read-in-Child.field-0.0 (one.array c.args.page) there (λ bad. c.in_err-read-in-Child.ensures.malformed frees.sound (ap (λ (x : PageFault). Err x) bad)) (c.in_err-read-in-Child.ensures.cause frees.sound)))
+
+pub returns-in_err-read-in-FewCells-clause-followed : goal.returns-in_err-read-in-FewCells-clause-followed
+returns-in_err-read-in-FewCells-clause-followed g c sound w between around left apart holds =
+    let A = (g.P.Pages.state c.args.pages.now).array in
+    fails c.from_residual-in_err-read-in-FewCells.result c.in_err-read-in-FewCells.field-0.0 _ _ c.from_residual-in_err-read-in-FewCells.ensures.1
+    (caused_used _ c.in_err-read-in-FewCells.field-0.0 (A c.args.page) around.there (λ bad. c.in_err-read-in-FewCells.ensures.malformed sound (ap (λ (x : PageFault). Err x) bad)) (c.in_err-read-in-FewCells.ensures.cause sound))

@@ -126,3 +126,11 @@ pub returns-clause-preserved : goal.returns-clause-preserved
 returns-clause-preserved g c =
     g.P.Pages.preserved_joined c.args.pages.now c.write_cells.new.pages c.put_child.new.pages
     (g.P.Pages.preserved_joined c.args.pages.now c.join.new.pages c.write_cells.new.pages c.in_ok-made.ensures.preserved c.in_ok-write_cells.ensures.preserved) c.in_ok-split.ensures.preserved
+
+pub returns-in_default-clause-preserved : goal.returns-in_default-clause-preserved
+returns-in_default-clause-preserved g c =
+    g.P.Pages.preserved_joined c.args.pages.now c.join.new.pages c.store_rest.new.pages c.in_ok-made.ensures.preserved c.store_rest.ensures.preserved
+
+pub returns-in_err-write_cells-clause-preserved : goal.returns-in_err-write_cells-clause-preserved
+returns-in_err-write_cells-clause-preserved g c =
+    g.P.Pages.preserved_joined c.args.pages.now c.join.new.pages c.write_cells.new.pages c.in_ok-made.ensures.preserved c.in_err-write_cells.ensures.preserved

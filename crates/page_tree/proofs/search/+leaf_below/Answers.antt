@@ -1,5 +1,6 @@
 use Rattle.page_tree.proofs.Faults.{fails, gives_since}
 use Rattle.page_tree.proofs.Descent.{lent_as, node_at, leaf_at, inner_at, step, leaf_value, inner_value, leaf_as}
+use Rattle.page_tree.proofs.Made.{reads_then}
 use Rattle.page_tree.proofs.search.+leaf_below.Goals as goal
 
 pub returns-in_err-fetch_node-clause-found : goal.returns-in_err-fetch_node-clause-found
@@ -25,3 +26,12 @@ returns-in-Some-clause-found g t c sound s at =
     let same = inner_value (g.P.Pages.state c.args.pages.now).array s.tree s.depth s.low s.high c.args.page c.args.key.now w.node.at w.place in
     gives_since g.P.Pages c.args.pages.now c.fetch_node.new.pages c.leaf_below.new.pages c.leaf_below.result _ _ c.in_ok-fetch_node.ensures.preserved
     (λ _ found. leaf_as s.tree w.place.at c.args.key.now (g.P.Pages.fetched c.leaf_below.new.pages) same found) (c.leaf_below.ensures.found only_reads.sound _ w.there)
+
+pub returns-in-Some-clause-preserved : goal.returns-in-Some-clause-preserved
+returns-in-Some-clause-preserved g t c =
+    g.P.Pages.preserved_joined c.args.pages.now c.fetch_node.new.pages c.leaf_below.new.pages c.in_ok-fetch_node.ensures.preserved c.leaf_below.ensures.preserved
+
+pub returns-in-Some-clause-only_reads : goal.returns-in-Some-clause-only_reads
+returns-in-Some-clause-only_reads g t c sound =
+    let one = c.in_ok-fetch_node.ensures.only_reads sound in
+    reads_then (g.P.Pages.state c.args.pages.now) (g.P.Pages.state c.fetch_node.new.pages) (g.P.Pages.state c.leaf_below.new.pages) one (c.leaf_below.ensures.only_reads one.sound)

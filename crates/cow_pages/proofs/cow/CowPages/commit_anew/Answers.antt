@@ -1,5 +1,5 @@
 use Rattle.std.proofs.Common.{◌≡◌, ℕ, List, inl, inr, refl, sym, ap, ◌∙◌}
-use Rattle.sector_device.specs.Device.{timeline}
+use Rattle.sector_device.specs.Device.{timeline, history_none}
 use Rattle.sector_device.specs.Timeline.{LeavesOnly, weakened}
 use Rattle.cow_pages.specs.Commit.{IsEither}
 use Rattle.cow_pages.specs.Cow.{IsOpen, durable_array, working_array}
@@ -103,3 +103,15 @@ returns-in-Err-clause-outcome g c =
           let still = (c.in-Err.ensures.writes (can_commit m p is d c.in_ok-next.next was.faithful was.settled c.in_ok-next.ensures.outcome)).outcome.1 in
           ap (λ (es : List ℕ). array_of e.content es l) back.durable ∙ still l ∙ ap (λ (es : List ℕ). array_of d.content es l) is.durable;
     }
+
+pub returns-then-self-clause-history : goal.returns-then-self-clause-history
+returns-then-self-clause-history g c = history_none (g.D.Device.state c.args.self.now.device)
+
+pub returns-in_err-next-clause-history : goal.returns-in_err-next-clause-history
+returns-in_err-next-clause-history g c = history_none (g.D.Device.state c.args.self.now.device)
+
+pub returns-in-Ok-clause-history : goal.returns-in-Ok-clause-history
+returns-in-Ok-clause-history g c = c.write_changes-written.ensures.history
+
+pub returns-in-Err-clause-history : goal.returns-in-Err-clause-history
+returns-in-Err-clause-history g c = c.write_changes-written.ensures.history
