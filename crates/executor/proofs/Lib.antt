@@ -1,8 +1,10 @@
+pub mod ByParts
 pub mod CountedRows
 pub mod InPlace
 pub mod InRanges
 pub mod JoinedRows
 pub mod LookedUp
+pub mod NullColumns
 pub mod OneTables
 pub mod OuterWalk
 pub mod Seen

@@ -1,2 +1,4 @@
 pub mod Joined
+pub mod Nulls
 pub mod Selected
+pub mod ByParts

@@ -1,11 +1,13 @@
 //! Statements, carried out over a map of records.
 #![tactic(auto)]
 
+mod by_look_ups;
 mod counted;
 mod in_place;
 mod in_ranges;
 mod joined_rows;
 mod looked_up;
+mod nulls;
 mod one_table;
 mod outer_walk;
 mod selection;

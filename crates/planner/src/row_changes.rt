@@ -1,7 +1,7 @@
 //! UPDATE and DELETE, checked (SQL:2016 Foundation, 14.9 and 14.14; PostgreSQL manual, UPDATE and
 //! DELETE). A DELETE is checked as an UPDATE that sets nothing, but for the privilege that it needs.
 
-ghost use Rattle.std.specs.Prelude.{◌≡◌, IfOk, IfErr};
+ghost use Rattle.std.specs.Prelude.{◌≡◌, [], length, IfOk, IfErr};
 ghost use Rattle.sql_ast.specs.declared.statement.RowStatement.TheVariants.{Update as UpdateOf, Delete as DeleteOf};
 ghost use Rattle.planner.specs.Answers.{AnswersBy};
 ghost use Rattle.planner.specs.Plans.{IsCheckedChange, IsCheckedDelete, IsCheckedUpdate, IsRefusalOf};
@@ -138,6 +138,7 @@ pub fn plan_delete<'c>(
     statement: &Delete,
 ) -> Result<ChangePlan<'c>, Refusal>
     ensures plan { IfOk result (IsCheckedDelete catalogue.now current.now statement.now) }
+    ensures sets_nothing { IfOk result (λ plan. plan.columns ≡ []) }
     ensures refusal { IfErr result
         (IsRefusalOf catalogue.now current.now (DeleteOf statement.now)) }
 {
@@ -158,6 +159,8 @@ fn plan_changes<'c>(
 ) -> Result<ChangePlan<'c>, Refusal>
     ensures plan { IfOk result
         (IsCheckedChange catalogue.now current.now (statement_of statement.now)) }
+    ensures sets { IfOk result (λ plan.
+        length plan.columns ≡ length (assignments_of statement.now)) }
     ensures refusal { IfErr result
         (IsRefusalOf catalogue.now current.now (statement_of statement.now)) }
 {
@@ -182,8 +185,10 @@ fn check_changes(
     table: &TableDefinition,
     statement: &ChangeStatement<'_>,
 ) -> Result<CheckedChanges, Refusal>
-    ensures { AnswersBy (checked_in table.now)
+    ensures checks { AnswersBy (checked_in table.now)
         result (changes_from rights.now statement.now table.now) }
+    ensures sets { IfOk result (λ checked.
+        length checked.columns ≡ length (assignments_of statement.now)) }
 {
     let assignments = statement.assignments();
     let condition = statement.condition();

@@ -32,59 +32,66 @@ use Rattle.catalogue.specs.Executed.{Executes, Defines}
 use Rattle.server.specs.Executed.{MayExecute, users_named}
 use Rattle.statements.proofs.Unread.{nothing_read}
 
+-- a map that is not touched, of which this is kept
+pub record Untouched (s : StoreState) (Kept : Type 0) : Type 0 where
+  pub kept : Kept
+  pub reads : OnlyReads s s
+  pub ordered : s.sound → IsOrdered s.map
+
 module _ (s : StoreState) (d : Definitions) (role login : TheName) where
   -- a statement comes to this over the map's records, as is meant
   abbrev pub IsExecuted : Result Effect Stop → DatabaseStatement → Type 0
   IsExecuted result all = s.sound → (db : Database) → Shows s.map d db → MayExecute db (users_named role login) all →
       Executes s.map d result (meaning.exec db (users_named role login) all)
 
+  -- what is promised of a defining statement
+  abbrev IsCarriedOut : Type 0 → Result Effect Stop → DefiningStatement → Type 0
+  IsCarriedOut Kept result all = record {
+    preserved : Kept;
+    read : ReadsMap result s s;
+    executes : IsExecuted result (on_database.Defining all);
+  }
+
   -- a role of a database is one of its definitions
   defined_role : (db : Database) → Shows s.map d db → IsRoleOf db.roles role → IsRoleOf d.roles role
   defined_role db shown is = subst (λ (x : Database). IsRoleOf x.roles role) shown.is is
 
-  -- a statement that reads no record, and fails for memory alone
-  module _ (Kept : Type 0) (kept : Kept) (reads : OnlyReads s s) (ordered : s.sound → IsOrdered s.map) (result : Result Effect Stop) (memory : IfErr result FailsForMemory) (all : DefiningStatement) where
-    -- what is promised of it
-    abbrev IsCarriedOut : Type 0
-    IsCarriedOut = record {
-      preserved : Kept;
-      read : ReadsMap result s s;
-      executes : IsExecuted result (on_database.Defining all);
-    }
+  pub drop_table : (result : Result Effect Stop) {all : DefiningStatement} (x : DropTable) → all ≡ (defining.DropTable x) →
+      (s.sound → (db : Database) (users : UserNames) → Shows s.map d db → IsCurrent role users → Executes s.map d result (meaning.drop_table db users x)) →
+      IsExecuted result (on_database.Defining all)
+  drop_table result x is h = subst (λ (y : DefiningStatement). IsExecuted result (on_database.Defining y)) (sym is) (λ sound db shown may. h sound db (seen_users db.memberships role login) shown refl)
 
-    carried_out : (x : DefiningStatement) → all ≡ x → IsExecuted result (on_database.Defining x) → IsCarriedOut
+  -- the rows of a statement as the parser reads it, by roles that there are
+  pub over_rows : (result : Result Effect Stop) {all : DatabaseStatement} (x : RowStatement) → all ≡ (on_database.OverRows x)
+      → (s.sound → (db : Database) → Shows s.map d db → WritesAsRead db (seen_users db.memberships role login) x → Executes s.map d result (meaning.exec_over_rows db (seen_users db.memberships role login) x))
+      → IsExecuted result all
+  over_rows result x is h = subst (IsExecuted result) (sym is) (λ sound db shown may. h sound db shown (λ writes. (may.roles, may.read)))
+
+module _ {s : StoreState} {d : Definitions} {role login : TheName} where
+  -- a statement that reads no record, and fails for memory alone
+  module _ {Kept : Type 0} (here : Untouched s Kept) {result : Result Effect Stop} (memory : IfErr result FailsForMemory) {all : DefiningStatement} where
+    carried_out : (x : DefiningStatement) → all ≡ x → IsExecuted s d role login result (on_database.Defining x) → IsCarriedOut s d role login Kept result all
     carried_out x is executes = record {
-      preserved = kept;
-      read = nothing_read result s memory reads;
-      executes = subst (λ (y : DefiningStatement). IsExecuted result (on_database.Defining y)) (sym is) executes;
+      preserved = here.kept;
+      read = nothing_read result s memory here.reads;
+      executes = subst (λ (y : DefiningStatement). IsExecuted s d role login result (on_database.Defining y)) (sym is) executes;
     }
 
     -- it asks for the current role alone
-    pub by_current : (x : DefiningStatement) → all ≡ x → Defines (IsCurrent role) (λ db users. meaning.define db users x) d result → IsCarriedOut
-    by_current x is h = carried_out x is (λ sound db shown may. h s.map db (seen_users db.memberships role login) (ordered sound) shown refl)
+    pub by_current : (x : DefiningStatement) → all ≡ x → Defines (IsCurrent role) (λ db users. meaning.define db users x) d result → IsCarriedOut s d role login Kept result all
+    by_current x is h = carried_out x is (λ sound db shown may. h s.map db (seen_users db.memberships role login) (here.ordered sound) shown refl)
 
     -- it asks for the login role, too
-    pub by_both : (x : DefiningStatement) → all ≡ x → Defines (AreUsers role login) (λ db users. meaning.define db users x) d result → IsCarriedOut
-    by_both x is h = carried_out x is (λ sound db shown may. h s.map db (seen_users db.memberships role login) (ordered sound) shown (record { current = refl; session = refl }))
+    pub by_both : (x : DefiningStatement) → all ≡ x → Defines (AreUsers role login) (λ db users. meaning.define db users x) d result → IsCarriedOut s d role login Kept result all
+    by_both x is h = carried_out x is (λ sound db shown may. h s.map db (seen_users db.memberships role login) (here.ordered sound) shown (record { current = refl; session = refl }))
 
     pub create_table : (x : CreateTable) → all ≡ (defining.CreateTable x)
-        → (IsReadCreateTable x → IsRoleOf d.roles role → Defines (IsCurrent role) (λ db users. meaning.create_table db users x) d result) → IsCarriedOut
-    create_table x is h = carried_out (defining.CreateTable x) is (λ sound db shown may. h may.read (defined_role db shown may.roles.current) s.map db (seen_users db.memberships role login) (ordered sound) shown refl)
+        → (IsReadCreateTable x → IsRoleOf d.roles role → Defines (IsCurrent role) (λ db users. meaning.create_table db users x) d result) → IsCarriedOut s d role login Kept result all
+    create_table x is h = carried_out (defining.CreateTable x) is (λ sound db shown may. h may.read (defined_role s d role login db shown may.roles.current) s.map db (seen_users db.memberships role login) (here.ordered sound) shown refl)
 
     pub create_policy : (x : CreatePolicy) → all ≡ (defining.CreatePolicy x)
-        → (IsReadCreatePolicy x → AllByRecursion IsAsWritten (option_to_list x.using ++ option_to_list x.check) → Defines (IsCurrent role) (λ db users. meaning.create_policy db users x) d result) → IsCarriedOut
-    create_policy x is h = carried_out (defining.CreatePolicy x) is (λ sound db shown may. h may.read may.written s.map db (seen_users db.memberships role login) (ordered sound) shown refl)
+        → (IsReadCreatePolicy x → AllByRecursion IsAsWritten (option_to_list x.using ++ option_to_list x.check) → Defines (IsCurrent role) (λ db users. meaning.create_policy db users x) d result) → IsCarriedOut s d role login Kept result all
+    create_policy x is h = carried_out (defining.CreatePolicy x) is (λ sound db shown may. h may.read may.written s.map db (seen_users db.memberships role login) (here.ordered sound) shown refl)
 
-    pub grant : (x : Grant) → all ≡ (defining.Grant x) → (IsReadGrant x → Defines (IsCurrent role) (λ db users. meaning.grant db users x) d result) → IsCarriedOut
-    grant x is h = carried_out (defining.Grant x) is (λ sound db shown may. h may.read s.map db (seen_users db.memberships role login) (ordered sound) shown refl)
-
-  pub drop_table : (result : Result Effect Stop) (all : DefiningStatement) (x : DropTable) → all ≡ (defining.DropTable x) →
-      (s.sound → (db : Database) (users : UserNames) → Shows s.map d db → IsCurrent role users → Executes s.map d result (meaning.drop_table db users x)) →
-      IsExecuted result (on_database.Defining all)
-  drop_table result all x is h = subst (λ (y : DefiningStatement). IsExecuted result (on_database.Defining y)) (sym is) (λ sound db shown may. h sound db (seen_users db.memberships role login) shown refl)
-
-  -- the rows of a statement as the parser reads it, by roles that there are
-  pub over_rows : (result : Result Effect Stop) (all : DatabaseStatement) (x : RowStatement) → all ≡ (on_database.OverRows x)
-      → (s.sound → (db : Database) → Shows s.map d db → WritesAsRead db (seen_users db.memberships role login) x → Executes s.map d result (meaning.exec_over_rows db (seen_users db.memberships role login) x))
-      → IsExecuted result all
-  over_rows result all x is h = subst (IsExecuted result) (sym is) (λ sound db shown may. h sound db shown (λ writes. (may.roles, may.read)))
+    pub grant : (x : Grant) → all ≡ (defining.Grant x) → (IsReadGrant x → Defines (IsCurrent role) (λ db users. meaning.grant db users x) d result) → IsCarriedOut s d role login Kept result all
+    grant x is h = carried_out (defining.Grant x) is (λ sound db shown may. h may.read s.map db (seen_users db.memberships role login) (here.ordered sound) shown refl)

@@ -3,6 +3,7 @@ pub mod Changed
 pub mod Failures
 pub mod Visits
 pub mod Walked
+pub mod Parts
 pub mod Puts
 pub mod Targets
 pub mod Ranged

@@ -101,8 +101,8 @@ pub(crate) fn visit_rows<M: Map, V: RowVisitor>(
     Err(Stop::Failed(Fault::Memory))
 }
 
-// Whether a key begins with this stop or comes before it.
-fn is_within(stop: &[u8], key: &[u8]) -> bool
+/// Whether a key begins with this stop or comes before it.
+pub(crate) fn is_within(stop: &[u8], key: &[u8]) -> bool
     ensures { result ≡ is_within stop.now key.now }
 {
     let shared = key.len().min(stop.len());

@@ -1,11 +1,12 @@
 //! A walk over the rows of a target: of its table, or of a range of the keys of its table.
-ghost use Rattle.std.specs.Prelude.{◌≡◌, OnOk, List, ℕ, false, option_to_list};
+ghost use Rattle.std.specs.Prelude.{◌≡◌, OnOk, List, ℕ, None, false, option_to_list};
 ghost use Rattle.std.specs.List.{AllByRecursion};
 ghost use Rattle.sql_types.specs.Row.{Row};
 ghost use Rattle.store.specs.Records.{entry_at};
 ghost use Rattle.store.specs.Stop.{ReadsMap};
 ghost use Rattle.table_rows.specs.Visits.{VisitsAll};
 ghost use Rattle.table_rows.specs.HeldRows.{AreRecordsOf, SpellsRow};
+ghost use Rattle.table_rows.specs.Parts.{WalksPart};
 ghost use Rattle.table_rows.specs.Ranged.{records_of, FindsRows, FindsSpelled};
 ghost use Rattle.table_rows.specs.Walked.{Walks};
 
@@ -55,8 +56,8 @@ pub fn visit_target<M: Map, V: RowVisitor>(
     }
 }
 
-// Visits the row of this key, if there is one.
-fn visit_key<M: Map, V: RowVisitor>(
+/// Visits the row of this key, if there is one.
+pub(crate) fn visit_key<M: Map, V: RowVisitor>(
     alloc: Global,
     records: &mut M,
     key: &[u8],
@@ -73,6 +74,10 @@ fn visit_key<M: Map, V: RowVisitor>(
     ensures walked { (M.state records.old).sound → (id : ℕ)
         → Walks id columns.now (option_to_list (entry_at key.now (M.state records.old).map))
         (V.after visitor.old id columns.now) (V.after visitor.new id columns.now) result }
+    ensures part { (M.state records.old).sound → V.ends_early ≡ false → OnOk result
+        ((id : ℕ) → WalksPart id columns.now (M.state records.old).map
+        (option_to_list (entry_at key.now (M.state records.old).map))
+        (V.after visitor.old id columns.now) (V.after visitor.new id columns.now) None) }
     ensures spelled { (M.state records.old).sound → OnOk result
         (AllByRecursion (SpellsRow columns.now)
         (option_to_list (entry_at key.now (M.state records.old).map))) }

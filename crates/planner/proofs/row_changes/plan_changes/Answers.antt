@@ -24,7 +24,7 @@ returns-in_err-checked-clause-refusal c =
     let x = c.in_err-checked.field-0.0 in
     let named = subst (λ name. IsNamed d role name n) c.table.ensures c.in_ok-named.ensures.found in
     handed_on c.from_residual-in_err-checked.result x (IsRefusalOf d role (statement_of s)) (search rules)
-    (refused d role (statement_of s) (table_of s) n named (changes_from n.rights s) (checked_as s) (changes d role n.rights s named.rights) x (λ one. c.in_err-checked.ensures))
+    (refused d role (statement_of s) (table_of s) n named (changes_from n.rights s) (checked_as s) (changes d role n.rights s named.rights) x (λ one. c.in_err-checked.ensures.checks))
 
 pub returns-clause-plan : goal.returns-clause-plan
 returns-clause-plan c =
@@ -37,4 +37,4 @@ returns-clause-plan c =
     let named = subst (λ name. IsNamed d role name n) c.table.ensures c.in_ok-named.ensures.found in
     let guarded = subst (λ a. IsGuarded d role n.table.now a k.reads g) c.action-action.ensures c.in_ok-guarded.ensures in
     is_change d role s _
-    (planned d role (statement_of s) (table_of s) n named (changes_from n.rights s) (checked_as s) (changes d role n.rights s named.rights) (action_of s) k.reads g guarded (λ t. checked_in t k) (λ one. c.in_ok-checked.ensures))
+    (planned d role (statement_of s) (table_of s) n named (changes_from n.rights s) (checked_as s) (changes d role n.rights s named.rights) (action_of s) k.reads g guarded (λ t. checked_in t k) (λ one. c.in_ok-checked.ensures.checks))

@@ -6,6 +6,7 @@ use Rattle.table_rows.specs.Walked.{Walks}
 use Rattle.table_rows.proofs.Fronts.{none_walked, one_walked, walking_first, walk_failed}
 use Rattle.table_rows.proofs.Keyed.{nothing_there, nothing_here, row_there, entry_here, record_is, one_visited, one_failed}
 use Rattle.table_rows.proofs.MapReads.{ended}
+use Rattle.table_rows.proofs.Parts.{part_none, part_one}
 use Rattle.table_rows.proofs.walk.visit_key.Goals as goal
 
 pub returns-then-not-branch-clause-visits : goal.returns-then-not-branch-clause-visits
@@ -60,3 +61,18 @@ returns-in_err-visit_record-clause-walked g c = λ s id.
     (walk_failed id layout records records [] c.get.new.out old old new failure (walking_first id layout records old) here
     (subst (λ (e : Record). SpellsVisited layout e (Err failure)) entry c.in_err-visit_record.ensures.spelled)
     (subst (λ (e : Record). VisitsRecord id layout e (Err failure) old new) entry (c.in_err-visit_record.ensures.visits id)))
+
+pub returns-then-not-branch-clause-part : goal.returns-then-not-branch-clause-part
+returns-then-not-branch-clause-part g c = λ s early id.
+    part_none id c.args.columns.now _ _ (g.V.RowVisitor.after c.args.visitor.now id c.args.columns.now)
+    (nothing_here id c.args.columns.now c.in_ok-get.field-0 c.get.new.out (entry_at c.args.key.now (g.M.Map.state c.args.records.now).map) [] c.if-not-branch.true (c.in_ok-get.ensures.reads.found s))
+
+pub returns-clause-part : goal.returns-clause-part
+returns-clause-part g c = λ s early id.
+    let layout = c.args.columns.now in
+    let old = g.V.RowVisitor.after c.args.visitor.now id layout in
+    let new = g.V.RowVisitor.after c.visit_record.new.visitor id layout in
+    let here = entry_here id layout c.in_ok-get.field-0 c.get.new.out (entry_at c.args.key.now (g.M.Map.state c.args.records.now).map) [] c.if-not-branch.false (c.in_ok-get.ensures.reads.found s) in
+    let entry = record_is c.key-key.result.now c.value-value.result.now c.get.new.out c.key-key.ensures c.value-value.ensures in
+    part_one id layout _ g.V.RowVisitor.ends_early c.in_ok-visit_record.field-0 c.get.new.out _ old new early c.in_ok-visit_record.ensures.ends here (subst (SpellsRow layout) entry c.in_ok-visit_record.ensures.spelled)
+    (subst (λ (e : Record). VisitsRecord id layout e (Ok c.in_ok-visit_record.field-0) old new) entry (c.in_ok-visit_record.ensures.visits id))

@@ -3,8 +3,7 @@ use Rattle.statements.proofs.Executing.{IsExecuted, over_rows}
 use Rattle.statements.proofs.execute.StatementsExecute.execute.Goals as goal
 
 pub returns-in-OverRows-clause-executes : goal.returns-in-OverRows-clause-executes
-returns-in-OverRows-clause-executes g c =
-    over_rows (g.M.Map.state c.args.map.now) c.args.catalogue.now c.args.current.now c.args.session.now c.execute.result c.args.statement.now c.in-OverRows.statement c.in-OverRows.is c.execute.ensures.executed
+returns-in-OverRows-clause-executes g c = over_rows (g.M.Map.state c.args.map.now) c.args.catalogue.now _ _ _ c.in-OverRows.statement c.in-OverRows.is c.execute.ensures.executed
 
 pub returns-in-Defining-clause-executes : goal.returns-in-Defining-clause-executes
 returns-in-Defining-clause-executes g c =
