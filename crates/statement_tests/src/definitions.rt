@@ -17,11 +17,12 @@ mod asking;
 mod dump;
 mod rights;
 
-use crate::definitions::asking::push_asked;
-use crate::definitions::dump::push_definitions;
-use crate::definitions::rights::push_rights;
+use crate::definitions::asking::put_asked;
+use crate::definitions::dump::put_definitions;
+use crate::definitions::rights::put_rights;
 use crate::names::name_of;
 use crate::records::loading::new_store;
+use crate::told::Told;
 use anyhow::{Result, bail};
 use byteorder::{BigEndian, ByteOrder};
 use catalogue::change::SchemaChange;
@@ -39,7 +40,6 @@ use sql_types::name::Name;
 use sql_types::state::SqlState;
 use sql_types::try_copy::TryCopy;
 use std::alloc::{AllocError, Global};
-use std::io::Write;
 use store::{Batch, Fault, MemStore, Stop, Store};
 use stored_rows::check_rows;
 use table_statements::{alter_table, create_table, drop_table};
@@ -71,7 +71,8 @@ impl DefinedDatabase {
     /// A new database.
     pub fn new(alloc: Global) -> Result<DefinedDatabase> {
         let mut store = new_store(alloc, ADMIN)?;
-        let (catalogue, digest) = loaded(alloc, &mut store)?;
+        let catalogue = load(alloc, &mut store)?;
+        let digest = digest_of(alloc, &catalogue)?;
         Ok(DefinedDatabase {
             store,
             catalogue,
@@ -81,78 +82,78 @@ impl DefinedDatabase {
         })
     }
 
-    /// Does what a line says, and appends what it comes to.
-    pub fn run_line(&mut self, alloc: Global, line: &str, out: &mut String) -> Result<()> {
+    /// Does what a line says, and tells what it comes to.
+    pub fn follow(&mut self, alloc: Global, line: &str, out: &mut Told) -> Result<()> {
         if line.starts_with("#") {
-            Ok(writeln!(out, "{line}")?)
-        } else if line == "new" {
-            self.begin_again(alloc, out)
-        } else if line == "definitions" {
-            Ok(push_all(alloc, &self.catalogue, out)?)
-        } else {
-            self.run_statement(alloc, line, out)
+            out.put_line(&[line]);
+            return Ok(());
+        }
+        match line.split_once(": ") {
+            None if line == "new" => self.begin_again(alloc, out),
+            None if line == "definitions" => Ok(put_all(alloc, &self.catalogue, out)?),
+            None => bail!("a line is no statement"),
+            Some((roles, text)) => match roles.strip_prefix("may ") {
+                Some(role) => self.ask(alloc, role, text, out),
+                None => self.issue(alloc, roles, text, out),
+            },
         }
     }
 
-    /// Writes how many statements there were, and how often the store did not hold the definitions
+    /// Tells how many statements there were, and how often the store did not hold the definitions
     /// that it should.
-    pub fn write_counts<W: Write>(&self, out: &mut W) -> Result<()> {
-        let (statements, differences) = (self.statements, self.differences);
-        writeln!(out, "statements {statements}, differences {differences}")?;
-        Ok(())
+    pub fn put_counts(&self, out: &mut Told) {
+        out.put_number("statements ", self.statements as i128);
+        out.put_number(", differences ", self.differences as i128);
+        out.put("\n");
     }
 
-    fn begin_again(&mut self, alloc: Global, out: &mut String) -> Result<()> {
+    fn begin_again(&mut self, alloc: Global, out: &mut Told) -> Result<()> {
         self.store = new_store(alloc, ADMIN)?;
         self.load(alloc)?;
-        out.push_str("new\n")?;
+        out.put("new\n");
         Ok(())
     }
 
-    /// Loads the definitions that the store holds.
+    /// Loads the definitions that the store holds, and checks its rows.
     fn load(&mut self, alloc: Global) -> Result<(), Fault> {
-        let (catalogue, digest) = loaded(alloc, &mut self.store)?;
-        self.catalogue = catalogue;
-        self.digest = digest;
+        self.catalogue = load(alloc, &mut self.store)?;
+        check_rows(alloc, &mut self.store, &self.catalogue)?;
+        self.digest = digest_of(alloc, &self.catalogue)?;
         Ok(())
     }
 
-    /// Carries out the statement of a line, or asks for it, and appends what it comes to.
-    fn run_statement(&mut self, alloc: Global, line: &str, out: &mut String) -> Result<()> {
-        let Some((roles, text)) = line.split_once(": ") else {
-            bail!("a line is no statement");
-        };
-        match roles.strip_prefix("may ") {
-            Some(role) => self.ask(alloc, role, text, out),
-            None => self.issue(alloc, roles, text, out),
-        }
-    }
-
-    /// Appends whether the role of a name may issue a statement.
-    fn ask(&self, alloc: Global, role: &str, text: &str, out: &mut String) -> Result<()> {
+    /// Tells whether the role of a name may issue a statement.
+    fn ask(&self, alloc: Global, role: &str, text: &str, out: &mut Told) -> Result<()> {
         let role = name_of(alloc, role)?;
-        Ok(push_asked(alloc, &self.catalogue, &role, text, out)?)
+        put_asked(alloc, &self.catalogue, &role, text, out);
+        Ok(())
     }
 
-    /// Carries out a statement that roles of these names issue, and appends what it comes to.
-    fn issue(&mut self, alloc: Global, roles: &str, text: &str, out: &mut String) -> Result<()> {
-        let issuer = read_issuer(alloc, roles)?;
+    /// Carries out a statement that roles of these names issue, and tells what it comes to. That of the
+    /// session stands first.
+    fn issue(&mut self, alloc: Global, roles: &str, text: &str, out: &mut Told) -> Result<()> {
+        let Some((session, current)) = roles.split_once(' ') else {
+            bail!("a statement has no issuer");
+        };
+        let session = name_of(alloc, session)?;
+        let current = name_of(alloc, current)?;
+        let issuer = Issuer { current, session };
         Ok(self.carry_out(alloc, &issuer, text, out)?)
     }
 
-    /// Carries out a statement, counts it, and appends what it comes to.
+    /// Carries out a statement, counts it, and tells what it comes to.
     fn carry_out(
         &mut self,
         alloc: Global,
         issuer: &Issuer,
         text: &str,
-        out: &mut String,
+        out: &mut Told,
     ) -> Result<(), Fault> {
         let (answer, prepared) = self.executed(alloc, issuer, text)?;
         self.load(alloc)?;
-        let differs = self.count(prepared);
-        let digest = self.digest;
-        writeln!(out, "{answer} {digest:016x}{differs}")?;
+        out.put_all(&[answer, " "]);
+        out.put_bytes(&self.digest.to_be_bytes());
+        out.put_line(&[self.count(prepared)]);
         Ok(())
     }
 
@@ -164,48 +165,42 @@ impl DefinedDatabase {
         issuer: &Issuer,
         text: &str,
     ) -> Result<(&'static str, u64), Fault> {
+        let before = self.catalogue.try_copy(alloc)?;
         match effect_of_text(alloc, &self.catalogue, &mut self.store, issuer, text) {
-            Ok(effect) => self.make(alloc, effect),
+            Ok(effect) => self.make(alloc, before, effect),
             Err(Stop::Refused(code)) => Ok((code.code(), self.digest)),
             Err(Stop::Failed(fault)) => Err(fault),
         }
     }
 
     /// Commits what a statement changes: its answer, and the digest of the definitions that should be
-    /// there after it.
-    fn make(&mut self, alloc: Global, effect: Effect) -> Result<(&'static str, u64), Fault> {
+    /// there after it, made of those before.
+    fn make(
+        &mut self,
+        alloc: Global,
+        before: Catalogue,
+        effect: Effect,
+    ) -> Result<(&'static str, u64), Fault> {
         let Effect {
             answer,
             changes,
             schema,
         } = effect;
-        self.commit(alloc, word_of(&answer), &changes, schema)
+        let digest = self.commit(alloc, before, &changes, schema)?;
+        Ok((word_of(&answer), digest))
     }
 
-    /// Commits what a statement changes: this word for its answer, and the digest of the definitions
-    /// that should be there after it.
+    /// Commits changes, and gives the digest of the definitions that should be there after them.
     fn commit(
         &mut self,
         alloc: Global,
-        word: &'static str,
+        before: Catalogue,
         changes: &Batch,
         schema: Option<SchemaChange>,
-    ) -> Result<(&'static str, u64), Fault> {
-        let digest = self.prepared_digest(alloc, schema)?;
+    ) -> Result<u64, Fault> {
+        let after = changed(before, schema)?;
         self.store.commit(changes)?;
-        Ok((word, digest))
-    }
-
-    /// The digest of the definitions with a change, if there is one.
-    fn prepared_digest(
-        &self,
-        alloc: Global,
-        schema: Option<SchemaChange>,
-    ) -> Result<u64, AllocError> {
-        match schema {
-            Some(change) => digest_with(alloc, &self.catalogue, change),
-            None => Ok(self.digest),
-        }
+        Ok(digest_of(alloc, &after)?)
     }
 
     /// Counts a statement after which the store should hold the definitions of a digest, and says
@@ -220,63 +215,25 @@ impl DefinedDatabase {
     }
 }
 
-/// The definitions that a store holds, whose rows are checked too, and their digest.
-fn loaded(alloc: Global, store: &mut MemStore) -> Result<(Catalogue, u64), Fault> {
-    let catalogue = load(alloc, store)?;
-    let digest = checked_digest(alloc, store, &catalogue)?;
-    Ok((catalogue, digest))
-}
-
-/// Checks the rows of a store, and gives the digest of its catalogue.
-fn checked_digest(
-    alloc: Global,
-    store: &mut MemStore,
-    catalogue: &Catalogue,
-) -> Result<u64, Fault> {
-    check_rows(alloc, store, catalogue)?;
-    Ok(digest_of(alloc, catalogue)?)
-}
-
-/// The roles of an issuer, which a blank parts: that of the session stands first.
-fn read_issuer(alloc: Global, roles: &str) -> Result<Issuer> {
-    let Some((session, current)) = roles.split_once(' ') else {
-        bail!("a statement has no issuer");
-    };
-    let current = name_of(alloc, current)?;
-    let session = name_of(alloc, session)?;
-    Ok(Issuer { current, session })
-}
-
 /// The digest of a catalogue: the first eight bytes of the MD5 digest of its text.
 fn digest_of(alloc: Global, catalogue: &Catalogue) -> Result<u64, AllocError> {
-    let mut text = String::new(alloc);
-    push_all(alloc, catalogue, &mut text)?;
-    Ok(BigEndian::read_u64(&Md5::digest(text.as_bytes())))
+    let mut text = Told::new(alloc);
+    put_all(alloc, catalogue, &mut text)?;
+    Ok(BigEndian::read_u64(&Md5::digest(text.text()?.as_bytes())))
 }
 
-/// Appends the definitions of a catalogue, and what they let each role do.
-fn push_all(alloc: Global, catalogue: &Catalogue, out: &mut String) -> Result<(), AllocError> {
-    push_definitions(out, catalogue)?;
-    push_rights(alloc, catalogue, out)
+/// Tells the definitions of a catalogue, and what they let each role do.
+fn put_all(alloc: Global, catalogue: &Catalogue, out: &mut Told) -> Result<(), AllocError> {
+    put_definitions(out, catalogue);
+    put_rights(alloc, catalogue, out)
 }
 
-/// The digest of the definitions with a change made in them.
-fn digest_with(
-    alloc: Global,
-    catalogue: &Catalogue,
-    change: SchemaChange,
-) -> Result<u64, AllocError> {
-    let changed = changed(alloc, catalogue, change)?;
-    digest_of(alloc, &changed)
-}
-
-/// A copy of the definitions with a change made in it.
-fn changed(
-    alloc: Global,
-    catalogue: &Catalogue,
-    change: SchemaChange,
-) -> Result<Catalogue, AllocError> {
-    match Staged::new(catalogue.try_copy(alloc)?, change) {
+/// The definitions with a change made in them, if there is one.
+fn changed(catalogue: Catalogue, schema: Option<SchemaChange>) -> Result<Catalogue, AllocError> {
+    let Some(change) = schema else {
+        return Ok(catalogue);
+    };
+    match Staged::new(catalogue, change) {
         Ok(staged) => Ok(staged.make()),
         Err(_) => Err(AllocError),
     }

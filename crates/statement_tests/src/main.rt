@@ -11,11 +11,14 @@ mod names;
 mod records;
 mod rows;
 mod texts;
+mod told;
+mod values;
 mod words;
 
 use crate::definitions::DefinedDatabase;
 use crate::records::StoredRecords;
 use crate::rows::OpenDatabase;
+use crate::told::Told;
 use anyhow::{Result, bail};
 use std::alloc::Global;
 use std::io::{self, BufWriter, Input, Write};
@@ -33,6 +36,7 @@ enum StatementPart {
 /// The parts, each with what its lines left there.
 #[derive(Drop)]
 struct StatementTests {
+    alloc: Global,
     part: StatementPart,
     rows: OpenDatabase,
     records: StoredRecords,
@@ -47,33 +51,10 @@ fn main(rt: HostRuntime) -> Result<()> {
 /// Does what the lines of standard input say, and writes to standard output what comes of them.
 fn run(rt: &HostRuntime, tests: &mut StatementTests) -> Result<()> {
     let mut out = BufWriter::new(rt.alloc(), rt.stdout())?;
-    follow_lines(rt, rt.alloc(), tests, &mut out)
-}
-
-/// Does what the lines of standard input say, and writes what comes of them.
-fn follow_lines<R: Input, W: Write>(
-    rt: &R,
-    alloc: Global,
-    tests: &mut StatementTests,
-    out: &mut W,
-) -> Result<()> {
-    for line in rt.lines(alloc) {
-        follow_line(alloc, line, tests, out)?;
+    for line in rt.lines(rt.alloc()) {
+        tests.follow_line(line, &mut out)?;
     }
-    tests.end(out)?;
-    out.flush()?;
-    Ok(())
-}
-
-/// Does what a line says that was read, and writes what comes of it.
-fn follow_line<W: Write>(
-    alloc: Global,
-    line: io::Result<String>,
-    tests: &mut StatementTests,
-    out: &mut W,
-) -> Result<()> {
-    let line = line?;
-    tests.follow(alloc, line.as_str(), out)
+    tests.finish(&mut out)
 }
 
 impl StatementTests {
@@ -82,6 +63,7 @@ impl StatementTests {
         let rows = OpenDatabase::new(alloc, "root")?;
         let definitions = DefinedDatabase::new(alloc)?;
         Ok(StatementTests {
+            alloc,
             part: StatementPart::Texts,
             rows,
             records: StoredRecords::new(alloc),
@@ -89,49 +71,41 @@ impl StatementTests {
         })
     }
 
-    /// Begins a part, or does what a line of the one that is there says. Writes what comes of it.
-    fn follow<W: Write>(&mut self, alloc: Global, line: &str, out: &mut W) -> Result<()> {
-        match (line.strip_prefix("part "), self.part) {
-            (Some(name), _) => self.begin(name, out),
-            (None, StatementPart::Rows) => self.rows.run_line(alloc, line, out),
-            (None, part) => self.tell(alloc, part, line, out),
-        }
-    }
-
-    /// Does what a line of a part other than `rows` says, and writes what comes of it.
-    fn tell<W: Write>(
-        &mut self,
-        alloc: Global,
-        part: StatementPart,
-        line: &str,
-        out: &mut W,
-    ) -> Result<()> {
-        let mut told = String::new(alloc);
-        self.push_told(alloc, part, line, &mut told)?;
-        out.write_all(told.as_bytes())?;
+    /// Does what a line says that was read, and writes what comes of it.
+    fn follow_line<W: Write>(&mut self, line: io::Result<String>, out: &mut W) -> Result<()> {
+        let line = line?;
+        let mut told = Told::new(self.alloc);
+        self.follow(line.as_str(), &mut told)?;
+        out.write_all(told.text()?.as_bytes())?;
         Ok(())
     }
 
-    /// Does what a line of a part other than `rows` says, and appends what comes of it.
-    fn push_told(
-        &mut self,
-        alloc: Global,
-        part: StatementPart,
-        line: &str,
-        out: &mut String,
-    ) -> Result<()> {
-        match part {
-            StatementPart::Layouts => layouts::follow(alloc, line, out),
-            StatementPart::Texts => Ok(texts::follow(alloc, line, out)?),
+    /// Ends the part that is there, and lets all go out.
+    fn finish<W: Write>(&self, out: &mut W) -> Result<()> {
+        let mut told = Told::new(self.alloc);
+        self.end(&mut told);
+        out.write_all(told.text()?.as_bytes())?;
+        out.flush()?;
+        Ok(())
+    }
+
+    /// Begins a part, or does what a line of the one that is there says. Tells what comes of it.
+    fn follow(&mut self, line: &str, out: &mut Told) -> Result<()> {
+        if let Some(name) = line.strip_prefix("part ") {
+            return self.begin(name, out);
+        }
+        match self.part {
+            StatementPart::Layouts => layouts::follow(self.alloc, line, out),
+            StatementPart::Texts => Ok(texts::follow(self.alloc, line, out)?),
+            StatementPart::Rows => self.rows.follow(self.alloc, line, out),
             StatementPart::Records => self.records.follow(line, out),
-            StatementPart::Definitions => self.definitions.run_line(alloc, line, out),
-            StatementPart::Rows => Ok(()),
+            StatementPart::Definitions => self.definitions.follow(self.alloc, line, out),
         }
     }
 
     /// Ends the part that is there, and begins the one of this name.
-    fn begin<W: Write>(&mut self, name: &str, out: &mut W) -> Result<()> {
-        self.end(out)?;
+    fn begin(&mut self, name: &str, out: &mut Told) -> Result<()> {
+        self.end(out);
         self.part = match name {
             "layouts" => StatementPart::Layouts,
             "texts" => StatementPart::Texts,
@@ -143,11 +117,11 @@ impl StatementTests {
         Ok(())
     }
 
-    /// Writes what is told at the end of the part.
-    fn end<W: Write>(&self, out: &mut W) -> Result<()> {
+    /// Tells what is told at the end of the part.
+    fn end(&self, out: &mut Told) {
         match self.part {
-            StatementPart::Definitions => self.definitions.write_counts(out),
-            _ => Ok(()),
+            StatementPart::Definitions => self.definitions.put_counts(out),
+            _ => (),
         }
     }
 }

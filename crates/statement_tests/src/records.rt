@@ -29,13 +29,14 @@ mod notation;
 mod rows;
 mod variants;
 
-use crate::records::answer::push_answer;
+use crate::records::answer::put_answer;
 use crate::records::loading::{Condition, put, replace, store_with, tell, tell_other};
 use crate::records::notation::record_of;
-use crate::records::variants::push_variants;
+use crate::records::variants::put_variants;
+use crate::told::Told;
 use anyhow::{Result, bail};
 use catalogue_loading::load;
-use std::alloc::{AllocError, Global};
+use std::alloc::Global;
 use store::{Batch, Entry, Fault, MemStore, Store};
 
 /// The records of a new database with changes.
@@ -54,77 +55,60 @@ impl StoredRecords {
         }
     }
 
-    /// Does what a line says, and appends what comes of it.
-    pub fn follow(&mut self, line: &str, out: &mut String) -> Result<()> {
+    /// Does what a line says, and tells what comes of it.
+    pub fn follow(&mut self, line: &str, out: &mut Told) -> Result<()> {
         let (word, rest) = line.split_once(' ').unwrap_or((line, ""));
         match word {
-            "--" => Ok(writeln!(out, "{line}")?),
-            "new" => self.begin_again(),
-            "put" | "remove" => self.change(word, rest),
-            "check" => self.check(out),
-            "show" => self.show(out),
-            "try" => self.try_record(rest, out),
-            "vary" => push_variants(self.alloc, &self.changes, out),
-            _ => self.answer(word, rest, out),
+            "--" => out.put_line(&[line]),
+            "new" => self.changes = Batch::new(self.alloc),
+            "put" | "remove" => self.change(word, rest)?,
+            "check" => self.check(out)?,
+            "show" => self.show(out)?,
+            "try" => self.try_record(rest, out)?,
+            "vary" => put_variants(self.alloc, &self.changes, out)?,
+            _ => self.answer(word, rest, out)?,
         }
-    }
-
-    fn begin_again(&mut self) -> Result<()> {
-        self.changes = Batch::new(self.alloc);
         Ok(())
     }
 
     /// Puts a record, or removes one.
     fn change(&mut self, word: &str, text: &str) -> Result<()> {
         let record = record_of(self.alloc, text)?;
-        self.change_record(word, &record)
-    }
-
-    fn change_record(&mut self, word: &str, record: &Entry) -> Result<()> {
-        let other = if word == "put" { Some(record) } else { None };
+        let other = if word == "put" { Some(&record) } else { None };
         if !replace(&mut self.changes, record.key(), other)? {
             bail!("no store takes a record of this size");
         }
         Ok(())
     }
 
-    /// Appends whether the records stand for a database.
-    fn check(&self, out: &mut String) -> Result<()> {
-        match self.condition()? {
-            Condition::Whole => out.push_str("whole\n")?,
-            condition => out.push_str(condition.damage())?,
+    /// Tells whether the records stand for a database.
+    fn check(&self, out: &mut Told) -> Result<()> {
+        let mut lines = Told::new(self.alloc);
+        match tell(self.alloc, &self.changes, &mut lines)? {
+            Condition::Whole => out.put("whole\n"),
+            condition => out.put(condition.damage()),
         }
         Ok(())
     }
 
-    /// Whether the records stand for a database.
-    fn condition(&self) -> Result<Condition> {
-        let mut lines = String::new(self.alloc);
-        tell(self.alloc, &self.changes, &mut lines)
-    }
-
-    /// Appends the database for which the records stand.
-    fn show(&self, out: &mut String) -> Result<()> {
+    /// Tells the database for which the records stand.
+    fn show(&self, out: &mut Told) -> Result<()> {
         let condition = tell(self.alloc, &self.changes, out)?;
-        out.push_str(condition.damage())?;
+        out.put(condition.damage());
         Ok(())
     }
 
-    /// Appends what the database gains by a record.
-    fn try_record(&self, text: &str, out: &mut String) -> Result<()> {
+    /// Tells what the database gains by a record.
+    fn try_record(&self, text: &str, out: &mut Told) -> Result<()> {
         let record = record_of(self.alloc, text)?;
-        self.try_entry(&record, out)
+        self.put_gained_by(&record, out)
     }
 
-    fn try_entry(&self, record: &Entry, out: &mut String) -> Result<()> {
-        let mut before = String::new(self.alloc);
+    /// Tells the lines of the database with a record that were not there before, and what is damaged.
+    fn put_gained_by(&self, record: &Entry, out: &mut Told) -> Result<()> {
+        let mut before = Told::new(self.alloc);
+        let mut after = Told::new(self.alloc);
         tell(self.alloc, &self.changes, &mut before)?;
-        self.push_after(record, before.as_str(), out)
-    }
-
-    /// Appends the lines of the database with a record that were not there before.
-    fn push_after(&self, record: &Entry, before: &str, out: &mut String) -> Result<()> {
-        let mut after = String::new(self.alloc);
         let condition = tell_other(
             self.alloc,
             &self.changes,
@@ -132,25 +116,17 @@ impl StoredRecords {
             Some(record),
             &mut after,
         )?;
-        Ok(push_tried(out, before, after.as_str(), condition)?)
+        put_gained(out, before.text()?, after.text()?);
+        out.put(condition.damage());
+        Ok(())
     }
 
-    /// Appends what the catalogue of the records answers.
-    fn answer(&self, word: &str, text: &str, out: &mut String) -> Result<()> {
+    /// Tells what the catalogue of the records answers.
+    fn answer(&self, word: &str, text: &str, out: &mut Told) -> Result<()> {
         let mut store = store_with(self.alloc, &self.changes)?;
-        self.answer_from(&mut store, word, text, out)
-    }
-
-    fn answer_from(
-        &self,
-        store: &mut MemStore,
-        word: &str,
-        text: &str,
-        out: &mut String,
-    ) -> Result<()> {
-        match load(self.alloc, store) {
-            Ok(catalogue) => push_answer(self.alloc, &catalogue, word, text, out),
-            Err(Fault::Damaged) => Ok(out.push_str(Condition::Damaged.damage())?),
+        match load(self.alloc, &mut store) {
+            Ok(catalogue) => put_answer(self.alloc, &catalogue, word, text, out),
+            Err(Fault::Damaged) => Ok(out.put(Condition::Damaged.damage())),
             Err(_) => bail!("no definitions were loaded"),
         }
     }
@@ -160,37 +136,20 @@ impl StoredRecords {
 pub fn put_record(alloc: Global, store: &mut MemStore, text: &str) -> Result<()> {
     let record = record_of(alloc, text)?;
     let mut changes = Batch::new(alloc);
-    commit_record(store, &mut changes, &record)
-}
-
-/// Adds a record to changes, and commits them.
-fn commit_record(store: &mut MemStore, changes: &mut Batch, record: &Entry) -> Result<()> {
-    if !put(changes, record.key(), record.value())? {
+    if !put(&mut changes, record.key(), record.value())? {
         bail!("no store takes a record of this size");
     }
-    store.commit(changes)?;
+    store.commit(&changes)?;
     Ok(())
 }
 
-/// Appends the lines of a text that another one does not have, and what is damaged.
-fn push_tried(
-    out: &mut String,
-    before: &str,
-    after: &str,
-    condition: Condition,
-) -> Result<(), AllocError> {
-    push_gained(out, before, after)?;
-    out.push_str(condition.damage())
-}
-
-/// Appends the lines of a text that another one does not have.
-fn push_gained(out: &mut String, before: &str, after: &str) -> Result<(), AllocError> {
+/// Tells the lines of a text that another one does not have.
+fn put_gained(out: &mut Told, before: &str, after: &str) {
     for line in after.lines() {
         if !has_line(before, line) {
-            writeln!(out, "{line}")?;
+            out.put_line(&[line]);
         }
     }
-    Ok(())
 }
 
 /// Whether a text has a line.

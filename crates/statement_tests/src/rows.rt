@@ -18,7 +18,8 @@ mod looked;
 use crate::names::name_of;
 use crate::records::loading::new_store;
 use crate::records::put_record;
-use crate::rows::looked::looked_for;
+use crate::rows::looked::put_looked_for;
+use crate::told::Told;
 use anyhow::{Result, bail};
 use catalogue::definitions::Catalogue;
 use catalogue::effect::Effect;
@@ -32,7 +33,6 @@ use sql_types::state::SqlState;
 use sql_types::tag::Tag;
 use statements::Statements;
 use std::alloc::Global;
-use std::io::Write;
 use store::{Fault, MemStore, Stop, Store};
 use wire::answers::write_answer;
 use wire::output::CountedWriter;
@@ -63,15 +63,14 @@ pub struct OpenDatabase {
 impl OpenDatabase {
     /// A new database with a superuser of this name.
     pub fn new(alloc: Global, admin: &str) -> Result<OpenDatabase> {
-        let store = new_store(alloc, admin)?;
         Ok(OpenDatabase {
-            store,
+            store: new_store(alloc, admin)?,
             sessions: Vec::new(alloc),
         })
     }
 
-    /// Does what a line says, and writes what is answered.
-    pub fn run_line<W: Write>(&mut self, alloc: Global, line: &str, out: &mut W) -> Result<()> {
+    /// Does what a line says, and tells what is answered.
+    pub fn follow(&mut self, alloc: Global, line: &str, out: &mut Told) -> Result<()> {
         if line == "new" {
             return self.begin_again(alloc);
         }
@@ -91,154 +90,128 @@ impl OpenDatabase {
     }
 
     fn begin_again(&mut self, alloc: Global) -> Result<()> {
-        *self = OpenDatabase::new(alloc, "root")?;
+        self.store = new_store(alloc, "root")?;
+        self.sessions = Vec::new(alloc);
         Ok(())
     }
 
-    fn open<W: Write>(&mut self, alloc: Global, words: &str, out: &mut W) -> Result<()> {
+    fn open(&mut self, alloc: Global, words: &str, out: &mut Told) -> Result<()> {
         let Some((session, role)) = words.split_once(' ') else {
             bail!("a session has no role");
         };
-        self.sessions.push(new_session(alloc, session, role)?)?;
-        write_opened(out)
+        let role = name_of(alloc, role)?;
+        let name = String::from_str(alloc, session)?;
+        self.sessions.push(TestSession { name, role })?;
+        put_opened(alloc, out);
+        Ok(())
     }
 
-    fn run_statement<W: Write>(
+    fn run_statement(
         &mut self,
         alloc: Global,
         session: &str,
         text: &str,
         asked: Asked,
-        out: &mut W,
+        out: &mut Told,
     ) -> Result<()> {
         let role = role_of(self.sessions.as_slice(), session)?;
         match parse(alloc, text) {
             Ok(statement) => run_parsed(alloc, &mut self.store, role, &statement, asked, out),
-            Err(refusal) => write_refused(refusal.0, asked, out),
+            Err(refusal) => Ok(put_refused(alloc, refusal.0, asked, out)),
         }
     }
 }
 
-/// A session of this name, for a role.
-fn new_session(alloc: Global, session: &str, role: &str) -> Result<TestSession> {
-    let role = name_of(alloc, role)?;
-    Ok(TestSession {
-        name: String::from_str(alloc, session)?,
-        role,
-    })
-}
-
 /// The role of the session of this name.
 fn role_of<'s>(sessions: &'s [TestSession], name: &str) -> Result<&'s Name> {
-    match sessions
-        .iter()
-        .find(|session| session.name.as_str() == name)
-    {
-        Some(session) => Ok(&session.role),
-        None => bail!("a session is not open"),
+    for session in sessions {
+        if session.name.as_str() == name {
+            return Ok(&session.role);
+        }
     }
+    bail!("a session is not open")
 }
 
-/// Writes what is asked of a statement that concerns the database of a store.
-fn run_parsed<W: Write>(
+/// Tells what is asked of a statement over the database of a store.
+fn run_parsed(
     alloc: Global,
     store: &mut MemStore,
     role: &Name,
     statement: &Statement,
     asked: Asked,
-    out: &mut W,
+    out: &mut Told,
 ) -> Result<()> {
-    match statement {
-        Statement::OnDatabase(statement) => write_asked(alloc, store, role, statement, asked, out),
-        Statement::OfSession(_) => bail!("a statement concerns its session"),
-    }
-}
-
-/// Writes what is asked of a statement over the database of a store.
-fn write_asked<W: Write>(
-    alloc: Global,
-    store: &mut MemStore,
-    role: &Name,
-    statement: &DatabaseStatement,
-    asked: Asked,
-    out: &mut W,
-) -> Result<()> {
+    let Statement::OnDatabase(statement) = statement else {
+        bail!("a statement concerns its session");
+    };
     let catalogue = load(alloc, store)?;
     match asked {
         Asked::Outcome => carry_out(alloc, store, &catalogue, role, statement, out),
-        Asked::Ranges => write_ranges(alloc, &catalogue, role, statement, out),
+        Asked::Ranges => Ok(put_ranges(alloc, &catalogue, role, statement, out)),
     }
 }
 
-/// Writes why the text of a statement is refused.
-fn write_refused<W: Write>(code: SqlState, asked: Asked, out: &mut W) -> Result<()> {
-    match asked {
-        Asked::Outcome => write_told(&Answer::Refused(code), out),
-        Asked::Ranges => write_line(code.code().as_bytes(), out),
-    }
-}
-
-/// Carries out a statement, commits what it changes and writes its answer.
-fn carry_out<W: Write>(
+/// Carries out a statement, commits what it changes and tells its answer.
+fn carry_out(
     alloc: Global,
     store: &mut MemStore,
     catalogue: &Catalogue,
     role: &Name,
     statement: &DatabaseStatement,
-    out: &mut W,
+    out: &mut Told,
 ) -> Result<()> {
     match Statements.execute(alloc, store, catalogue, role, role, statement) {
-        Ok(effect) => commit(store, &effect, out),
-        Err(Stop::Refused(code)) => write_told(&Answer::Refused(code), out),
-        Err(Stop::Failed(Fault::Damaged)) => write_line(b"failed Damaged", out),
+        Ok(effect) => commit(alloc, store, &effect, out),
+        Err(Stop::Refused(code)) => Ok(put_refused(alloc, code, Asked::Outcome, out)),
+        Err(Stop::Failed(Fault::Damaged)) => Ok(out.put("failed Damaged\n")),
         Err(Stop::Failed(fault)) => bail!(fault),
     }
 }
 
-/// Commits what a statement changes, and writes its answer.
-fn commit<W: Write>(store: &mut MemStore, effect: &Effect, out: &mut W) -> Result<()> {
+/// Commits what a statement changes, and tells its answer.
+fn commit(alloc: Global, store: &mut MemStore, effect: &Effect, out: &mut Told) -> Result<()> {
     store.commit(&effect.changes)?;
-    write_told(&effect.answer, out)
+    put_answer(alloc, &effect.answer, out);
+    Ok(())
 }
 
-/// Writes where a statement looks for rows.
-fn write_ranges<W: Write>(
+/// Tells where a statement looks for rows.
+fn put_ranges(
     alloc: Global,
     catalogue: &Catalogue,
     role: &Name,
     statement: &DatabaseStatement,
-    out: &mut W,
-) -> Result<()> {
-    let mut written = String::new(alloc);
-    match statement {
-        DatabaseStatement::OverRows(statement) => looked_for(
-            alloc,
-            catalogue,
-            role,
-            statement,
-            &mut written,
-        )?,
-        DatabaseStatement::Defining(_) => (),
+    out: &mut Told,
+) {
+    if let DatabaseStatement::OverRows(statement) = statement {
+        put_looked_for(alloc, catalogue, role, statement, out);
     }
-    write_line(written.as_bytes(), out)
+    out.put("\n");
 }
 
-fn write_opened<W: Write>(out: &mut W) -> Result<()> {
+/// Tells why a statement is refused.
+fn put_refused(alloc: Global, code: SqlState, asked: Asked, out: &mut Told) {
+    match asked {
+        Asked::Outcome => put_answer(alloc, &Answer::Refused(code), out),
+        Asked::Ranges => out.put_line(&[code.code()]),
+    }
+}
+
+fn put_opened(alloc: Global, out: &mut Told) {
     let answer = Answer::Done {
         tag: Tag::Open,
         count: None,
         warning: None,
     };
-    write_told(&answer, out)
+    put_answer(alloc, &answer, out);
 }
 
-fn write_told<W: Write>(answer: &Answer, out: &mut W) -> Result<()> {
-    write_answer(answer, &mut CountedWriter::new(out))?;
-    Ok(())
-}
-
-fn write_line<W: Write>(line: &[u8], out: &mut W) -> Result<()> {
-    out.write_all(line)?;
-    out.write_all(b"\n")?;
-    Ok(())
+/// Tells an answer as it is written to a client.
+fn put_answer(alloc: Global, answer: &Answer, out: &mut Told) {
+    let mut written = Vec::new(alloc);
+    let is_written = write_answer(answer, &mut CountedWriter::new(&mut written)).is_ok();
+    match std::str::from_utf8(written.as_slice()) {
+        Ok(text) if is_written => out.put(text),
+        _ => out.refuse(),
+    }
 }

@@ -10,36 +10,29 @@ mod printed_expressions;
 mod printed_sources;
 mod printed_statements;
 
-use crate::texts::escapes::written_out;
-use crate::texts::printed_statements::push_statement;
+use crate::texts::escapes::put_written_out;
+use crate::texts::printed_statements::put_statement;
+use crate::told::Told;
 use sql_parser::parse::parse;
-use sql_types::state::Refusal;
 use std::alloc::{AllocError, Global};
 
-/// Appends a line as it is, or what its text stands for.
-pub fn follow(alloc: Global, line: &str, out: &mut String) -> Result<(), AllocError> {
+/// Tells a line as it is, or what its text stands for.
+pub fn follow(alloc: Global, line: &str, out: &mut Told) -> Result<(), AllocError> {
     if line.starts_with("-- ") {
-        out.push_str(line)?;
-    } else {
-        push_answer(alloc, out, line)?;
+        out.put_line(&[line]);
+        return Ok(());
     }
-    out.push_str("\n")
+    let mut text = Told::new(alloc);
+    put_written_out(&mut text, line);
+    put_answer(alloc, text.text()?, out);
+    Ok(())
 }
 
-/// Appends what the text of a line stands for.
-fn push_answer(alloc: Global, out: &mut String, line: &str) -> Result<(), AllocError> {
-    let text = written_out(alloc, line)?;
-    push_parsed(alloc, out, text.as_str())
-}
-
-fn push_parsed(alloc: Global, out: &mut String, text: &str) -> Result<(), AllocError> {
+/// Tells what a text stands for.
+fn put_answer(alloc: Global, text: &str, out: &mut Told) {
     match parse(alloc, text) {
-        Ok(statement) => push_statement(out, &statement),
-        Err(refusal) => push_refusal(out, refusal),
+        Ok(statement) => put_statement(out, &statement),
+        Err(refusal) => out.put_all(&["refused ", refusal.0.code()]),
     }
-}
-
-fn push_refusal(out: &mut String, refusal: Refusal) -> Result<(), AllocError> {
-    out.push_str("refused ")?;
-    out.push_str(refusal.0.code())
+    out.put("\n");
 }

@@ -1,16 +1,10 @@
-//! The words for parts of statements and definitions.
+//! The words for parts of statements and definitions. They are no part of `description_texts`, which is tried here: what other
+//! programs print as the answers does not change with the words of a description.
 
 use sql_ast::columns::ColumnType;
 use sql_ast::expression::{Comparison, Operation};
 use sql_ast::policy::{PolicyCommand, PolicyKind};
 use sql_ast::privilege::{Action, Grantee, Grantor};
-use std::alloc::AllocError;
-
-/// Appends a word after a blank.
-pub fn push_word(out: &mut String, word: &str) -> Result<(), AllocError> {
-    out.push_str(" ")?;
-    out.push_str(word)
-}
 
 /// The words, where something holds, and else none.
 pub fn words_if(holds: bool, words: &'static str) -> &'static str {

@@ -1,5 +1,6 @@
 //! Whether a role may issue a statement, which is not carried out.
 
+use crate::told::Told;
 use catalogue::definitions::Catalogue;
 use planner::plan_rows;
 use role_membership::{may_grant_role, would_circle};
@@ -9,21 +10,14 @@ use sql_ast::statement::{
 use sql_parser::parse::parse;
 use sql_types::name::Name;
 use sql_types::state::{Refusal, SqlState};
-use std::alloc::{AllocError, Global};
+use std::alloc::Global;
 
-/// Appends whether a role may issue the statement of a text.
-pub fn push_asked(
-    alloc: Global,
-    catalogue: &Catalogue,
-    role: &Name,
-    text: &str,
-    out: &mut String,
-) -> Result<(), AllocError> {
-    let answer = match asked(alloc, catalogue, role, text) {
-        Ok(()) => "ok",
-        Err(refusal) => refusal.0.code(),
-    };
-    writeln!(out, "{answer}")
+/// Tells whether a role may issue the statement of a text.
+pub fn put_asked(alloc: Global, catalogue: &Catalogue, role: &Name, text: &str, out: &mut Told) {
+    match asked(alloc, catalogue, role, text) {
+        Ok(()) => out.put("ok\n"),
+        Err(refusal) => out.put_line(&[refusal.0.code()]),
+    }
 }
 
 /// Whether a role may issue the statement of a text.
@@ -32,7 +26,7 @@ fn asked(alloc: Global, catalogue: &Catalogue, role: &Name, text: &str) -> Resul
     may_issue(alloc, catalogue, role, &statement)
 }
 
-/// Whether a role may issue a statement.
+/// Whether a role may issue a statement. Of the defining ones GRANT of roles alone is asked here.
 pub fn may_issue(
     alloc: Global,
     catalogue: &Catalogue,
@@ -43,10 +37,10 @@ pub fn may_issue(
         Statement::OnDatabase(DatabaseStatement::OverRows(statement)) => may_use_rows(
             alloc, catalogue, role, statement,
         ),
-        Statement::OnDatabase(DatabaseStatement::Defining(statement)) => may_define(
-            alloc, catalogue, role, statement,
-        ),
-        Statement::OfSession(_) => Ok(()),
+        Statement::OnDatabase(
+            DatabaseStatement::Defining(DefiningStatement::GrantRole(granting)),
+        ) => may_grant(alloc, catalogue, role, granting),
+        _ => Ok(()),
     }
 }
 
@@ -59,19 +53,6 @@ fn may_use_rows(
 ) -> Result<(), Refusal> {
     plan_rows(alloc, catalogue, role, statement)?;
     Ok(())
-}
-
-/// Whether a role may issue a GRANT of roles. The other defining statements are not asked here.
-fn may_define(
-    alloc: Global,
-    catalogue: &Catalogue,
-    role: &Name,
-    statement: &DefiningStatement,
-) -> Result<(), Refusal> {
-    match statement {
-        DefiningStatement::GrantRole(granting) => may_grant(alloc, catalogue, role, granting),
-        _ => Ok(()),
-    }
 }
 
 /// Whether a role may grant the first role of a GRANT to its first member, if no circle comes of it.

@@ -1,76 +1,54 @@
 //! The definitions of a database as text, a line each.
 
-use crate::records::database::{push_columns, push_key, push_roles};
+use crate::records::database::{put_columns, put_key, put_roles};
+use crate::told::Told;
 use crate::words::{action_word, grantee_word, grantor_word, words_if};
 use catalogue::definitions::Catalogue;
 use catalogue::table::TableDefinition;
 use sql_ast::columns::Columns;
 use sql_ast::privilege::Descriptor;
 use sql_ast::role::Membership;
-use std::alloc::AllocError;
 
-/// Appends all definitions.
-pub fn push_definitions(out: &mut String, catalogue: &Catalogue) -> Result<(), AllocError> {
-    push_roles(out, catalogue.roles())?;
-    push_memberships(out, catalogue.memberships().as_slice())?;
-    push_tables(out, catalogue.tables())
+/// Tells all definitions.
+pub fn put_definitions(out: &mut Told, catalogue: &Catalogue) {
+    put_roles(out, catalogue.roles());
+    put_memberships(out, catalogue.memberships().as_slice());
+    for table in catalogue.tables() {
+        put_table(out, table);
+        put_descriptors(out, table.columns(), table.descriptors());
+    }
 }
 
-fn push_memberships(out: &mut String, memberships: &[Membership]) -> Result<(), AllocError> {
+fn put_memberships(out: &mut Told, memberships: &[Membership]) {
     for membership in memberships {
-        let role = membership.role.as_str();
-        let member = membership.member.as_str();
-        let admin = words_if(membership.admin, " ADMIN");
-        write!(out, "membership {role} {member}{admin}\n")?;
+        out.put_name("membership ", &membership.role);
+        out.put_name(" ", &membership.member);
+        out.put_line(&[words_if(membership.admin, " ADMIN")]);
     }
-    Ok(())
 }
 
-/// Appends each table with its columns, its key and its descriptors.
-fn push_tables(out: &mut String, tables: &[TableDefinition]) -> Result<(), AllocError> {
-    for table in tables {
-        push_table(out, table)?;
-        push_columns(out, "column", table.columns().as_slice(), "\n")?;
-        push_key(out, "key", table.columns().key())?;
-        out.push_str("\n")?;
-        push_descriptors(out, table.columns(), table.descriptors())?;
-    }
-    Ok(())
-}
-
-fn push_table(out: &mut String, table: &TableDefinition) -> Result<(), AllocError> {
-    let name = table.name().as_str();
-    let owner = table.owner().as_str();
+/// Tells a table with its columns and its key.
+fn put_table(out: &mut Told, table: &TableDefinition) {
+    out.put_name("table ", table.name());
+    out.put_name(" ", table.owner());
     let enabled = words_if(table.row_security(), " ENABLE");
     let forced = words_if(table.forced(), " FORCE");
-    write!(out, "table {name} {owner}{enabled}{forced}\n")
+    out.put_line(&[enabled, forced]);
+    put_columns(out, "column", table.columns().as_slice(), "\n");
+    put_key(out, "key", table.columns().key());
+    out.put("\n");
 }
 
-fn push_descriptors(
-    out: &mut String,
-    columns: &Columns,
-    descriptors: &[Descriptor],
-) -> Result<(), AllocError> {
+fn put_descriptors(out: &mut Told, columns: &Columns, descriptors: &[Descriptor]) {
     for descriptor in descriptors {
-        push_descriptor(out, columns, descriptor)?;
+        out.put(action_word(descriptor.action));
+        if let Some(index) = descriptor.column {
+            out.put_all(&[" (", column_word(columns, index), ")"]);
+        }
+        out.put_all(&[" by ", grantor_word(&descriptor.grantor)]);
+        out.put_all(&[" to ", grantee_word(&descriptor.grantee)]);
+        out.put_line(&[words_if(descriptor.grantable, " GRANT OPTION")]);
     }
-    Ok(())
-}
-
-fn push_descriptor(
-    out: &mut String,
-    columns: &Columns,
-    descriptor: &Descriptor,
-) -> Result<(), AllocError> {
-    out.push_str(action_word(descriptor.action))?;
-    if let Some(index) = descriptor.column {
-        let column = column_word(columns, index);
-        write!(out, " ({column})")?;
-    }
-    let grantor = grantor_word(&descriptor.grantor);
-    let grantee = grantee_word(&descriptor.grantee);
-    let option = words_if(descriptor.grantable, " GRANT OPTION");
-    write!(out, " by {grantor} to {grantee}{option}\n")
 }
 
 /// The name of the column of an index.

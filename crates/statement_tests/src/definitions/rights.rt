@@ -1,12 +1,12 @@
 //! What each role may do, as text.
 
 use crate::definitions::asking::may_issue;
-use crate::words::{action_word, push_word, words_if};
+use crate::told::Told;
+use crate::words::{action_word, words_if};
 use catalogue::definitions::Catalogue;
 use catalogue::table::TableDefinition;
-use role_membership::{RoleSet, closure};
+use role_membership::closure;
 use sql_ast::privilege::Action;
-use sql_ast::role::Role;
 use sql_ast::statement::Statement;
 use sql_parser::parse::parse;
 use sql_types::name::Name;
@@ -37,27 +37,13 @@ struct AskedAction<'c> {
     statements: Vec<(&'c str, Statement)>,
 }
 
-/// Appends of each role which roles it is in, and what it may do with each table: a role has the
+/// Tells of each role which roles it is in, and what it may do with each table: a role has the
 /// privilege of an action on a column where the planner lets a statement pass that needs it.
-pub fn push_rights(
-    alloc: Global,
-    catalogue: &Catalogue,
-    out: &mut String,
-) -> Result<(), AllocError> {
+pub fn put_rights(alloc: Global, catalogue: &Catalogue, out: &mut Told) -> Result<(), AllocError> {
     let tables = asked_tables(alloc, catalogue.tables())?;
-    push_rights_on(alloc, catalogue, tables.as_slice(), out)
-}
-
-/// Appends of each role which roles it is in, and what it may do with these tables.
-fn push_rights_on(
-    alloc: Global,
-    catalogue: &Catalogue,
-    tables: &[AskedTable<'_>],
-    out: &mut String,
-) -> Result<(), AllocError> {
     for role in catalogue.roles() {
-        push_above(alloc, catalogue, &role.name, out)?;
-        push_tables(alloc, catalogue, &role.name, tables, out)?;
+        put_above(alloc, catalogue, &role.name, out)?;
+        put_tables(alloc, catalogue, &role.name, tables.as_slice(), out)?;
     }
     Ok(())
 }
@@ -69,39 +55,23 @@ fn asked_tables(
 ) -> Result<Vec<AskedTable<'_>>, AllocError> {
     let mut asked = Vec::new(alloc);
     for table in tables {
-        push_asked_table(alloc, table, &mut asked)?;
+        let actions = actions_on(alloc, table)?;
+        asked.push(AskedTable { table, actions })?;
     }
     Ok(asked)
-}
-
-fn push_asked_table<'c>(
-    alloc: Global,
-    table: &'c TableDefinition,
-    asked: &mut Vec<AskedTable<'c>>,
-) -> Result<(), AllocError> {
-    let actions = actions_on(alloc, table)?;
-    asked.push(AskedTable { table, actions })?;
-    Ok(())
 }
 
 /// Each action with its statements over a table.
 fn actions_on(alloc: Global, table: &TableDefinition) -> Result<Vec<AskedAction<'_>>, AllocError> {
     let mut actions = Vec::new(alloc);
     for action in &ACTIONS {
-        push_asked_action(alloc, *action, table, &mut actions)?;
+        let statements = statements_for(alloc, *action, table)?;
+        actions.push(AskedAction {
+            action: *action,
+            statements,
+        })?;
     }
     Ok(actions)
-}
-
-fn push_asked_action<'c>(
-    alloc: Global,
-    action: Action,
-    table: &'c TableDefinition,
-    actions: &mut Vec<AskedAction<'c>>,
-) -> Result<(), AllocError> {
-    let statements = statements_for(alloc, action, table)?;
-    actions.push(AskedAction { action, statements })?;
-    Ok(())
 }
 
 /// The statements over a table for an action: for each column, or where it is of whole rows, one.
@@ -111,24 +81,15 @@ fn statements_for(
     table: &TableDefinition,
 ) -> Result<Vec<(&str, Statement)>, AllocError> {
     let mut statements = Vec::new(alloc);
-    push_statements(alloc, action, table, &mut statements)?;
-    Ok(statements)
-}
-
-fn push_statements<'c>(
-    alloc: Global,
-    action: Action,
-    table: &'c TableDefinition,
-    statements: &mut Vec<(&'c str, Statement)>,
-) -> Result<(), AllocError> {
     let name = table.name().as_str();
     if action == Action::Delete {
-        return push_statement(alloc, action, name, "", statements);
+        push_statement(alloc, action, name, "", &mut statements)?;
+        return Ok(statements);
     }
     for column in table.columns().as_slice() {
-        push_statement(alloc, action, name, column.name.as_str(), statements)?;
+        push_statement(alloc, action, name, column.name.as_str(), &mut statements)?;
     }
-    Ok(())
+    Ok(statements)
 }
 
 /// Adds the statement that needs an action on a column.
@@ -139,158 +100,111 @@ fn push_statement<'c>(
     column: &'c str,
     statements: &mut Vec<(&'c str, Statement)>,
 ) -> Result<(), AllocError> {
-    let text = text_of(alloc, action, table, column)?;
-    push_parsed(alloc, text.as_str(), column, statements)
-}
-
-fn push_parsed<'c>(
-    alloc: Global,
-    text: &str,
-    column: &'c str,
-    statements: &mut Vec<(&'c str, Statement)>,
-) -> Result<(), AllocError> {
-    if let Ok(statement) = parse(alloc, text) {
+    let mut text = Told::new(alloc);
+    put_text(action, table, column, &mut text);
+    if let Ok(statement) = parse(alloc, text.text()?) {
         statements.push((column, statement))?;
     }
     Ok(())
 }
 
-/// The text of a statement that needs an action on a column.
-fn text_of(alloc: Global, action: Action, table: &str, column: &str) -> Result<String, AllocError> {
-    let mut text = String::new(alloc);
-    push_text(action, table, column, &mut text)?;
-    Ok(text)
-}
-
-fn push_text(
-    action: Action,
-    table: &str,
-    column: &str,
-    out: &mut String,
-) -> Result<(), AllocError> {
+/// Tells the text of a statement that needs an action on a column.
+fn put_text(action: Action, table: &str, column: &str, out: &mut Told) {
     match action {
-        Action::Select => write!(out, "SELECT {column} FROM {table}"),
-        Action::Insert => write!(out, "INSERT INTO {table} ({column}) VALUES (NULL)"),
-        Action::Update => write!(out, "UPDATE {table} SET {column} = NULL"),
-        Action::Delete => write!(out, "DELETE FROM {table}"),
+        Action::Select => out.put_all(&["SELECT ", column, " FROM ", table]),
+        Action::Insert => out.put_all(&["INSERT INTO ", table, " (", column, ") VALUES (NULL)"]),
+        Action::Update => out.put_all(&["UPDATE ", table, " SET ", column, " = NULL"]),
+        Action::Delete => out.put_all(&["DELETE FROM ", table]),
     }
 }
 
-/// Appends the roles that a role is in.
-fn push_above(
+/// Tells a role, and those that it is in.
+fn put_above(
     alloc: Global,
     catalogue: &Catalogue,
-    role: &Name,
-    out: &mut String,
+    name: &Name,
+    out: &mut Told,
 ) -> Result<(), AllocError> {
-    let above = closure(alloc, catalogue.memberships(), role)?;
-    push_those_in(role, catalogue.roles(), &above, out)
-}
-
-/// Appends a role, and those of the roles that a set has, and ends the line.
-fn push_those_in(
-    role: &Name,
-    roles: &[Role],
-    set: &RoleSet<'_>,
-    out: &mut String,
-) -> Result<(), AllocError> {
-    out.push_str(role.as_str())?;
-    out.push_str(" is in")?;
-    for role in roles {
-        if set.contains(&role.name) {
-            push_word(out, role.name.as_str())?;
+    let above = closure(alloc, catalogue.memberships(), name)?;
+    out.put_all(&[name.as_str(), " is in"]);
+    for role in catalogue.roles() {
+        if above.contains(&role.name) {
+            out.put_name(" ", &role.name);
         }
     }
-    out.push_str("\n")
+    out.put("\n");
+    Ok(())
 }
 
-/// Appends what a role may do with each table.
-fn push_tables(
+/// Tells what a role may do with each table, and whether it acts as its owner.
+fn put_tables(
     alloc: Global,
     catalogue: &Catalogue,
     role: &Name,
     tables: &[AskedTable<'_>],
-    out: &mut String,
+    out: &mut Told,
 ) -> Result<(), AllocError> {
     for asked in tables {
-        push_table(alloc, catalogue, role, asked, out)?;
+        out.put_all(&[role.as_str(), " on ", asked.table.name().as_str()]);
+        put_actions(alloc, catalogue, role, asked.actions.as_slice(), out)?;
+        let is_owner = acts_as_owner(alloc, catalogue, role, asked.table.owner())?;
+        out.put_line(&[words_if(is_owner, " OWNER")]);
     }
     Ok(())
 }
 
-/// Appends what a role may do with a table, and whether it acts as its owner.
-fn push_table(
+/// Tells each action that a role has on some column, with these columns unless they are all.
+fn put_actions(
     alloc: Global,
     catalogue: &Catalogue,
     role: &Name,
-    asked: &AskedTable<'_>,
-    out: &mut String,
+    actions: &[AskedAction<'_>],
+    out: &mut Told,
 ) -> Result<(), AllocError> {
-    let (name, on) = (role.as_str(), asked.table.name().as_str());
-    write!(out, "{name} on {on}")?;
-    for action in asked.actions.as_slice() {
-        push_action(alloc, catalogue, role, action, out)?;
-    }
-    let is_owner = acts_as_owner(alloc, catalogue, role, asked.table.owner())?;
-    let owner = words_if(is_owner, " OWNER");
-    write!(out, "{owner}\n")
-}
-
-/// Appends an action where a role has it on some column, with these columns unless they are all.
-fn push_action(
-    alloc: Global,
-    catalogue: &Catalogue,
-    role: &Name,
-    asked: &AskedAction<'_>,
-    out: &mut String,
-) -> Result<(), AllocError> {
-    let columns = allowed_columns(alloc, catalogue, role, asked, out)?;
-    push_allowed(asked, columns.as_slice(), out)
-}
-
-/// Appends an action with those of its columns that a role has it on.
-fn push_allowed(
-    asked: &AskedAction<'_>,
-    columns: &[&str],
-    out: &mut String,
-) -> Result<(), AllocError> {
-    if columns.is_empty() {
-        return Ok(());
-    }
-    push_word(out, action_word(asked.action))?;
-    if columns.len() < asked.statements.len() {
-        push_list(columns, out)?;
+    for asked in actions {
+        let columns = allowed_columns(alloc, catalogue, role, asked, out)?;
+        put_allowed(asked, columns.as_slice(), out);
     }
     Ok(())
 }
 
-/// The columns that a role has an action on. The code of any other refusal is appended.
+/// The columns that a role has an action on. The code of any other refusal is told.
 fn allowed_columns<'c>(
     alloc: Global,
     catalogue: &Catalogue,
     role: &Name,
     asked: &AskedAction<'c>,
-    out: &mut String,
+    out: &mut Told,
 ) -> Result<Vec<&'c str>, AllocError> {
     let mut columns = Vec::new(alloc);
     for (column, statement) in asked.statements.as_slice() {
         match may_issue(alloc, catalogue, role, statement) {
             Ok(()) => columns.push(*column)?,
             Err(Refusal(SqlState::InsufficientPrivilege)) => {}
-            Err(Refusal(SqlState::OutOfMemory)) => return Err(AllocError),
-            Err(Refusal(code)) => push_word(out, code.code())?,
+            Err(Refusal(SqlState::OutOfMemory)) => out.refuse(),
+            Err(Refusal(code)) => out.put_all(&[" ", code.code()]),
         }
     }
     Ok(columns)
 }
 
-/// Appends names in parentheses.
-fn push_list(names: &[&str], out: &mut String) -> Result<(), AllocError> {
+/// Tells an action with those of its columns that a role has it on, in parentheses unless they are all.
+fn put_allowed(asked: &AskedAction<'_>, columns: &[&str], out: &mut Told) {
+    if columns.is_empty() {
+        return;
+    }
+    out.put_all(&[" ", action_word(asked.action)]);
+    if columns.len() < asked.statements.len() {
+        put_list(columns, out);
+    }
+}
+
+/// Tells names in parentheses.
+fn put_list(names: &[&str], out: &mut Told) {
     let mut before = " (";
     for name in names {
-        out.push_str(before)?;
-        out.push_str(name)?;
+        out.put_all(&[before, name]);
         before = " ";
     }
-    out.push_str(")")
+    out.put(")");
 }

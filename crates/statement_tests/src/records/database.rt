@@ -1,10 +1,10 @@
 //! A database in words, a line for each item.
 
-use crate::records::expression::push_expression;
-use crate::records::rows::push_rows;
+use crate::records::expression::put_expression;
+use crate::records::rows::put_rows;
+use crate::told::Told;
 use crate::words::{
-    action_word, command_word, grantee_word, grantor_word, kind_word, push_word, type_word,
-    words_if,
+    action_word, command_word, grantee_word, grantor_word, kind_word, type_word, words_if,
 };
 use catalogue::definitions::Catalogue;
 use catalogue::numbers::least_free_id;
@@ -14,174 +14,148 @@ use sql_ast::columns::Column;
 use sql_ast::policy::{Policy, PolicyClause, PolicyRoles};
 use sql_ast::privilege::Descriptor;
 use sql_ast::role::{Membership, Role};
-use sql_types::name::Name;
-use std::alloc::{AllocError, Global};
+use std::alloc::Global;
 use store::{Fault, MemStore};
 
-/// Appends the database of a catalogue and of the rows of a store, and the least number that no table has, or 0.
-pub fn push_database(
+/// Tells the database of a catalogue and of the rows of a store, and the least number that no table has, or 0.
+pub fn put_database(
     alloc: Global,
-    out: &mut String,
+    out: &mut Told,
     catalogue: &Catalogue,
     store: &mut MemStore,
 ) -> Result<(), Fault> {
-    push_roles(out, catalogue.roles())?;
-    push_memberships(out, catalogue.memberships().as_slice())?;
-    push_tables(alloc, out, catalogue.tables(), store)?;
-    let free = least_free_id(catalogue.tables()).unwrap_or(0);
-    writeln!(out, "least free number: {free}")?;
-    Ok(())
-}
-
-/// Appends the roles.
-pub fn push_roles(out: &mut String, roles: &[Role]) -> Result<(), AllocError> {
-    for role in roles {
-        push_role(out, role)?;
+    put_roles(out, catalogue.roles());
+    for membership in catalogue.memberships().as_slice() {
+        put_membership(out, membership);
     }
+    put_tables(alloc, out, catalogue.tables(), store)?;
+    let free = least_free_id(catalogue.tables()).unwrap_or(0);
+    out.put_number("least free number: ", free as i128);
+    out.put("\n");
     Ok(())
 }
 
-/// Appends a role with its attributes.
-pub fn push_role(out: &mut String, role: &Role) -> Result<(), AllocError> {
-    let name = role.name.as_str();
+/// Tells the roles.
+pub fn put_roles(out: &mut Told, roles: &[Role]) {
+    for role in roles {
+        put_role(out, role);
+    }
+}
+
+/// Tells a role with its attributes.
+pub fn put_role(out: &mut Told, role: &Role) {
+    out.put_name("role ", &role.name);
     let superuser = words_if(role.attributes.superuser, " SUPERUSER");
     let login = words_if(role.attributes.login, " LOGIN");
     let bypass = words_if(role.attributes.bypass_rls, " BYPASSRLS");
-    writeln!(out, "role {name}{superuser}{login}{bypass}")
+    out.put_line(&[superuser, login, bypass]);
 }
 
-fn push_memberships(out: &mut String, memberships: &[Membership]) -> Result<(), AllocError> {
-    for membership in memberships {
-        push_membership(out, membership)?;
-    }
-    Ok(())
+/// Tells who is in which role.
+pub fn put_membership(out: &mut Told, membership: &Membership) {
+    out.put_name("", &membership.member);
+    out.put_name(" in ", &membership.role);
+    out.put_line(&[words_if(membership.admin, " WITH ADMIN OPTION")]);
 }
 
-/// Appends who is in which role.
-pub fn push_membership(out: &mut String, membership: &Membership) -> Result<(), AllocError> {
-    let member = membership.member.as_str();
-    let role = membership.role.as_str();
-    let admin = words_if(membership.admin, " WITH ADMIN OPTION");
-    writeln!(out, "{member} in {role}{admin}")
-}
-
-/// Appends the tables, each with its privilege descriptors, its policies and its rows.
-fn push_tables(
+/// Tells the tables, each with its privilege descriptors, its policies and its rows.
+fn put_tables(
     alloc: Global,
-    out: &mut String,
+    out: &mut Told,
     tables: &[TableDefinition],
     store: &mut MemStore,
 ) -> Result<(), Fault> {
     for table in tables {
-        push_table(out, table)?;
-        push_descriptors(out, table.descriptors())?;
-        push_policies(out, table.policies())?;
-        push_rows(alloc, out, table, store)?;
+        put_table(out, table);
+        put_descriptors(out, table.descriptors());
+        put_policies(out, table.policies());
+        put_rows(alloc, out, table, store)?;
     }
     Ok(())
 }
 
-/// Appends a table with its number, its owner, its columns, its key and its row security.
-pub fn push_table(out: &mut String, table: &TableDefinition) -> Result<(), AllocError> {
-    let id = table.id();
-    let name = table.name().as_str();
-    let owner = table.owner().as_str();
-    write!(out, "table {id} {name} of {owner}:")?;
-    push_columns(out, "", table.columns().as_slice(), ",")?;
-    push_key(out, " key", table.columns().key())?;
+/// Tells a table with its number, its owner, its columns, its key and its row security.
+pub fn put_table(out: &mut Told, table: &TableDefinition) {
+    out.put_number("table ", table.id() as i128);
+    out.put_name(" ", table.name());
+    out.put_name(" of ", table.owner());
+    out.put(":");
+    put_columns(out, "", table.columns().as_slice(), ",");
+    put_key(out, " key", table.columns().key());
     let enabled = words_if(table.row_security(), " ENABLED");
     let forced = words_if(table.forced(), " FORCED");
-    writeln!(out, "{enabled}{forced}")
+    out.put_line(&[enabled, forced]);
 }
 
-/// Appends the columns, each between what stands before and after it.
-pub fn push_columns(
-    out: &mut String,
-    before: &str,
-    columns: &[Column],
-    after: &str,
-) -> Result<(), AllocError> {
+/// Tells the columns, each between what stands before and after it.
+pub fn put_columns(out: &mut Told, before: &str, columns: &[Column], after: &str) {
     for column in columns {
-        let name = column.name.as_str();
+        out.put(before);
+        out.put_name(" ", &column.name);
         let column_type = type_word(column.column_type);
         let not_null = words_if(column.not_null, " NOT NULL");
-        write!(out, "{before} {name} {column_type}{not_null}{after}")?;
+        out.put_all(&[" ", column_type, not_null]);
+        out.put(after);
     }
-    Ok(())
 }
 
-/// Appends the indices of a key after a word.
-pub fn push_key(out: &mut String, before: &str, key: &[usize]) -> Result<(), AllocError> {
-    out.push_str(before)?;
+/// Tells the indices of a key after a word.
+pub fn put_key(out: &mut Told, before: &str, key: &[usize]) {
+    out.put(before);
     for index in key {
-        write!(out, " {index}")?;
+        out.put_number(" ", *index as i128);
     }
-    Ok(())
 }
 
-/// Appends who granted what to whom.
-fn push_descriptors(out: &mut String, descriptors: &[Descriptor]) -> Result<(), AllocError> {
+/// Tells who granted what to whom.
+fn put_descriptors(out: &mut Told, descriptors: &[Descriptor]) {
     for descriptor in descriptors {
-        let grantor = grantor_word(&descriptor.grantor);
-        let action = action_word(descriptor.action);
-        let table = descriptor.table.as_str();
-        write!(out, "{grantor} grants {action}")?;
+        out.put(grantor_word(&descriptor.grantor));
+        out.put_all(&[" grants ", action_word(descriptor.action)]);
         if let Some(column) = descriptor.column {
-            write!(out, " (column {column})")?;
+            out.put_number(" (column ", column as i128);
+            out.put(")");
         }
-        write!(out, " ON {table}")?;
-        let grantee = grantee_word(&descriptor.grantee);
-        let option = words_if(descriptor.grantable, " WITH GRANT OPTION");
-        writeln!(out, " TO {grantee}{option}")?;
+        out.put_name(" ON ", &descriptor.table);
+        out.put_all(&[" TO ", grantee_word(&descriptor.grantee)]);
+        out.put_line(&[words_if(descriptor.grantable, " WITH GRANT OPTION")]);
     }
-    Ok(())
 }
 
-fn push_policies(out: &mut String, policies: &[CataloguePolicy]) -> Result<(), AllocError> {
+fn put_policies(out: &mut Told, policies: &[CataloguePolicy]) {
     for policy in policies {
-        push_policy(out, &policy.policy)?;
+        put_policy(out, &policy.policy);
     }
-    Ok(())
 }
 
-/// Appends a policy with its conditions.
-pub fn push_policy(out: &mut String, policy: &Policy) -> Result<(), AllocError> {
-    let name = policy.name.as_str();
-    let table = policy.table.as_str();
+/// Tells a policy with its conditions.
+pub fn put_policy(out: &mut Told, policy: &Policy) {
+    out.put_name("policy ", &policy.name);
+    out.put_name(" ON ", &policy.table);
     let kind = kind_word(policy.kind);
-    let command = command_word(policy.command);
-    write!(out, "policy {name} ON {table} {kind} FOR {command} TO")?;
-    push_policy_roles(out, &policy.roles)?;
-    push_clause(out, "USING", &policy.using)?;
-    push_clause(out, "CHECK", &policy.check)?;
-    out.push_str("\n")
+    out.put_all(&[" ", kind, " FOR ", command_word(policy.command), " TO"]);
+    put_policy_roles(out, &policy.roles);
+    put_clause(out, " USING [", &policy.using);
+    put_clause(out, " CHECK [", &policy.check);
+    out.put("\n");
 }
 
-/// Appends the roles of a policy.
-fn push_policy_roles(out: &mut String, roles: &PolicyRoles) -> Result<(), AllocError> {
+/// Tells the roles of a policy.
+fn put_policy_roles(out: &mut Told, roles: &PolicyRoles) {
     match roles {
-        PolicyRoles::Public => out.push_str(" PUBLIC"),
-        PolicyRoles::Only(names) => push_names(out, names.as_slice()),
+        PolicyRoles::Public => out.put(" PUBLIC"),
+        PolicyRoles::Only(names) => {
+            for name in names.as_slice() {
+                out.put_name(" ", name);
+            }
+        }
     }
 }
 
-fn push_names(out: &mut String, names: &[Name]) -> Result<(), AllocError> {
-    for name in names {
-        push_word(out, name.as_str())?;
+/// Tells a condition, if there is one: its text up to a bracket, and what the text is read as.
+fn put_clause(out: &mut Told, before: &str, clause: &Option<PolicyClause>) {
+    if let Some(clause) = clause {
+        out.put_all(&[before, clause.text.as_str(), "] as"]);
+        put_expression(out, clause.expression.tree());
     }
-    Ok(())
-}
-
-/// Appends a condition, if there is one: its text, and what the text is read as.
-fn push_clause(
-    out: &mut String,
-    word: &str,
-    clause: &Option<PolicyClause>,
-) -> Result<(), AllocError> {
-    let Some(clause) = clause else {
-        return Ok(());
-    };
-    let text = clause.text.as_str();
-    write!(out, " {word} [{text}] as")?;
-    push_expression(out, clause.expression.tree())
 }

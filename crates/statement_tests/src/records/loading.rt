@@ -1,7 +1,8 @@
 //! What is loaded from the records of a store.
 
 use crate::names::name_of;
-use crate::records::database::push_database;
+use crate::records::database::put_database;
+use crate::told::Told;
 use anyhow::Result;
 use catalogue::definitions::Catalogue;
 use catalogue_loading::load;
@@ -64,41 +65,29 @@ pub fn put(changes: &mut Batch, key: &[u8], value: &[u8]) -> Result<bool, AllocE
     Ok(true)
 }
 
-/// Appends the database of the records with changes, a line for each item, where they are whole.
-pub fn tell(alloc: Global, changes: &Batch, out: &mut String) -> Result<Condition> {
+/// Tells the database of the records with changes, a line for each item, where they are whole.
+pub fn tell(alloc: Global, changes: &Batch, out: &mut Told) -> Result<Condition> {
     let mut store = store_with(alloc, changes)?;
-    let condition = tell_store(alloc, &mut store, out)?;
-    Ok(condition)
+    Ok(tell_store(alloc, &mut store, out)?)
 }
 
-/// Appends the database of the records with changes, and with another record, or none, in place of the one of a key.
+/// Tells the database of the records with changes, and with another record, or none, in place of the one of a key.
 pub fn tell_other(
     alloc: Global,
     changes: &Batch,
     key: &[u8],
     other: Option<&Entry>,
-    out: &mut String,
+    out: &mut Told,
 ) -> Result<Condition> {
     let mut changes = changes.try_copy(alloc)?;
-    tell_replaced(alloc, &mut changes, key, other, out)
-}
-
-/// Puts another record, or none, in place of the one of a key, and appends the database of the records.
-fn tell_replaced(
-    alloc: Global,
-    changes: &mut Batch,
-    key: &[u8],
-    other: Option<&Entry>,
-    out: &mut String,
-) -> Result<Condition> {
-    if !replace(changes, key, other)? {
+    if !replace(&mut changes, key, other)? {
         return Ok(Condition::Damaged);
     }
-    tell(alloc, changes, out)
+    tell(alloc, &changes, out)
 }
 
-/// Appends the database that a store holds, where it holds one.
-fn tell_store(alloc: Global, store: &mut MemStore, out: &mut String) -> Result<Condition, Fault> {
+/// Tells the database that a store holds, where it holds one.
+fn tell_store(alloc: Global, store: &mut MemStore, out: &mut Told) -> Result<Condition, Fault> {
     match load_twice(alloc, store) {
         Ok(catalogue) => tell_rows(alloc, store, &catalogue, out),
         Err(Fault::Damaged) => Ok(Condition::Damaged),
@@ -112,16 +101,16 @@ fn load_twice(alloc: Global, store: &mut MemStore) -> Result<Catalogue, Fault> {
     load(alloc, store)
 }
 
-/// Appends the database that a store holds, of which this is the catalogue, where its rows are whole.
+/// Tells the database that a store holds, of which this is the catalogue, where its rows are whole.
 fn tell_rows(
     alloc: Global,
     store: &mut MemStore,
     catalogue: &Catalogue,
-    out: &mut String,
+    out: &mut Told,
 ) -> Result<Condition, Fault> {
     match check_rows(alloc, store, catalogue) {
         Ok(()) => {
-            push_database(alloc, out, catalogue, store)?;
+            put_database(alloc, out, catalogue, store)?;
             Ok(Condition::Whole)
         }
         Err(Fault::Damaged) => Ok(Condition::DamagedRows),

@@ -2,7 +2,7 @@
 //! `N*XX` is N times the byte XX.
 
 use anyhow::Result;
-use std::alloc::{AllocError, Global};
+use std::alloc::Global;
 use store::Entry;
 
 /// The record of a key and a value, which a slash parts. With no slash the value is empty.
@@ -17,18 +17,13 @@ pub fn record_of(alloc: Global, text: &str) -> Result<Entry> {
 fn bytes_of(alloc: Global, text: &str) -> Result<Vec<u8>> {
     let mut out = Vec::new(alloc);
     for (at, part) in text.split('\'').enumerate() {
-        push_part(alloc, &mut out, part, at % 2 == 1)?;
+        if at % 2 == 1 {
+            out.extend_from_slice(part.as_bytes())?;
+        } else {
+            push_groups(alloc, &mut out, part)?;
+        }
     }
     Ok(out)
-}
-
-/// Appends a text, or else groups of digits.
-fn push_part(alloc: Global, out: &mut Vec<u8>, part: &str, is_text: bool) -> Result<()> {
-    if is_text {
-        out.extend_from_slice(part.as_bytes())?;
-        return Ok(());
-    }
-    push_groups(alloc, out, part)
 }
 
 /// Appends groups of digits with spaces between them.
@@ -43,14 +38,8 @@ fn push_groups(alloc: Global, out: &mut Vec<u8>, groups: &str) -> Result<()> {
 /// Appends the bytes of digits so many times.
 fn push_digits(alloc: Global, out: &mut Vec<u8>, count: usize, digits: &str) -> Result<()> {
     let bytes = hex::decode(alloc, digits)?;
-    push_times(out, count, bytes.as_slice())?;
-    Ok(())
-}
-
-/// Appends bytes so many times.
-fn push_times(out: &mut Vec<u8>, count: usize, bytes: &[u8]) -> Result<(), AllocError> {
     for _ in 0..count {
-        out.extend_from_slice(bytes)?;
+        out.extend_from_slice(bytes.as_slice())?;
     }
     Ok(())
 }

@@ -1,6 +1,7 @@
 //! Rows in words, each with the bytes that it is written as.
 
-use crate::records::expression::push_value;
+use crate::told::Told;
+use crate::values::put_value;
 use catalogue::table::TableDefinition;
 use row_codec::{RowRef, encode_key, encode_row, push_row_prefix, view};
 use sql_ast::columns::Columns;
@@ -13,15 +14,23 @@ use store::{Cursor, Fault, MAX_VALUE_LENGTH, MemStore};
 /// How many bytes of a row's key are not its own: those of its kind and of the number of its table.
 const PREFIX_LENGTH: usize = 5;
 
-/// Appends the rows of a table in a store.
-pub fn push_rows(
+/// Tells the rows of a table in a store.
+pub fn put_rows(
     alloc: Global,
-    out: &mut String,
+    out: &mut Told,
     table: &TableDefinition,
     store: &mut MemStore,
 ) -> Result<(), Fault> {
     let mut cursor = cursor_over(alloc, table)?;
-    push_rows_from(alloc, out, table, store, &mut cursor)
+    for _ in 0..u64::MAX {
+        if !cursor.advance(store)? {
+            return Ok(());
+        }
+        let record = cursor.entry();
+        let key = record.key().get(PREFIX_LENGTH..).unwrap_or(&[]);
+        put_row(alloc, out, table, key, record.value())?;
+    }
+    Ok(())
 }
 
 /// A cursor before the records of the rows of a table.
@@ -31,38 +40,22 @@ fn cursor_over(alloc: Global, table: &TableDefinition) -> Result<Cursor, AllocEr
     Cursor::over(alloc, prefix.as_slice())
 }
 
-/// Appends the rows of a table to which a cursor comes.
-fn push_rows_from(
+/// Tells the row of a table that a key without the number of the table and a value spell, or that they spell none.
+pub fn put_row(
     alloc: Global,
-    out: &mut String,
-    table: &TableDefinition,
-    store: &mut MemStore,
-    cursor: &mut Cursor,
-) -> Result<(), Fault> {
-    for _ in 0..u64::MAX {
-        if !cursor.advance(store)? {
-            return Ok(());
-        }
-        let record = cursor.entry();
-        let key = record.key().get(PREFIX_LENGTH..).unwrap_or(&[]);
-        push_row(alloc, out, table, key, record.value())?;
-    }
-    Ok(())
-}
-
-/// Appends the row of a table that a key without the number of the table and a value spell, or that they spell none.
-pub fn push_row(
-    alloc: Global,
-    out: &mut String,
+    out: &mut Told,
     table: &TableDefinition,
     key: &[u8],
     value: &[u8],
 ) -> Result<(), AllocError> {
     let Some(row) = view(table.columns(), key, value) else {
-        return writeln!(out, "no row");
+        out.put("no row\n");
+        return Ok(());
     };
     let values = values_of(alloc, &row, table.columns().len())?;
-    push_values(alloc, out, table, values.as_slice())
+    put_values(out, table, values.as_slice());
+    put_key(alloc, out, table, values.as_slice())?;
+    put_others(alloc, out, table.columns(), values.as_slice())
 }
 
 /// The values of a row of so many columns.
@@ -74,69 +67,46 @@ fn values_of(alloc: Global, row: &RowRef<'_>, width: usize) -> Result<Vec<Value>
     Ok(values)
 }
 
-/// Appends the row of a table that has these values, and the bytes that it is written as.
-fn push_values(
-    alloc: Global,
-    out: &mut String,
-    table: &TableDefinition,
-    values: &[Value],
-) -> Result<(), AllocError> {
-    let name = table.name().as_str();
-    write!(out, "row of {name}:")?;
-    push_each(out, values)?;
-    push_key(alloc, out, table, values)?;
-    push_others(alloc, out, table.columns(), values)
-}
-
-fn push_key(
-    alloc: Global,
-    out: &mut String,
-    table: &TableDefinition,
-    values: &[Value],
-) -> Result<(), AllocError> {
-    let key = written_key(alloc, table, values)?;
-    write!(out, " as {key}")
-}
-
-fn push_others(
-    alloc: Global,
-    out: &mut String,
-    columns: &Columns,
-    values: &[Value],
-) -> Result<(), AllocError> {
-    let others = written_others(alloc, columns, values)?;
-    writeln!(out, "/{others}")
-}
-
-fn push_each(out: &mut String, values: &[Value]) -> Result<(), AllocError> {
+/// Tells the row of a table that has these values.
+fn put_values(out: &mut Told, table: &TableDefinition, values: &[Value]) {
+    out.put_name("row of ", table.name());
+    out.put(":");
     for value in values {
-        push_value(out, value.as_ref())?;
+        out.put(" ");
+        put_value(out, value.as_ref());
     }
-    Ok(())
 }
 
-/// The key of the record of a row, in hexadecimal digits.
-fn written_key(
+/// Tells the key of the record of a row.
+fn put_key(
     alloc: Global,
+    out: &mut Told,
     table: &TableDefinition,
     values: &[Value],
-) -> Result<String, AllocError> {
+) -> Result<(), AllocError> {
     let mut key = Vec::new(alloc);
     push_row_prefix(&mut key, table.id())?;
     encode_key(table.columns(), values, &mut key)?;
-    hex::encode(alloc, key.as_slice())
+    out.put(" as ");
+    out.put_bytes(key.as_slice());
+    Ok(())
 }
 
-/// The value of the record of a row, in hexadecimal digits.
-fn written_others(
+/// Tells the value of the record of a row, and ends its line.
+fn put_others(
     alloc: Global,
+    out: &mut Told,
     columns: &Columns,
     values: &[Value],
-) -> Result<String, AllocError> {
+) -> Result<(), AllocError> {
     if record_size(columns, values) > MAX_VALUE_LENGTH {
-        return String::from_str(alloc, "too long");
+        out.put("/too long\n");
+        return Ok(());
     }
     let mut others = Vec::new(alloc);
     encode_row(columns, values, &mut others)?;
-    hex::encode(alloc, others.as_slice())
+    out.put("/");
+    out.put_bytes(others.as_slice());
+    out.put("\n");
+    Ok(())
 }

@@ -1,34 +1,34 @@
 //! Where statements look for rows.
 
+use crate::told::Told;
 use catalogue::definitions::Catalogue;
 use expressions::eval::Users;
 use expressions::types::Typed;
 use key_ranges::KeyRange;
 use planner::{SelectPlan, Source, plan_delete, plan_select, plan_update};
-use row_statements::{RangedSource, range_where, ranged};
+use row_statements::{range_where, ranged};
 use sql_ast::statement::{Delete, RowStatement, Select, Update};
 use sql_types::name::Name;
 use sql_types::state::Refusal;
-use std::alloc::{AllocError, Global};
+use std::alloc::Global;
 
-/// Appends the tables of a statement of this role, each with the keys among which its rows are
+/// Tells the tables of a statement of this role, each with the keys among which its rows are
 /// looked for, or the code of its refusal. INSERT looks for none.
-pub fn looked_for(
+pub fn put_looked_for(
     alloc: Global,
     catalogue: &Catalogue,
     role: &Name,
     statement: &RowStatement,
-    out: &mut String,
-) -> Result<(), AllocError> {
-    let appended = match statement {
+    out: &mut Told,
+) {
+    let told = match statement {
         RowStatement::Select(s) => select_looks(alloc, catalogue, role, s, out),
         RowStatement::Update(s) => update_looks(alloc, catalogue, role, s, out),
         RowStatement::Delete(s) => delete_looks(alloc, catalogue, role, s, out),
         RowStatement::Insert(_) => Ok(()),
     };
-    match appended {
-        Ok(()) => Ok(()),
-        Err(refusal) => out.push_str(refusal.0.code()),
+    if let Err(refusal) = told {
+        out.put(refusal.0.code());
     }
 }
 
@@ -37,7 +37,7 @@ fn select_looks(
     catalogue: &Catalogue,
     role: &Name,
     statement: &Select,
-    out: &mut String,
+    out: &mut Told,
 ) -> Result<(), Refusal> {
     let plan = plan_select(alloc, catalogue, role, statement)?;
     all_look(alloc, role, &plan, out)
@@ -47,17 +47,13 @@ fn all_look(
     alloc: Global,
     role: &Name,
     plan: &SelectPlan<'_>,
-    out: &mut String,
+    out: &mut Told,
 ) -> Result<(), Refusal> {
     let users = users_of(role, plan.roles.names());
     let conditions = plan.query.conditions.as_slice();
     let tables = ranged(alloc, plan.sources.as_slice(), conditions, &users)?;
-    push_ranges(out, tables.as_slice())
-}
-
-fn push_ranges(out: &mut String, tables: &[RangedSource<'_>]) -> Result<(), Refusal> {
-    for table in tables {
-        push_range(out, table.source, &table.range)?;
+    for table in tables.as_slice() {
+        put_range(out, table.source, &table.range);
     }
     Ok(())
 }
@@ -67,7 +63,7 @@ fn update_looks(
     catalogue: &Catalogue,
     role: &Name,
     statement: &Update,
-    out: &mut String,
+    out: &mut Told,
 ) -> Result<(), Refusal> {
     let plan = plan_update(alloc, catalogue, role, statement)?;
     let users = users_of(role, plan.roles.names());
@@ -79,7 +75,7 @@ fn delete_looks(
     catalogue: &Catalogue,
     role: &Name,
     statement: &Delete,
-    out: &mut String,
+    out: &mut Told,
 ) -> Result<(), Refusal> {
     let plan = plan_delete(alloc, catalogue, role, statement)?;
     let users = users_of(role, plan.roles.names());
@@ -91,10 +87,11 @@ fn one_looks(
     users: &Users<'_>,
     table: &Source<'_>,
     condition: Option<&Typed>,
-    out: &mut String,
+    out: &mut Told,
 ) -> Result<(), Refusal> {
     let range = range_where(alloc, table, condition, users)?;
-    push_range(out, table, &range)
+    put_range(out, table, &range);
+    Ok(())
 }
 
 fn users_of<'a>(role: &'a Name, roles: &'a [&'a str]) -> Users<'a> {
@@ -105,24 +102,14 @@ fn users_of<'a>(role: &'a Name, roles: &'a [&'a str]) -> Users<'a> {
     }
 }
 
-fn push_range(
-    out: &mut String,
-    table: &Source<'_>,
-    range: &Option<KeyRange>,
-) -> Result<(), Refusal> {
+fn put_range(out: &mut Told, table: &Source<'_>, range: &Option<KeyRange>) {
     if !out.is_empty() {
-        out.push_str(", ")?;
+        out.put(", ");
     }
-    let name = table.table.name().as_str();
-    let keys = keys_of(range);
-    write!(out, "{name}: {keys}")?;
-    Ok(())
-}
-
-fn keys_of(range: &Option<KeyRange>) -> &'static str {
-    match range {
-        Some(KeyRange::Point(_)) => "one key",
-        Some(KeyRange::Span { .. }) => "a span of keys",
-        None => "all keys",
-    }
+    let keys = match range {
+        Some(KeyRange::Point(_)) => ": one key",
+        Some(KeyRange::Span { .. }) => ": a span of keys",
+        None => ": all keys",
+    };
+    out.put_all(&[table.table.name().as_str(), keys]);
 }

@@ -1,64 +1,41 @@
 //! Texts in which some characters are written as others.
 
-use std::alloc::{AllocError, Global};
+use crate::told::Told;
 
-/// The text that a line writes: `{N*X}` is N times X, and a backslash with a letter one character.
-pub fn written_out(alloc: Global, line: &str) -> Result<String, AllocError> {
-    let mut out = String::new(alloc);
-    push_written_out(&mut out, line)?;
-    Ok(out)
-}
-
-fn push_written_out(out: &mut String, line: &str) -> Result<(), AllocError> {
+/// Tells the text that a line writes: `{N*X}` is N times X, and a backslash with a letter one character.
+pub fn put_written_out(out: &mut Told, line: &str) {
     for (at, part) in line.split('{').enumerate() {
         match part.split_once('}') {
-            Some((repeated, rest)) if at > 0 => push_braces(out, repeated, rest)?,
-            _ => push_plain(out, part)?,
+            Some((repeated, rest)) if at > 0 => {
+                put_repeated(out, repeated);
+                put_plain(out, rest);
+            }
+            _ => put_plain(out, part),
         }
     }
-    Ok(())
 }
 
-/// Appends what stands between braces, and what stands after them.
-fn push_braces(out: &mut String, repeated: &str, rest: &str) -> Result<(), AllocError> {
-    push_repeated(out, repeated)?;
-    push_plain(out, rest)
-}
-
-/// Appends N times X for `N*X`, and nothing where there is no such number.
-fn push_repeated(out: &mut String, repeated: &str) -> Result<(), AllocError> {
-    match repeated.split_once('*') {
-        Some((count, text)) => push_times(out, count.parse::<u32>().unwrap_or(0), text),
-        None => Ok(()),
+/// Tells N times X for `N*X`, and nothing where there is no such number.
+fn put_repeated(out: &mut Told, repeated: &str) {
+    let (count, text) = repeated.split_once('*').unwrap_or(("", repeated));
+    for _ in 0..count.parse::<u32>().unwrap_or(0) {
+        put_plain(out, text);
     }
 }
 
-fn push_times(out: &mut String, count: u32, text: &str) -> Result<(), AllocError> {
-    for _ in 0..count {
-        push_plain(out, text)?;
-    }
-    Ok(())
-}
-
-/// Appends a text in which a backslash and a letter stand for one character.
-fn push_plain(out: &mut String, text: &str) -> Result<(), AllocError> {
-    for (at, part) in text.split('\\').enumerate() {
-        if at == 0 {
-            out.push_str(part)?;
+/// Tells a text in which a backslash and a letter stand for one character.
+fn put_plain(out: &mut Told, text: &str) {
+    let mut is_escaped = false;
+    for letter in text.chars() {
+        if is_escaped {
+            out.put_char(meant(letter));
+            is_escaped = false;
+        } else if letter == '\\' {
+            is_escaped = true;
         } else {
-            push_escape(out, part)?;
+            out.put_char(letter);
         }
     }
-    Ok(())
-}
-
-/// Appends the character that the first letter stands for, and the rest.
-fn push_escape(out: &mut String, part: &str) -> Result<(), AllocError> {
-    let mut letters = part.chars();
-    if let Some(letter) = letters.next() {
-        out.push(meant(letter))?;
-    }
-    out.push_str(letters.as_str())
 }
 
 /// The character that a letter after a backslash stands for.
