@@ -22,12 +22,7 @@ pub fn sent_back(
 ) -> io::Result<String> {
     let mut bytes = Vec::new(alloc);
     let served = serve_client(rt, alloc, store, lines, &mut bytes)?;
-    told_of(alloc, bytes.as_slice(), served)
-}
-
-/// The text of frames, with a last line where the listener did not serve the one connection.
-fn told_of(alloc: Global, bytes: &[u8], served: Served) -> io::Result<String> {
-    let mut text = text_of_frames(alloc, bytes)?;
+    let mut text = text_of_frames(alloc, bytes.as_slice())?;
     if served != Served::Done {
         writeln!(text, "{served:?}")?;
     }
@@ -45,7 +40,9 @@ fn serve_client(
     let listener = TcpListener::bind(rt, SocketAddr::from((Ipv4Addr::LOCALHOST, 0)))?;
     let mut client = sending_client(rt, alloc, listener.local_addr()?, lines)?;
     let mut listener = SystemListener::new(rt, alloc, listener, None);
-    serve_and_read(alloc, store, &mut listener, &mut client, bytes)
+    let served = serve_one(alloc, store, &mut listener)?;
+    client.read_to_end(bytes)?;
+    Ok(served)
 }
 
 /// A client that is connected to an address, and has sent the bytes of each line and then no more.
@@ -67,19 +64,6 @@ fn send_lines(alloc: Global, lines: &str, client: &mut TcpStream) -> io::Result<
         client.write_all(bytes_of(alloc, line)?.as_slice())?;
     }
     Ok(())
-}
-
-/// Serves one connection of a listener over a new database in a store, and adds what its client is sent back.
-fn serve_and_read<L: Listen>(
-    alloc: Global,
-    store: StoreKind,
-    listener: &mut L,
-    client: &mut TcpStream,
-    bytes: &mut Vec<u8>,
-) -> io::Result<Served> {
-    let served = serve_one(alloc, store, listener)?;
-    client.read_to_end(bytes)?;
-    Ok(served)
 }
 
 /// Serves one connection of a listener over a new database in a store.

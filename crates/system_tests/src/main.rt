@@ -28,6 +28,7 @@ mod events;
 mod files;
 mod frames;
 mod hindered_orders;
+mod lines;
 mod listeners;
 mod long_scripts;
 mod opened_images;

@@ -12,60 +12,41 @@ use crate::events::events_of;
 use crate::files::{names_of, text_of};
 use crate::stops::fault::TestFault;
 use crate::stops::images::Image;
-use crate::stops::servers::{DeviceServer, find_on, open_and_end, open_device};
-use crate::stops::talks::texts_of;
+use crate::stops::servers::{CACHE_PAGES, DeviceServer, find_on, open_and_end, open_device};
+use crate::stops::talks::text_answered;
 use sector_device::MemDevice;
-use sql_types::event::Event;
 use std::alloc::{AllocError, Global};
 use std::io;
 
 /// What is printed of the device of which the file `NAME.image` tells.
 pub fn printed_of(rt: &HostRuntime, alloc: Global, name: &str) -> io::Result<String> {
     let image = DeviceImage::read(rt, alloc, name)?;
-    match opened_twice(alloc, &image) {
-        Ok(printed) => Ok(printed),
+    let mut out = String::new(alloc);
+    match tell_openings(alloc, &image, &mut out) {
+        Ok(()) => Ok(out),
         Err(fault) => Ok(format!(in alloc; "{fault:?}\n")?),
     }
 }
 
-/// What is printed of a device.
-fn opened_twice(alloc: Global, image: &DeviceImage) -> Result<String, TestFault> {
-    let mut out = String::new(alloc);
-    tell_openings(alloc, image, &mut out)?;
-    Ok(out)
-}
-
 /// Opens a device twice, and tells of it and of what it then holds.
-fn tell_openings(alloc: Global, image: &DeviceImage, out: &mut String) -> Result<(), TestFault> {
-    let (after, is_opened) = open_second(alloc, image.bytes.as_slice(), out)?;
-    if is_opened {
-        tell_contents(alloc, &after, out)?;
-        tell_answers(alloc, &after, image.script.as_str(), out)?;
+fn tell_openings(alloc: Global, told: &DeviceImage, out: &mut String) -> Result<(), TestFault> {
+    let mut image = Image::of_bytes(alloc, told.bytes.as_slice())?;
+    let _was_opened = open_once(alloc, &mut image, out)?;
+    if open_once(alloc, &mut image, out)? {
+        tell_contents(alloc, &image, out)?;
+        tell_answers(alloc, &image, told.script.as_str(), out)?;
     }
     Ok(())
 }
 
-/// Opens a server on a device that has these bytes, and tells of it. Answers what the device then holds.
-fn open_first(alloc: Global, bytes: &[u8], out: &mut String) -> Result<Image, TestFault> {
-    let image = Image::of_bytes(alloc, bytes)?;
-    let (after, _) = open_once(alloc, &image, out)?;
-    Ok(after)
-}
-
-/// Opens a server twice on a device that has these bytes, and tells of it. Answers what the device then holds, and whether the
-/// second server was opened.
-fn open_second(alloc: Global, bytes: &[u8], out: &mut String) -> Result<(Image, bool), TestFault> {
-    let image = open_first(alloc, bytes, out)?;
-    open_once(alloc, &image, out)
-}
-
-/// Opens a server on a device that holds this, and tells of it. Answers what the device then holds, and whether a server was
-/// opened.
-fn open_once(alloc: Global, image: &Image, out: &mut String) -> Result<(Image, bool), TestFault> {
-    let (device, refusal) = open_and_end(alloc, image.running(alloc)?);
+/// Opens a server on a device that holds this, and tells of it. The image is then what the device holds. Answers whether a server
+/// was opened.
+fn open_once(alloc: Global, image: &mut Image, out: &mut String) -> Result<bool, TestFault> {
+    let (device, refusal) = open_and_end(alloc, image.running(alloc)?, CACHE_PAGES);
     let after = Image::of(alloc, device)?;
     tell_opening(refusal, after.has_content_of(image), out)?;
-    Ok((after, refusal.is_none()))
+    *image = after;
+    Ok(refusal.is_none())
 }
 
 /// Tells what an opening came to, and whether it left the same bytes.
@@ -115,22 +96,12 @@ fn tell_answers(
     script: &str,
     out: &mut String,
 ) -> Result<(), TestFault> {
-    for text in &answers_on(alloc, image, script)? {
-        out.push_str(text.as_str())?;
+    let events = events_of(alloc, script)?;
+    let mut server = open_device(alloc, image.running(alloc)?, CACHE_PAGES)?;
+    for event in &events {
+        out.push_str(text_answered(alloc, &mut server, event)?.as_str())?;
     }
     Ok(())
-}
-
-/// The texts of the answers of a server on a device that holds this to the lines of a script.
-fn answers_on(alloc: Global, image: &Image, script: &str) -> Result<Vec<String>, TestFault> {
-    let events = events_of(alloc, script)?;
-    texts_on(alloc, image, events.as_slice())
-}
-
-/// The texts of the answers of a server on a device that holds this to events.
-fn texts_on(alloc: Global, image: &Image, events: &[Event]) -> Result<Vec<String>, TestFault> {
-    let mut server = open_device(alloc, image.running(alloc)?)?;
-    texts_of(alloc, &mut server, events)
 }
 
 /// Opens each device of which a file of the folder tells that its openings are stopped, and once more where memory is refused.
@@ -138,35 +109,18 @@ fn texts_on(alloc: Global, image: &Image, events: &[Event]) -> Result<Vec<String
 /// refused: each that ends well prints the same.
 pub fn open_again(rt: &HostRuntime, alloc: Global) -> io::Result<()> {
     for name in &names_of(rt, alloc, ".image")? {
-        open_image_again(rt, alloc, name.as_str())?;
-    }
-    Ok(())
-}
-
-/// Opens the device of which the file `NAME.image` tells, if it tells that openings are stopped, and prints the line of it.
-fn open_image_again(rt: &HostRuntime, alloc: Global, name: &str) -> io::Result<()> {
-    let image = DeviceImage::read(rt, alloc, name)?;
-    if image.is_stopped {
-        print_as_expected(rt, alloc, name, image.bytes.as_slice())?;
+        let image = DeviceImage::read(rt, alloc, name.as_str())?;
+        if image.is_stopped {
+            print_as_expected(rt, alloc, name.as_str(), image.bytes.as_slice())?;
+        }
     }
     Ok(())
 }
 
 /// Opens a device with these bytes, and prints the line of it.
 fn print_as_expected(rt: &HostRuntime, alloc: Global, name: &str, bytes: &[u8]) -> io::Result<()> {
-    let expected = text_of(rt, alloc, name, ".opened")?;
-    print_again(rt, alloc, name, bytes, expected.as_str())
-}
-
-/// Opens a device as above, and prints the line of it.
-fn print_again(
-    rt: &HostRuntime,
-    alloc: Global,
-    name: &str,
-    bytes: &[u8],
-    expected: &str,
-) -> io::Result<()> {
-    let expected = expected.lines().nth(2).unwrap_or("");
+    let opened = text_of(rt, alloc, name, ".opened")?;
+    let expected = opened.as_str().lines().nth(2).unwrap_or("");
     match contents_at_last(alloc, bytes) {
         Ok(contents) if contents.as_str().trim_end() == expected => {
             println!(rt; "{name}: as expected")
@@ -177,27 +131,22 @@ fn print_again(
     }
 }
 
-/// What a device holds once it is opened, where memory is refused to one opening at most.
+/// What a device that has these bytes holds once it is opened, where memory is refused to one opening at most.
 fn contents_at_last(alloc: Global, bytes: &[u8]) -> Result<String, TestFault> {
-    let left = left_at_last(alloc, bytes)?;
+    let (device, refusal) = open_and_end(alloc, device_of(alloc, bytes)?, CACHE_PAGES);
+    let left = match refusal {
+        None => Image::of(alloc, device)?,
+        Some(fault) => {
+            if fault.is_memory() {
+                Image::of(alloc, open_device(alloc, device, CACHE_PAGES)?.end())?
+            } else {
+                return Err(fault);
+            }
+        }
+    };
     let mut out = String::new(alloc);
     tell_contents(alloc, &left, &mut out)?;
     Ok(out)
-}
-
-/// What a device that has these bytes holds once it is opened, where memory is refused to one opening at most.
-fn left_at_last(alloc: Global, bytes: &[u8]) -> Result<Image, TestFault> {
-    let (device, refusal) = open_and_end(alloc, device_of(alloc, bytes)?);
-    match refusal {
-        None => Image::of(alloc, device),
-        Some(fault) => {
-            if fault.is_memory() {
-                Image::of(alloc, open_device(alloc, device)?.end())
-            } else {
-                Err(fault)
-            }
-        }
-    }
 }
 
 /// A device that has these bytes, and zeros behind them.

@@ -13,12 +13,16 @@ pub fn report(
     differing: &mut u64,
 ) -> io::Result<()> {
     if expected == printed {
-        let count = count_answers(printed);
-        return println!(rt; "{what} {name}: {count} answers as expected");
+        return report_count(rt, what, name, count_answers(printed));
     }
     *differing = differing.saturating_add(1);
     print!(rt; "{what} {name}: a line differs: ")?;
     print_difference(rt, expected, printed)
+}
+
+/// Prints the line of what was run, where so many answers came as expected.
+pub fn report_count(rt: &HostRuntime, what: &str, name: &str, count: usize) -> io::Result<()> {
+    println!(rt; "{what} {name}: {count} answers as expected")
 }
 
 /// Prints the first line that is not the expected one, `none` where there are fewer.
@@ -31,12 +35,4 @@ fn print_difference(rt: &HostRuntime, expected: &str, printed: &str) -> io::Resu
         }
     }
     println!(rt; "more than expected is given")
-}
-
-/// Prints counts, each with the words that follow it.
-pub fn print_counts(rt: &HostRuntime, counts: &[(u64, &str)]) -> io::Result<()> {
-    for (count, words) in counts {
-        print!(rt; "{count}{words}")?;
-    }
-    Ok(())
 }

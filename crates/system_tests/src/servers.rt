@@ -1,12 +1,12 @@
 //! Servers over new databases. The functions that open a server and call it have no contract, so that those above are checked
 //! without a server's.
 
+use crate::answers::text_of_answers;
 use connections::listen::Listen;
 use connections::listener::{Served, serve_listener};
 use opening::{OpeningFault, Refused, open};
 use server::server::Server;
 use sessions::Decider;
-use sql_types::answer::Answer;
 use sql_types::event::Event;
 use statements::Statements;
 use std::alloc::Global;
@@ -35,14 +35,15 @@ pub fn open_server<S: Store + Drop>(alloc: Global, store: S) -> io::Result<Serve
     }
 }
 
-/// Gives a server events, and adds its answers.
-pub fn run_events<S: Store>(
+/// The texts of the answers of a server to events, one after the other.
+pub fn answered_by<S: Store>(
+    alloc: Global,
     server: &mut ServerOver<S>,
     events: &[Event],
-    answers: &mut Vec<Answer>,
-) -> io::Result<()> {
-    server.run(events, answers)?;
-    Ok(())
+) -> io::Result<String> {
+    let mut answers = Vec::new(alloc);
+    server.run(events, &mut answers)?;
+    text_of_answers(alloc, answers.as_slice())
 }
 
 /// Serves one connection of a listener over a store.

@@ -31,6 +31,7 @@ mod commits;
 mod copies;
 pub mod fault;
 pub mod images;
+mod kinds;
 mod openings;
 mod parts;
 mod places;
@@ -47,13 +48,14 @@ use crate::stops::commits::ScriptEvent;
 use crate::stops::copies::stop_copies;
 use crate::stops::fault::TestFault;
 use crate::stops::images::Image;
+use crate::stops::kinds::Kind;
 use crate::stops::openings::{Opening, hinder_migration};
 use crate::stops::parts::Parts;
-use crate::stops::places::TestPlace;
+use crate::stops::places::Step;
 use crate::stops::scripts::Script;
 use crate::stops::servers::{CACHE_PAGES, DeviceServer, open_new};
-use crate::stops::tallies::{Kind, Tests};
-use crate::stops::work::{Hindrance, hinder_each};
+use crate::stops::tallies::Tests;
+use crate::stops::work::hinder_each;
 use std::alloc::Global;
 use std::io;
 
@@ -94,6 +96,7 @@ pub fn try_stops(
         *differing = differing.saturating_add(1);
         println!(rt; "stops end early: {fault:?}")?;
     }
+    tests.close(rt)?;
     *differing = differing.saturating_add(tests.disagreements());
     tests.print_sums(rt)
 }
@@ -106,10 +109,12 @@ fn try_all(rt: &HostRuntime, alloc: Global, all: bool, tests: &mut Tests) -> Res
     for (name, part) in FAILING {
         fail_script(rt, alloc, name, tests.parts.step(part), tests)?;
     }
-    hinder_migrations(rt, alloc, all, tests)?;
+    for name in &names_of(rt, alloc, ".image")? {
+        hinder_image(rt, alloc, name.as_str(), all, tests)?;
+    }
     copy_last(rt, alloc, tests)?;
-    send_bad_frames(alloc, tests)?;
-    Ok(tests.close(rt, "bad frames")?)
+    send_bad_frames(alloc, tests);
+    Ok(())
 }
 
 /// The script in the file `NAME.stopped`.
@@ -131,7 +136,8 @@ fn stop_commits(
     for index in 0..script.talk.events.len() {
         if script.changes_map(index)? {
             if left == 0 {
-                stop_commit(rt, alloc, name, &script, index, tests)?;
+                stop_commit(alloc, name, &script, index, tests);
+                tests.close(rt)?;
                 left = every;
             }
             left = left.saturating_sub(1);
@@ -140,28 +146,25 @@ fn stop_commits(
     Ok(())
 }
 
-/// Stops the event of a script at an index, and prints the line of it.
-fn stop_commit(
-    rt: &HostRuntime,
-    alloc: Global,
-    name: &str,
-    script: &Script,
-    index: usize,
-    tests: &mut Tests,
-) -> Result<(), TestFault> {
+/// Stops the event of a script at an index, and adds the line of it.
+fn stop_commit(alloc: Global, name: &str, script: &Script, index: usize, tests: &mut Tests) {
     let event = ScriptEvent {
         script,
         index,
         cache: CACHE_PAGES,
     };
-    let place = TestPlace::after(index);
-    hinder_each(alloc, &event, Kind::Stops, Hindrance::Stop, place, tests)?;
-    print!(rt; "{name}: event {}: ", index.saturating_add(1))?;
-    tests.print_stops_and_openings(rt)?;
-    Ok(tests.close(rt, name)?)
+    tests.begin(Step::Events(index));
+    hinder_each(alloc, &event, Kind::Stops, tests);
+    tests.lines.put(name);
+    tests.lines.put(": event ");
+    tests
+        .lines
+        .put_number((index as u64).saturating_add(1), ": ");
+    tests.put_stops_and_openings();
 }
 
-/// Fails each call of the events of a script, if it has one, or of one of `every` of them, and each call of an opening at its end.
+/// Fails each call of the events of a script, or of one of `every` of them, and each call of an opening at its end. Prints the
+/// lines of it for each number of pages that the server keeps.
 fn fail_script(
     rt: &HostRuntime,
     alloc: Global,
@@ -170,61 +173,26 @@ fn fail_script(
     tests: &mut Tests,
 ) -> Result<(), TestFault> {
     let script = read_script(rt, alloc, name)?;
-    if script.talk.events.is_empty() {
-        return Ok(());
-    }
     for cache in CACHES {
-        fail_calls(alloc, &script, cache, every, tests)?;
-        print_failures(rt, alloc, name, cache, tests)?;
+        fail_events(alloc, &script, cache, every, tests);
+        fail_last_openings(alloc, &script, cache, tests)?;
+        tests.put_failures_and_openings(name, cache as u64);
+        tests.close(rt)?;
     }
     Ok(())
 }
 
-/// Fails each call of the events of a script, or of one of `every` of them, and each call of an opening at its end, of a server
-/// that keeps so many pages.
-fn fail_calls(
-    alloc: Global,
-    script: &Script,
-    cache: usize,
-    every: usize,
-    tests: &mut Tests,
-) -> Result<(), TestFault> {
-    fail_events(alloc, script, cache, every, tests)?;
-    fail_last_openings(alloc, script, cache, tests)
-}
-
-/// Prints the lines of the calls that failed, of a server that keeps so many pages.
-fn print_failures(
-    rt: &HostRuntime,
-    alloc: Global,
-    name: &str,
-    cache: usize,
-    tests: &mut Tests,
-) -> Result<(), TestFault> {
-    let place = format!(in alloc; "{name}: cache of {cache} pages: ")?;
-    tests.print_failures_and_openings(rt, place.as_str())?;
-    Ok(tests.close(rt, name)?)
-}
-
 /// Fails each call of the events of a script, or of one of `every` of them, of a server that keeps so many pages.
-fn fail_events(
-    alloc: Global,
-    script: &Script,
-    cache: usize,
-    every: usize,
-    tests: &mut Tests,
-) -> Result<(), TestFault> {
+fn fail_events(alloc: Global, script: &Script, cache: usize, every: usize, tests: &mut Tests) {
     for index in (0..script.talk.events.len()).step_by(every.max(1)) {
         let event = ScriptEvent {
             script,
             index,
             cache,
         };
-        let place = TestPlace::after(index);
-        let (kind, hindrance) = (Kind::Failures, Hindrance::Failure);
-        hinder_each(alloc, &event, kind, hindrance, place, tests)?;
+        tests.begin(Step::Events(index));
+        hinder_each(alloc, &event, Kind::Failures, tests);
     }
-    Ok(())
 }
 
 /// Fails each call of an opening after the last event of a script, by a server that keeps so many pages.
@@ -243,9 +211,9 @@ fn fail_last_openings(
         last,
         cache,
     };
-    let place = TestPlace::after(last);
-    let (kind, hindrance) = (Kind::Openings, Hindrance::Failure);
-    hinder_each(alloc, &opening, kind, hindrance, place, tests)
+    tests.begin(Step::Events(last));
+    hinder_each(alloc, &opening, Kind::Openings, tests);
+    Ok(())
 }
 
 /// What a device holds after all events of a script.
@@ -256,20 +224,8 @@ fn image_at_end(alloc: Global, script: &Script) -> Result<Image, TestFault> {
     Image::of(alloc, server.end())
 }
 
-/// Stops openings that migrate, fails calls of them, and stops copies of their databases.
-fn hinder_migrations(
-    rt: &HostRuntime,
-    alloc: Global,
-    all: bool,
-    tests: &mut Tests,
-) -> Result<(), TestFault> {
-    for name in &names_of(rt, alloc, ".image")? {
-        hinder_image(rt, alloc, name.as_str(), all, tests)?;
-    }
-    Ok(())
-}
-
-/// Stops and fails openings of the device of which the file `NAME.image` tells, if it tells that, and stops copies.
+/// Stops and fails openings of the device of which the file `NAME.image` tells, if it tells that, stops copies of its database,
+/// and prints the line of it.
 fn hinder_image(
     rt: &HostRuntime,
     alloc: Global,
@@ -277,46 +233,36 @@ fn hinder_image(
     all: bool,
     tests: &mut Tests,
 ) -> Result<(), TestFault> {
-    let image = DeviceImage::read(rt, alloc, name)?;
-    if image.is_stopped {
+    let told = DeviceImage::read(rt, alloc, name)?;
+    if told.is_stopped {
         tests.parts = Parts::new(all);
-        hinder_stopped(rt, alloc, name, image.bytes.as_slice(), tests)?;
+        hinder_bytes(alloc, name, told.bytes.as_slice(), tests)?;
+        tests.close(rt)?;
     }
     Ok(())
 }
 
-/// Stops openings that migrate a device with these bytes, fails calls of them, stops copies of its database, and prints the line.
-fn hinder_stopped(
-    rt: &HostRuntime,
+/// Stops and fails openings of a device that has these bytes, adds the line of it, and stops copies of its database.
+fn hinder_bytes(
     alloc: Global,
     name: &str,
     bytes: &[u8],
     tests: &mut Tests,
 ) -> Result<(), TestFault> {
-    hinder_migration(alloc, bytes, tests)?;
-    print!(rt; "{name}: migration: ")?;
-    tests.print_stops_and_openings(rt)?;
-    copy_bytes(alloc, bytes, tests)?;
-    Ok(tests.close(rt, name)?)
-}
-
-/// Stops copies of the database of a device with these bytes.
-fn copy_bytes(alloc: Global, bytes: &[u8], tests: &mut Tests) -> Result<(), TestFault> {
-    let source = Image::of_bytes(alloc, bytes)?;
-    stop_copies(alloc, &source, 1, tests)
+    let image = Image::of_bytes(alloc, bytes)?;
+    tests.begin(Step::Events(0));
+    hinder_migration(alloc, &image, tests)?;
+    tests.lines.put(name);
+    tests.lines.put(": migration: ");
+    tests.put_stops_and_openings();
+    stop_copies(alloc, &image, 1, tests)
 }
 
 /// Stops copies of the database at the end of a script.
 fn copy_last(rt: &HostRuntime, alloc: Global, tests: &mut Tests) -> Result<(), TestFault> {
     let (name, part) = COPIED;
-    let source = image_of_script(rt, alloc, name)?;
-    let every = tests.parts.step(part) as u64;
-    stop_copies(alloc, &source, every, tests)?;
-    Ok(tests.close(rt, name)?)
-}
-
-/// What a device holds after all events of the script in the file `NAME.stopped`.
-fn image_of_script(rt: &HostRuntime, alloc: Global, name: &str) -> Result<Image, TestFault> {
     let script = read_script(rt, alloc, name)?;
-    image_at_end(alloc, &script)
+    let source = image_at_end(alloc, &script)?;
+    tests.begin(Step::Events(script.talk.events.len()));
+    stop_copies(alloc, &source, tests.parts.step(part) as u64, tests)
 }

@@ -38,30 +38,13 @@ pub enum StoreKind {
 /// What a script prints over a new database whose one role is the superuser `ADMIN`: its answers, and where it does not end well
 /// the message and a line `status N`.
 pub fn printed_by(alloc: Global, store: StoreKind, script: &str) -> io::Result<String> {
-    let mut out = Vec::new(alloc);
-    run_and_tell(alloc, store, script, &mut out)?;
-    Ok(String::from_utf8_lossy(alloc, out.as_slice())?)
-}
-
-/// Runs a script over a new database, and then tells how it ended.
-fn run_and_tell(
-    alloc: Global,
-    store: StoreKind,
-    script: &str,
-    out: &mut Vec<u8>,
-) -> io::Result<()> {
-    let mut err = Vec::new(alloc);
-    let status = run_in(alloc, store, script, out, &mut err)?;
-    tell_ending(status, err.as_slice(), out)
-}
-
-/// Tells the message of an ending, and its exit status, where it is no good one.
-fn tell_ending(status: u8, err: &[u8], out: &mut Vec<u8>) -> io::Result<()> {
-    out.extend_from_slice(err)?;
+    let (mut out, mut err) = (Vec::new(alloc), Vec::new(alloc));
+    let status = run_in(alloc, store, script, &mut out, &mut err)?;
+    out.extend_from_slice(err.as_slice())?;
     if status != 0 {
         writeln!(out, "status {status}")?;
     }
-    Ok(())
+    Ok(String::from_utf8_lossy(alloc, out.as_slice())?)
 }
 
 /// Runs a script over a new database, and answers the exit status.
@@ -134,16 +117,11 @@ pub fn new_in_pages(alloc: Global, pages: u32) -> io::Result<PageStore<MemDevice
 
 /// A device of so many pages with a new database: the record of its one role, which is a superuser (1) and may log in (2).
 pub fn new_device(alloc: Global, pages: u32) -> io::Result<MemDevice> {
-    let mut device = MemDevice::new(alloc, pages.min(PAGES))?;
-    format_new(alloc, &mut device)?;
-    Ok(device)
-}
-
-/// Formats a device, with the record of the superuser.
-fn format_new(alloc: Global, device: &mut MemDevice) -> io::Result<()> {
     let mut first = Entry::new(alloc);
     first.set(b"\x01root", &[3])?;
-    format_with(alloc, device, &first)
+    let mut device = MemDevice::new(alloc, pages.min(PAGES))?;
+    format_with(alloc, &mut device, &first)?;
+    Ok(device)
 }
 
 /// Formats a device, where a record is its first.

@@ -5,7 +5,7 @@ use crate::answers::text_of_answers;
 use crate::events::{opening_of, statement_of};
 use crate::long_scripts::expanded;
 use crate::reports::report;
-use crate::servers::{ServerOver, open_server, run_events};
+use crate::servers::{ServerOver, answered_by, open_server};
 use crate::stores::{ADMIN, new_in_memory};
 use sql_types::answer::Answer;
 use sql_types::event::Event;
@@ -27,13 +27,7 @@ stopped: false
 /// Gives events that no script requests, and writes an answer that none is given. Prints a line for each, and counts those of
 /// which something else comes than is expected.
 pub fn check_unscripted(rt: &HostRuntime, alloc: Global, differing: &mut u64) -> io::Result<()> {
-    check_sessions(rt, alloc, differing)?;
-    check_largest_count(rt, alloc, differing)
-}
-
-/// Gives the events, and prints the line of them.
-fn check_sessions(rt: &HostRuntime, alloc: Global, differing: &mut u64) -> io::Result<()> {
-    let given = answered_in_memory(alloc)?;
+    let given = given_to_listed(alloc)?;
     report(
         rt,
         "at once",
@@ -41,11 +35,7 @@ fn check_sessions(rt: &HostRuntime, alloc: Global, differing: &mut u64) -> io::R
         ANSWERED,
         given.as_str(),
         differing,
-    )
-}
-
-/// Writes the answer with the largest count, and prints the line of it.
-fn check_largest_count(rt: &HostRuntime, alloc: Global, differing: &mut u64) -> io::Result<()> {
+    )?;
     let counted = text_of_answers(alloc, &[inserted(u64::MAX)])?;
     let expected = "ok INSERT 18446744073709551615\n";
     report(
@@ -68,41 +58,23 @@ fn inserted(count: u64) -> Answer {
 }
 
 /// What a server over a new database answers the events, and which sessions they leave.
-fn answered_in_memory(alloc: Global) -> io::Result<String> {
+fn given_to_listed(alloc: Global) -> io::Result<String> {
+    let mut events = Vec::new(alloc);
+    add_listed(alloc, &mut events)?;
     let mut server = open_server(alloc, new_in_memory(alloc)?)?;
-    answered_by(alloc, &mut server)
-}
-
-/// What a server over a new database answers the events, and which sessions they leave.
-fn answered_by<S: Store>(alloc: Global, server: &mut ServerOver<S>) -> io::Result<String> {
-    let mut text = answers_of(alloc, server)?;
-    tell_sessions(server, &mut text)?;
+    let mut text = answered_by(alloc, &mut server, events.as_slice())?;
+    tell_sessions(&server, &mut text)?;
     Ok(text)
-}
-
-/// What a server over a new database answers the events.
-fn answers_of<S: Store>(alloc: Global, server: &mut ServerOver<S>) -> io::Result<String> {
-    let events = listed_events(alloc)?;
-    let mut answers = Vec::new(alloc);
-    run_events(server, events.as_slice(), &mut answers)?;
-    text_of_answers(alloc, answers.as_slice())
 }
 
 /// Tells the sessions of a server, and whether it has stopped.
 fn tell_sessions<S: Store>(server: &ServerOver<S>, text: &mut String) -> Result<(), AllocError> {
     let (first, second) = (server.session_at(0), server.session_at(1));
-    writeln!(text, "sessions: {first:?}, {second:?}")?;
-    writeln!(text, "stopped: {}", server.has_stopped())
+    let stopped = server.has_stopped();
+    writeln!(text, "sessions: {first:?}, {second:?}\nstopped: {stopped}")
 }
 
-/// The events that open the sessions 7 and 3, ask nothing in session 3 but in the longest text of comments, and close session 7.
-fn listed_events(alloc: Global) -> Result<Vec<Event>, AllocError> {
-    let mut events = Vec::new(alloc);
-    add_listed(alloc, &mut events)?;
-    Ok(events)
-}
-
-/// Adds these events.
+/// Adds the events that open the sessions 7 and 3, ask nothing in session 3 but in the longest text of comments, and close session 7.
 fn add_listed(alloc: Global, events: &mut Vec<Event>) -> Result<(), AllocError> {
     events.push(opening_of(alloc, 7, ADMIN)?)?;
     events.push(opening_of(alloc, 3, ADMIN)?)?;

@@ -2,8 +2,9 @@
 
 use crate::servers::open_server;
 use crate::stops::fault::TestFault;
-use crate::stops::places::TestPlace;
-use crate::stops::tallies::{Kind, Tests};
+use crate::stops::kinds::Kind;
+use crate::stops::places::Step;
+use crate::stops::tallies::Tests;
 use crate::stores::new_in_memory;
 use connections::connection::{End, serve_connection};
 use connections::frame_sink::FrameSink;
@@ -41,17 +42,12 @@ impl Read for PieceReader<'_> {
 }
 
 /// Sends each bad frame, and then one that would be answered by itself, whole and byte by byte.
-pub fn send_bad_frames(alloc: Global, tests: &mut Tests) -> Result<(), TestFault> {
-    let mut place = TestPlace::after(0);
-    for frame in BAD_FRAMES {
+pub fn send_bad_frames(alloc: Global, tests: &mut Tests) {
+    for (index, frame) in BAD_FRAMES.iter().enumerate() {
+        tests.enter(Step::Frame(index));
         tests.count_tried(Kind::Frames);
-        match check_bad_frame(alloc, frame) {
-            Ok(()) => {}
-            Err(fault) => tests.disagree(Kind::Frames, place, fault)?,
-        }
-        place.events = place.events.saturating_add(1);
+        tests.leave(Kind::Frames, check_bad_frame(alloc, *frame));
     }
-    Ok(())
 }
 
 /// Serves a connection whose bytes are a bad frame and the good one, whole and byte by byte.

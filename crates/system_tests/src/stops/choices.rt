@@ -1,7 +1,5 @@
 //! Which unsynced sectors a stop leaves new.
 
-use std::alloc::{AllocError, Global};
-
 /// Which unsynced sectors have their last content after a stop: none, all, those of even or of odd number, or a single one.
 #[derive(Clone, Copy, Debug)]
 pub enum Choice {
@@ -11,6 +9,9 @@ pub enum Choice {
     Odd,
     Single(u32),
 }
+
+/// The choices where any sectors are unsynced. Beside them there is one for each of these.
+pub const CHOICES: [Choice; 4] = [Choice::Old, Choice::New, Choice::Even, Choice::Odd];
 
 impl Choice {
     fn is_new(self, sector: u32) -> bool {
@@ -31,25 +32,4 @@ impl Choice {
         }
         new
     }
-}
-
-/// The choices where these sectors are unsynced. Where none is, all choices are one.
-pub fn choices_for(alloc: Global, unsynced: &[u32]) -> Result<Vec<Choice>, AllocError> {
-    if unsynced.is_empty() {
-        return Vec::from_slice(alloc, &[Choice::Old]);
-    }
-    let mut choices = Vec::from_slice(
-        alloc,
-        &[Choice::Old, Choice::New, Choice::Even, Choice::Odd],
-    )?;
-    add_single(unsynced, &mut choices)?;
-    Ok(choices)
-}
-
-/// Adds the choice of each single sector.
-fn add_single(unsynced: &[u32], choices: &mut Vec<Choice>) -> Result<(), AllocError> {
-    for sector in unsynced {
-        choices.push(Choice::Single(*sector))?;
-    }
-    Ok(())
 }

@@ -3,12 +3,12 @@
 use crate::stops::choices::Choice;
 use crate::stops::fault::TestFault;
 use crate::stops::images::Image;
+use crate::stops::kinds::Kind;
 use crate::stops::openings::Opening;
-use crate::stops::places::TestPlace;
 use crate::stops::scripts::Script;
 use crate::stops::servers::{CACHE_PAGES, open_device, open_new};
-use crate::stops::tallies::{Kind, Tests};
-use crate::stops::work::{Attempt, Hindrance, Work, hinder_each};
+use crate::stops::tallies::Tests;
+use crate::stops::work::{Attempt, Work, hinder_each};
 use sector_device::MemDevice;
 use std::alloc::Global;
 
@@ -30,16 +30,11 @@ impl ScriptEvent<'_> {
 }
 
 impl Work for ScriptEvent<'_> {
-    fn attempt(
-        &self,
-        alloc: Global,
-        hindrance: Hindrance,
-        count: u64,
-    ) -> Result<Attempt, TestFault> {
+    fn attempt(&self, alloc: Global, kind: Kind, count: u64) -> Result<Attempt, TestFault> {
         let server = open_new(alloc, self.cache)?;
         self.script
             .talk
-            .attempt(alloc, self.index, server, hindrance, count)
+            .attempt(alloc, self.index, server, kind, count)
     }
 
     fn check(&self, alloc: Global, device: MemDevice, is_done: bool) -> Result<usize, TestFault> {
@@ -52,57 +47,38 @@ impl Work for ScriptEvent<'_> {
         &self,
         alloc: Global,
         kind: Kind,
-        image: &Image,
-        is_done: bool,
-        place: TestPlace,
+        attempt: &Attempt,
         tests: &mut Tests,
     ) -> Result<(), TestFault> {
-        if !matches!(kind, Kind::Stops) || !tests.parts.openings.takes_next() {
-            return Ok(());
+        if matches!(kind, Kind::Stops) && tests.parts.openings.takes_next() {
+            let (first, last) = self.moments(attempt.is_done);
+            let opening = Opening {
+                script: self.script,
+                image: &attempt.image,
+                first,
+                last,
+                cache: self.cache,
+            };
+            hinder_each(alloc, &opening, Kind::Openings, tests);
         }
-        let (first, last) = self.moments(is_done);
-        let opening = Opening {
-            script: self.script,
-            image,
-            first,
-            last,
-            cache: self.cache,
-        };
-        hinder_each(
-            alloc,
-            &opening,
-            Kind::Openings,
-            Hindrance::Failure,
-            place,
-            tests,
-        )
+        Ok(())
     }
 
     fn stop_again(
         &self,
         alloc: Global,
         image: &Image,
-        place: TestPlace,
         choice: Choice,
         moment: usize,
         tests: &mut Tests,
-    ) -> Result<(), TestFault> {
+    ) {
         let commit = OneMoreCommit {
             script: self.script,
             image,
             choice,
             moment,
         };
-        let restart = Some(choice);
-        let place = TestPlace { restart, ..place };
-        hinder_each(
-            alloc,
-            &commit,
-            Kind::SecondStops,
-            Hindrance::Stop,
-            place,
-            tests,
-        )
+        hinder_each(alloc, &commit, Kind::SecondStops, tests);
     }
 }
 
@@ -116,16 +92,10 @@ struct OneMoreCommit<'a> {
 }
 
 impl Work for OneMoreCommit<'_> {
-    fn attempt(
-        &self,
-        alloc: Global,
-        hindrance: Hindrance,
-        count: u64,
-    ) -> Result<Attempt, TestFault> {
-        let server = open_device(alloc, self.image.restarted(alloc, self.choice)?)?;
-        self.script
-            .commit
-            .attempt(alloc, 1, server, hindrance, count)
+    fn attempt(&self, alloc: Global, kind: Kind, count: u64) -> Result<Attempt, TestFault> {
+        let device = self.image.restarted(alloc, self.choice)?;
+        let server = open_device(alloc, device, CACHE_PAGES)?;
+        self.script.commit.attempt(alloc, 1, server, kind, count)
     }
 
     fn check(&self, alloc: Global, device: MemDevice, is_done: bool) -> Result<usize, TestFault> {

@@ -2,10 +2,10 @@
 
 use crate::stops::fault::TestFault;
 use crate::stops::images::Image;
-use crate::stops::places::TestPlace;
+use crate::stops::kinds::Kind;
 use crate::stops::servers::find_on;
-use crate::stops::tallies::{Kind, Tests};
-use crate::stops::work::{Attempt, Hindrance, Work, hinder_each};
+use crate::stops::tallies::Tests;
+use crate::stops::work::{Attempt, Work, hinder_each};
 use crate::stores::SMALL_PAGES;
 use database_copies::{DatabaseCopyFault, Unwatched, copy_database};
 use sector_device::{Guarded, MemDevice};
@@ -27,8 +27,8 @@ pub fn stop_copies(
         records,
         every,
     };
-    let (kind, place) = (Kind::Copies, TestPlace::after(0));
-    hinder_each(alloc, &copying, kind, Hindrance::Stop, place, tests)
+    hinder_each(alloc, &copying, Kind::Copies, tests);
+    Ok(())
 }
 
 /// Copies the database of a device that holds this to another, and tells whether that was done, or the other stopped.
@@ -69,16 +69,11 @@ struct Copying<'a> {
 }
 
 impl Work for Copying<'_> {
-    fn attempt(
-        &self,
-        alloc: Global,
-        hindrance: Hindrance,
-        count: u64,
-    ) -> Result<Attempt, TestFault> {
+    fn attempt(&self, alloc: Global, kind: Kind, count: u64) -> Result<Attempt, TestFault> {
         let target = MemDevice::new(alloc, SMALL_PAGES)?;
-        hindrance.begin(&target, count.saturating_mul(self.every));
+        kind.hinder(&target, count.saturating_mul(self.every));
         let (target, is_done) = copied_to(alloc, self.source, target)?;
-        Attempt::of(alloc, target, hindrance, is_done, 0)
+        Attempt::of(alloc, target, kind, is_done, 0)
     }
 
     /// It has these records; or, where the copy was not answered, no database is there.

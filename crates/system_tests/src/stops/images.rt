@@ -1,6 +1,6 @@
 //! What devices hold after a stop.
 
-use crate::stops::choices::{Choice, choices_for};
+use crate::stops::choices::{CHOICES, Choice};
 use crate::stops::fault::TestFault;
 use crate::stores::SMALL_PAGES;
 use sector_device::{Device, MemDevice, SECTOR_SIZE};
@@ -9,10 +9,13 @@ use std::alloc::{AllocError, Global};
 /// How many sectors a device of 64 pages has.
 const SECTORS: u32 = 512;
 
+/// The content of a sector.
+type Sector = [u8; SECTOR_SIZE];
+
 /// What a device holds after a stop: the content of each sector at the last sync, and the last one.
 pub struct Image {
-    synced: Vec<[u8; SECTOR_SIZE]>,
-    last: Vec<[u8; SECTOR_SIZE]>,
+    synced: Vec<Sector>,
+    last: Vec<Sector>,
 }
 
 // Written and not derived: where a value is dropped this is one call, and not its parts one by one.
@@ -30,37 +33,30 @@ impl Image {
         Ok(Image { synced, last })
     }
 
-    /// What a device holds.
+    /// What a device holds, which is started again for it.
     pub fn of(alloc: Global, device: MemDevice) -> Result<Image, TestFault> {
         let mut device = device;
-        Image::read(alloc, &mut device)
-    }
-
-    /// What a device holds, which is started again for it.
-    fn read(alloc: Global, device: &mut MemDevice) -> Result<Image, TestFault> {
         // calls pass again, also where one that was to fail did not come
         device.stop_after(u64::MAX);
         device.fail_call(u64::MAX);
-        let last = contents(alloc, device)?;
-        let synced = synced_contents(alloc, device)?;
+        let last = contents(alloc, &mut device)?;
+        restart(&mut device, Choice::Old)?;
+        let synced = contents(alloc, &mut device)?;
         Ok(Image { synced, last })
     }
 
-    /// The choices of what a stop leaves of it.
+    /// The choices of what a stop leaves of it. Where no sector is unsynced, all choices are one.
     pub fn choices(&self, alloc: Global) -> Result<Vec<Choice>, AllocError> {
-        let unsynced = self.unsynced(alloc)?;
-        choices_for(alloc, unsynced.as_slice())
-    }
-
-    /// The sectors of which a stop leaves either content.
-    fn unsynced(&self, alloc: Global) -> Result<Vec<u32>, AllocError> {
-        let mut sectors = Vec::new(alloc);
+        let mut choices = Vec::from_slice(alloc, &CHOICES)?;
         for sector in 0..SECTORS {
             if self.synced.get(sector as usize) != self.last.get(sector as usize) {
-                sectors.push(sector)?;
+                choices.push(Choice::Single(sector))?;
             }
         }
-        Ok(sectors)
+        if choices.len() == CHOICES.len() {
+            choices.truncate(1);
+        }
+        Ok(choices)
     }
 
     /// Whether each sector was last given the same content as in another image.
@@ -71,15 +67,10 @@ impl Image {
     /// The device as it is, where it was not started again: what is unsynced is unsynced still.
     pub fn running(&self, alloc: Global) -> Result<MemDevice, TestFault> {
         let mut device = MemDevice::new(alloc, SMALL_PAGES)?;
-        self.write(&mut device)?;
-        Ok(device)
-    }
-
-    /// Gives a new device this content.
-    fn write(&self, device: &mut MemDevice) -> Result<(), TestFault> {
-        write_all(device, self.synced.as_slice())?;
+        write_all(&mut device, self.synced.as_slice())?;
         device.sync()?;
-        write_all(device, self.last.as_slice())
+        write_all(&mut device, self.last.as_slice())?;
+        Ok(device)
     }
 
     /// The device, started again.
@@ -91,7 +82,7 @@ impl Image {
 }
 
 /// The content of each sector of a device that has these bytes, and zeros behind them.
-fn sectors_of(alloc: Global, bytes: &[u8]) -> Result<Vec<[u8; SECTOR_SIZE]>, AllocError> {
+fn sectors_of(alloc: Global, bytes: &[u8]) -> Result<Vec<Sector>, AllocError> {
     let mut sectors = Vec::new(alloc);
     for sector in 0..SECTORS {
         let start = (sector as usize).saturating_mul(SECTOR_SIZE);
@@ -101,7 +92,7 @@ fn sectors_of(alloc: Global, bytes: &[u8]) -> Result<Vec<[u8; SECTOR_SIZE]>, All
 }
 
 /// A sector that begins with these bytes, as many as it has, and zeros behind them.
-fn sector_of(bytes: &[u8]) -> [u8; SECTOR_SIZE] {
+fn sector_of(bytes: &[u8]) -> Sector {
     let mut sector = [0; SECTOR_SIZE];
     for at in 0..bytes.len().min(SECTOR_SIZE) {
         sector[at] = bytes[at];
@@ -109,17 +100,8 @@ fn sector_of(bytes: &[u8]) -> [u8; SECTOR_SIZE] {
     sector
 }
 
-/// The content of each sector at the last sync, of a device that is started again.
-fn synced_contents(
-    alloc: Global,
-    device: &mut MemDevice,
-) -> Result<Vec<[u8; SECTOR_SIZE]>, TestFault> {
-    restart(device, Choice::Old)?;
-    contents(alloc, device)
-}
-
 /// The content of each sector.
-fn contents(alloc: Global, device: &mut MemDevice) -> Result<Vec<[u8; SECTOR_SIZE]>, TestFault> {
+fn contents(alloc: Global, device: &mut MemDevice) -> Result<Vec<Sector>, TestFault> {
     let mut contents = Vec::new(alloc);
     for sector in 0..device.sectors() {
         contents.push(content(device, sector)?)?;
@@ -127,7 +109,8 @@ fn contents(alloc: Global, device: &mut MemDevice) -> Result<Vec<[u8; SECTOR_SIZ
     Ok(contents)
 }
 
-fn content(device: &mut MemDevice, sector: u32) -> Result<[u8; SECTOR_SIZE], TestFault> {
+/// The content of a sector.
+fn content(device: &mut MemDevice, sector: u32) -> Result<Sector, TestFault> {
     let mut bytes = [0; SECTOR_SIZE];
     if sector >= device.sectors() {
         return Err(TestFault::AnotherSize);
@@ -137,23 +120,19 @@ fn content(device: &mut MemDevice, sector: u32) -> Result<[u8; SECTOR_SIZE], Tes
 }
 
 /// Writes the sectors from the first on.
-fn write_all(device: &mut MemDevice, contents: &[[u8; SECTOR_SIZE]]) -> Result<(), TestFault> {
+fn write_all(device: &mut MemDevice, contents: &[Sector]) -> Result<(), TestFault> {
     let mut sector = 0u32;
     for bytes in contents {
-        write(device, sector, bytes)?;
+        if sector >= device.sectors() {
+            return Err(TestFault::AnotherSize);
+        }
+        device.write(sector, bytes)?;
         sector = sector.saturating_add(1);
     }
     Ok(())
 }
 
-fn write(device: &mut MemDevice, sector: u32, bytes: &[u8; SECTOR_SIZE]) -> Result<(), TestFault> {
-    if sector >= device.sectors() {
-        return Err(TestFault::AnotherSize);
-    }
-    device.write(sector, bytes)?;
-    Ok(())
-}
-
+/// Starts a device again by a choice.
 fn restart(device: &mut MemDevice, choice: Choice) -> Result<(), TestFault> {
     if device.sectors() != SECTORS {
         return Err(TestFault::AnotherSize);

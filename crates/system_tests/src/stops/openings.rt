@@ -3,11 +3,12 @@
 use crate::stops::choices::Choice;
 use crate::stops::fault::TestFault;
 use crate::stops::images::Image;
-use crate::stops::places::TestPlace;
+use crate::stops::kinds::Kind;
+use crate::stops::places::Step;
 use crate::stops::scripts::Script;
-use crate::stops::servers::{CACHE_PAGES, FoundStore, attempt_opening, find_on};
-use crate::stops::tallies::{Kind, Tests};
-use crate::stops::work::{Attempt, Hindrance, Work, hinder_each};
+use crate::stops::servers::{CACHE_PAGES, Found, attempt_opening, find_and_end, find_on};
+use crate::stops::tallies::Tests;
+use crate::stops::work::{Attempt, Work, hinder_each};
 use sector_device::MemDevice;
 use std::alloc::Global;
 
@@ -23,14 +24,9 @@ pub struct Opening<'a> {
 }
 
 impl Work for Opening<'_> {
-    fn attempt(
-        &self,
-        alloc: Global,
-        hindrance: Hindrance,
-        count: u64,
-    ) -> Result<Attempt, TestFault> {
+    fn attempt(&self, alloc: Global, kind: Kind, count: u64) -> Result<Attempt, TestFault> {
         let device = self.image.running(alloc)?;
-        let attempt = attempt_opening(alloc, device, self.cache, hindrance, count)?;
+        let attempt = attempt_opening(alloc, device, self.cache, kind, count)?;
         if attempt.is_done || attempt.image.has_content_of(self.image) {
             Ok(attempt)
         } else {
@@ -40,7 +36,8 @@ impl Work for Opening<'_> {
 
     fn check(&self, alloc: Global, device: MemDevice, _is_done: bool) -> Result<usize, TestFault> {
         let found = find_on(alloc, device)?;
-        self.moment_of(found.records.as_slice())
+        self.script
+            .moment_of(found.records.as_slice(), self.first, self.last)
     }
 
     /// Opens the device as it is, and once more after a stop. Each time the same map is found.
@@ -48,67 +45,46 @@ impl Work for Opening<'_> {
         &self,
         alloc: Global,
         kind: Kind,
-        image: &Image,
-        _is_done: bool,
-        place: TestPlace,
+        attempt: &Attempt,
         tests: &mut Tests,
     ) -> Result<(), TestFault> {
         tests.count_opened(kind);
-        let (moment, image) = self.opened_as_it_is(alloc, image)?;
-        find_again(alloc, self.script, moment, &image, kind, place, tests)
+        let (found, device) = find_and_end(alloc, attempt.image.running(alloc)?)?;
+        let records = found.records.as_slice();
+        let _moment = self.script.moment_of(records, self.first, self.last)?;
+        find_again(alloc, records, &Image::of(alloc, device)?, kind, tests)
     }
 }
 
-impl Opening<'_> {
-    /// Opens a device that holds this as it is. Tells of which moment the map is that is found, and what the device then holds.
-    fn opened_as_it_is(&self, alloc: Global, image: &Image) -> Result<(usize, Image), TestFault> {
-        let found = find_on(alloc, image.running(alloc)?)?;
-        let moment = self.moment_of(found.records.as_slice())?;
-        Ok((moment, Image::of(alloc, found.into_device())?))
-    }
-
-    /// Of which of the two moments the map is that has these records.
-    fn moment_of(&self, records: &[u8]) -> Result<usize, TestFault> {
-        self.script.moment_of(records, self.first, self.last)
-    }
-}
-
-/// Opens what an opening left after a stop, by each choice of the sectors that it left unsynced. Each time the map of a moment is
-/// found.
+/// Opens what an opening left after a stop, by each choice of the sectors that it left unsynced. Each time it has these records.
 fn find_again(
     alloc: Global,
-    script: &Script,
-    moment: usize,
+    records: &[u8],
     image: &Image,
     kind: Kind,
-    place: TestPlace,
     tests: &mut Tests,
 ) -> Result<(), TestFault> {
     for choice in &image.choices(alloc)? {
-        find_by(alloc, script, moment, image, *choice, kind, place, tests)?;
+        tests.enter(Step::Restart(*choice));
+        tests.count_opened(kind);
+        let found = check_records(alloc, image, *choice, records);
+        tests.leave(kind, found);
     }
     Ok(())
 }
 
-/// Opens what an opening left after a stop, by a choice of the sectors that it left unsynced. The map of a moment is found.
-fn find_by(
+/// Opens what an opening left, by a choice of the sectors that it left unsynced. It has these records.
+fn check_records(
     alloc: Global,
-    script: &Script,
-    moment: usize,
     image: &Image,
     choice: Choice,
-    kind: Kind,
-    place: TestPlace,
-    tests: &mut Tests,
+    records: &[u8],
 ) -> Result<(), TestFault> {
-    tests.count_opened(kind);
     let found = find_on(alloc, image.restarted(alloc, choice)?)?;
-    match script.moment_of(found.records.as_slice(), moment, moment) {
-        Ok(_) => Ok(()),
-        Err(fault) => {
-            let choice = Some(choice);
-            tests.disagree(kind, TestPlace { choice, ..place }, fault)
-        }
+    if found.records.as_slice() == records {
+        Ok(())
+    } else {
+        Err(TestFault::AnotherMap)
     }
 }
 
@@ -116,18 +92,13 @@ fn find_by(
 #[derive(Clone, Copy)]
 struct Migrating<'a> {
     image: &'a Image,
-    migrated: &'a FoundStore,
+    migrated: &'a Found,
 }
 
 impl Work for Migrating<'_> {
-    fn attempt(
-        &self,
-        alloc: Global,
-        hindrance: Hindrance,
-        count: u64,
-    ) -> Result<Attempt, TestFault> {
+    fn attempt(&self, alloc: Global, kind: Kind, count: u64) -> Result<Attempt, TestFault> {
         let device = self.image.running(alloc)?;
-        attempt_opening(alloc, device, CACHE_PAGES, hindrance, count)
+        attempt_opening(alloc, device, CACHE_PAGES, kind, count)
     }
 
     fn check(&self, alloc: Global, device: MemDevice, _is_done: bool) -> Result<usize, TestFault> {
@@ -139,14 +110,12 @@ impl Work for Migrating<'_> {
         &self,
         alloc: Global,
         kind: Kind,
-        image: &Image,
-        _is_done: bool,
-        _place: TestPlace,
+        attempt: &Attempt,
         tests: &mut Tests,
     ) -> Result<(), TestFault> {
-        if matches!(kind, Kind::Openings) {
+        if kind.fails_once() {
             tests.count_opened(kind);
-            let _first = check_migrated(alloc, image.running(alloc)?, self.migrated)?;
+            let _first = check_migrated(alloc, attempt.image.running(alloc)?, self.migrated)?;
         }
         Ok(())
     }
@@ -155,26 +124,16 @@ impl Work for Migrating<'_> {
         &self,
         alloc: Global,
         image: &Image,
-        place: TestPlace,
         choice: Choice,
         _moment: usize,
         tests: &mut Tests,
-    ) -> Result<(), TestFault> {
+    ) {
         let again = MigratingAgain {
             image,
             choice,
             migrated: self.migrated,
         };
-        let restart = Some(choice);
-        let place = TestPlace { restart, ..place };
-        hinder_each(
-            alloc,
-            &again,
-            Kind::SecondStops,
-            Hindrance::Stop,
-            place,
-            tests,
-        )
+        hinder_each(alloc, &again, Kind::SecondStops, tests);
     }
 }
 
@@ -183,18 +142,13 @@ impl Work for Migrating<'_> {
 struct MigratingAgain<'a> {
     image: &'a Image,
     choice: Choice,
-    migrated: &'a FoundStore,
+    migrated: &'a Found,
 }
 
 impl Work for MigratingAgain<'_> {
-    fn attempt(
-        &self,
-        alloc: Global,
-        hindrance: Hindrance,
-        count: u64,
-    ) -> Result<Attempt, TestFault> {
+    fn attempt(&self, alloc: Global, kind: Kind, count: u64) -> Result<Attempt, TestFault> {
         let device = self.image.restarted(alloc, self.choice)?;
-        attempt_opening(alloc, device, CACHE_PAGES, hindrance, count)
+        attempt_opening(alloc, device, CACHE_PAGES, kind, count)
     }
 
     fn check(&self, alloc: Global, device: MemDevice, _is_done: bool) -> Result<usize, TestFault> {
@@ -203,11 +157,7 @@ impl Work for MigratingAgain<'_> {
 }
 
 /// Opens a server on a device. Its records are of the second spelling, and they and their number are those after a migration.
-fn check_migrated(
-    alloc: Global,
-    device: MemDevice,
-    migrated: &FoundStore,
-) -> Result<usize, TestFault> {
+fn check_migrated(alloc: Global, device: MemDevice, migrated: &Found) -> Result<usize, TestFault> {
     let found = find_on(alloc, device)?;
     let is_next = found.format == 2 && found.number == migrated.number;
     if is_next && found.records.as_slice() == migrated.records.as_slice() {
@@ -217,35 +167,15 @@ fn check_migrated(
     }
 }
 
-/// Stops the opening of a device with these bytes that is migrated, after each count of its sector writes, and fails each call of
-/// it in turn.
-pub fn hinder_migration(alloc: Global, bytes: &[u8], tests: &mut Tests) -> Result<(), TestFault> {
-    let image = Image::of_bytes(alloc, bytes)?;
-    hinder_opening(alloc, &image, tests)
-}
-
-/// Stops and fails an opening of a device that holds this in the same way.
-fn hinder_opening(alloc: Global, image: &Image, tests: &mut Tests) -> Result<(), TestFault> {
+/// Stops the opening of a device that is migrated, after each count of its sector writes, and fails each call of it in turn.
+pub fn hinder_migration(alloc: Global, image: &Image, tests: &mut Tests) -> Result<(), TestFault> {
     let migrated = find_on(alloc, image.running(alloc)?)?;
     let opening = Migrating {
         image,
         migrated: &migrated,
     };
-    hinder_in_turn(alloc, &opening, tests)
-}
-
-/// Stops an opening after each count of sector writes, and fails each call of it in turn.
-fn hinder_in_turn(
-    alloc: Global,
-    opening: &Migrating<'_>,
-    tests: &mut Tests,
-) -> Result<(), TestFault> {
-    for (kind, hindrance) in [
-        (Kind::Stops, Hindrance::Stop),
-        (Kind::Openings, Hindrance::Failure),
-        (Kind::Openings, Hindrance::LateFailure),
-    ] {
-        hinder_each(alloc, opening, kind, hindrance, TestPlace::after(0), tests)?;
+    for kind in [Kind::Stops, Kind::Openings, Kind::LateOpenings] {
+        hinder_each(alloc, &opening, kind, tests);
     }
     Ok(())
 }

@@ -1,13 +1,14 @@
 //! Scripts: their events, what a server in memory answers to them, and what it then holds.
 
-use crate::servers::{ServerOver, open_server};
+use crate::servers::open_server;
 use crate::stops::fault::TestFault;
-use crate::stops::servers::{find_and_commit, find_and_commit_on, find_on, records_of};
+use crate::stops::servers::{
+    CACHE_PAGES, DeviceServer, find_and_commit, find_on, open_device, records_of,
+};
 use crate::stops::talks::Talk;
 use crate::stores::new_in_memory;
 use sector_device::MemDevice;
 use std::alloc::Global;
-use store::MemStore;
 
 /// One more commit, which is made after a stop.
 const COMMIT: &str = "open again root\nagain: CREATE ROLE again\n";
@@ -46,17 +47,6 @@ impl Drop for Script {
     }
 }
 
-/// A server over a new database in memory, which was given so many events.
-fn server_after(
-    alloc: Global,
-    talk: &Talk,
-    count: usize,
-) -> Result<ServerOver<MemStore>, TestFault> {
-    let mut server = open_server(alloc, new_in_memory(alloc)?)?;
-    talk.give_first(alloc, count, &mut server)?;
-    Ok(server)
-}
-
 /// The moment after so many events, in memory.
 fn moment_after(
     alloc: Global,
@@ -64,7 +54,8 @@ fn moment_after(
     count: usize,
     commit: &Talk,
 ) -> Result<Moment, TestFault> {
-    let server = server_after(alloc, talk, count)?;
+    let mut server = open_server(alloc, new_in_memory(alloc)?)?;
+    talk.give_first(alloc, count, &mut server)?;
     let (records, server) = find_and_commit(alloc, server, commit)?;
     let again = records_of(alloc, server)?;
     Ok(Moment { records, again })
@@ -127,9 +118,10 @@ impl Script {
         first: usize,
         last: usize,
     ) -> Result<usize, TestFault> {
-        let (records, device) = find_and_commit_on(alloc, device, &self.commit)?;
+        let server = open_device(alloc, device, CACHE_PAGES)?;
+        let (records, server) = find_and_commit(alloc, server, &self.commit)?;
         let moment = self.moment_of(records.as_slice(), first, last)?;
-        self.check_again(alloc, device, moment, true)?;
+        self.check_again(alloc, server.end(), moment, true)?;
         Ok(moment)
     }
 

@@ -3,8 +3,9 @@
 
 use crate::servers::{ServerOver, open_server, try_server};
 use crate::stops::fault::TestFault;
+use crate::stops::kinds::Kind;
 use crate::stops::talks::Talk;
-use crate::stops::work::{Attempt, Hindrance};
+use crate::stops::work::Attempt;
 use crate::stores::{SMALL_PAGES, new_device};
 use device_store::{DeviceStore, MAX_CACHE_PAGES};
 use sector_device::{Guarded, MemDevice};
@@ -58,67 +59,55 @@ fn device_of(store: StoreOnDevice) -> MemDevice {
     store.into_device().into_device()
 }
 
-/// A device on which no server was opened, and why.
-#[derive(Drop)]
-pub struct NotOpened {
-    pub device: MemDevice,
-    pub fault: TestFault,
-}
-
-/// Opens a server on a device, with a cache of so many pages, or hands the device back.
-pub fn open_or_hand_back(
+/// Opens a server on a device, with a cache of so many pages, or hands the device back and tells why none is.
+fn open_or_hand_back(
     alloc: Global,
     device: MemDevice,
     cache: usize,
-) -> Result<OnDevice, NotOpened> {
+) -> Result<OnDevice, (MemDevice, TestFault)> {
     if cache == 0 || cache > MAX_CACHE_PAGES {
-        let fault = TestFault::NoSuchCache;
-        return Err(NotOpened { device, fault });
+        return Err((device, TestFault::NoSuchCache));
     }
     match DeviceStore::open_with(alloc, Guarded::new(device), cache) {
         Ok(store) => server_or_device(alloc, store),
-        Err((device, fault)) => Err(NotOpened {
-            device: device.into_device(),
-            fault: TestFault::NoStore(fault),
-        }),
+        Err((device, fault)) => Err((device.into_device(), TestFault::NoStore(fault))),
     }
 }
 
-/// Opens a server over a store on a device, or hands the device back.
-fn server_or_device(alloc: Global, store: StoreOnDevice) -> Result<OnDevice, NotOpened> {
+/// Opens a server over a store on a device, or hands the device back and tells why none is.
+fn server_or_device(
+    alloc: Global,
+    store: StoreOnDevice,
+) -> Result<OnDevice, (MemDevice, TestFault)> {
     match try_server(alloc, store) {
         Ok(server) => Ok(server),
-        Err((store, fault)) => Err(NotOpened {
-            device: device_of(store),
-            fault: TestFault::NoServer(fault),
-        }),
+        Err((store, fault)) => Err((device_of(store), TestFault::NoServer(fault))),
     }
 }
 
 /// The device after a server was opened on it and ended, and why none was, if so.
-pub fn open_and_end(alloc: Global, device: MemDevice) -> (MemDevice, Option<TestFault>) {
-    match open_or_hand_back(alloc, device, CACHE_PAGES) {
+pub fn open_and_end(
+    alloc: Global,
+    device: MemDevice,
+    cache: usize,
+) -> (MemDevice, Option<TestFault>) {
+    match open_or_hand_back(alloc, device, cache) {
         Ok(server) => (server.end(), None),
-        Err(NotOpened { device, fault }) => (device, Some(fault)),
+        Err((device, fault)) => (device, Some(fault)),
     }
 }
 
 /// Opens a server on a device no call of which fails, with a cache of so many pages.
-fn open_cached(alloc: Global, device: MemDevice, cache: usize) -> Result<OnDevice, TestFault> {
+pub fn open_device(alloc: Global, device: MemDevice, cache: usize) -> Result<OnDevice, TestFault> {
     match open_or_hand_back(alloc, device, cache) {
         Ok(server) => Ok(server),
-        Err(NotOpened { fault, .. }) => Err(fault),
+        Err((_, fault)) => Err(fault),
     }
-}
-
-/// Opens a server on a device no call of which fails.
-pub fn open_device(alloc: Global, device: MemDevice) -> Result<OnDevice, TestFault> {
-    open_cached(alloc, device, CACHE_PAGES)
 }
 
 /// Opens a server over a new database on a device, with a cache of so many pages.
 pub fn open_new(alloc: Global, cache: usize) -> Result<OnDevice, TestFault> {
-    open_cached(alloc, new_device(alloc, SMALL_PAGES)?, cache)
+    open_device(alloc, new_device(alloc, SMALL_PAGES)?, cache)
 }
 
 /// Opens a server on a device that is hindered after a count, with a cache of so many pages. A refusal other than that the device
@@ -127,69 +116,52 @@ pub fn attempt_opening(
     alloc: Global,
     device: MemDevice,
     cache: usize,
-    hindrance: Hindrance,
+    kind: Kind,
     count: u64,
 ) -> Result<Attempt, TestFault> {
-    hindrance.begin(&device, count);
-    match open_or_hand_back(alloc, device, cache) {
-        Ok(server) => Attempt::of(alloc, server.end(), hindrance, true, 0),
-        Err(NotOpened { device, fault }) => {
-            if fault.is_device() {
-                Attempt::of(alloc, device, hindrance, false, 0)
-            } else {
-                Err(fault)
-            }
-        }
+    kind.hinder(&device, count);
+    let (device, fault) = open_and_end(alloc, device, cache);
+    let is_opened = is_opened(fault)?;
+    Attempt::of(alloc, device, kind, is_opened, 0)
+}
+
+/// Whether a server was opened, where it was refused since the device failed if it was. Another refusal is an error.
+fn is_opened(fault: Option<TestFault>) -> Result<bool, TestFault> {
+    match fault {
+        None => Ok(true),
+        Some(fault) if fault.is_device() => Ok(false),
+        Some(fault) => Err(fault),
     }
 }
 
 /// What a server found on a device: the records, the number of the last commit, and the format.
-pub struct FoundStore {
-    pub device: MemDevice,
+#[derive(Drop)]
+pub struct Found {
     pub records: Vec<u8>,
     pub number: u64,
     pub format: u32,
 }
 
-// Written and not derived: where a value is dropped this is one call, and not its parts one by one.
-impl Drop for FoundStore {
-    fn drop(self) {
-        let FoundStore {
-            device: _,
-            records: _,
-            number: _,
-            format: _,
-        } = self;
-    }
-}
-
-impl FoundStore {
-    /// The device.
-    pub fn into_device(self) -> MemDevice {
-        let FoundStore {
-            device,
-            records: _,
-            number: _,
-            format: _,
-        } = self;
-        device
-    }
-}
-
 /// Opens a server on a device, and tells what it found.
-pub fn find_on(alloc: Global, device: MemDevice) -> Result<FoundStore, TestFault> {
-    let mut store = open_device(alloc, device)?.into_store();
+pub fn find_on(alloc: Global, device: MemDevice) -> Result<Found, TestFault> {
+    let (found, _) = find_and_end(alloc, device)?;
+    Ok(found)
+}
+
+/// Opens a server on a device and ends it, and tells what it found.
+pub fn find_and_end(alloc: Global, device: MemDevice) -> Result<(Found, MemDevice), TestFault> {
+    let mut store = open_device(alloc, device, CACHE_PAGES)?.into_store();
     let scanned = scan(alloc, &mut store);
     let (number, format) = (store.number(), format_of(&store));
     // a device is dropped by one call, and a store is not
     let device = device_of(store);
     let records = scanned?;
-    Ok(FoundStore {
-        device,
+    let found = Found {
         records,
         number,
         format,
-    })
+    };
+    Ok((found, device))
 }
 
 /// The format of the store on a device.
@@ -209,30 +181,9 @@ pub fn find_and_commit<S: Store + Drop>(
 ) -> Result<(Vec<u8>, ServerOver<S>), TestFault> {
     let mut store = server.into_store();
     let records = scan(alloc, &mut store)?;
-    let server = commit_over(alloc, store, commit)?;
-    Ok((records, server))
-}
-
-/// Opens a server over a store, which makes one more commit.
-fn commit_over<S: Store + Drop>(
-    alloc: Global,
-    store: S,
-    commit: &Talk,
-) -> Result<ServerOver<S>, TestFault> {
     let mut server = open_server(alloc, store)?;
     commit.give_first(alloc, commit.events.len(), &mut server)?;
-    Ok(server)
-}
-
-/// The records that a server finds on a device, and the device after one more commit.
-pub fn find_and_commit_on(
-    alloc: Global,
-    device: MemDevice,
-    commit: &Talk,
-) -> Result<(Vec<u8>, MemDevice), TestFault> {
-    let server = open_device(alloc, device)?;
-    let (records, server) = find_and_commit(alloc, server, commit)?;
-    Ok((records, server.end()))
+    Ok((records, server))
 }
 
 /// The records that a server leaves.
@@ -247,20 +198,14 @@ pub fn records_of<S: Store + Drop>(
 /// The records of a map in the order of their keys: of each the key and the value, each of them after its length.
 fn scan<M: Map>(alloc: Global, map: &mut M) -> Result<Vec<u8>, TestFault> {
     let mut records = Vec::new(alloc);
-    add_records(alloc, map, &mut records)?;
-    Ok(records)
-}
-
-/// Adds the records of a map.
-fn add_records<M: Map>(alloc: Global, map: &mut M, records: &mut Vec<u8>) -> Result<(), TestFault> {
     let mut cursor = Cursor::over(alloc, &[])?;
     for _ in 0..u64::MAX {
         if !cursor.advance(map)? {
             break;
         }
-        add_record(cursor.entry(), records)?;
+        add_record(cursor.entry(), &mut records)?;
     }
-    Ok(())
+    Ok(records)
 }
 
 /// Adds a record.

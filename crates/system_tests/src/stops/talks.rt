@@ -4,8 +4,9 @@ use crate::answers::text_of_answers;
 use crate::events::events_of;
 use crate::servers::open_server;
 use crate::stops::fault::TestFault;
+use crate::stops::kinds::Kind;
 use crate::stops::servers::{Answering, DeviceServer};
-use crate::stops::work::{Attempt, Hindrance};
+use crate::stops::work::Attempt;
 use crate::stores::new_in_memory;
 use sql_types::event::Event;
 use std::alloc::Global;
@@ -31,48 +32,25 @@ impl Drop for Talk {
     }
 }
 
-/// The texts of the answers of a server to events.
-pub fn texts_of<S: Answering>(
+/// The text of the answer of a server to an event.
+pub fn text_answered<S: Answering>(
     alloc: Global,
     server: &mut S,
-    events: &[Event],
-) -> Result<Vec<String>, TestFault> {
-    let mut texts = Vec::new(alloc);
-    for event in events {
-        texts.push(text_answered(alloc, server, event)?)?;
-    }
-    Ok(texts)
-}
-
-/// The text of the answer of a server to an event.
-fn text_answered<S: Answering>(alloc: Global, server: &mut S, event: &Event) -> io::Result<String> {
+    event: &Event,
+) -> io::Result<String> {
     let answer = server.answer_to(event);
     text_of_answers(alloc, from_ref(&answer))
-}
-
-/// The texts of the answers of a server in memory to events.
-fn texts_in_memory(alloc: Global, events: &[Event]) -> Result<Vec<String>, TestFault> {
-    let mut server = open_server(alloc, new_in_memory(alloc)?)?;
-    texts_of(alloc, &mut server, events)
-}
-
-/// Whether an event was answered, as a text tells, which it was where that is not 58030. It is an error where the text is another
-/// than that which is expected.
-fn tells_answer(text: &str, expected: &str) -> Result<bool, TestFault> {
-    if text == expected {
-        Ok(true)
-    } else if text == DEVICE_FAILED {
-        Ok(false)
-    } else {
-        Err(TestFault::AnotherAnswer)
-    }
 }
 
 impl Talk {
     /// The events of a script, and the answers of a server in memory.
     pub fn of_script(alloc: Global, script: &str) -> Result<Talk, TestFault> {
         let events = events_of(alloc, script)?;
-        let answers = texts_in_memory(alloc, events.as_slice())?;
+        let mut server = open_server(alloc, new_in_memory(alloc)?)?;
+        let mut answers = Vec::new(alloc);
+        for event in &events {
+            answers.push(text_answered(alloc, &mut server, event)?)?;
+        }
         Ok(Talk { events, answers })
     }
 
@@ -84,12 +62,16 @@ impl Talk {
         index: usize,
         server: &mut S,
     ) -> Result<bool, TestFault> {
-        match (self.events.get(index), self.answers.get(index)) {
-            (Some(event), Some(expected)) => {
-                let text = text_answered(alloc, server, event)?;
-                tells_answer(text.as_str(), expected.as_str())
-            }
-            _ => Err(TestFault::FewerEvents),
+        let (Some(event), Some(expected)) = (self.events.get(index), self.answers.get(index)) else {
+            return Err(TestFault::FewerEvents);
+        };
+        let text = text_answered(alloc, server, event)?;
+        if text.as_str() == expected.as_str() {
+            Ok(true)
+        } else if text.as_str() == DEVICE_FAILED {
+            Ok(false)
+        } else {
+            Err(TestFault::AnotherAnswer)
         }
     }
 
@@ -123,26 +105,6 @@ impl Talk {
         Ok(())
     }
 
-    /// Gives a server the events up to the one at an index, before which its device is hindered after a count. Tells whether that
-    /// event was answered, and how many reads the device had made before.
-    fn give_hindered<S: Answering + DeviceServer>(
-        &self,
-        alloc: Global,
-        index: usize,
-        server: &mut S,
-        hindrance: Hindrance,
-        count: u64,
-    ) -> Result<(bool, u64), TestFault> {
-        self.give_first(alloc, index, server)?;
-        let reads_before = server.device().reads();
-        hindrance.begin(server.device(), count);
-        let is_answered = self.is_answered_by(alloc, index, server)?;
-        if !is_answered {
-            self.give_refused(alloc, index, server)?;
-        }
-        Ok((is_answered, reads_before))
-    }
-
     /// Gives a server the events up to the one at an index. While that is answered, the device is hindered after a count. Where it
     /// is not answered, no later one is.
     pub fn attempt<S: Answering + DeviceServer + Drop>(
@@ -150,17 +112,17 @@ impl Talk {
         alloc: Global,
         index: usize,
         server: S,
-        hindrance: Hindrance,
+        kind: Kind,
         count: u64,
     ) -> Result<Attempt, TestFault> {
         let mut server = server;
-        let (is_answered, reads_before) = self.give_hindered(
-            alloc,
-            index,
-            &mut server,
-            hindrance,
-            count,
-        )?;
-        Attempt::of(alloc, server.end(), hindrance, is_answered, reads_before)
+        self.give_first(alloc, index, &mut server)?;
+        let reads_before = server.device().reads();
+        kind.hinder(server.device(), count);
+        let is_answered = self.is_answered_by(alloc, index, &mut server)?;
+        if !is_answered {
+            self.give_refused(alloc, index, &mut server)?;
+        }
+        Attempt::of(alloc, server.end(), kind, is_answered, reads_before)
     }
 }

@@ -3,39 +3,14 @@
 use crate::stops::choices::Choice;
 use crate::stops::fault::TestFault;
 use crate::stops::images::Image;
-use crate::stops::places::TestPlace;
-use crate::stops::tallies::{Kind, Tests};
+use crate::stops::kinds::Kind;
+use crate::stops::places::Step;
+use crate::stops::tallies::Tests;
 use sector_device::{Device, MemDevice};
 use std::alloc::Global;
 
 /// More writes or calls than a commit, an opening or a copy makes.
 const MAX_COUNT: u64 = 100_000;
-
-/// How a device is hindered after a count of writes or calls.
-#[derive(Clone, Copy)]
-pub enum Hindrance {
-    /// It stops after so many sector writes.
-    Stop,
-    /// The next call after so many fails.
-    Failure,
-    /// The next call after so many fails, and is carried out all the same.
-    LateFailure,
-}
-
-impl Hindrance {
-    /// Hinders a device after a count.
-    pub fn begin(self, device: &MemDevice, count: u64) {
-        match self {
-            Hindrance::Stop => device.stop_after(count),
-            Hindrance::Failure => device.fail_call(count),
-            Hindrance::LateFailure => device.fail_call_late(count),
-        }
-    }
-
-    fn is_stop(self) -> bool {
-        matches!(self, Hindrance::Stop)
-    }
-}
 
 /// What came of work on a device that was hindered: what the device then holds, whether the work was done all the same, and how
 /// many reads it made.
@@ -52,13 +27,13 @@ impl Attempt {
     pub fn of(
         alloc: Global,
         device: MemDevice,
-        hindrance: Hindrance,
+        kind: Kind,
         is_done: bool,
         reads_before: u64,
     ) -> Result<Attempt, TestFault> {
         let (failures, reads) = (device.failures(), device.reads());
         let expected = if is_done { 0 } else { 1 };
-        if failures != expected && !hindrance.is_stop() {
+        if failures != expected && kind.fails_once() {
             return Err(TestFault::Calls(failures));
         }
         Ok(Attempt {
@@ -72,12 +47,7 @@ impl Attempt {
 /// Work on a device of its own.
 pub trait Work {
     /// Does the work, while its device is hindered after a count.
-    fn attempt(
-        &self,
-        alloc: Global,
-        hindrance: Hindrance,
-        count: u64,
-    ) -> Result<Attempt, TestFault>;
+    fn attempt(&self, alloc: Global, kind: Kind, count: u64) -> Result<Attempt, TestFault>;
 
     /// Checks what is found on a device that was started again, where the work was done or not. Tells of which moment its map is.
     fn check(&self, alloc: Global, device: MemDevice, is_done: bool) -> Result<usize, TestFault>;
@@ -87,9 +57,7 @@ pub trait Work {
         &self,
         _alloc: Global,
         _kind: Kind,
-        _image: &Image,
-        _is_done: bool,
-        _place: TestPlace,
+        _attempt: &Attempt,
         _tests: &mut Tests,
     ) -> Result<(), TestFault> {
         Ok(())
@@ -101,97 +69,61 @@ pub trait Work {
         &self,
         _alloc: Global,
         _image: &Image,
-        _place: TestPlace,
         _choice: Choice,
         _moment: usize,
         _tests: &mut Tests,
-    ) -> Result<(), TestFault> {
-        Ok(())
-    }
+    ) {}
 }
 
 /// Hinders work after each count, until it is done all the same.
-pub fn hinder_each<W: Work>(
-    alloc: Global,
-    work: &W,
-    kind: Kind,
-    hindrance: Hindrance,
-    place: TestPlace,
-    tests: &mut Tests,
-) -> Result<(), TestFault> {
+pub fn hinder_each<W: Work>(alloc: Global, work: &W, kind: Kind, tests: &mut Tests) {
     for count in 0..MAX_COUNT {
-        if is_done_after(alloc, work, kind, hindrance, place, count, tests)? {
-            return Ok(());
+        tests.enter(Step::Count(count));
+        let (is_done, tried) = try_after(alloc, work, kind, count, tests);
+        tests.leave(kind, tried);
+        if is_done {
+            return;
         }
     }
-    tests.disagree(kind, place, TestFault::NoEnd)
+    tests.disagree(kind, TestFault::NoEnd);
 }
 
 /// Hinders work after a count, and tries what that left. Answers whether the work was done, or went otherwise than expected.
-fn is_done_after<W: Work>(
+fn try_after<W: Work>(
     alloc: Global,
     work: &W,
     kind: Kind,
-    hindrance: Hindrance,
-    place: TestPlace,
     count: u64,
     tests: &mut Tests,
-) -> Result<bool, TestFault> {
-    let place = place.at(count);
-    match work.attempt(alloc, hindrance, count) {
+) -> (bool, Result<(), TestFault>) {
+    match work.attempt(alloc, kind, count) {
         Ok(attempt) => {
-            if attempt.is_done && !hindrance.is_stop() {
+            if attempt.is_done && kind.fails_once() {
                 tests.count_reads(kind, attempt.reads);
-            } else {
-                tests.count_tried(kind);
-                check_left(alloc, work, kind, &attempt, place, tests)?;
+                return (true, Ok(()));
             }
-            Ok(attempt.is_done)
+            tests.count_tried(kind);
+            let tried = try_left(alloc, work, kind, &attempt, tests);
+            (attempt.is_done, tried)
         }
-        Err(fault) => {
-            tests.disagree(kind, place, fault)?;
-            Ok(true)
-        }
+        Err(fault) => (true, Err(fault)),
     }
 }
 
-/// Tries what an attempt left.
-fn check_left<W: Work>(
+/// Starts what an attempt left again by each choice of its unsynced sectors, and tries what else is to be tried with it.
+fn try_left<W: Work>(
     alloc: Global,
     work: &W,
     kind: Kind,
     attempt: &Attempt,
-    place: TestPlace,
     tests: &mut Tests,
 ) -> Result<(), TestFault> {
-    let (image, is_done) = (&attempt.image, attempt.is_done);
-    check_restarts(alloc, work, kind, image, is_done, place, tests)?;
-    match work.try_more(alloc, kind, image, is_done, place, tests) {
-        Ok(()) => Ok(()),
-        Err(fault) => tests.disagree(kind, place, fault),
+    for choice in &attempt.image.choices(alloc)? {
+        tests.enter(Step::Restart(*choice));
+        let checked = check_restart(alloc, work, kind, attempt, *choice, tests);
+        tests.leave(kind, checked);
     }
-}
-
-/// Starts a device that holds this again by each choice of its unsynced sectors, and checks what is found on it.
-fn check_restarts<W: Work>(
-    alloc: Global,
-    work: &W,
-    kind: Kind,
-    image: &Image,
-    is_done: bool,
-    place: TestPlace,
-    tests: &mut Tests,
-) -> Result<(), TestFault> {
-    for choice in &image.choices(alloc)? {
-        match check_restart(alloc, work, kind, image, is_done, place, *choice, tests) {
-            Ok(()) => {}
-            Err(fault) => {
-                let choice = Some(*choice);
-                tests.disagree(kind, TestPlace { choice, ..place }, fault)?;
-            }
-        }
-    }
-    Ok(())
+    work.try_more(alloc, kind, attempt, tests)
 }
 
 /// Starts a device again by a choice, and checks what is found on it. Where it is taken for that, what is done next is stopped.
@@ -199,18 +131,16 @@ fn check_restart<W: Work>(
     alloc: Global,
     work: &W,
     kind: Kind,
-    image: &Image,
-    is_done: bool,
-    place: TestPlace,
+    attempt: &Attempt,
     choice: Choice,
     tests: &mut Tests,
 ) -> Result<(), TestFault> {
     let is_taken = matches!(kind, Kind::Stops) && tests.parts.second_stops.takes_next();
-    let device = image.restarted(alloc, choice)?;
     tests.count_opened(kind);
-    let moment = work.check(alloc, device, is_done)?;
+    let device = attempt.image.restarted(alloc, choice)?;
+    let moment = work.check(alloc, device, attempt.is_done)?;
     if is_taken {
-        work.stop_again(alloc, image, place, choice, moment, tests)?;
+        work.stop_again(alloc, &attempt.image, choice, moment, tests);
     }
     Ok(())
 }
