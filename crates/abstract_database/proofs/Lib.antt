@@ -8,3 +8,5 @@ pub mod ValueTypes
 pub mod DescriptorOrder
 pub mod ReadValues
 pub mod NewRows
+pub mod Actions
+pub mod RisingPuts

@@ -11,12 +11,12 @@ use Rattle.std.proofs.lemmas.Nat.Bits.{bit_at-zero}
 use Rattle.std.proofs.lemmas.List.Folds.{list_any-append}
 use Rattle.std.proofs.lemmas.Map.Lookups.{exact_unsigned}
 use Rattle.sql_ast.specs.declared.privilege.Action.{Action}
-use Rattle.sql_ast.specs.declared.privilege.Action.TheVariants as action
 use Rattle.sql_ast.specs.declared.privilege.Descriptor.{Descriptor}
 use Rattle.store.proofs.Changes.{same_key}
 use Rattle.abstract_database.specs.Lists.{TheName, name_cmp, Among, Rising, put, the_new, drop_where}
 use Rattle.abstract_database.specs.Database.{action_number, same_action, grantor_name, grantee_name, descriptor_cmp}
 use Rattle.abstract_database.specs.Privileges.{is_named_in}
+use Rattle.abstract_database.proofs.Actions.{action_itself, actions_same}
 use Rattle.abstract_database.proofs.ElementLemmas.{any_found, any_holds, rest_of, length-rest_of, in_rest_of, of_filter}
 use Rattle.abstract_database.proofs.ListLemmas.{bytes_same, same_bytes}
 use Rattle.catalogue.specs.declared.grants.Granted.{Granted}
@@ -153,27 +153,6 @@ index_with ds come xs index named = record {
 
 -- ---- names of grantees
 
-actions_same : (a b : Action) → same_action a b ≡ true → a ≡ b
-actions_same action.Select action.Select e = refl
-actions_same action.Select action.Insert e = cc
-actions_same action.Select action.Update e = cc
-actions_same action.Select action.Delete e = cc
-actions_same action.Insert action.Select e = cc
-actions_same action.Insert action.Insert e = refl
-actions_same action.Insert action.Update e = cc
-actions_same action.Insert action.Delete e = cc
-actions_same action.Update action.Select e = cc
-actions_same action.Update action.Insert e = cc
-actions_same action.Update action.Update e = refl
-actions_same action.Update action.Delete e = cc
-actions_same action.Delete action.Select e = cc
-actions_same action.Delete action.Insert e = cc
-actions_same action.Delete action.Update e = cc
-actions_same action.Delete action.Delete e = refl
-
-same_itself : (a : Action) → same_action a a ≡ true
-same_itself a = eq-eqb (action_number a) (action_number a) refl
-
 both_hold : (a b : Bool) → a ≡ true → b ≡ true → (a && b) ≡ true
 both_hold true b e f = f
 both_hold false b e f = e
@@ -183,14 +162,14 @@ grantees_of ds xs index g = same_answers (list_any (is_entry_for g) xs) (list_an
   there : list_any (is_entry_for g) xs ≡ true → list_any (is_for g) ds ≡ true
   there e =
       let x = any_found (is_entry_for g) xs e in
-      let has : list_any (is_entry_of g x.0.action) xs ≡ true = any_holds (is_entry_of g x.0.action) xs x.0 x.1 (both_hold (is_entry_for g x.0) (same_action x.0.action x.0.action) x.2 (same_itself x.0.action)) in
+      let has : list_any (is_entry_of g x.0.action) xs ≡ true = any_holds (is_entry_of g x.0.action) xs x.0 x.1 (both_hold (is_entry_for g x.0) (same_action x.0.action x.0.action) x.2 (action_itself x.0.action)) in
       let d = any_found (is_of x.0.action g) ds (sym (index.entries x.0.action g) ∙ has) in
       any_holds (is_for g) ds d.0 d.1 (and_parts (same_action d.0.action x.0.action) (is_for g d.0) d.2).1
 
   back : list_any (is_for g) ds ≡ true → list_any (is_entry_for g) xs ≡ true
   back e =
       let d = any_found (is_for g) ds e in
-      let has : list_any (is_of d.0.action g) ds ≡ true = any_holds (is_of d.0.action g) ds d.0 d.1 (both_hold (same_action d.0.action d.0.action) (is_for g d.0) (same_itself d.0.action) d.2) in
+      let has : list_any (is_of d.0.action g) ds ≡ true = any_holds (is_of d.0.action g) ds d.0 d.1 (both_hold (same_action d.0.action d.0.action) (is_for g d.0) (action_itself d.0.action) d.2) in
       let x = any_found (is_entry_of g d.0.action) xs (index.entries d.0.action g ∙ has) in
       any_holds (is_entry_for g) xs x.0 x.1 (and_parts (is_entry_for g x.0) (same_action x.0.action d.0.action) x.2).0
 
@@ -370,7 +349,7 @@ equal_entries x y d of_x of_y less =
     let names : grantee_name x.grantee ≡ grantee_name y.grantee = sym (bytes_same (grantee_name d.grantee) (grantee_name x.grantee) at_x.1) ∙ bytes_same (grantee_name d.grantee) (grantee_name y.grantee) at_y.1 in
     let actions : x.action ≡ y.action = sym (actions_same d.action x.action at_x.0) ∙ actions_same d.action y.action at_y.0 in
     let same : is_entry_of (grantee_name y.grantee) y.action x ≡ true = both_hold (is_entry_for (grantee_name y.grantee) x) (same_action x.action y.action)
-    (same_bytes (grantee_name x.grantee) (grantee_name y.grantee) names) (subst (λ b. same_action x.action b ≡ true) actions (same_itself x.action)) in
+    (same_bytes (grantee_name x.grantee) (grantee_name y.grantee) names) (subst (λ b. same_action x.action b ≡ true) actions (action_itself x.action)) in
     let answer : is_eq Less ≡ true = ap is_eq (sym less) ∙ same_entry (grantee_name y.grantee) y.action x ∙ same in
     cc
 
@@ -395,6 +374,6 @@ as_many (x ∷ xs) ds r h =
 -- an index has no more entries than there are descriptors
 pub no_more_entries : (ds : List Descriptor) (xs : List Granted) → Rising granted_cmp xs → IsIndexOf ds xs → length xs ≤ length ds
 no_more_entries ds xs r index = as_many xs ds r (λ x among.
-    let own : is_entry_of (grantee_name x.grantee) x.action x ≡ true = both_hold (is_entry_for (grantee_name x.grantee) x) (same_action x.action x.action) (same_bytes (grantee_name x.grantee) (grantee_name x.grantee) refl) (same_itself x.action) in
+    let own : is_entry_of (grantee_name x.grantee) x.action x ≡ true = both_hold (is_entry_for (grantee_name x.grantee) x) (same_action x.action x.action) (same_bytes (grantee_name x.grantee) (grantee_name x.grantee) refl) (action_itself x.action) in
     let d = any_found (is_of x.action (grantee_name x.grantee)) ds (sym (index.entries x.action (grantee_name x.grantee)) ∙ any_holds (is_entry_of (grantee_name x.grantee) x.action) xs x among own) in
     (d.0, d.1, d.2))

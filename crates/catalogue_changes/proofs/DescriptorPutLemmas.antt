@@ -14,7 +14,8 @@ use Rattle.abstract_database.specs.Privileges.{granted, with_option_of, with_des
 use Rattle.abstract_database.specs.Whole.{Each}
 use Rattle.abstract_database.proofs.ListLemmas.{same_bytes}
 use Rattle.abstract_database.proofs.DescriptorOrder.{ordered_by, names_ordered, descriptors_ordered}
-use Rattle.catalogue_changes.proofs.PutListLemmas.{drop_put, filter_put, put_rises, each_put}
+use Rattle.abstract_database.proofs.RisingPuts.{put_rises}
+use Rattle.catalogue_changes.proofs.PutListLemmas.{drop_put, filter_put, each_put}
 
 -- ---- orders
 
@@ -44,7 +45,7 @@ takes : (name : TheName) (x : Descriptor) → x.table ≡ name → (y : Descript
 takes name x own y e = let passes = same_bytes y.table name (one_table x y e ∙ own) in (passes, passes)
 
 pub granted_rises : (x : Descriptor) (set : List Descriptor) → Rising descriptor_cmp set → Rising descriptor_cmp (granted x set)
-granted_rises = put_rises descriptor_cmp with_option_of descriptors_ordered (λ x y z e. refl)
+granted_rises = put_rises descriptor_cmp descriptors_ordered with_option_of (λ x y z e. refl)
 
 -- descriptors for other tables stay
 pub others_stay : (name : TheName) (ds set : List Descriptor) → AreFor name ds → drop_where (is_for_table name) (with_descriptors ds set) ≡ drop_where (is_for_table name) set

@@ -1,6 +1,6 @@
 -- What of a list passes a test after an element was put in it, and what does not.
 use Rattle.std.proofs.Common.{◌≡◌, Bool, true, false, not, cond, List, [], ◌∷◌, ◌++◌, filter, refl, ap, sym, ◌∙◌, subst, inl, inr}
-use Rattle.std.specs.Ordering.{is_lt, is_eq, ordering_reverse}
+use Rattle.std.specs.Ordering.{is_lt, is_eq}
 use Rattle.std.specs.declared.cmp.Ordering.{Ordering}
 use Rattle.std.specs.declared.cmp.Ordering.TheVariants.{Less, Equal, Greater}
 use Rattle.std.specs.Cmp.{IsTotalOrder}
@@ -76,34 +76,6 @@ module _ {X : Type 0} (cmp : X → X → Ordering) (joined : X → X → X) wher
             ap (λ (a : Bool). part a y (filter test (put cmp joined x ys))) e ∙ ap (λ (zs : List X). y ∷ zs) later
             ∙ sym (ap (λ (o : Ordering). put_at o x y (filter test ys) (put cmp joined x (filter test ys))) c)
         go Greater false c e later = ap (λ (a : Bool). part a y (filter test (put cmp joined x ys))) e ∙ later
-
-  module _ (total : IsTotalOrder cmp) (alike : (x y z : X) → cmp x y ≡ Equal → cmp (joined y x) z ≡ cmp y z) where
-    alike_behind : (x y z : X) → cmp x y ≡ Equal → cmp z (joined y x) ≡ cmp z y
-    alike_behind x y z e = total.antisymm z (joined y x) ∙ ap ordering_reverse (alike x y z e) ∙ sym (total.antisymm z y)
-
-    before_put : (x z : X) (ys : List X) → cmp z x ≡ Less → ((w : X) → Among w ys → cmp z w ≡ Less) → (w : X) → Among w (put cmp joined x ys) → cmp z w ≡ Less
-    before_put x z [] less each w (inl is) = sym (ap (cmp z) is) ∙ less
-    before_put x z [] less each w (inr h) = absurd h
-    before_put x z (y ∷ ys) less each w h = go (cmp x y) refl h (before_put x z ys less (λ v among. each v (inr among)) w) where
-      go : (o : Ordering) → cmp x y ≡ o → Among w (put_at o x y ys (put cmp joined x ys)) → (Among w (put cmp joined x ys) → cmp z w ≡ Less) → cmp z w ≡ Less
-      go Less c (inl is) later = sym (ap (cmp z) is) ∙ less
-      go Less c (inr among) later = each w among
-      go Equal c (inl is) later = sym (ap (cmp z) is) ∙ alike_behind x y z c ∙ each y (inl refl)
-      go Equal c (inr among) later = each w (inr among)
-      go Greater c (inl is) later = each w (inl is)
-      go Greater c (inr among) later = later among
-
-    -- a list in order is so with another element
-    pub put_rises : (x : X) (ys : List X) → Rising cmp ys → Rising cmp (put cmp joined x ys)
-    put_rises x [] rising = ((λ w h. absurd h), tt)
-    put_rises x (y ∷ ys) rising = go (cmp x y) refl (put_rises x ys rising.1) where
-      go : (o : Ordering) → cmp x y ≡ o → Rising cmp (put cmp joined x ys) → Rising cmp (put_at o x y ys (put cmp joined x ys))
-      go Less c later = (below, rising) where
-        below : (w : X) → Among w (y ∷ ys) → cmp x w ≡ Less
-        below w (inl is) = sym (ap (cmp x) is) ∙ c
-        below w (inr among) = total.trans x y w c (rising.0 w among)
-      go Equal c later = ((λ w among. alike x y w c ∙ rising.0 w among), rising.1)
-      go Greater c later = (before_put x y ys (total.antisymm y x ∙ ap ordering_reverse c) rising.0, later)
 
 -- ---- what is dropped
 

@@ -15,6 +15,7 @@ use Rattle.abstract_database.specs.Lists.{TheName, Among}
 use Rattle.abstract_database.specs.Database.{same_action}
 use Rattle.abstract_database.specs.Privileges.{is_of_system, owner_descriptor, owner_descriptors, all_actions}
 use Rattle.abstract_database.specs.Whole.{IsGrantorOf, IsGranteeOf, HasOwnerDescriptors}
+use Rattle.abstract_database.proofs.Actions.{action_itself, actions_same}
 use Rattle.abstract_database.proofs.ListLemmas.{bytes_same, same_bytes}
 use Rattle.abstract_database.proofs.ElementLemmas.{any_found, any_holds}
 use Rattle.stored_database.specs.Definitions.{TableDefinition}
@@ -102,30 +103,6 @@ all_four action.Insert = inr (inl refl)
 all_four action.Update = inr (inr (inl refl))
 all_four action.Delete = inr (inr (inr (inl refl)))
 
-actions_same : (a b : Action) → same_action a b ≡ true → a ≡ b
-actions_same action.Select action.Select e = refl
-actions_same action.Insert action.Insert e = refl
-actions_same action.Update action.Update e = refl
-actions_same action.Delete action.Delete e = refl
-actions_same action.Select action.Insert e = cc
-actions_same action.Select action.Update e = cc
-actions_same action.Select action.Delete e = cc
-actions_same action.Insert action.Select e = cc
-actions_same action.Insert action.Update e = cc
-actions_same action.Insert action.Delete e = cc
-actions_same action.Update action.Select e = cc
-actions_same action.Update action.Insert e = cc
-actions_same action.Update action.Delete e = cc
-actions_same action.Delete action.Select e = cc
-actions_same action.Delete action.Insert e = cc
-actions_same action.Delete action.Update e = cc
-
-same_actions : (a : Action) → same_action a a ≡ true
-same_actions action.Select = refl
-same_actions action.Insert = refl
-same_actions action.Update = refl
-same_actions action.Delete = refl
-
 abbrev descriptor : Grantor → Grantee → TheName → Action → Option ℕ → Bool → Descriptor
 descriptor g e n a c b = record { grantor = g; grantee = e; table = n; action = a; column = c; grantable = b }
 
@@ -197,7 +174,7 @@ module _ (all : List Role) (t : TableDefinition) (own : HasOwnDescriptors t) whe
   of_owners : (a : Action) → Among (owner_descriptor name owner a) t.descriptors → has_owners a ≡ true
   of_owners a among =
       any_holds (is_owners_for owner a) t.descriptors (owner_descriptor name owner a) among
-      (both_of (same_action a a) (is_owners_own owner (owner_descriptor name owner a)) (same_actions a) (same_bytes owner owner refl))
+      (both_of (same_action a a) (is_owners_own owner (owner_descriptor name owner a)) (action_itself a) (same_bytes owner owner refl))
 
   abbrev four : TheName → List Descriptor → Bool
   four n ds = list_any (is_owners_for n action.Select) ds && (list_any (is_owners_for n action.Insert) ds && (list_any (is_owners_for n action.Update) ds && list_any (is_owners_for n action.Delete) ds))

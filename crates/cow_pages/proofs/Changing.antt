@@ -14,11 +14,17 @@ use Rattle.cow_pages.specs.Dirty.{DirtyBytes, overlaid_array}
 use Rattle.cow_pages.specs.PreservedLaws.{same_settled}
 
 module _ (old new : PageMap) (same : KeepsMaps old new) where
-  next_as : (next : RootFields) → IsNextOf next old new → IsNextRoot new.root next new.durable.items new.reserved new.working.items
+  pub next_as : (next : RootFields) → IsNextOf next old new → IsNextRoot new.root next new.durable.items new.reserved new.working.items
   next_as next is =
       subst (λ (r : RootFields). IsNextRoot r next new.durable.items new.reserved new.working.items) (sym same.root)
       (subst (λ (es : List ℕ). IsNextRoot old.root next es new.reserved new.working.items) (sym same.durable)
       (subst (λ (es : List ℕ). IsNextRoot old.root next old.durable.items new.reserved es) (sym same.working) is))
+
+  pub next_was : (next : RootFields) → IsNextOf next new new → IsNextOf next old new
+  next_was next is =
+      subst (λ (r : RootFields). IsNextRoot r next old.durable.items new.reserved old.working.items) same.root
+      (subst (λ (es : List ℕ). IsNextRoot new.root next es new.reserved old.working.items) same.durable
+      (subst (λ (es : List ℕ). IsNextRoot new.root next new.durable.items new.reserved es) same.working is))
 
   pub can_commit : (d : DeviceState) (next : RootFields) → d.faithful → IsSettled d old.root old.durable.items → IsNextOf next old new → CanCommit d new next
   can_commit d next faithful settled is = record {

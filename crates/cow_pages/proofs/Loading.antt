@@ -1,5 +1,5 @@
 -- What opening finds, and what it refuses.
-use Rattle.std.proofs.Common.{◌≡◌, ◌<◌, ◌≤◌, ◌+◌, ◌*◌, ◌/◌, ◌⊎◌, ℕ, List, Bool, true, false, if◌then◌else◌, Option, Some, None, Result, Err, IfErr, get_or, refl, sym, ap, subst, ◌∙◌, arith, inl, inr}
+use Rattle.std.proofs.Common.{◌≡◌, ◌<◌, ◌≤◌, ◌+◌, ◌*◌, ◌/◌, ◌⊎◌, ℕ, List, Bool, true, false, if◌then◌else◌, Option, Some, None, Result, Ok, Err, IfErr, get_or, refl, sym, ap, subst, ◌∙◌, arith, inl, inr}
 use Rattle.std.specs.Prelude.{IsErrOf}
 use Rattle.std.proofs.lemmas.List.{get_or_default}
 use Rattle.sector_device.specs.Device.{DeviceState, Image, IsSynced}
@@ -47,6 +47,17 @@ device_given {T} r fault p is =
 -- memory that was refused is no failure of the device
 pub memory_given : {T : Type 0} {P : Type 0} (r : Result T OpenFault) → (x : OpenFault) × (r ≡ Err x) × (x ≡ Memory) → IsErrOf r Device → P
 memory_given r p is = let e : Memory ≡ Device = device_given r Memory p is in absurd cc
+
+-- nor is damage, nor a success
+pub damage_given : {T P : Type 0} (r : Result T OpenFault) → r ≡ Err Damaged → IsErrOf r Device → P
+damage_given r damaged is = let e : Damaged ≡ Device = device_given r Damaged (Damaged, damaged, refl) is in absurd cc
+
+pub none_given : {T P : Type 0} (x : T) → IsErrOf (Ok x) Device → P
+none_given x is = let e : Ok x ≡ Err Device = is in absurd cc
+
+-- a fault that is given back is such a one
+pub fault_given : {T : Type 0} (r : Result T OpenFault) (P : OpenFault → Type 0) (x : OpenFault) → r ≡ Err x → P x → IfErr r P
+fault_given r P x err is = rw err is
 
 pub named_device : (fault : OpenFault) (first : Option OpenFault) → fault ≡ Device → IsNamedFor fault first
 named_device fault first device = rw device tt

@@ -1,5 +1,5 @@
 -- What no call but a commit changes.
-use Rattle.std.proofs.Common.{Result, Err, ◌≡◌, ◌⊎◌, ◌<◌, ◌≤◌, ◌+◌, ◌*◌, ℕ, List, true, inl, inr, ap, sym, subst, ◌∙◌}
+use Rattle.std.proofs.Common.{Result, Err, ◌≡◌, ◌⊎◌, ◌<◌, ◌≤◌, ◌+◌, ◌*◌, ℕ, List, true, false, refl, inl, inr, ap, sym, subst, ◌∙◌}
 use Rattle.sector_device.specs.Timeline.{LeavesOnly, IsPresent}
 use Rattle.sector_device.specs.Device.{KeepsHistory, HasFailed, timeline, history_none}
 use Rattle.sector_device.specs.Page.{IsAlone}
@@ -19,9 +19,10 @@ use Rattle.cow_pages.specs.declared.page_map.CommitFault.{CommitFault}
 use Rattle.cow_pages.specs.declared.page_map.CommitFault.TheVariants.{Number, NoFirstPage, Full as NoRoom, Device as CommitFailed}
 use Rattle.cow_pages.specs.Dirty.{overlaid_page}
 use Rattle.cow_pages.specs.MapCalls.{CannotPrepare}
-use Rattle.cow_pages.specs.Calls.{Commits, CannotCommit, CannotRead, CannotWrite, CannotTake, CannotFree}
+use Rattle.cow_pages.specs.Calls.{IsBroken, Commits, CannotCommit, CannotRead, CannotWrite, CannotTake, CannotFree}
 use Rattle.cow_pages.specs.Preserved.{HoldsDurable, IsPreserved, FailedWith}
 use Rattle.cow_pages.specs.PreservedLaws.{same_settled, preserved_joined}
+use Rattle.cow_pages.proofs.Answered.{not_both}
 use Rattle.cow_pages.proofs.Along.{alone_read, settled_read, array_along, leaves_read, leaves_none}
 use Rattle.cow_pages.proofs.Overlaid.{leaves_durable, settled_still, durable_still}
 
@@ -113,6 +114,18 @@ module _ {D : Type 0} {g : Ghosts D} (present : (device : D) → (g.state device
       settled = same_settled (g.state q.device) p.map.root q.map.root p.map.durable.items q.map.durable.items (sym root) (sym durable) (settled_still_there is.settled);
     }
 
+-- where nothing was done, and where the device had failed before
+pub refused_still : {D : Type 0} {g : Ghosts D} (p : CowPages D g) → p.has_failed ≡ false → IsRefused p p
+refused_still p works = record { memory = record { root = refl; durable = refl; working = refl; dirty = refl }; device = refl; has_not_failed = works }
+
+pub broken_still : {D : Type 0} {g : Ghosts D} (p : CowPages D g) → p.has_failed ≡ true → IsBroken p p
+broken_still p failed = record {
+  memory = record { root = refl; durable = refl; working = refl; dirty = refl };
+  faulted = record { has_failed = failed; cause = inl failed };
+  recoverable = λ was. not_both _ was.has_not_failed failed;
+  same = λ was l. refl;
+}
+
 -- where nothing was done there is no more room than before
 abbrev IsUsedUp : RootFields → List ℕ → List ℕ → Type 0
 IsUsedUp root durable working = (page : ℕ) → 1 ≤ page → page < root.pages → InReach root.maps durable page ⊎ IsPage working page
@@ -145,6 +158,12 @@ module _ {D : Type 0} {g : Ghosts D} (p q : CowPages D g) (history : KeepsHistor
   read_failed page Memory fails = fails
   read_failed page Device fails = (history, fails)
   read_failed page Malformed fails = tt
+
+  pub read_faults : (page : ℕ) (fault : PageFault) → CannotRead page fault p q → (fault ≡ Malformed) ⊎ (fault ≡ Device)
+  read_faults page Full fails = absurd fails
+  read_faults page Memory fails = absurd fails
+  read_faults page Device fails = inr refl
+  read_faults page Malformed fails = inl refl
 
   pub write_failed : (page : ℕ) (fault : PageFault) → CannotWrite page fault p q → FailedWith p q fault
   write_failed page Full fails = room_after p q fails.refused fails.no_room

@@ -4,7 +4,6 @@ use Rattle.std.specs.List.{list_any}
 use Rattle.sql_ast.specs.declared.role.Role.{Role}
 use Rattle.sql_ast.specs.declared.role.Membership.{Membership}
 use Rattle.sql_ast.specs.declared.privilege.Action.{Action}
-use Rattle.sql_ast.specs.declared.privilege.Action.TheVariants as action
 use Rattle.sql_ast.specs.declared.privilege.Privilege.{Privilege}
 use Rattle.sql_ast.specs.declared.privilege.Grantee.{Grantee}
 use Rattle.sql_ast.specs.declared.privilege.Grantee.TheVariants as grantee
@@ -14,33 +13,10 @@ use Rattle.abstract_database.specs.Database.{Database, same_action, is_role_name
 use Rattle.abstract_database.specs.Roles.{IsSuperuser, is_superuser}
 use Rattle.abstract_database.specs.Privileges.{on_table, on_column, has_on_some_column, Reaches, by_public, by_role, IsFor, HasPrivilege, by_superuser, by_descriptor, has_privilege, covers, is_for, reaches}
 use Rattle.std.proofs.lemmas.Bool.{or_cases, and_parts, or_left, or_right, and_from, eq-eqb, eqb-true}
+use Rattle.abstract_database.proofs.Actions.{action_itself, actions_same}
 use Rattle.abstract_database.proofs.ElementLemmas.{any_found, any_holds}
 use Rattle.abstract_database.proofs.ListLemmas.{bytes_same, same_bytes}
 use Rattle.abstract_database.proofs.ChainLemmas.{found_role, role_found}
-
-pub actions_same : (a b : Action) → same_action a b ≡ true → a ≡ b
-actions_same action.Select action.Select e = refl
-actions_same action.Select action.Insert e = cc
-actions_same action.Select action.Update e = cc
-actions_same action.Select action.Delete e = cc
-actions_same action.Insert action.Select e = cc
-actions_same action.Insert action.Insert e = refl
-actions_same action.Insert action.Update e = cc
-actions_same action.Insert action.Delete e = cc
-actions_same action.Update action.Select e = cc
-actions_same action.Update action.Insert e = cc
-actions_same action.Update action.Update e = refl
-actions_same action.Update action.Delete e = cc
-actions_same action.Delete action.Select e = cc
-actions_same action.Delete action.Insert e = cc
-actions_same action.Delete action.Update e = cc
-actions_same action.Delete action.Delete e = refl
-
-pub action_itself : (a : Action) → same_action a a ≡ true
-action_itself action.Select = refl
-action_itself action.Insert = refl
-action_itself action.Update = refl
-action_itself action.Delete = refl
 
 pub covered_by : (a b : Option ℕ) → covers a b ≡ true → (a ≡ None) ⊎ (a ≡ b)
 covered_by None b e = inl refl

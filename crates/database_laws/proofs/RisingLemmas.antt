@@ -1,6 +1,5 @@
 -- Lists in rising order: what is put, dropped and changed leaves them so.
-use Rattle.std.proofs.Common.{◌≡◌, Bool, true, false, not, cond, List, [], ◌∷◌, filter, Option, Ok, Err, refl, sym, ap, ◌∙◌, inl, inr, Ordering, Less, Equal, Greater, is_lt, is_eq, nat_cmp}
-use Rattle.std.specs.Ordering.{ordering_reverse}
+use Rattle.std.proofs.Common.{◌≡◌, Bool, true, false, not, cond, List, [], ◌∷◌, filter, Option, Ok, Err, refl, sym, ap, ◌∙◌, inl, inr, Ordering, Less, Equal, nat_cmp}
 use Rattle.std.specs.Cmp.{IsTotalOrder}
 use Rattle.std.specs.Cmp.Lexicographic.{options_total}
 use Rattle.std.specs.Option.{option_cmp}
@@ -16,6 +15,7 @@ use Rattle.sql_ast.specs.declared.privilege.Descriptor.{Descriptor}
 use Rattle.sql_ast.specs.declared.policy.Policy.{Policy}
 use Rattle.sql_ast.specs.declared.statement.DropBehavior.{DropBehavior}
 use Rattle.sql_ast.specs.declared.statement.RowSecurityChange.{RowSecurityChange}
+use Rattle.abstract_database.proofs.RisingPuts.{put_rises}
 use Rattle.abstract_database.proofs.ResultLemmas.{Every, every_ok, every_err}
 use Rattle.database_laws.proofs.RowLemmas.{Part, none, keep, skip, rising_part}
 use Rattle.database_laws.proofs.PrivilegeLemmas.{names_total}
@@ -59,41 +59,6 @@ descriptors_total =
     (then_total by_action
     (then_total by_column
     (then_total (by_name (λ (d : Descriptor). grantor_name d.grantor)) (by_name (λ (d : Descriptor). grantee_name d.grantee)))))
-
--- ---- putting
-
-module _ {X : Type 0} (cmp : X → X → Ordering) (joined : X → X → X) (total : IsTotalOrder cmp) (alike : (x y z : X) → cmp x y ≡ Equal → cmp (joined y x) z ≡ cmp y z) where
-  alike_behind : (x y z : X) → cmp x y ≡ Equal → cmp z (joined y x) ≡ cmp z y
-  alike_behind x y z e = total.antisymm z (joined y x) ∙ ap ordering_reverse (alike x y z e) ∙ sym (total.antisymm z y)
-
-  reversed : (x y : X) → cmp x y ≡ Greater → cmp y x ≡ Less
-  reversed x y e = total.antisymm y x ∙ ap ordering_reverse e
-
-  before_put_at : (o : Ordering) (x y z : X) (ys : List X) → cmp x y ≡ o → cmp z x ≡ Less → cmp z y ≡ Less → ((w : X) → Among w ys → cmp z w ≡ Less) → ((w : X) → Among w (put cmp joined x ys) → cmp z w ≡ Less) →
-      (w : X) → Among w (cond (is_lt o) (x ∷ y ∷ ys) (cond (is_eq o) (joined y x ∷ ys) (y ∷ put cmp joined x ys))) → cmp z w ≡ Less
-  before_put_at Less x y z ys e a b more go w (inl is) = sym (ap (cmp z) is) ∙ a
-  before_put_at Less x y z ys e a b more go w (inr (inl is)) = sym (ap (cmp z) is) ∙ b
-  before_put_at Less x y z ys e a b more go w (inr (inr later)) = more w later
-  before_put_at Equal x y z ys e a b more go w (inl is) = sym (ap (cmp z) is) ∙ alike_behind x y z e ∙ b
-  before_put_at Equal x y z ys e a b more go w (inr later) = more w later
-  before_put_at Greater x y z ys e a b more go w (inl is) = sym (ap (cmp z) is) ∙ b
-  before_put_at Greater x y z ys e a b more go w (inr later) = go w later
-
-  before_put : (x z : X) (ys : List X) → cmp z x ≡ Less → ((w : X) → Among w ys → cmp z w ≡ Less) → (w : X) → Among w (put cmp joined x ys) → cmp z w ≡ Less
-  before_put x z [] a more w (inl is) = sym (ap (cmp z) is) ∙ a
-  before_put x z [] a more w (inr later) = absurd later
-  before_put x z (y ∷ ys) a more w h =
-      before_put_at (cmp x y) x y z ys refl a (more y (inl refl)) (λ v k. more v (inr k)) (before_put x z ys a (λ v k. more v (inr k))) w h
-
-  put_rises_at : (o : Ordering) (x y : X) (ys : List X) → cmp x y ≡ o → Rising cmp (y ∷ ys) → Rising cmp (put cmp joined x ys) →
-      Rising cmp (cond (is_lt o) (x ∷ y ∷ ys) (cond (is_eq o) (joined y x ∷ ys) (y ∷ put cmp joined x ys)))
-  put_rises_at Less x y ys e r go = (λ w h. elim h [ inl is ↦ sym (ap (cmp x) is) ∙ e | inr later ↦ total.trans x y w e (r.0 w later) ], r)
-  put_rises_at Equal x y ys e r go = (λ w h. alike x y w e ∙ r.0 w h, r.1)
-  put_rises_at Greater x y ys e r go = (before_put x y ys (reversed x y e) r.0, go)
-
-  pub put_rises : (x : X) (ys : List X) → Rising cmp ys → Rising cmp (put cmp joined x ys)
-  put_rises x [] r = (λ w h. absurd h, tt)
-  put_rises x (y ∷ ys) r = put_rises_at (cmp x y) x y ys refl r (put_rises x ys r.1)
 
 pub the_new_alike : {X : Type 0} (cmp : X → X → Ordering) → IsTotalOrder cmp → (x y z : X) → cmp x y ≡ Equal → cmp (the_new y x) z ≡ cmp y z
 the_new_alike cmp total x y z e = total.congr x y z e
@@ -168,7 +133,7 @@ pub granted_rise : (ms memberships : List Membership) → Rising membership_cmp 
 granted_rise [] memberships r = every_ok (Rising membership_cmp) memberships r
 granted_rise (m ∷ ms) memberships r =
     granted_at m ms memberships (is_in memberships m.role m.member)
-    (granted_rise ms (put membership_cmp raised m memberships) (put_rises membership_cmp raised memberships_total (λ x y z e. refl) m memberships r))
+    (granted_rise ms (put membership_cmp raised m memberships) (put_rises membership_cmp memberships_total raised (λ x y z e. refl) m memberships r))
 
 pub revoked_rise : (option : Bool) (roles members : List TheName) (memberships : List Membership) → Rising membership_cmp memberships → Rising membership_cmp (without_memberships option roles members memberships)
 revoked_rise false roles members memberships r = dropped_rise membership_cmp (is_named_by roles members) memberships r
@@ -176,7 +141,7 @@ revoked_rise true roles members memberships r = all_changed_rise membership_cmp 
 
 pub with_descriptors_rise : (ds set : List Descriptor) → Rising descriptor_cmp set → Rising descriptor_cmp (with_descriptors ds set)
 with_descriptors_rise [] set r = r
-with_descriptors_rise (d ∷ ds) set r = with_descriptors_rise ds (granted d set) (put_rises descriptor_cmp with_option_of descriptors_total (λ x y z e. refl) d set r)
+with_descriptors_rise (d ∷ ds) set r = with_descriptors_rise ds (granted d set) (put_rises descriptor_cmp descriptors_total with_option_of (λ x y z e. refl) d set r)
 
 unnamed_rise : (option : Bool) (named set : List Descriptor) → Rising descriptor_cmp set → Rising descriptor_cmp (without_named option named set)
 unnamed_rise false named set r = dropped_rise descriptor_cmp (is_taken_by named) set r

@@ -19,7 +19,8 @@ use Rattle.expressions.specs.Stages.{require}
 use Rattle.sql_ast.specs.declared.statement.DefiningStatement.TheVariants as defining
 use Rattle.database_laws.proofs.Defining.{IsDefinition, definition}
 use Rattle.database_laws.proofs.EffectLemmas.{done_answers}
-use Rattle.database_laws.proofs.RisingLemmas.{roles_total, put_rises, the_new_alike, dropped_rise, granted_rise, revoked_rise}
+use Rattle.abstract_database.proofs.RisingPuts.{put_rises}
+use Rattle.database_laws.proofs.RisingLemmas.{roles_total, the_new_alike, dropped_rise, granted_rise, revoked_rise}
 use Rattle.database_laws.proofs.TableLemmas.{same_tables}
 use Rattle.database_laws.proofs.RightLemmas.{then, at_once, superuser_checked, grants_checked}
 use Rattle.database_laws.proofs.NotRefusedLemmas.{spares_bind, spares_other, spares_superuser, spares_roles, spares_grants, spares_memberships, duplicate, in_use}
@@ -59,7 +60,7 @@ module _ (db : Database) (users : UserNames) where
         lawful = λ free free-is. record {
           answers = done_answers tag.CreateRole (with_role s db);
           ordered = λ o. record {
-            roles = put_rises role_cmp the_new roles_total (the_new_alike role_cmp roles_total) _ db.roles o.roles;
+            roles = put_rises role_cmp roles_total the_new (the_new_alike role_cmp roles_total) _ db.roles o.roles;
             memberships = o.memberships;
             tables = o.tables;
             descriptors = o.descriptors;

@@ -38,7 +38,8 @@ use Rattle.expressions.specs.Names.{resolved}
 use Rattle.database_laws.specs.Rights.{ActsAsOwnerOf}
 use Rattle.database_laws.proofs.Defining.{IsWholeAside, WholeAfter, IsDefinition, definition}
 use Rattle.database_laws.proofs.EffectLemmas.{done_answers}
-use Rattle.database_laws.proofs.RisingLemmas.{policies_total, put_rises, the_new_alike, dropped_rise}
+use Rattle.abstract_database.proofs.RisingPuts.{put_rises}
+use Rattle.database_laws.proofs.RisingLemmas.{policies_total, the_new_alike, dropped_rise}
 use Rattle.database_laws.proofs.TableLemmas.{same_tables}
 use Rattle.database_laws.proofs.WholeTexts.{fewer_known, one_more_known}
 use Rattle.database_laws.proofs.RightLemmas.{Always, then, at_once, owner_checked}
@@ -86,7 +87,7 @@ some_put n (y ∷ ys) = some_put_at n y ys (name_cmp n y)
 good_with : (all : List Role) (r : PolicyRoles) (g : Grantee) → ((n : TheName) → g ≡ grantee.Role n → IsRoleOf all n) → AreGood all r → AreGood all (with_grantee r g)
 good_with all roles.Public g f good = tt
 good_with all (roles.Only names) grantee.Public f good = tt
-good_with all (roles.Only names) (grantee.Role n) f good = (one_put all n names (f n refl) good.0, put_rises name_cmp the_new names_total (λ x y z e. names_total.congr x y z e) n names good.1)
+good_with all (roles.Only names) (grantee.Role n) f good = (one_put all n names (f n refl) good.0, put_rises name_cmp names_total the_new (λ x y z e. names_total.congr x y z e) n names good.1)
 
 some_with : (r : PolicyRoles) (g : Grantee) → AreNotNone (with_grantee r g)
 some_with roles.Public g = tt
@@ -237,7 +238,7 @@ module _ (db : Database) (users : UserNames) where
             memberships = o.memberships;
             tables = o.tables;
             descriptors = o.descriptors;
-            policies = put_rises policy_cmp the_new policies_total (the_new_alike policy_cmp policies_total) _ db.policies o.policies;
+            policies = put_rises policy_cmp policies_total the_new (the_new_alike policy_cmp policies_total) _ db.policies o.policies;
           };
           tables = same_tables db;
           known = one_more_known db (on_database.Defining (defining.CreatePolicy s)) (policy_of s) (λ c h. h);

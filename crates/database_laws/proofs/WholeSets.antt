@@ -16,7 +16,8 @@ use Rattle.abstract_database.specs.Chains.{by_start, by_step}
 use Rattle.abstract_database.specs.Database.{TableOf, Table, action_number, grantor_name, grantee_name, descriptor_cmp}
 use Rattle.abstract_database.specs.Privileges.{IsSupported, is_of_system, is_same_role, privilege_of, is_for, supports, owner_descriptor, owner_descriptors, all_actions, granted, with_descriptors, with_option_of}
 use Rattle.abstract_database.specs.Whole.{Each, OneOf, IsRoleOf, IsWholeRole, IsGrantorOf, IsGranteeOf, IsWholeDescriptor, IsDescriptorOf}
-use Rattle.database_laws.proofs.HoldingLemmas.{actions_same, is_one_for, one_for}
+use Rattle.abstract_database.proofs.Actions.{actions_same}
+use Rattle.database_laws.proofs.HoldingLemmas.{is_one_for, one_for}
 use Rattle.database_laws.proofs.WholeLists.{PutFrom, fresh, there, merged, of_put, put_old, put_new, of_map}
 use Rattle.database_laws.proofs.WholeRoles.{names_same, no_empty_role}
 

@@ -45,7 +45,8 @@ use Rattle.abstract_database.proofs.ValueTypes.{new_names_differ}
 use Rattle.std.proofs.lemmas.List.{length-map}
 use Rattle.database_laws.proofs.Defining.{IsWholeAside, WholeAfter, IsDefinition, definition}
 use Rattle.database_laws.proofs.EffectLemmas.{done_answers}
-use Rattle.database_laws.proofs.RisingLemmas.{tables_total, put_rises, the_new_alike, dropped_rise, changed_rise, with_security_alike, with_descriptors_rise}
+use Rattle.abstract_database.proofs.RisingPuts.{put_rises}
+use Rattle.database_laws.proofs.RisingLemmas.{tables_total, the_new_alike, dropped_rise, changed_rise, with_security_alike, with_descriptors_rise}
 use Rattle.database_laws.proofs.TableLemmas.{no_double, new_table, fewer_tables, altered_table}
 use Rattle.database_laws.proofs.WholeTexts.{fewer_known}
 use Rattle.database_laws.proofs.RightLemmas.{then, owner_checked}
@@ -357,7 +358,7 @@ module _ (db : Database) (users : UserNames) where
           ordered = λ o. record {
             roles = o.roles;
             memberships = o.memberships;
-            tables = put_rises table_cmp the_new tables_total (the_new_alike table_cmp tables_total) _ db.tables o.tables;
+            tables = put_rises table_cmp tables_total the_new (the_new_alike table_cmp tables_total) _ db.tables o.tables;
             descriptors = with_descriptors_rise (owner_descriptors s.table users.current) db.descriptors o.descriptors;
             policies = o.policies;
           };

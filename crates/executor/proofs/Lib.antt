@@ -1,12 +1,16 @@
 pub mod ByParts
 pub mod CountedRows
+pub mod EachLookedUp
 pub mod InPlace
 pub mod InRanges
 pub mod JoinedRows
 pub mod LookedUp
+pub mod MoreRanges
 pub mod NullColumns
 pub mod OneTables
 pub mod OuterWalk
+pub mod PartCalls
+pub mod QuietStages
 pub mod Seen
 pub mod SoughtKeys
 pub mod Together

@@ -1,9 +1,13 @@
 -- Primaries: operands of one token, columns, parentheses, and MEMBER OF.
-use Rattle.std.proofs.Common.{◌≡◌, ◌≢◌, ℕ, suc, ◌+◌, ◌-◌, ◌<◌, ◌≤◌, List, Option, Some, None, slice_get, refl, sym, ap, subst, ◌∙◌, arith, add-one, option_map, Result, Ok, Err, IfOk}
-use Rattle.sql_lexer.specs.Lexeme.{Lexeme, kind_at}
-use Rattle.sql_lexer.specs.Content.{name, name_in}
+use Rattle.std.proofs.Common.{◌≡◌, ◌≢◌, ℕ, suc, ◌+◌, ◌-◌, ◌<◌, ◌≤◌, List, length, Option, Some, None, slice_get, refl, sym, ap, subst, ◌∙◌, arith, add-one, option_map, Result, Ok, Err, IfOk}
+use Rattle.std.specs.List.{HoldsAt}
+use Rattle.std.proofs.lemmas.Option.{slice_get-map, slice_get_read}
+use Rattle.sql_lexer.specs.Lexeme.{Lexeme, kind_at, lexeme, lexemes}
+use Rattle.sql_lexer.specs.declared.token.Token.{Token}
+use Rattle.sql_lexer.specs.Content.{name, name_in, text_in, text_content}
 use Rattle.sql_lexer.specs.declared.token.TokenKind.{TokenKind}
-use Rattle.sql_lexer.specs.declared.token.TokenKind.TheVariants.{Unreserved, Word, QuotedIdentifier, Punctuation}
+use Rattle.sql_lexer.specs.declared.token.TokenKind.TheVariants.{Reserved, Unreserved, Word, QuotedIdentifier, Text, Punctuation}
+use Rattle.sql_lexer.specs.declared.token.Reserved.TheVariants.{Null, True, False, CurrentUser, SessionUser}
 use Rattle.sql_lexer.specs.declared.token.Unreserved.TheVariants.{Member}
 use Rattle.sql_lexer.specs.declared.token.Punctuation.TheVariants.{Open, Close, Dot}
 use Rattle.sql_ast.specs.Term.{term_of}
@@ -11,7 +15,7 @@ use Rattle.sql_ast.specs.Term as tree
 use Rattle.sql_ast.specs.declared.expression.ColumnName.{ColumnName}
 use Rattle.sql_ast.specs.declared.expression.Expression.{Expression}
 use Rattle.expr_parser.specs.declared.level.Level.TheVariants as level
-use Rattle.expr_parser.specs.Grammar.{Tree, table_column, chained, primary, leaf_of, leaf, bare_column, Spells, by_leaf, qualified, inside, by_member, ReadsLongestPart, ReadsColumn, HasNoPrimary, IsMember}
+use Rattle.expr_parser.specs.Grammar.{Tree, table_column, chained, primary, leaf_of, leaf, constant, bare_column, text_literal, Spells, by_leaf, qualified, inside, by_member, ReadsLongestPart, ReadsColumn, HasNoPrimary, IsMember}
 use Rattle.expr_parser.proofs.Readings.{token_precedence, Compared, same, shorter, longer, one, spells_lt, no_leaf, no_name, dot_or_of, open_or_member, Some_inj}
 use Rattle.expr_parser.proofs.Descent.{Longest, Never}
 
@@ -70,6 +74,38 @@ literal_read ts i o x h e q w =
 
 pub literal_missing : (ts : List Lexeme) (i : ℕ) (o : Option (Expression ColumnName)) → option_map term_of o ≡ leaf (slice_get ts i) → o ≡ None → name (slice_get ts i) ≡ None → kind_at ts i ≢ Some (Punctuation Open) → (IsMember ts i → ⊥) → Never ts primary i
 literal_missing ts i o h e q w m = no_prim ts i (sym h ∙ ap (option_map term_of) e) (no_column ts i q) w (λ k. absurd (m k))
+
+-- what is no name and no text is what its kind alone says
+leaf_constant : (k : TokenKind) (b : List ℕ) → name_in k b ≡ None → text_in k b ≡ None → leaf_of k b ≡ constant k
+leaf_constant Word b n t = rw n refl
+leaf_constant (Unreserved w) b n t = rw n refl
+leaf_constant QuotedIdentifier b n t = rw n refl
+leaf_constant Text b n t = rw t refl
+leaf_constant (Reserved Null) b n t = refl
+leaf_constant (Reserved True) b n t = refl
+leaf_constant (Reserved False) b n t = refl
+leaf_constant (Reserved CurrentUser) b n t = refl
+leaf_constant (Reserved SessionUser) b n t = refl
+leaf_constant _ b n t = refl
+
+leaf_text : (k : TokenKind) (b x : List ℕ) → text_in k b ≡ Some x → leaf_of k b ≡ Some (text_literal x)
+leaf_text Text b x t = rw t refl
+leaf_text _ b x t = cc
+
+-- the token that stands at an index
+abbrev Stands : List Token → ℕ → Token → Type 0
+Stands tokens i t = (i < length tokens) × HoldsAt (λ y. t ≡ y) tokens i
+
+lexeme_at : (tokens : List Token) (i : ℕ) (t : Token) → Stands tokens i t → slice_get (lexemes tokens) i ≡ Some (lexeme t)
+lexeme_at tokens i t h = slice_get-map lexeme tokens i ∙ ap (option_map lexeme) (slice_get_read tokens (length tokens) i t refl h.0 (h.1 t))
+
+pub constant_read : (tokens : List Token) (i : ℕ) (t : Token) → Stands tokens i t → name (slice_get (lexemes tokens) i) ≡ None → text_content (Some (lexeme t)) ≡ None → constant t.kind ≡ leaf (slice_get (lexemes tokens) i)
+constant_read tokens i t h n e =
+    let at = lexeme_at tokens i t h in
+    sym (ap leaf at ∙ leaf_constant t.kind t.text.now (sym (ap name at) ∙ n) e)
+
+pub text_read : (tokens : List Token) (i : ℕ) (t : Token) (x : List ℕ) → Stands tokens i t → text_content (Some (lexeme t)) ≡ Some x → Some (text_literal x) ≡ leaf (slice_get (lexemes tokens) i)
+text_read tokens i t x h e = sym (ap leaf (lexeme_at tokens i t h) ∙ leaf_text t.kind t.text.now x e)
 
 -- a name by itself is a column
 bare_of : (k : TokenKind) (b n : List ℕ) → name_in k b ≡ Some n → leaf_of k b ≡ Some (bare_column n)

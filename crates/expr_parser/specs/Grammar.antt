@@ -111,6 +111,16 @@ leaf_of QuotedIdentifier bytes = option_map bare_column (name_in QuotedIdentifie
 leaf_of Text bytes = option_map text_literal (text_in Text bytes)
 leaf_of _ bytes = None
 
+-- what a token of a kind is whatever its bytes are: a number that is a BIGINT, a truth value, NULL or a user
+abbrev pub constant : TokenKind → Option Tree
+constant (Reserved Null) = Some (tree.literal value.Null)
+constant (Reserved True) = Some (tree.literal (value.Bool true))
+constant (Reserved False) = Some (tree.literal (value.Bool false))
+constant (Reserved CurrentUser) = Some tree.current_user
+constant (Reserved SessionUser) = Some tree.session_user
+constant (Number n) = positive n
+constant _ = None
+
 -- the expression that a token is by itself, if one is there
 abbrev pub leaf : Option Lexeme → Option Tree
 leaf None = None

@@ -5,7 +5,7 @@ ghost use Rattle.std.specs.Option.{option_map};
 ghost use Rattle.sql_lexer.specs.Lexeme.{lexemes, kind_at as kind_in};
 ghost use Rattle.sql_lexer.specs.Content.{name};
 ghost use Rattle.sql_ast.specs.Term.{term_of};
-ghost use Rattle.expr_parser.specs.Grammar.{counted, leaf, positive as positive_literal, negative as negative_literal, IsMinus, column_of, ReadsColumn};
+ghost use Rattle.expr_parser.specs.Grammar.{constant, counted, leaf, positive as positive_literal, negative as negative_literal, IsMinus, column_of, ReadsColumn};
 
 use crate::reader::{has, kind_at, name_at};
 use sql_ast::expression::{ColumnName, Expression};
@@ -62,6 +62,22 @@ pub fn minus_at(tokens: &[Token], at: usize) -> bool
         && number_at(tokens, at + 1).is_none()
 }
 
+// What a token of this kind is whatever its text is: a number, a truth value, NULL or a user, or
+// `None` where it is none of these.
+fn constant(kind: TokenKind) -> Option<Expression<ColumnName>>
+    ensures { option_map term_of result ≡ constant kind }
+{
+    match kind {
+        TokenKind::Reserved(Reserved::Null) => Some(Expression::Literal(Value::Null)),
+        TokenKind::Reserved(Reserved::True) => Some(Expression::Literal(Value::Bool(true))),
+        TokenKind::Reserved(Reserved::False) => Some(Expression::Literal(Value::Bool(false))),
+        TokenKind::Reserved(Reserved::CurrentUser) => Some(Expression::CurrentUser),
+        TokenKind::Reserved(Reserved::SessionUser) => Some(Expression::SessionUser),
+        TokenKind::Number(value) => positive(value),
+        _ => None,
+    }
+}
+
 /// The literal or the user that the token at an index is, which is no name, or `None` where it is
 /// none of these.
 pub fn literal_at(
@@ -77,18 +93,9 @@ pub fn literal_at(
     let Some(token) = tokens.get(at) else {
         return Ok(None);
     };
-    match token.kind {
-        TokenKind::Reserved(Reserved::Null) => Ok(Some(Expression::Literal(Value::Null))),
-        TokenKind::Reserved(Reserved::True) => Ok(Some(Expression::Literal(Value::Bool(true)))),
-        TokenKind::Reserved(Reserved::False) => Ok(Some(Expression::Literal(Value::Bool(false)))),
-        TokenKind::Reserved(Reserved::CurrentUser) => Ok(Some(Expression::CurrentUser)),
-        TokenKind::Reserved(Reserved::SessionUser) => Ok(Some(Expression::SessionUser)),
-        TokenKind::Number(value) => Ok(positive(value)),
-        TokenKind::Text => match text_of(alloc, token)? {
-            Some(text) => Ok(Some(Expression::Literal(Value::Text(text)))),
-            None => Ok(None),
-        },
-        _ => Ok(None),
+    match text_of(alloc, token)? {
+        Some(text) => Ok(Some(Expression::Literal(Value::Text(text)))),
+        None => Ok(constant(token.kind)),
     }
 }
 

@@ -21,7 +21,7 @@ pub enum Level {
 }
 
 /// What joins two operands of a chain.
-#[derive(Clone, Copy, PartialEq, Eq)]
+#[derive(Clone, Copy)]
 pub enum Connective {
     Or,
     And,

@@ -3,14 +3,14 @@
 ghost use Rattle.std.specs.Prelude.{◌≡◌, IfOk};
 ghost use Rattle.sql_ast.specs.Scope.{tables_of};
 ghost use Rattle.sql_ast.specs.Term.{term_of};
-ghost use Rattle.expressions.specs.Names.{resolved, unless_memory, AnswersUnlessMemory, GivesTermUnlessMemory, GivesTermsUnlessMemory, MeansTheSame};
+ghost use Rattle.expressions.specs.Names.{resolved, AnswersUnlessMemory, GivesTermUnlessMemory, GivesOperandUnlessMemory, GivesOperandsUnlessMemory, MeansTheSame};
 
 use sql_ast::expr::Expr;
 use sql_ast::expression::{ColumnName, Expression};
 use sql_ast::scope::{ColumnIndex, Scope};
 use sql_types::state::Refusal;
 use sql_types::try_copy::TryCopy;
-use std::alloc::{AllocError, Global};
+use std::alloc::Global;
 use std::marker::Model;
 
 /// An expression whose columns are given by their indices, which contracts see as its term.
@@ -76,36 +76,48 @@ fn resolve_tree(
         Expression::SessionUser => Ok(Expression::SessionUser),
         Expression::Compare(operator, left, right) => {
             let (left, right) = resolve_both(alloc, left, right, scope)?;
-            unless_memory(Expression::comparison(alloc, *operator, left, right))
+            Ok(Expression::Compare(*operator, left, right))
         }
         Expression::Arithmetic(operator, left, right) => {
             let (left, right) = resolve_both(alloc, left, right, scope)?;
-            unless_memory(Expression::operation(alloc, *operator, left, right))
+            Ok(Expression::Arithmetic(*operator, left, right))
         }
         Expression::And(left, right) => {
             let (left, right) = resolve_both(alloc, left, right, scope)?;
-            unless_memory(Expression::conjunction(alloc, left, right))
+            Ok(Expression::And(left, right))
         }
         Expression::Or(left, right) => {
             let (left, right) = resolve_both(alloc, left, right, scope)?;
-            unless_memory(Expression::disjunction(alloc, left, right))
+            Ok(Expression::Or(left, right))
         }
         Expression::Negate(operand) => {
-            unless_memory(Expression::minus(alloc, resolve_tree(alloc, operand, scope)?))
+            Ok(Expression::Negate(resolve_operand(alloc, operand, scope)?))
         }
-        Expression::Not(operand) => {
-            unless_memory(Expression::negation(alloc, resolve_tree(alloc, operand, scope)?))
-        }
+        Expression::Not(operand) => { Ok(Expression::Not(resolve_operand(alloc, operand, scope)?)) }
         Expression::IsNull(operand) => {
-            unless_memory(Expression::null_test(alloc, resolve_tree(alloc, operand, scope)?))
+            Ok(Expression::IsNull(resolve_operand(alloc, operand, scope)?))
         }
         Expression::IsNotNull(operand) => {
-            unless_memory(Expression::not_null_test(alloc, resolve_tree(alloc, operand, scope)?))
+            Ok(Expression::IsNotNull(resolve_operand(alloc, operand, scope)?))
         }
         Expression::MemberOf(operand) => {
-            unless_memory(Expression::member_test(alloc, resolve_tree(alloc, operand, scope)?))
+            Ok(Expression::MemberOf(resolve_operand(alloc, operand, scope)?))
         }
     }
+}
+
+// An operand, in memory of its own.
+#[cycle(resolution)]
+fn resolve_operand(
+    alloc: Global,
+    operand: &Expression<ColumnName>,
+    scope: &Scope<'_>,
+) -> Result<Box<Expression<ColumnIndex>>, Refusal>
+    ensures { GivesOperandUnlessMemory result
+        (resolved (tables_of scope.now) (term_of operand.now)) }
+{
+    let operand = resolve_tree(alloc, operand, scope)?;
+    Ok(Box::new(alloc, operand)?)
 }
 
 // Both operands, the left one first.
@@ -115,21 +127,12 @@ fn resolve_both(
     left: &Expression<ColumnName>,
     right: &Expression<ColumnName>,
     scope: &Scope<'_>,
-) -> Result<(Expression<ColumnIndex>, Expression<ColumnIndex>), Refusal>
-    ensures { GivesTermsUnlessMemory result
+) -> Result<(Box<Expression<ColumnIndex>>, Box<Expression<ColumnIndex>>), Refusal>
+    ensures { GivesOperandsUnlessMemory result
         (resolved (tables_of scope.now) (term_of left.now))
         (resolved (tables_of scope.now) (term_of right.now)) }
 {
-    let left = resolve_tree(alloc, left, scope)?;
-    let right = resolve_tree(alloc, right, scope)?;
+    let left = resolve_operand(alloc, left, scope)?;
+    let right = resolve_operand(alloc, right, scope)?;
     Ok((left, right))
-}
-
-// A tree that was made, or the refusal of its memory.
-fn unless_memory(
-    made: Result<Expression<ColumnIndex>, AllocError>,
-) -> Result<Expression<ColumnIndex>, Refusal>
-    ensures { result ≡ unless_memory made }
-{
-    Ok(made?)
 }

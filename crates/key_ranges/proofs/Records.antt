@@ -60,9 +60,9 @@ found_range (Span start stop) es o = two_tests (is_from start) (is_within stop) 
 
 -- ---- keys in a range are keys of the table
 
-one_test : (q t : List ℕ → Bool) → ((k : List ℕ) → q k ≡ true → t k ≡ true) → (es : Records) → entries_where q es ≡ entries_where q (entries_where t es)
-one_test q t h [] = refl
-one_test q t h (e ∷ es) = go (q e.0) refl (t e.0) refl (one_test q t h es)
+pub entries_among : (q t : List ℕ → Bool) → ((k : List ℕ) → q k ≡ true → t k ≡ true) → (es : Records) → entries_where q es ≡ entries_where q (entries_where t es)
+entries_among q t h [] = refl
+entries_among q t h (e ∷ es) = go (q e.0) refl (t e.0) refl (entries_among q t h es)
   where
     go : (a : Bool) → a ≡ q e.0 → (b : Bool) → b ≡ t e.0 → entries_where q es ≡ entries_where q (entries_where t es)
         → (if a then e ∷ entries_where q es else entries_where q es) ≡ entries_where q (if b then e ∷ entries_where t es else entries_where t es)
@@ -103,9 +103,9 @@ in_table id (Span start stop) of_table k h = go (has_prefix stop k) refl parts.1
 
 -- ---- records of rows
 
-spelled : {X : Type 0} (q : List ℕ → Bool) (spell : X → Record) (xs : List X) → entries_where q (map spell xs) ≡ map spell (filter (λ x. q (spell x).0) xs)
-spelled q spell [] = refl
-spelled {X} q spell (x ∷ xs) = go (q (spell x).0) (spelled q spell xs)
+pub entries_spelled : {X : Type 0} (q : List ℕ → Bool) (spell : X → Record) (xs : List X) → entries_where q (map spell xs) ≡ map spell (filter (λ x. q (spell x).0) xs)
+entries_spelled q spell [] = refl
+entries_spelled {X} q spell (x ∷ xs) = go (q (spell x).0) (entries_spelled q spell xs)
   where
     go : (b : Bool) → entries_where q (map spell xs) ≡ map spell (filter (λ x. q (spell x).0) xs)
         → (if b then spell x ∷ entries_where q (map spell xs) else entries_where q (map spell xs)) ≡ map spell (if b then x ∷ filter (λ x. q (spell x).0) xs else filter (λ x. q (spell x).0) xs)
@@ -115,9 +115,9 @@ spelled {X} q spell (x ∷ xs) = go (q (spell x).0) (spelled q spell xs)
 pub ranges_hold_their_rows : RangesHoldTheirRows
 ranges_hold_their_rows id layout range records rows o of_table held =
     found_range range records o
-    ∙ one_test (is_in range) (has_prefix (row_prefix id)) (in_table id range of_table) records
+    ∙ entries_among (is_in range) (has_prefix (row_prefix id)) (in_table id range of_table) records
     ∙ ap (entries_where (is_in range)) held
-    ∙ spelled (is_in range) (row_record id layout) rows
+    ∙ entries_spelled (is_in range) (row_record id layout) rows
 
 -- ---- several ranges
 
@@ -125,10 +125,10 @@ ranges_hold_their_rows id layout range records rows o of_table held =
 pub found_among : (id : ℕ) (layout : Layout) (range : KeyRange) (among : List ℕ → Bool) (records : Records) (rows : List Row) → IsOrdered records → ((key : List ℕ) → is_in range key ≡ true → among key ≡ true)
     → entries_where among records ≡ map (row_record id layout) rows → records_in range records ≡ map (row_record id layout) (filter (is_inside id layout range) rows)
 found_among id layout range among records rows o all found =
-    found_range range records o ∙ one_test (is_in range) among all records ∙ ap (entries_where (is_in range)) found ∙ spelled (is_in range) (row_record id layout) rows
+    found_range range records o ∙ entries_among (is_in range) among all records ∙ ap (entries_where (is_in range)) found ∙ entries_spelled (is_in range) (row_record id layout) rows
 
 -- the records in several ranges of a table are those of the rows inside them
 pub any_hold_their_rows : (id : ℕ) (layout : Layout) (ranges : List KeyRange) (records : Records) (rows : List Row) → ((key : List ℕ) → is_in_any ranges key ≡ true → has_prefix (row_prefix id) key ≡ true)
     → Holds records (row_prefix id) (row_record id layout) rows → entries_where (is_in_any ranges) records ≡ map (row_record id layout) (filter (is_inside_any id layout ranges) rows)
 any_hold_their_rows id layout ranges records rows of_table held =
-    one_test (is_in_any ranges) (has_prefix (row_prefix id)) of_table records ∙ ap (entries_where (is_in_any ranges)) held ∙ spelled (is_in_any ranges) (row_record id layout) rows
+    entries_among (is_in_any ranges) (has_prefix (row_prefix id)) of_table records ∙ ap (entries_where (is_in_any ranges)) held ∙ entries_spelled (is_in_any ranges) (row_record id layout) rows

@@ -33,7 +33,7 @@ use Rattle.key_ranges.proofs.Products.{RefusesBehind, RefusesOutside, same_kept,
 -- ---- stages in which nothing fails
 
 -- whether an outcome is true
-abbrev is_true : Outcome → Bool
+abbrev pub is_true : Outcome → Bool
 is_true (Ok v) = when_true v true false
 is_true (Err code) = false
 
@@ -45,7 +45,7 @@ passed_by x ys (Boolean true) = refl
 passed_by x ys (Boolean false) = refl
 
 -- where nothing fails, a stage is a filter
-passes : {A : Type 0} (p : A → Outcome) → ((a : A) → HasValue (p a)) → (xs : List A) → passing p xs ≡ Ok (filter (λ x. is_true (p x)) xs)
+pub passes : {A : Type 0} (p : A → Outcome) → ((a : A) → HasValue (p a)) → (xs : List A) → passing p xs ≡ Ok (filter (λ x. is_true (p x)) xs)
 passes p h [] = refl
 passes {A} p h (x ∷ xs) =
     let value = h x in
@@ -64,19 +64,19 @@ all_value_from : (o : Outcome) (os : List Outcome) → HasValue o → AllByRecur
 all_value_from o [] h all = h
 all_value_from o (p ∷ os) h all = all_value_from (with_value o (λ v. and_then v p)) os (and_value_of o p h all.0) all.1
 
-all_value : (os : List Outcome) → AllByRecursion HasValue os → HasValue (all_of os)
+pub all_value : (os : List Outcome) → AllByRecursion HasValue os → HasValue (all_of os)
 all_value [] all = (yes, refl)
 all_value (o ∷ os) all = all_value_from o os all.0 all.1
 
 -- the outcomes of conditions
-abbrev outcomes : UserNames → Combination → List TypedTerm → List Outcome
+abbrev pub outcomes : UserNames → Combination → List TypedTerm → List Outcome
 outcomes users c ts = map (λ t. value_of (cell_in c) users t.term) ts
 
-each_value : (users : UserNames) (c : Combination) (ts : List TypedTerm) → AreQuiet ts → AllByRecursion HasValue (outcomes users c ts)
+pub each_value : (users : UserNames) (c : Combination) (ts : List TypedTerm) → AreQuiet ts → AllByRecursion HasValue (outcomes users c ts)
 each_value users c [] quiet = tt
 each_value users c (t ∷ ts) quiet = (ok_value (value_of (cell_in c) users t.term) (quiet.0 (cell_in c) users), each_value users c ts quiet.1)
 
-same_outcomes : (users : UserNames) (c : Combination) (ts : List TypedTerm) → map (bound_value users c) (map (λ t. t.term) ts) ≡ outcomes users c ts
+pub same_outcomes : (users : UserNames) (c : Combination) (ts : List TypedTerm) → map (bound_value users c) (map (λ t. t.term) ts) ≡ outcomes users c ts
 same_outcomes users c [] = refl
 same_outcomes users c (t ∷ ts) = ap (λ os. value_of (cell_in c) users t.term ∷ os) (same_outcomes users c ts)
 
@@ -86,7 +86,7 @@ condition_is users terms ts same c = ap (λ list. all_of (map (bound_value users
 value_there : (o p : Outcome) → o ≡ p → HasValue p → HasValue o
 value_there o p e h = (h.0, e ∙ h.1)
 
-true_there : (o : Outcome) → is_true o ≡ true → o ≡ Ok yes
+pub true_there : (o : Outcome) → is_true o ≡ true → o ≡ Ok yes
 true_there (Err code) h = cc
 true_there (Ok Null) h = cc
 true_there (Ok (Int n)) h = cc

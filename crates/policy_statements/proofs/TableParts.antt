@@ -18,7 +18,8 @@ use Rattle.catalogue.specs.Policies.{scope_of, IsBoundPolicy, policies_in}
 use Rattle.catalogue.specs.Tables.{AreParts, definition_of, table_scope}
 use Rattle.catalogue_changes.specs.StatementChanges.{with_one_policy, without_one_policy}
 use Rattle.catalogue_changes.proofs.DescriptorPutLemmas.{one_policy_table, policies_ordered}
-use Rattle.catalogue_changes.proofs.PutListLemmas.{each_put, put_rises}
+use Rattle.abstract_database.proofs.RisingPuts.{put_rises}
+use Rattle.catalogue_changes.proofs.PutListLemmas.{each_put}
 use Rattle.policy_statements.proofs.Putting.{put_is_insert, insert_map}
 
 with_policies : (p : TableParts) (ps : List CataloguePolicy) → AreParts p → Each (λ (q : Policy). q.table ≡ p.name) (policies_in ps) → Rising policy_cmp (policies_in ps)
@@ -96,7 +97,7 @@ module _ (p : TableParts) (t : TableDefinition) (is : definition_of p ≡ t) (ar
     pub more_parts : AreParts (record p { policies = after })
     more_parts = with_policies p after are
         (subst (Each (λ (q : Policy). q.table ≡ p.name)) (sym policies) (each_put policy_cmp the_new (λ (q : Policy). q.table ≡ p.name) (λ x y a b. a) c.policy (policies_in p.policies) (sym named) are.order.policies))
-        (subst (Rising policy_cmp) (sym policies) (put_rises policy_cmp the_new policies_ordered (λ x y z e. policies_ordered.congr x y z e) c.policy (policies_in p.policies) are.order.policy_order))
+        (subst (Rising policy_cmp) (sym policies) (put_rises policy_cmp policies_ordered the_new (λ x y z e. policies_ordered.congr x y z e) c.policy (policies_in p.policies) are.order.policy_order))
         (subst (Each (IsBoundPolicy (scope_of p.name p.columns))) (sym (put_so ∙ ap (λ (l : List CataloguePolicy). insert l (prefix_len (before c.policy) l) c) same))
         (each_inserted (IsBoundPolicy (scope_of p.name p.columns)) c (subst (λ (u : TableDefinition). IsBoundPolicy (table_scope u.definition) c) (sym is) bound) p.policies (prefix_len (before c.policy) p.policies) are.bound))
 

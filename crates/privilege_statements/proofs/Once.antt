@@ -24,6 +24,7 @@ use Rattle.abstract_database.specs.Lists.{TheName, name_cmp, found_or}
 use Rattle.abstract_database.specs.Database.{Database, TableOf, same_action, action_number}
 use Rattle.abstract_database.specs.Privileges.{is_column_named, on_column, indices_of, on_each, privileges_of, privilege_of, acting_grantor, leaves_out, descriptors_by, granted_by, with_descriptors}
 use Rattle.abstract_database.specs.Checks.{found_column}
+use Rattle.abstract_database.proofs.Actions.{actions_same}
 use Rattle.abstract_database.proofs.ElementLemmas.{any_found, any_holds}
 use Rattle.grant_graph.specs.Keys.{now_of}
 use Rattle.grant_graph.proofs.Marks.{same_column_is, same_numbers, turned_numbers}
@@ -61,24 +62,6 @@ each_found layout (name ∷ names) =
     (found_at layout name (is_column layout name) refl) (each_found layout names)
 
 -- ---- the same privileges
-
-actions_same : (a b : Action) → same_action a b ≡ true → a ≡ b
-actions_same Select Select e = refl
-actions_same Select Insert e = cc
-actions_same Select Update e = cc
-actions_same Select Delete e = cc
-actions_same Insert Select e = cc
-actions_same Insert Insert e = refl
-actions_same Insert Update e = cc
-actions_same Insert Delete e = cc
-actions_same Update Select e = cc
-actions_same Update Insert e = cc
-actions_same Update Update e = refl
-actions_same Update Delete e = cc
-actions_same Delete Select e = cc
-actions_same Delete Insert e = cc
-actions_same Delete Update e = cc
-actions_same Delete Delete e = refl
 
 privileges_same : (p q : Privilege) → same_privilege p q ≡ true → p ≡ q
 privileges_same p q e =

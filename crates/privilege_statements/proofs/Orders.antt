@@ -7,7 +7,8 @@ use Rattle.abstract_database.specs.Lists.{Rising}
 use Rattle.abstract_database.specs.Database.{descriptor_cmp}
 use Rattle.abstract_database.specs.Privileges.{granted, with_option_of, with_descriptors, is_named_in}
 use Rattle.abstract_database.proofs.DescriptorOrder.{descriptors_ordered}
-use Rattle.role_membership.proofs.Puts.{at, at_put, put_rises, only_one, joined_to, is_equal}
+use Rattle.abstract_database.proofs.RisingPuts.{put_rises}
+use Rattle.role_membership.proofs.Puts.{at, at_put, only_one, joined_to, is_equal}
 use Rattle.grant_graph.proofs.Merges.{none_left}
 
 -- the first of a list that equals k in order

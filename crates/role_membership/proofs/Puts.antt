@@ -10,6 +10,7 @@ use Rattle.sql_ast.specs.declared.role.Membership.{Membership}
 use Rattle.abstract_database.specs.Lists.{TheName, Among, name_cmp, put, Rising, has_name}
 use Rattle.abstract_database.specs.Database.{membership_cmp}
 use Rattle.abstract_database.specs.Roles.{memberships_of, raised}
+use Rattle.abstract_database.proofs.RisingPuts.{alike_behind, before_all, put_rises, reversed}
 use Rattle.abstract_database.proofs.ListLemmas.{bytes_same, same_bytes}
 use Rattle.std.proofs.lemmas.Bool.{and_parts}
 use Rattle.std.proofs.lemmas.List.{append_assoc, drop_more}
@@ -32,9 +33,6 @@ memberships_total = then_total (by_name (λ m. m.role)) (by_name (λ m. m.member
 -- ---- putting into a list in order
 
 module _ {X : Type 0} (cmp : X → X → Ordering) (total : IsTotalOrder cmp) where
-  back : (x y : X) (o : Ordering) → cmp x y ≡ o → cmp y x ≡ ordering_reverse o
-  back x y o e = total.antisymm y x ∙ ap ordering_reverse e
-
   its_own : (o : Ordering) → o ≡ ordering_reverse o → o ≡ Equal
   its_own Less e = cc
   its_own Equal e = refl
@@ -55,10 +53,6 @@ module _ {X : Type 0} (cmp : X → X → Ordering) (total : IsTotalOrder cmp) wh
   none_at k [] h = refl
   none_at k (y ∷ ys) h = ap (λ (o : Ordering). cond (is_eq o) (Some y) (at k ys)) (h y (inl refl)) ∙ none_at k ys (λ z later. h z (inr later))
 
-  before_rest : (k y : X) (ys : List X) → Rising cmp (y ∷ ys) → cmp k y ≡ Less → (z : X) → Among z (y ∷ ys) → cmp k z ≡ Less
-  before_rest k y ys r e z (inl is) = sym (ap (cmp k) is) ∙ e
-  before_rest k y ys r e z (inr later) = total.trans k y z e (r.0 z later)
-
   at_head : (x : X) (xs : List X) → at x (x ∷ xs) ≡ Some x
   at_head x xs = ap (λ (o : Ordering). cond (is_eq o) (Some x) (at x xs)) (same x)
 
@@ -77,9 +71,9 @@ module _ {X : Type 0} (cmp : X → X → Ordering) (total : IsTotalOrder cmp) wh
   -- lists in order that have the same are the same, from their heads on
   only_one_at : (x y : X) (xs ys : List X) (o : Ordering) → cmp x y ≡ o → Rising cmp (x ∷ xs) → Rising cmp (y ∷ ys) → ((k : X) → at k (x ∷ xs) ≡ at k (y ∷ ys)) → (((k : X) → at k xs ≡ at k ys) → xs ≡ ys) → ◌≡◌ {A = List X} (x ∷ xs) (y ∷ ys)
   only_one_at x y xs ys Less e r q h go =
-      let contrary : Some x ≡ None = sym (at_head x xs) ∙ h x ∙ none_at x (y ∷ ys) (before_rest x y ys q e) in cc
+      let contrary : Some x ≡ None = sym (at_head x xs) ∙ h x ∙ none_at x (y ∷ ys) (before_all cmp total x y ys q e) in cc
   only_one_at x y xs ys Greater e r q h go =
-      let contrary : Some y ≡ None = sym (at_head y ys) ∙ sym (h y) ∙ none_at y (x ∷ xs) (before_rest y x xs r (back x y Greater e)) in cc
+      let contrary : Some y ≡ None = sym (at_head y ys) ∙ sym (h y) ∙ none_at y (x ∷ xs) (before_all cmp total y x xs r (reversed cmp total x y Greater e)) in cc
   only_one_at x y xs ys Equal e r q h go =
       let found : ◌≡◌ {A = Option X} (Some x) (Some y) = sym (at_head x xs) ∙ h x ∙ ap (λ (o : Ordering). cond (is_eq o) (Some y) (at x ys)) e in
       let is : x ≡ y = some_inside x y found in
@@ -93,35 +87,6 @@ module _ {X : Type 0} (cmp : X → X → Ordering) (total : IsTotalOrder cmp) wh
   only_one (x ∷ xs) (y ∷ ys) r q h = only_one_at x y xs ys (cmp x y) refl r q h (λ rest. only_one xs ys r.1 q.1 rest)
 
   module _ (joined : X → X → X) (alike : (x y z : X) → cmp x y ≡ Equal → cmp (joined y x) z ≡ cmp y z) where
-    alike_behind : (x y z : X) → cmp x y ≡ Equal → cmp z (joined y x) ≡ cmp z y
-    alike_behind x y z e = total.antisymm z (joined y x) ∙ ap ordering_reverse (alike x y z e) ∙ sym (total.antisymm z y)
-
-    before_put_at : (o : Ordering) (x y z : X) (ys : List X) → cmp x y ≡ o → cmp z x ≡ Less → cmp z y ≡ Less → ((w : X) → Among w ys → cmp z w ≡ Less) → ((w : X) → Among w (put cmp joined x ys) → cmp z w ≡ Less) →
-        (w : X) → Among w (cond (is_lt o) (x ∷ y ∷ ys) (cond (is_eq o) (joined y x ∷ ys) (y ∷ put cmp joined x ys))) → cmp z w ≡ Less
-    before_put_at Less x y z ys e a b more go w (inl is) = sym (ap (cmp z) is) ∙ a
-    before_put_at Less x y z ys e a b more go w (inr (inl is)) = sym (ap (cmp z) is) ∙ b
-    before_put_at Less x y z ys e a b more go w (inr (inr later)) = more w later
-    before_put_at Equal x y z ys e a b more go w (inl is) = sym (ap (cmp z) is) ∙ alike_behind x y z e ∙ b
-    before_put_at Equal x y z ys e a b more go w (inr later) = more w later
-    before_put_at Greater x y z ys e a b more go w (inl is) = sym (ap (cmp z) is) ∙ b
-    before_put_at Greater x y z ys e a b more go w (inr later) = go w later
-
-    before_put : (x z : X) (ys : List X) → cmp z x ≡ Less → ((w : X) → Among w ys → cmp z w ≡ Less) → (w : X) → Among w (put cmp joined x ys) → cmp z w ≡ Less
-    before_put x z [] a more w (inl is) = sym (ap (cmp z) is) ∙ a
-    before_put x z [] a more w (inr later) = absurd later
-    before_put x z (y ∷ ys) a more w h =
-        before_put_at (cmp x y) x y z ys refl a (more y (inl refl)) (λ v k. more v (inr k)) (before_put x z ys a (λ v k. more v (inr k))) w h
-
-    rises_at : (o : Ordering) (x y : X) (ys : List X) → cmp x y ≡ o → Rising cmp (y ∷ ys) → Rising cmp (put cmp joined x ys) →
-        Rising cmp (cond (is_lt o) (x ∷ y ∷ ys) (cond (is_eq o) (joined y x ∷ ys) (y ∷ put cmp joined x ys)))
-    rises_at Less x y ys e r go = (before_rest x y ys r e, r)
-    rises_at Equal x y ys e r go = (λ w h. alike x y w e ∙ r.0 w h, r.1)
-    rises_at Greater x y ys e r go = (before_put x y ys (back x y Greater e) r.0, go)
-
-    pub put_rises : (x : X) (ys : List X) → Rising cmp ys → Rising cmp (put cmp joined x ys)
-    put_rises x [] r = (λ w h. absurd h, tt)
-    put_rises x (y ∷ ys) r = rises_at (cmp x y) x y ys refl r (put_rises x ys r.1)
-
     abbrev pub joined_to : Option X → X → X
     joined_to None x = x
     joined_to (Some y) x = joined y x
@@ -150,9 +115,9 @@ module _ {X : Type 0} (cmp : X → X → Ordering) (total : IsTotalOrder cmp) wh
         at k (put cmp joined x ys) ≡ cond (is_eq (cmp k x)) (Some (joined_to (at x ys) x)) (at k ys) →
         at k (cond (is_lt o) (x ∷ y ∷ ys) (cond (is_eq o) (joined y x ∷ ys) (y ∷ put cmp joined x ys))) ≡ cond (is_eq (cmp k x)) (Some (joined_to (at x (y ∷ ys)) x)) (at k (y ∷ ys))
     at_put_at k x y ys Less e r go =
-        ap (λ (f : Option X). cond (is_eq (cmp k x)) (Some (joined_to f x)) (at k (y ∷ ys))) (sym (none_at x (y ∷ ys) (before_rest x y ys r e)))
+        ap (λ (f : Option X). cond (is_eq (cmp k x)) (Some (joined_to f x)) (at k (y ∷ ys))) (sym (none_at x (y ∷ ys) (before_all cmp total x y ys r e)))
     at_put_at k x y ys Equal e r go =
-        ap (λ (p : Ordering). cond (is_eq p) (Some (joined y x)) (at k ys)) (alike_behind x y k e ∙ sym (alike_to x y k e))
+        ap (λ (p : Ordering). cond (is_eq p) (Some (joined y x)) (at k ys)) (alike_behind cmp total joined alike x y k e ∙ sym (alike_to x y k e))
         ∙ twice (is_eq (cmp k x)) (Some (joined y x)) (Some y) (at k ys)
         ∙ ap (λ (p : Ordering). cond (is_eq (cmp k x)) (Some (joined y x)) (cond (is_eq p) (Some y) (at k ys))) (alike_to x y k e)
         ∙ ap (λ (f : Option X). cond (is_eq (cmp k x)) (Some (joined_to f x)) (at k (y ∷ ys))) (sym (ap (λ (p : Ordering). cond (is_eq p) (Some y) (at x ys)) e))

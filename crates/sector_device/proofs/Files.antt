@@ -1,11 +1,12 @@
 -- A device over a file does what the file does.
 use Rattle.std.proofs.Common.{◌≡◌, ◌⊎◌, ◌≤◌, ◌+◌, ◌*◌, ⊎_elim, inl, inr, ℕ, List, length, refl, ◌∙◌, ap, arith}
 use Rattle.sector_device.specs.Timeline.{Elapses, IsPresent}
-use Rattle.sector_device.specs.Device.{timeline, IsLeft, OnlyReads, Writes}
+use Rattle.sector_device.specs.Device.{timeline, IsLeft, KeepsHistory, OnlyReads, Writes}
 use Rattle.sector_device.specs.Page.{IsPart, MayHoldParts, WritesPage, ReadsPage}
 use Rattle.sector_device.specs.FilePage.{FileWritesPage}
 use Rattle.sector_device.specs.RawFile.{FileState, FileOnlyReads, FileWrites}
 use Rattle.sector_device.specs.FileState.{sector_of, file_device}
+use Rattle.sector_device.proofs.Devices.{plain_history}
 use Rattle.sector_device.proofs.Runs.{once}
 use Rattle.sector_device.proofs.PutBytes.{sector_of-put, sector_of-put_other, same_has_parts}
 
@@ -16,6 +17,11 @@ module _ (was_faithful is_faithful : Type 0) (old new : FileState) (sectors fail
     past = λ a b image le stop. (stop.0, time.past a b stop.0 le stop.1, stop.2);
     adds = λ a image le stop. ⊎_elim (λ was. inl (stop.0, was, stop.2)) (λ left. inr (λ s inside. (stop.0, left, stop.2 s inside))) (time.adds a stop.0 le stop.1);
   }
+
+  -- what every call leaves alone
+  pub file_history : (was_faithful → is_faithful) → (is_faithful → was_faithful) → failures ≤ failures' → (was_faithful → Elapses old.time new.time)
+      → KeepsHistory (file_device was_faithful old sectors failures) (file_device is_faithful new sectors failures')
+  file_history forth back rises time = plain_history _ _ (λ s none. none) (λ s none. none) refl forth back rises (λ is. elapses (time is))
 
   -- a call that writes nothing
   pub only_reads : FileOnlyReads old new → OnlyReads (file_device was_faithful old sectors failures) (file_device is_faithful new sectors failures')
@@ -77,7 +83,7 @@ module _ (was_faithful is_faithful : Type 0) (old new : FileState) (sectors fail
             (λ image before s inside. inl (before s inside)) (elapses file.time) (λ image after s inside. left s (image s) (after s inside));
       }
 
-no_time : (file : FileState) → Elapses file.time file.time
+pub no_time : (file : FileState) → Elapses file.time file.time
 no_time file = record { later = omega arith; past = λ a b x le stop. stop; adds = λ a x le stop. inl stop }
 
 -- no call of the file is made
@@ -87,3 +93,6 @@ none_written offset sector file = record { bytes = inr refl; left = λ x left. (
 -- nor of a page's bytes
 pub no_page_written : (first : ℕ) (page : List ℕ) (file : FileState) → FileWritesPage first page file file
 no_page_written first page file = record { bytes = same_has_parts first page file.bytes; left = λ x left. (x, left, same_has_parts first page x); time = no_time file }
+
+pub none_read : (file : FileState) → FileOnlyReads file file
+none_read file = record { bytes = refl; left = λ x left. left; time = no_time file }

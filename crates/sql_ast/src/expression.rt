@@ -73,31 +73,22 @@ impl<C: Drop> Drop for Expression<C> {
     fn drop(mut self) {
         loop {
             match self {
-                Expression::Literal(_) => return,
-                Expression::Column(_) => return,
-                Expression::CurrentUser => return,
-                Expression::SessionUser => return,
-                Expression::Compare(_, left, right) => {
+                Expression::Literal(_)
+                | Expression::Column(_)
+                | Expression::CurrentUser
+                | Expression::SessionUser => return,
+                Expression::Compare(_, left, right)
+                | Expression::Arithmetic(_, left, right)
+                | Expression::And(left, right)
+                | Expression::Or(left, right) => {
                     drop(right);
                     self = Box::into_inner(left);
                 }
-                Expression::Arithmetic(_, left, right) => {
-                    drop(right);
-                    self = Box::into_inner(left);
-                }
-                Expression::Negate(operand) => self = Box::into_inner(operand),
-                Expression::And(left, right) => {
-                    drop(right);
-                    self = Box::into_inner(left);
-                }
-                Expression::Or(left, right) => {
-                    drop(right);
-                    self = Box::into_inner(left);
-                }
-                Expression::Not(operand) => self = Box::into_inner(operand),
-                Expression::IsNull(operand) => self = Box::into_inner(operand),
-                Expression::IsNotNull(operand) => self = Box::into_inner(operand),
-                Expression::MemberOf(operand) => self = Box::into_inner(operand),
+                Expression::Negate(operand)
+                | Expression::Not(operand)
+                | Expression::IsNull(operand)
+                | Expression::IsNotNull(operand)
+                | Expression::MemberOf(operand) => self = Box::into_inner(operand),
             }
         }
     }
@@ -113,8 +104,7 @@ impl<C: Drop> Expression<C> {
     ) -> Result<Expression<C>, AllocError>
         ensures { IfOk result (λ e. term_of e ≡ comparison operator (term_of left) (term_of right)) }
     {
-        let left = Box::new(alloc, left)?;
-        let right = Box::new(alloc, right)?;
+        let (left, right) = boxed(alloc, left, right)?;
         Ok(Expression::Compare(operator, left, right))
     }
 
@@ -127,8 +117,7 @@ impl<C: Drop> Expression<C> {
     ) -> Result<Expression<C>, AllocError>
         ensures { IfOk result (λ e. term_of e ≡ operation operator (term_of left) (term_of right)) }
     {
-        let left = Box::new(alloc, left)?;
-        let right = Box::new(alloc, right)?;
+        let (left, right) = boxed(alloc, left, right)?;
         Ok(Expression::Arithmetic(operator, left, right))
     }
 
@@ -147,8 +136,7 @@ impl<C: Drop> Expression<C> {
     ) -> Result<Expression<C>, AllocError>
         ensures { IfOk result (λ e. term_of e ≡ conjunction (term_of left) (term_of right)) }
     {
-        let left = Box::new(alloc, left)?;
-        let right = Box::new(alloc, right)?;
+        let (left, right) = boxed(alloc, left, right)?;
         Ok(Expression::And(left, right))
     }
 
@@ -160,8 +148,7 @@ impl<C: Drop> Expression<C> {
     ) -> Result<Expression<C>, AllocError>
         ensures { IfOk result (λ e. term_of e ≡ disjunction (term_of left) (term_of right)) }
     {
-        let left = Box::new(alloc, left)?;
-        let right = Box::new(alloc, right)?;
+        let (left, right) = boxed(alloc, left, right)?;
         Ok(Expression::Or(left, right))
     }
 
@@ -204,30 +191,39 @@ impl<C> Expression<C> {
             return false;
         }
         match self {
-            Expression::Compare(_, left, right) => {
+            Expression::Compare(_, left, right)
+            | Expression::Arithmetic(_, left, right)
+            | Expression::And(left, right)
+            | Expression::Or(left, right) => {
                 left.is_within(limit - 1) && right.is_within(limit - 1)
             }
-            Expression::Arithmetic(_, left, right) => {
-                left.is_within(limit - 1) && right.is_within(limit - 1)
-            }
-            Expression::And(left, right) => {
-                left.is_within(limit - 1) && right.is_within(limit - 1)
-            }
-            Expression::Or(left, right) => {
-                left.is_within(limit - 1) && right.is_within(limit - 1)
-            }
-            Expression::Negate(operand) => operand.is_within(limit - 1),
-            Expression::Not(operand) => operand.is_within(limit - 1),
-            Expression::IsNull(operand) => operand.is_within(limit - 1),
-            Expression::IsNotNull(operand) => operand.is_within(limit - 1),
-            Expression::MemberOf(operand) => operand.is_within(limit - 1),
+            Expression::Negate(operand)
+            | Expression::Not(operand)
+            | Expression::IsNull(operand)
+            | Expression::IsNotNull(operand)
+            | Expression::MemberOf(operand) => operand.is_within(limit - 1),
             _ => true,
         }
     }
 }
 
+// Two operands, each in memory of its own.
+fn boxed<C: Drop>(
+    alloc: Global,
+    left: Expression<C>,
+    right: Expression<C>,
+) -> Result<(Box<Expression<C>>, Box<Expression<C>>), AllocError>
+    ensures left { IfOk result (λ operands. operands.0.value ≡ left) }
+    ensures right { IfOk result (λ operands. operands.1.value ≡ right) }
+{
+    let left = Box::new(alloc, left)?;
+    let right = Box::new(alloc, right)?;
+    Ok((left, right))
+}
+
 impl<C: TryCopy + Drop> Expression<C> {
     /// The same expression again. It goes as deep as the expression is.
+    #[cycle(copying)]
     pub fn try_copy(&self, alloc: Global) -> Result<Expression<C>, AllocError>
         ensures { IfOk result (λ copy. term_of copy ≡ term_of self.now) }
     {
@@ -237,32 +233,57 @@ impl<C: TryCopy + Drop> Expression<C> {
             Expression::CurrentUser => Ok(Expression::CurrentUser),
             Expression::SessionUser => Ok(Expression::SessionUser),
             Expression::Compare(operator, left, right) => {
-                let left = left.try_copy(alloc)?;
-                Expression::comparison(alloc, *operator, left, right.try_copy(alloc)?)
+                let (first, second) = copy_both(left, right, alloc)?;
+                Ok(Expression::Compare(*operator, first, second))
             }
             Expression::Arithmetic(operator, left, right) => {
-                let left = left.try_copy(alloc)?;
-                Expression::operation(alloc, *operator, left, right.try_copy(alloc)?)
+                let (first, second) = copy_both(left, right, alloc)?;
+                Ok(Expression::Arithmetic(*operator, first, second))
             }
-            Expression::Negate(operand) => Expression::minus(alloc, operand.try_copy(alloc)?),
+            Expression::Negate(operand) => Ok(Expression::Negate(copy_boxed(operand, alloc)?)),
             Expression::And(left, right) => {
-                let left = left.try_copy(alloc)?;
-                Expression::conjunction(alloc, left, right.try_copy(alloc)?)
+                let (first, second) = copy_both(left, right, alloc)?;
+                Ok(Expression::And(first, second))
             }
             Expression::Or(left, right) => {
-                let left = left.try_copy(alloc)?;
-                Expression::disjunction(alloc, left, right.try_copy(alloc)?)
+                let (first, second) = copy_both(left, right, alloc)?;
+                Ok(Expression::Or(first, second))
             }
-            Expression::Not(operand) => Expression::negation(alloc, operand.try_copy(alloc)?),
-            Expression::IsNull(operand) => {
-                Expression::null_test(alloc, operand.try_copy(alloc)?)
-            }
+            Expression::Not(operand) => Ok(Expression::Not(copy_boxed(operand, alloc)?)),
+            Expression::IsNull(operand) => Ok(Expression::IsNull(copy_boxed(operand, alloc)?)),
             Expression::IsNotNull(operand) => {
-                Expression::not_null_test(alloc, operand.try_copy(alloc)?)
+                Ok(Expression::IsNotNull(copy_boxed(operand, alloc)?))
             }
             Expression::MemberOf(operand) => {
-                Expression::member_test(alloc, operand.try_copy(alloc)?)
+                Ok(Expression::MemberOf(copy_boxed(operand, alloc)?))
             }
         }
     }
+}
+
+// An operand again, in memory of its own.
+#[cycle(copying)]
+fn copy_boxed<C: TryCopy + Drop>(
+    operand: &Expression<C>,
+    alloc: Global,
+) -> Result<Box<Expression<C>>, AllocError>
+    ensures { IfOk result (λ copy. term_of copy.value ≡ term_of operand.now) }
+{
+    let copy = operand.try_copy(alloc)?;
+    Ok(Box::new(alloc, copy)?)
+}
+
+// Both operands again, the left one first.
+#[cycle(copying)]
+fn copy_both<C: TryCopy + Drop>(
+    left: &Expression<C>,
+    right: &Expression<C>,
+    alloc: Global,
+) -> Result<(Box<Expression<C>>, Box<Expression<C>>), AllocError>
+    ensures left { IfOk result (λ copies. term_of copies.0.value ≡ term_of left.now) }
+    ensures right { IfOk result (λ copies. term_of copies.1.value ≡ term_of right.now) }
+{
+    let left = copy_boxed(left, alloc)?;
+    let right = copy_boxed(right, alloc)?;
+    Ok((left, right))
 }

@@ -40,9 +40,6 @@ no_sort_value r = record { never = λ p n y d s. r.never p n y d.0 s }
 Number_inj : {x y : ℕ} → Some (Number x) ≡ Some (Number y) → x ≡ y
 Number_inj e = cc
 
-pub number_read : {ts : List Lexeme} {i x : ℕ} → kind_at ts i ≡ Some (Number x) → x < 2 ^ 63 → IsReading number ts i (i + 1) x
-number_read {ts} {i} {x} h lt = rw add-one (let r : IsReading number ts i (suc i) x = record { spelled = (h, lt, refl); only = λ n y d s. (d.2, Number_inj (sym d.0 ∙ h)) } in r)
-
 pub no_number : {ts : List Lexeme} {i : ℕ} {e : ParseError} → ((x : ℕ) → kind_at ts i ≡ Some (Number x) → x < 2 ^ 63 → ⊥) → HasNoReading number ts i e
 no_number never = record { never = λ p n y d s. never y d.0 d.1 }
 
@@ -72,21 +69,11 @@ pub record Choosing {A : Type 0} (table rest : List (TokenKind × A)) (k : Optio
 pub choosing_begins : {A : Type 0} (table : List (TokenKind × A)) (k : Option TokenKind) → Choosing table table k
 choosing_begins table k = record { onward = λ y h. h; back = λ y h. h }
 
-not_first : {A : Type 0} (e : TokenKind × A) (es : List (TokenKind × A)) (k : Option TokenKind) (y : A) → (k ≡ Some e.0 → ⊥) → StandsFor (e ∷ es) k y → StandsFor es k y
-not_first e es k y never (inl h) = absurd (never h.0)
-not_first e es k y never (inr h) = h
-
-pub choosing_goes_on : {A : Type 0} {table : List (TokenKind × A)} (e : TokenKind × A) (es : List (TokenKind × A)) {k : Option TokenKind} → Choosing table (e ∷ es) k → (k ≡ Some e.0 → ⊥) → Choosing table es k
-choosing_goes_on e es {k} c never = record { onward = λ y h. not_first e es k y never (c.onward y h); back = λ y h. c.back y (inr h) }
-
 pub word_read : {A : Type 0} {table : List (TokenKind × A)} {ts : List Lexeme} {i : ℕ} {x : A} → has_no_doubles table ≡ true → StandsFor table (kind_at ts i) x → IsReading (word_of table) ts i (i + 1) x
 word_read {table = table} {ts} {i} {x} w a = rw add-one (let r : IsReading (word_of table) ts i (suc i) x = record { spelled = (a, refl); only = λ n y d s. (d.1, one_value table (kind_at ts i) y x w d.0 a) } in r)
 
 pub no_word : {A : Type 0} {table : List (TokenKind × A)} {ts : List Lexeme} {i : ℕ} {e : ParseError} → ((y : A) → StandsFor table (kind_at ts i) y → ⊥) → HasNoReading (word_of table) ts i e
 no_word never = record { never = λ p n y d s. never y d.0 }
-
-pub stands_first : {A : Type 0} (e : TokenKind × A) (es : List (TokenKind × A)) {table : List (TokenKind × A)} {k : Option TokenKind} → Choosing table (e ∷ es) k → k ≡ Some e.0 → StandsFor table k e.1
-stands_first e es c h = c.back e.1 (inl (h, refl))
 
 -- a token among the words of a table stands for a value
 pub word_stands : {A : Type 0} (table : List (TokenKind × A)) (k : Option TokenKind) → has_words table ≡ true → in_any (words_in table) k ≡ true → ((y : A) → StandsFor table k y → ⊥) → ⊥

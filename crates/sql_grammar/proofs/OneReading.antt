@@ -22,9 +22,6 @@ use Rattle.sql_grammar.proofs.Determined.{operator_known, one_value, begins, of_
 abbrev pub CanExtend : {A : Type 0} → Phrase A → Option TokenKind → Type 0
 CanExtend p k = in_any (extends p) k ≡ true
 
-pub ends_maximal : {A : Type 0} (p : Phrase A) (ts : List Lexeme) (n : ℕ) → Ends p ts n → IsMaximal (CanExtend p) ts n
-ends_maximal p ts n s = record { ends = λ g. both_ways (in_any (extends p) (kind_at ts n)) s g }
-
 pub maximal_ends : {A : Type 0} (p : Phrase A) (ts : List Lexeme) (n : ℕ) → IsMaximal (CanExtend p) ts n → Ends p ts n
 maximal_ends p ts n s = not_in (extends p) (kind_at ts n) s.ends
 

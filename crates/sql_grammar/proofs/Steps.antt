@@ -208,57 +208,11 @@ optional_never {p = p} d h r = no_left d.left_out h (no_phrase (given (λ x. Som
 pub optional_left : {A : Type 0} {p : Phrase A} {ts : List Lexeme} {i : ℕ} → Determined p → (CanBegin p (kind_at ts i) → ⊥) → IsReading (optional p) ts i i None
 optional_left {p = p} {ts} {i} d never = right d.left_out d.filled (not_in (first p) (kind_at ts i) never) start
 
-is_exactly_first : (t : TokenKind) (k : Option TokenKind) → k ≡ Some t → in_any (exactly t ∷ []) k ≡ true
-is_exactly_first t k h = in_first (exactly t) [] k (is_exactly t k h)
-
-after_determined : {A : Type 0} (t : TokenKind) (p : Phrase A) → is_determined p ≡ true → is_determined (after t p) ≡ true
-after_determined t p w = rw w
-
-optional_after : {A : Type 0} (t : TokenKind) (p : Phrase A) → is_determined p ≡ true → is_determined (optional (after t p)) ≡ true
-optional_after t p w = rw w
-
 pub next : (ts : List Lexeme) (t : TokenKind) (i : ℕ) → kind_at ts i ≡ Some t → IsTokenAt ts i t (i + 1)
 next ts t i h = record { stands = h; after = add-one i }
 
-pub after_there : {A : Type 0} {p : Phrase A} {ts : List Lexeme} {t : TokenKind} {i j : ℕ} {x : A} → Determined p → kind_at ts i ≡ Some t → IsReading p ts (i + 1) j x → IsReading (optional (after t p)) ts i j (Some x)
-after_there {p = p} {ts} {t} {i} d h r = left (optional_after t p d.itself) (is_exactly_first t (kind_at ts i) h) (phrase (given (λ x. Some x) (after t p) (after_determined t p d.itself)) start (phrase (after_determined t p d.itself) (token refl start (next ts t i h)) r))
-
-pub after_never : {A : Type 0} {p : Phrase A} {ts : List Lexeme} {t : TokenKind} {i : ℕ} {e : ParseError} → Determined p → kind_at ts i ≡ Some t → HasNoReading p ts (i + 1) e → HasNoReading (optional (after t p)) ts i e
-after_never {p = p} {ts} {t} {i} d h r = no_left (optional_after t p d.itself) (is_exactly_first t (kind_at ts i) h) (no_phrase (given (λ x. Some x) (after t p) (after_determined t p d.itself)) start (no_phrase (after_determined t p d.itself) (token refl start (next ts t i h)) r))
-
 pub reading_lt : {A : Type 0} {p : Phrase A} {ts : List Lexeme} {i j : ℕ} {x : A} → Determined p → IsReading p ts i j x → i < j
 reading_lt {p = p} {ts} {i} {j} {x} d r = (begins p ts i j x d.itself r.spelled).filled d.filled
-
--- Lists in parentheses
-
-opened : {A : Type 0} (p : Phrase A) → is_determined (parenthesized p) ≡ true → is_determined (gives (λ (xs : List A). xs) ▹ Punctuation Open ⊛ listed p) ≡ true
-opened p w = (of_token (gives (λ xs. xs) ▹ Punctuation Open ⊛ listed p) (Punctuation Close) w).0
-
-pub parens_no_list : {A : Type 0} {p : Phrase A} {ts : List Lexeme} {i k : ℕ} {e : ParseError} → Determined p → IsTokenAt ts i (Punctuation Open) k → HasNoReading (listed p) ts k e → HasNoReading (parenthesized p) ts i e
-parens_no_list {p = p} d a r = lost_token d.in_parens (no_phrase (opened p d.in_parens) (token refl start a) r)
-
-pub parens_no_close : {A : Type 0} {p : Phrase A} {ts : List Lexeme} {i k j : ℕ} {xs : List A} {e : ParseError} → Determined p → IsTokenAt ts i (Punctuation Open) k → IsReading (listed p) ts k j xs → IsNoTokenAt ts j (Punctuation Close) e → HasNoReading (parenthesized p) ts i e
-parens_no_close {p = p} d a r b = no_token d.in_parens (phrase (opened p d.in_parens) (token refl start a) r) b
-
-pub parens_there : {A : Type 0} {p : Phrase A} {ts : List Lexeme} {i k j n : ℕ} {xs : List A} → Determined p → IsTokenAt ts i (Punctuation Open) k → IsReading (listed p) ts k j xs → IsTokenAt ts j (Punctuation Close) n → IsReading (parenthesized p) ts i n xs
-parens_there {p = p} d a r b = token d.in_parens (phrase (opened p d.in_parens) (token refl start a) r) b
-
-optional_parens : {A : Type 0} (p : Phrase A) → is_determined (parenthesized p) ≡ true → is_determined (optional (parenthesized p)) ≡ true
-optional_parens p w = optional_determined (parenthesized p) w refl
-
-pub optional_list_there : {A : Type 0} {p : Phrase A} {ts : List Lexeme} {i j : ℕ} {xs : List A} → Determined p → kind_at ts i ≡ Some (Punctuation Open) → IsReading (parenthesized p) ts i j xs → IsReading (optional (parenthesized p)) ts i j (Some xs)
-optional_list_there {p = p} {ts} {i} d h r = left (optional_parens p d.in_parens) (is_exactly_first (Punctuation Open) (kind_at ts i) h) (phrase (given (λ x. Some x) (parenthesized p) d.in_parens) start r)
-
-pub optional_list_never : {A : Type 0} {p : Phrase A} {ts : List Lexeme} {i : ℕ} {e : ParseError} → Determined p → kind_at ts i ≡ Some (Punctuation Open) → HasNoReading (parenthesized p) ts i e → HasNoReading (optional (parenthesized p)) ts i e
-optional_list_never {p = p} {ts} {i} d h r = no_left (optional_parens p d.in_parens) (is_exactly_first (Punctuation Open) (kind_at ts i) h) (no_phrase (given (λ x. Some x) (parenthesized p) d.in_parens) start r)
-
--- the same for a list after a word
-
-pub list_after_there : {A : Type 0} {p : Phrase A} {ts : List Lexeme} {t : TokenKind} {i j : ℕ} {xs : List A} → Determined p → kind_at ts i ≡ Some t → IsReading (listed p) ts (i + 1) j xs → IsReading (optional (after t (listed p))) ts i j (Some xs)
-list_after_there {p = p} {ts} {t} {i} d h r = left (optional_after t (listed p) d.in_list) (is_exactly_first t (kind_at ts i) h) (phrase (given (λ x. Some x) (after t (listed p)) (after_determined t (listed p) d.in_list)) start (phrase (after_determined t (listed p) d.in_list) (token refl start (next ts t i h)) r))
-
-pub list_after_never : {A : Type 0} {p : Phrase A} {ts : List Lexeme} {t : TokenKind} {i : ℕ} {e : ParseError} → Determined p → kind_at ts i ≡ Some t → HasNoReading (listed p) ts (i + 1) e → HasNoReading (optional (after t (listed p))) ts i e
-list_after_never {p = p} {ts} {t} {i} d h r = no_left (optional_after t (listed p) d.in_list) (is_exactly_first t (kind_at ts i) h) (no_phrase (given (λ x. Some x) (after t (listed p)) (after_determined t (listed p) d.in_list)) start (no_phrase (after_determined t (listed p) d.in_list) (token refl start (next ts t i h)) r))
 
 -- what is read as the latter of two phrases, where this token does not stand
 pub reads_right : {A : Type 0} (p q : Phrase A) (ts : List Lexeme) (i : ℕ) (t : TokenKind) → is_determined (p ∣ q) ≡ true → first p ≡ exactly t ∷ [] → nullable p ≡ false → is_number t ≡ false → (kind_at ts i ≡ Some t → ⊥) → (r : Result (A × ℕ) ParseError) → Reads q ts i r → Reads (p ∣ q) ts i r

@@ -40,26 +40,6 @@ use pages::MemPages;
 use sector_device::{MAX_MEMORY_PAGES, MemDevice};
 use std::alloc::{AllocError, Global};
 
-/// What stands there: a device, or an array on one, or pages in memory.
-struct Case {
-    alloc: Global,
-    device: Option<MemDevice>,
-    array: Option<CowPages<MemDevice>>,
-    memory: MemPages,
-}
-
-// Written and not derived: where a value is dropped this is one call, and not its parts one by one.
-impl Drop for Case {
-    fn drop(self) {
-        let Case {
-            alloc: _,
-            device: _,
-            array: _,
-            memory: _,
-        } = self;
-    }
-}
-
 /// Does what a line says, and tells what came of it on a line.
 pub fn follow(
     alloc: Global,
@@ -77,92 +57,142 @@ pub fn follow(
             script.clear();
             script.push_str(rest)?;
         }
-        _ => Case::new(alloc, word)?.follow(script.as_str(), rest, out),
+        _ => follow_case(alloc, word, script.as_str(), rest, out)?,
     }
     out.put("\n");
     Ok(())
 }
 
-impl Case {
-    /// What the first word of a line begins.
-    fn new(alloc: Global, first: Word<'_>) -> Result<Case, AllocError> {
-        Ok(Case {
-            alloc,
-            device: device_of(alloc, first)?,
-            array: None,
-            memory: MemPages::new(alloc),
-        })
+/// Does what words say to what the first word of a line begins.
+fn follow_case(
+    alloc: Global,
+    first: Word<'_>,
+    script: &str,
+    rest: &str,
+    out: &mut Transcript,
+) -> Result<(), AllocError> {
+    let words = words_of(alloc, script, rest)?;
+    if first.name == "device" && first.first <= MAX_MEMORY_PAGES {
+        let device = MemDevice::new(alloc, first.first)?;
+        run_on_device(alloc, device, words.as_slice(), out);
+    } else {
+        run_in_memory(alloc, words.as_slice(), out);
     }
+    Ok(())
+}
 
-    /// Does what words say, of which the word `script` stands for those that were kept.
-    fn follow(&mut self, script: &str, words: &str, out: &mut Transcript) {
-        for text in words.split(' ') {
-            if text == "script" {
-                self.do_words(script, out);
-            } else {
-                self.do_word(word_of(text), out);
-            }
-        }
+/// The words of a line, of which the word `script` stands for those that were kept.
+fn words_of<'a>(
+    alloc: Global,
+    script: &'a str,
+    rest: &'a str,
+) -> Result<Vec<Word<'a>>, AllocError> {
+    let mut words = Vec::new(alloc);
+    for text in rest.split(' ') {
+        let meant = if text == "script" { script } else { text };
+        push_words(meant, &mut words)?;
     }
+    Ok(words)
+}
 
-    /// Does what words say.
-    fn do_words(&mut self, words: &str, out: &mut Transcript) {
-        for text in words.split(' ') {
-            self.do_word(word_of(text), out);
-        }
+/// Adds the words of a text.
+fn push_words<'a>(text: &'a str, words: &mut Vec<Word<'a>>) -> Result<(), AllocError> {
+    for word in text.split(' ') {
+        words.push(word_of(word))?;
     }
+    Ok(())
+}
 
-    /// Does what a word says, and tells what came of it.
-    fn do_word(&mut self, word: Word<'_>, out: &mut Transcript) {
+/// Does what words say to pages in memory.
+fn run_in_memory(alloc: Global, words: &[Word<'_>], out: &mut Transcript) {
+    let mut memory = MemPages::new(alloc);
+    for word in words {
         match word.name {
-            "open" => self.open(out),
-            "close" => self.close(),
-            _ => self.do_other_word(word, out),
-        }
-    }
-
-    /// Does a word to what stands there, and tells what came of it.
-    fn do_other_word(&mut self, word: Word<'_>, out: &mut Transcript) {
-        if let Some(array) = &mut self.array {
-            calls::do_word(array, word, out)
-        } else if let Some(device) = &mut self.device {
-            devices::do_word(self.alloc, device, word, out)
-        } else {
-            calls::do_page_word(&mut self.memory, word, out)
-        }
-    }
-
-    /// Opens the array of the device, and tells its number, or why there is none.
-    fn open(&mut self, out: &mut Transcript) {
-        let Some(device) = self.device.take() else {
-            return out.put(" ?");
-        };
-        match page_calls::open(self.alloc, device) {
-            Ok(array) => {
-                out.put_after_blank(array.number());
-                self.array = Some(array);
-            }
-            Err((device, fault)) => {
-                self.device = Some(device);
-                out.put(word_of_fault(fault));
-            }
-        }
-    }
-
-    /// Leaves the device of the array.
-    fn close(&mut self) {
-        if let Some(array) = self.array.take() {
-            self.device = Some(array.into_device());
+            "close" => {}
+            _ => calls::do_page_word(&mut memory, *word, out),
         }
     }
 }
 
-/// The device that a word begins, if it begins one.
-fn device_of(alloc: Global, first: Word<'_>) -> Result<Option<MemDevice>, AllocError> {
-    if first.name == "device" && first.first <= MAX_MEMORY_PAGES {
-        return Ok(Some(MemDevice::new(alloc, first.first)?));
+/// Does what words say to a device, and to the arrays that they open on it.
+fn run_on_device(alloc: Global, device: MemDevice, words: &[Word<'_>], out: &mut Transcript) {
+    let mut device = device;
+    let mut next = 0;
+    for at in 0..words.len() {
+        if at == next {
+            let (left, behind) = run_word(alloc, device, words, at, out);
+            device = left;
+            next = behind;
+        }
     }
-    Ok(None)
+}
+
+/// Does the word at an index to a device, or opens the array there and does the words up to its end. Hands the device back, and
+/// tells at which index the words go on.
+fn run_word(
+    alloc: Global,
+    device: MemDevice,
+    words: &[Word<'_>],
+    at: usize,
+    out: &mut Transcript,
+) -> (MemDevice, usize) {
+    let next = at.saturating_add(1);
+    let mut device = device;
+    match words.get(at) {
+        Some(word) if word.name == "open" => return open(alloc, device, words, next, out),
+        Some(word) if word.name != "close" => devices::do_word(alloc, &mut device, *word, out),
+        _ => {}
+    }
+    (device, next)
+}
+
+/// Opens the array of a device and tells its number, and does the words from an index on up to its end; or tells why there is
+/// none. Hands the device back, and tells at which index the words go on.
+fn open(
+    alloc: Global,
+    device: MemDevice,
+    words: &[Word<'_>],
+    start: usize,
+    out: &mut Transcript,
+) -> (MemDevice, usize) {
+    match page_calls::open(alloc, device) {
+        Ok(array) => run_on_array(array, words, start, out),
+        Err((device, fault)) => {
+            out.put(word_of_fault(fault));
+            (device, start)
+        }
+    }
+}
+
+/// Tells the number of an array, and does the words from an index on up to its end. Hands the device back, and tells at which
+/// index the words go on.
+fn run_on_array(
+    array: CowPages<MemDevice>,
+    words: &[Word<'_>],
+    start: usize,
+    out: &mut Transcript,
+) -> (MemDevice, usize) {
+    let mut array = array;
+    out.put_after_blank(array.number());
+    let end = run_to_close(&mut array, words, start, out);
+    (array.into_device(), end)
+}
+
+/// Does the words from an index on to an array, up to one that closes it. Tells the index behind them.
+fn run_to_close(
+    array: &mut CowPages<MemDevice>,
+    words: &[Word<'_>],
+    start: usize,
+    out: &mut Transcript,
+) -> usize {
+    for at in start..words.len() {
+        match words[at].name {
+            "close" => return at.saturating_add(1),
+            "open" => out.put(" ?"),
+            _ => calls::do_word(array, words[at], out),
+        }
+    }
+    words.len()
 }
 
 /// The word of why a device is not opened.

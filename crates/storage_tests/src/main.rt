@@ -113,14 +113,22 @@ impl StorageTests {
     /// Ends the part that is there, and begins the one of this name.
     fn begin(&mut self, name: &str, out: &mut Transcript) -> Result<()> {
         self.stores.end(out)?;
-        self.part = match name {
-            "checks" => StoragePart::Checks,
-            "images" => StoragePart::Images,
-            "arrays" => StoragePart::Arrays,
-            "journals" => StoragePart::Journals,
-            "stores" => StoragePart::Stores,
-            _ => bail!("there is no such part"),
-        };
+        match part_of(name) {
+            Some(part) => self.part = part,
+            None => bail!("there is no such part"),
+        }
         Ok(())
+    }
+}
+
+/// The part of this name.
+fn part_of(name: &str) -> Option<StoragePart> {
+    match name {
+        "checks" => Some(StoragePart::Checks),
+        "images" => Some(StoragePart::Images),
+        "arrays" => Some(StoragePart::Arrays),
+        "journals" => Some(StoragePart::Journals),
+        "stores" => Some(StoragePart::Stores),
+        _ => None,
     }
 }

@@ -59,12 +59,12 @@ impl Pieces {
         ensures only { IfSome result (λ piece. later.now ≡ piece.now ∷ []) }
         ensures there { IsSome result → 0 < vec_len self.now.list }
     {
-        let last = self.list.last()?;
-        let (piece, others) = later.split_first()?;
-        if others.is_empty() && last.len().saturating_add(piece.len()) <= MAX_PIECE_LENGTH {
-            Some(piece)
-        } else {
-            None
+        let [piece] = later else {
+            return None;
+        };
+        match self.list.last() {
+            Some(last) if last.len().saturating_add(piece.len()) <= MAX_PIECE_LENGTH => Some(piece),
+            _ => None,
         }
     }
 
@@ -87,9 +87,13 @@ impl Pieces {
 fn first_key(pieces: &[Piece]) -> Option<&[u8]>
     ensures { IfSome result (λ key. BeginWith key.now (all_changes pieces.now)) }
 {
-    let (piece, _) = pieces.split_first()?;
-    let (change, _) = piece.as_slice().split_first()?;
-    Some(change.key())
+    let [piece, ..] = pieces else {
+        return None;
+    };
+    match piece.as_slice() {
+        [change, ..] => Some(change.key()),
+        [] => None,
+    }
 }
 
 // Copies of pieces. The only error is that an allocation failed.

@@ -278,12 +278,12 @@ impl MemStore {
 fn only_change(pieces: &[Piece]) -> Option<&Change>
     ensures { IfSome result (λ change. all_changes pieces.now ≡ change.now ∷ []) }
 {
-    let (piece, others) = pieces.split_first()?;
-    let (change, later) = piece.as_slice().split_first()?;
-    if others.is_empty() && later.is_empty() {
-        Some(change)
-    } else {
-        None
+    let [piece] = pieces else {
+        return None;
+    };
+    match piece.as_slice() {
+        [change] => Some(change),
+        _ => None,
     }
 }
 

@@ -157,14 +157,15 @@ impl Piece {
         Ok(())
     }
 
-    // Adds copies of the changes to others. The only error is that an allocation failed.
-    fn copy_to(&self, alloc: Global, copies: &mut Vec<Change>) -> Result<(), AllocError>
-        ensures { OnOk result (copies.new.items ≡ copies.old.items ++ self.now) }
+    // Copies of the changes. The only error is that an allocation failed.
+    fn copies(&self, alloc: Global) -> Result<Vec<Change>, AllocError>
+        ensures { IfOk result (λ copies. copies.items ≡ self.now) }
     {
+        let mut copies = Vec::with_capacity(alloc, self.changes.len())?;
         for change in &self.changes {
             copies.push(change.try_copy(alloc)?)?;
         }
-        Ok(())
+        Ok(copies)
     }
 
     // Adds copies of the changes that put a value to others. The only error is that an allocation
@@ -190,11 +191,9 @@ impl Piece {
         ensures ok { OnOk result (self.new ≡ self.old ++ later.now) }
         ensures err { OnErr result (self.new ≡ self.old) }
     {
-        let mut copies = Vec::with_capacity(alloc, later.len())?;
-        later.copy_to(alloc, &mut copies)?;
-        let put_count = count_puts(&copies);
+        let mut copies = later.copies(alloc)?;
         self.changes.append(&mut copies)?;
-        self.put_count += put_count;
+        self.put_count += later.put_count;
         Ok(())
     }
 
@@ -273,7 +272,7 @@ impl Piece {
     fn has_lesser_key_at(&self, key: &[u8], at: usize) -> bool
         ensures { result ≡ has_lesser_key_at key.now at self.now }
     {
-        match self.changes.get(at) {
+        match self.get(at) {
             Some(found) => comes_before(found.key(), key),
             None => false,
         }
@@ -283,7 +282,7 @@ impl Piece {
     pub(crate) fn has_key_at(&self, key: &[u8], at: usize) -> bool
         ensures { result ≡ has_key_at key.now at self.now }
     {
-        match self.changes.get(at) {
+        match self.get(at) {
             Some(change) => is_same_key(change.key(), key),
             None => false,
         }
@@ -314,10 +313,7 @@ fn count_put(change: &Change) -> usize
 
 impl TryCopy for Piece {
     fn try_copy(&self, alloc: Global) -> Result<Piece, AllocError> {
-        let mut changes = Vec::with_capacity(alloc, self.changes.len())?;
-        for change in &self.changes {
-            changes.push(change.try_copy(alloc)?)?;
-        }
+        let changes = self.copies(alloc)?;
         Ok(Piece {
             changes,
             put_count: self.put_count,

@@ -7,7 +7,7 @@ use crate::transcript::Transcript;
 use kv_store::{OpenFault, PageStore, StoreFault};
 use sector_device::{FileDevice, MemFile};
 use std::alloc::Global;
-use store::Cursor;
+use store::{Cursor, Map};
 
 /// How many records there are, and the digest of all of them in turn.
 #[derive(Clone, Copy)]
@@ -19,30 +19,28 @@ pub struct Contents {
 /// What it finds on the image, or why it does not open it; `Device` also where a read fails.
 pub type ImageAnswer = Result<Contents, OpenFault>;
 
-/// A device over the bytes of an image.
-type ImageDevice = FileDevice<MemFile>;
-
 /// What the store says of an image with a change.
 pub fn answer_to(alloc: Global, image: &[u8], change: ImageChange) -> ImageAnswer {
-    let mut store = store_over(alloc, changed(alloc, image, change)?.as_slice())?;
-    contents_of(alloc, &mut store)
+    let image = changed(alloc, image, change)?;
+    answer_over(alloc, image.as_slice())
 }
 
-/// The store on an image.
-fn store_over(alloc: Global, image: &[u8]) -> Result<PageStore<ImageDevice>, OpenFault> {
+/// What the store says of an image.
+fn answer_over(alloc: Global, image: &[u8]) -> ImageAnswer {
     let Ok(device) = FileDevice::stand_over(MemFile::new(alloc, image)?) else {
         return Err(OpenFault::Device);
     };
     match PageStore::open(alloc, device) {
-        Ok(store) => Ok(store),
+        Ok(store) => contents_of(alloc, store),
         Err((_, fault)) => Err(fault),
     }
 }
 
 /// The records of a store that a cursor comes to.
-fn contents_of(alloc: Global, store: &mut PageStore<ImageDevice>) -> ImageAnswer {
+fn contents_of<M: Map + Drop>(alloc: Global, store: M) -> ImageAnswer {
+    let mut store = store;
     let mut cursor = Cursor::over(alloc, &[])?;
-    match contents_from(&mut cursor, store) {
+    match contents_from(&mut cursor, &mut store) {
         Ok(contents) => Ok(contents),
         Err(StoreFault::Memory) => Err(OpenFault::Memory),
         Err(_) => Err(OpenFault::Device),
@@ -50,10 +48,7 @@ fn contents_of(alloc: Global, store: &mut PageStore<ImageDevice>) -> ImageAnswer
 }
 
 /// The records of a store that are left to a cursor.
-fn contents_from(
-    cursor: &mut Cursor,
-    store: &mut PageStore<ImageDevice>,
-) -> Result<Contents, StoreFault> {
+fn contents_from<M: Map>(cursor: &mut Cursor, store: &mut M) -> Result<Contents, StoreFault> {
     let mut contents = Contents {
         records: 0,
         digest: 1,

@@ -3,15 +3,55 @@
 use crate::journals::logged::LoggedDevice;
 use journal_switches::{SwitchFault, turn_off, turn_on};
 use kv_store::OpenFault;
-use sector_device::{Guarded, MemDevice};
+use sector_device::{Device, Guarded, MemDevice};
 use std::alloc::Global;
 use store::StoreFault;
 
 /// How many pages a device has.
 pub const PAGES: u32 = 64;
 
-/// A device of a test.
-pub type TestDevice = Guarded<LoggedDevice<MemDevice>>;
+/// A device in memory whose sectors a store writes, and that knows what was written.
+pub type GuardedDevice = Guarded<LoggedDevice<MemDevice>>;
+
+/// A device of a test. What it is made of is named where stores are opened on it, and nowhere else.
+pub struct TestDevice {
+    guarded: GuardedDevice,
+}
+
+// Written and not derived: where a value is dropped this is one call, and not its parts one by one.
+impl Drop for TestDevice {
+    fn drop(self) {
+        let TestDevice { guarded: _ } = self;
+    }
+}
+
+impl TestDevice {
+    /// A device of which nothing was written.
+    pub fn new(memory: MemDevice) -> TestDevice {
+        TestDevice::of(Guarded::new(LoggedDevice::new(memory)))
+    }
+
+    /// A device that is made of this one.
+    pub fn of(guarded: GuardedDevice) -> TestDevice {
+        TestDevice { guarded }
+    }
+
+    /// What it is made of.
+    pub fn into_guarded(self) -> GuardedDevice {
+        let TestDevice { guarded } = self;
+        guarded
+    }
+
+    /// How often it has failed.
+    pub fn failures(&self) -> u64 {
+        self.guarded.failures()
+    }
+
+    /// Lets something happen to it.
+    pub fn prepare(&self, event: DeviceEvent) {
+        event.prepare(&self.guarded.device().device);
+    }
+}
 
 /// What is to happen to a device.
 #[derive(Clone, Copy)]
@@ -25,9 +65,8 @@ pub enum DeviceEvent {
 }
 
 impl DeviceEvent {
-    /// Lets it happen to a device.
-    pub fn prepare(self, device: &TestDevice) {
-        let memory = &device.device().device;
+    /// Lets it happen to a device in memory.
+    pub fn prepare(self, memory: &MemDevice) {
         match self {
             DeviceEvent::Stop(writes) => memory.stop_after(writes),
             DeviceEvent::Failure(calls) => memory.fail_call(calls),
@@ -73,12 +112,16 @@ impl JournalSwitch {
 
     /// Turns the journal of the store on a device on or off, and hands the device back.
     pub fn turn(self, alloc: Global, device: TestDevice) -> (TestDevice, SwitchAnswer) {
-        let (device, answer) = self.turned(alloc, device);
-        (device, switch_answer(answer))
+        let (guarded, answer) = self.turned(alloc, device.into_guarded());
+        (TestDevice::of(guarded), switch_answer(answer))
     }
 
     /// What turning it on or off answers.
-    fn turned(self, alloc: Global, device: TestDevice) -> (TestDevice, Result<u64, SwitchFault>) {
+    fn turned(
+        self,
+        alloc: Global,
+        device: GuardedDevice,
+    ) -> (GuardedDevice, Result<u64, SwitchFault>) {
         match self {
             JournalSwitch::On => turn_on(alloc, device),
             JournalSwitch::Off => turn_off(alloc, device),

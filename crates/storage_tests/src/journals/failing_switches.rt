@@ -6,7 +6,6 @@ use crate::journals::script::{BatchScript, ScriptStep};
 use crate::journals::tally::TestTally;
 use crate::journals::turning::{Standing, Turning};
 use anyhow::Result;
-use sector_device::Device;
 
 /// More calls than are made where a journal is turned on or off on 64 pages.
 const MAX_CALLS: u64 = 2_048;
@@ -61,7 +60,7 @@ fn fail_call(
 ) -> Result<bool> {
     let device = image.device()?;
     let failures = device.failures();
-    event.prepare(&device);
+    device.prepare(event);
     let (device, answer) = turning.switch.turn(script.alloc, device);
     let failures = device.failures().saturating_sub(failures);
     if failures == 0 {

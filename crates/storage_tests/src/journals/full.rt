@@ -61,12 +61,23 @@ impl Filled {
 }
 
 /// A store with a journal, and one without, whose rows have so many bytes.
-#[derive(Drop)]
 struct StorePair {
     alloc: Global,
     journaled: Filled,
     plain: Filled,
     size: usize,
+}
+
+// Written and not derived: where a value is dropped this is one call, and not its parts one by one.
+impl Drop for StorePair {
+    fn drop(self) {
+        let StorePair {
+            alloc: _,
+            journaled: _,
+            plain: _,
+            size: _,
+        } = self;
+    }
 }
 
 /// Fills the two stores that a line names, changes rows of them in so many rounds, and tells what came of it.

@@ -1,10 +1,10 @@
 //! What devices of a test hold.
 
 use crate::journals::devices::{PAGES, TestDevice};
-use crate::journals::logged::{LoggedDevice, SECTORS};
+use crate::journals::logged::SECTORS;
 use crate::sectors::{content_of, put};
 use anyhow::{Result, bail};
-use sector_device::{Device, DeviceFault, Guarded, MemDevice, SECTOR_SIZE};
+use sector_device::{Device, DeviceFault, MemDevice, SECTOR_SIZE};
 use std::alloc::{AllocError, Global};
 
 /// Which unsynced sectors have their last content after a stop: none, all, those of even or of odd number, or a single one.
@@ -58,7 +58,7 @@ impl Drop for TestImage {
 impl TestImage {
     /// What a device holds. It is started again for that.
     pub fn of(alloc: Global, device: TestDevice) -> Result<TestImage> {
-        let logged = device.into_device();
+        let logged = device.into_guarded().into_device();
         let unsynced = logged.unsynced;
         let mut device = logged.into_device();
         // calls pass again
@@ -121,7 +121,7 @@ impl TestImage {
     pub fn device(&self) -> Result<TestDevice> {
         let mut device = MemDevice::new(self.alloc, PAGES)?;
         self.put_on(&mut device)?;
-        Ok(Guarded::new(LoggedDevice::new(device)))
+        Ok(TestDevice::new(device))
     }
 
     /// Writes the contents at the last sync to a device, syncs it, and writes the last ones.

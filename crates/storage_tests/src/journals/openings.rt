@@ -8,7 +8,6 @@ use crate::journals::tally::TestTally;
 use crate::journals::test_stores::{TestStore, commit_first, new_device, opened};
 use anyhow::Result;
 use kv_store::OpenFault;
-use sector_device::Device;
 
 /// More calls than an opening makes on 64 pages.
 const MAX_CALLS: u64 = 2_048;
@@ -53,7 +52,7 @@ fn fail_opening(
     tally: &mut TestTally,
 ) -> Result<bool> {
     let device = image.device()?;
-    DeviceEvent::Failure(calls).prepare(&device);
+    device.prepare(DeviceEvent::Failure(calls));
     let failures = device.failures();
     match TestStore::open(script, device) {
         Ok(store) => {

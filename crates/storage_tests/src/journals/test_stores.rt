@@ -1,6 +1,6 @@
 //! Stores of a test.
 
-use crate::journals::devices::{DeviceEvent, PAGES, TestDevice};
+use crate::journals::devices::{DeviceEvent, GuardedDevice, PAGES, TestDevice};
 use crate::journals::images::{SectorChoice, TestImage};
 use crate::journals::logged::LoggedDevice;
 use crate::journals::record_lists::same_records;
@@ -13,12 +13,12 @@ use device_store::DeviceStore;
 use kv_store::{MAX_CACHE_PAGES, OpenFault, PageStore};
 use sector_device::{Guarded, MemDevice};
 use std::alloc::Global;
-use store::{Batch, Entry, MemStore, Store, StoreFault};
+use store::{Batch, Entry, Map, MemStore, Store, StoreFault};
 
 /// The store on a device of a test.
 pub struct TestStore {
     alloc: Global,
-    store: DeviceStore<TestDevice>,
+    store: DeviceStore<GuardedDevice>,
 }
 
 // Written and not derived: where a value is dropped this is one call, and not its parts one by one.
@@ -35,12 +35,12 @@ impl TestStore {
         device: TestDevice,
     ) -> Result<TestStore, (TestDevice, OpenFault)> {
         let cache = script.cache.clamp(1, MAX_CACHE_PAGES);
-        match DeviceStore::open_with(script.alloc, device, cache) {
+        match DeviceStore::open_with(script.alloc, device.into_guarded(), cache) {
             Ok(store) => Ok(TestStore {
                 alloc: script.alloc,
                 store,
             }),
-            Err(refused) => Err(refused),
+            Err((guarded, fault)) => Err((TestDevice::of(guarded), fault)),
         }
     }
 
@@ -72,7 +72,7 @@ impl TestStore {
 
     /// Lets something happen to its device.
     pub fn prepare(&self, event: DeviceEvent) {
-        event.prepare(self.store.device());
+        event.prepare(&self.store.device().device().device);
     }
 
     /// Whether it answers Device alone: a read, and the commit of a batch.
@@ -91,7 +91,7 @@ impl TestStore {
     /// Its device.
     pub fn into_device(self) -> TestDevice {
         let TestStore { alloc: _, store } = self;
-        store.into_device()
+        TestDevice::of(store.into_device())
     }
 }
 
@@ -131,15 +131,15 @@ pub fn commit_first(
 
 /// A device with a new store, with a journal or without, that has the record of the role root.
 pub fn new_device(alloc: Global, has_journal: bool) -> Result<TestDevice> {
-    let mut device = Guarded::new(LoggedDevice::new(MemDevice::new(alloc, PAGES)?));
+    let mut guarded = Guarded::new(LoggedDevice::new(MemDevice::new(alloc, PAGES)?));
     format(
         alloc,
-        &mut device,
+        &mut guarded,
         has_journal,
         "\u{1}root".as_bytes(),
         &[3],
     )?;
-    Ok(device)
+    Ok(TestDevice::of(guarded))
 }
 
 /// Whether what a device holds opens as a store in pages alone, with the records of a store in memory.
@@ -149,16 +149,16 @@ pub fn opens_in_pages(
     wanted: &mut MemStore,
 ) -> Result<bool> {
     let cache = script.cache.clamp(1, MAX_CACHE_PAGES);
-    match PageStore::open_with(script.alloc, image.device()?, cache) {
+    match PageStore::open_with(script.alloc, image.device()?.into_guarded(), cache) {
         Ok(store) => Ok(has_records(script.alloc, store, wanted)?),
         Err(_) => Ok(false),
     }
 }
 
-/// Whether a store in pages alone has the records of a store in memory.
-fn has_records(
+/// Whether a store has the records of a store in memory.
+fn has_records<M: Map + Drop>(
     alloc: Global,
-    store: PageStore<TestDevice>,
+    store: M,
     wanted: &mut MemStore,
 ) -> Result<bool, StoreFault> {
     let mut store = store;

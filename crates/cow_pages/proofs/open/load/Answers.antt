@@ -1,7 +1,7 @@
 use Rattle.std.proofs.Common.{◌≡◌, ℕ, Some, Err, refl, ap, sym, subst, ◌∙◌, inl, inr, arith}
 use Rattle.std.proofs.Math.Path.{fun_ext}
 use Rattle.std.proofs.lemmas.Result.{err_from_is_err_and}
-use Rattle.sector_device.specs.Device.{Image, history_joined}
+use Rattle.sector_device.specs.Device.{Image, history_none, history_joined}
 use Rattle.cow_pages.specs.Held.{IsSettled}
 use Rattle.cow_pages.specs.Opening.{IsRootFound}
 use Rattle.cow_pages.specs.Image.{first_fault, fault_of_image, fault_of_root}
@@ -9,9 +9,10 @@ use Rattle.cow_pages.specs.declared.open.OpenFault.TheVariants.{Device}
 use Rattle.cow_pages.specs.ReadingLaws.{reads_joined}
 use Rattle.cow_pages.specs.PreservedLaws.{failed_later}
 use Rattle.cow_pages.proofs.Reading.{reads_none, synced_along}
-use Rattle.cow_pages.proofs.Loading.{device_given, memory_given, named_device, named_for, named_after, given_back, named_same, first_of_image, first_of_root, spelled_same, settled_found}
+use Rattle.cow_pages.proofs.Loading.{device_given, memory_given, none_given, named_device, named_for, named_after, given_back, named_same, first_of_image, first_of_root, spelled_same, settled_found}
 use Rattle.cow_pages.proofs.open.load.Given.{Over}
 use Rattle.cow_pages.proofs.open.load.Goals.{In-Some, In_ok-root}
+use Rattle.cow_pages.proofs.Answered.{never_ok}
 use Rattle.cow_pages.proofs.open.load.Goals as goal
 
 -- where the size is one that a database may have, the first fault is one of the root sectors
@@ -136,3 +137,102 @@ returns-in_err-arrange-clause-cause g c is =
 pub returns-clause-history : goal.returns-clause-history
 returns-clause-history g c =
     history_joined _ _ (g.D.Device.state c.read_map.new.device) c.read_roots.ensures.history c.read_map.ensures.history
+
+pub returns-in_default-clause-history : goal.returns-in_default-clause-history
+returns-in_default-clause-history g c = history_none (g.D.Device.state c.args.device.now)
+
+pub returns-in_default-clause-sized : goal.returns-in_default-clause-sized
+returns-in_default-clause-sized g c = tt
+
+pub returns-in_default-clause-same : goal.returns-in_default-clause-same
+returns-in_default-clause-same g c = tt
+
+pub returns-in_default-clause-idle : goal.returns-in_default-clause-idle
+returns-in_default-clause-idle g c = tt
+
+pub returns-in_default-clause-settled : goal.returns-in_default-clause-settled
+returns-in_default-clause-settled g c first = tt
+
+pub returns-in_default-clause-none : goal.returns-in_default-clause-none
+returns-in_default-clause-none g c first = tt
+
+pub returns-in_err-read_roots-clause-history : goal.returns-in_err-read_roots-clause-history
+returns-in_err-read_roots-clause-history g c = c.read_roots.ensures.history
+
+pub returns-in_err-read_roots-clause-reads : goal.returns-in_err-read_roots-clause-reads
+returns-in_err-read_roots-clause-reads g c = c.read_roots.ensures.reads
+
+pub returns-in_err-read_roots-clause-sized : goal.returns-in_err-read_roots-clause-sized
+returns-in_err-read_roots-clause-sized g c = never_ok _ _ _ (err_from_is_err_and c.from_residual.result c.from_residual.ensures.1).1
+
+pub returns-in_err-read_roots-clause-same : goal.returns-in_err-read_roots-clause-same
+returns-in_err-read_roots-clause-same g c = never_ok _ _ _ (err_from_is_err_and c.from_residual.result c.from_residual.ensures.1).1
+
+pub returns-in_err-read_roots-clause-idle : goal.returns-in_err-read_roots-clause-idle
+returns-in_err-read_roots-clause-idle g c = never_ok _ _ _ (err_from_is_err_and c.from_residual.result c.from_residual.ensures.1).1
+
+pub returns-in_err-read_roots-clause-settled : goal.returns-in_err-read_roots-clause-settled
+returns-in_err-read_roots-clause-settled g c first = never_ok _ _ _ (err_from_is_err_and c.from_residual.result c.from_residual.ensures.1).1
+
+pub returns-in_err-read_roots-clause-none : goal.returns-in_err-read_roots-clause-none
+returns-in_err-read_roots-clause-none g c first = never_ok _ _ _ (err_from_is_err_and c.from_residual.result c.from_residual.ensures.1).1
+
+pub returns-in_err-root-clause-history : goal.returns-in_err-root-clause-history
+returns-in_err-root-clause-history g c = c.read_roots.ensures.history
+
+pub returns-in_err-root-clause-reads : goal.returns-in_err-root-clause-reads
+returns-in_err-root-clause-reads g c = c.read_roots.ensures.reads
+
+pub returns-in_err-root-clause-sized : goal.returns-in_err-root-clause-sized
+returns-in_err-root-clause-sized g c = never_ok _ _ _ (err_from_is_err_and c.from_residual-in_err-root.result c.from_residual-in_err-root.ensures.1).1
+
+pub returns-in_err-root-clause-same : goal.returns-in_err-root-clause-same
+returns-in_err-root-clause-same g c = never_ok _ _ _ (err_from_is_err_and c.from_residual-in_err-root.result c.from_residual-in_err-root.ensures.1).1
+
+pub returns-in_err-root-clause-idle : goal.returns-in_err-root-clause-idle
+returns-in_err-root-clause-idle g c = never_ok _ _ _ (err_from_is_err_and c.from_residual-in_err-root.result c.from_residual-in_err-root.ensures.1).1
+
+pub returns-in_err-root-clause-settled : goal.returns-in_err-root-clause-settled
+returns-in_err-root-clause-settled g c first = never_ok _ _ _ (err_from_is_err_and c.from_residual-in_err-root.result c.from_residual-in_err-root.ensures.1).1
+
+pub returns-in_err-root-clause-none : goal.returns-in_err-root-clause-none
+returns-in_err-root-clause-none g c first = never_ok _ _ _ (err_from_is_err_and c.from_residual-in_err-root.result c.from_residual-in_err-root.ensures.1).1
+
+pub returns-in_err-durable-clause-sized : goal.returns-in_err-durable-clause-sized
+returns-in_err-durable-clause-sized g c = never_ok _ _ _ (err_from_is_err_and c.from_residual-in_err-durable.result c.from_residual-in_err-durable.ensures.1).1
+
+pub returns-in_err-durable-clause-same : goal.returns-in_err-durable-clause-same
+returns-in_err-durable-clause-same g c = never_ok _ _ _ (err_from_is_err_and c.from_residual-in_err-durable.result c.from_residual-in_err-durable.ensures.1).1
+
+pub returns-in_err-durable-clause-idle : goal.returns-in_err-durable-clause-idle
+returns-in_err-durable-clause-idle g c = never_ok _ _ _ (err_from_is_err_and c.from_residual-in_err-durable.result c.from_residual-in_err-durable.ensures.1).1
+
+pub returns-in_err-durable-clause-settled : goal.returns-in_err-durable-clause-settled
+returns-in_err-durable-clause-settled g c first = never_ok _ _ _ (err_from_is_err_and c.from_residual-in_err-durable.result c.from_residual-in_err-durable.ensures.1).1
+
+pub returns-in_err-durable-clause-none : goal.returns-in_err-durable-clause-none
+returns-in_err-durable-clause-none g c first = never_ok _ _ _ (err_from_is_err_and c.from_residual-in_err-durable.result c.from_residual-in_err-durable.ensures.1).1
+
+pub returns-in_err-arrange-clause-sized : goal.returns-in_err-arrange-clause-sized
+returns-in_err-arrange-clause-sized g c = never_ok _ _ _ (err_from_is_err_and c.from_residual-in_err-arrange.result c.from_residual-in_err-arrange.ensures.1).1
+
+pub returns-in_err-arrange-clause-same : goal.returns-in_err-arrange-clause-same
+returns-in_err-arrange-clause-same g c = never_ok _ _ _ (err_from_is_err_and c.from_residual-in_err-arrange.result c.from_residual-in_err-arrange.ensures.1).1
+
+pub returns-in_err-arrange-clause-idle : goal.returns-in_err-arrange-clause-idle
+returns-in_err-arrange-clause-idle g c = never_ok _ _ _ (err_from_is_err_and c.from_residual-in_err-arrange.result c.from_residual-in_err-arrange.ensures.1).1
+
+pub returns-in_err-arrange-clause-settled : goal.returns-in_err-arrange-clause-settled
+returns-in_err-arrange-clause-settled g c first = never_ok _ _ _ (err_from_is_err_and c.from_residual-in_err-arrange.result c.from_residual-in_err-arrange.ensures.1).1
+
+pub returns-in_err-arrange-clause-none : goal.returns-in_err-arrange-clause-none
+returns-in_err-arrange-clause-none g c first = never_ok _ _ _ (err_from_is_err_and c.from_residual-in_err-arrange.result c.from_residual-in_err-arrange.ensures.1).1
+
+pub returns-clause-idle : goal.returns-clause-idle
+returns-clause-idle g c = c.in_ok-arrange.ensures.idle
+
+pub returns-clause-fault : goal.returns-clause-fault
+returns-clause-fault g c first = tt
+
+pub returns-clause-cause : goal.returns-clause-cause
+returns-clause-cause g c is = none_given _ is

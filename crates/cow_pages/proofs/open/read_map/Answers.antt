@@ -8,9 +8,11 @@ use Rattle.cow_pages.specs.Image.{bytes_of_page, map_in}
 use Rattle.cow_pages.proofs.Parts.{map_whole, padded_same, padded_spelled}
 use Rattle.cow_pages.proofs.Sound.{sound_same, fault_unsound, none_sound, sound_or_damaged}
 use Rattle.cow_pages.proofs.Reading.{reads_none}
-use Rattle.cow_pages.proofs.Loading.{device_given, memory_given, given_back, named_after}
+use Rattle.cow_pages.proofs.Loading.{device_given, memory_given, damage_given, none_given, given_back, named_after}
 use Rattle.cow_pages.proofs.open.read_map.Given.{Over}
 use Rattle.cow_pages.proofs.open.read_map.Goals.{In_ok-is_sound_reach, In_ok-resize}
+use Rattle.sector_device.specs.Device.{history_none}
+use Rattle.cow_pages.proofs.Answered.{never_ok}
 use Rattle.cow_pages.proofs.open.read_map.Goals as goal
 
 -- the reach that was tested is that of the image
@@ -103,3 +105,123 @@ pub returns-in_err-resize-clause-cause : goal.returns-in_err-resize-clause-cause
 returns-in_err-resize-clause-cause g c is =
     let r = c.from_residual-in_err-resize.result in
     memory_given r (err_from_is_err_and r c.from_residual-in_err-resize.ensures.1) is
+
+pub returns-then-not-are_inside-clause-history : goal.returns-then-not-are_inside-clause-history
+returns-then-not-are_inside-clause-history g c = history_none (g.D.Device.state c.args.device.now)
+
+pub returns-then-not-are_inside-clause-count : goal.returns-then-not-are_inside-clause-count
+returns-then-not-are_inside-clause-count g c = tt
+
+pub returns-then-not-are_inside-clause-sound : goal.returns-then-not-are_inside-clause-sound
+returns-then-not-are_inside-clause-sound g c = tt
+
+pub returns-then-not-are_inside-clause-ended : goal.returns-then-not-are_inside-clause-ended
+returns-then-not-are_inside-clause-ended g c = tt
+
+pub returns-then-not-are_inside-clause-spelled : goal.returns-then-not-are_inside-clause-spelled
+returns-then-not-are_inside-clause-spelled g c first = tt
+
+pub returns-then-not-are_inside-clause-none : goal.returns-then-not-are_inside-clause-none
+returns-then-not-are_inside-clause-none g c first = tt
+
+pub returns-then-not-are_inside-clause-cause : goal.returns-then-not-are_inside-clause-cause
+returns-then-not-are_inside-clause-cause g c is = damage_given _ refl is
+
+pub returns-in_err-entries-clause-history : goal.returns-in_err-entries-clause-history
+returns-in_err-entries-clause-history g c = c.read_maps.ensures.history
+
+pub returns-in_err-entries-clause-reads : goal.returns-in_err-entries-clause-reads
+returns-in_err-entries-clause-reads g c = c.read_maps.ensures.reads
+
+pub returns-in_err-entries-clause-count : goal.returns-in_err-entries-clause-count
+returns-in_err-entries-clause-count g c = never_ok _ _ _ (err_from_is_err_and c.from_residual.result c.from_residual.ensures.1).1
+
+pub returns-in_err-entries-clause-sound : goal.returns-in_err-entries-clause-sound
+returns-in_err-entries-clause-sound g c = never_ok _ _ _ (err_from_is_err_and c.from_residual.result c.from_residual.ensures.1).1
+
+pub returns-in_err-entries-clause-ended : goal.returns-in_err-entries-clause-ended
+returns-in_err-entries-clause-ended g c = never_ok _ _ _ (err_from_is_err_and c.from_residual.result c.from_residual.ensures.1).1
+
+pub returns-in_err-entries-clause-spelled : goal.returns-in_err-entries-clause-spelled
+returns-in_err-entries-clause-spelled g c first = never_ok _ _ _ (err_from_is_err_and c.from_residual.result c.from_residual.ensures.1).1
+
+pub returns-in_err-entries-clause-none : goal.returns-in_err-entries-clause-none
+returns-in_err-entries-clause-none g c first = never_ok _ _ _ (err_from_is_err_and c.from_residual.result c.from_residual.ensures.1).1
+
+pub returns-in_err-is_sound_reach-clause-history : goal.returns-in_err-is_sound_reach-clause-history
+returns-in_err-is_sound_reach-clause-history g c = c.read_maps.ensures.history
+
+pub returns-in_err-is_sound_reach-clause-reads : goal.returns-in_err-is_sound_reach-clause-reads
+returns-in_err-is_sound_reach-clause-reads g c = c.read_maps.ensures.reads
+
+pub returns-in_err-is_sound_reach-clause-count : goal.returns-in_err-is_sound_reach-clause-count
+returns-in_err-is_sound_reach-clause-count g c = never_ok _ _ _ (err_from_is_err_and c.from_residual-in_err-is_sound_reach.result c.from_residual-in_err-is_sound_reach.ensures.1).1
+
+pub returns-in_err-is_sound_reach-clause-sound : goal.returns-in_err-is_sound_reach-clause-sound
+returns-in_err-is_sound_reach-clause-sound g c = never_ok _ _ _ (err_from_is_err_and c.from_residual-in_err-is_sound_reach.result c.from_residual-in_err-is_sound_reach.ensures.1).1
+
+pub returns-in_err-is_sound_reach-clause-ended : goal.returns-in_err-is_sound_reach-clause-ended
+returns-in_err-is_sound_reach-clause-ended g c = never_ok _ _ _ (err_from_is_err_and c.from_residual-in_err-is_sound_reach.result c.from_residual-in_err-is_sound_reach.ensures.1).1
+
+pub returns-in_err-is_sound_reach-clause-spelled : goal.returns-in_err-is_sound_reach-clause-spelled
+returns-in_err-is_sound_reach-clause-spelled g c first = never_ok _ _ _ (err_from_is_err_and c.from_residual-in_err-is_sound_reach.result c.from_residual-in_err-is_sound_reach.ensures.1).1
+
+pub returns-in_err-is_sound_reach-clause-none : goal.returns-in_err-is_sound_reach-clause-none
+returns-in_err-is_sound_reach-clause-none g c first = never_ok _ _ _ (err_from_is_err_and c.from_residual-in_err-is_sound_reach.result c.from_residual-in_err-is_sound_reach.ensures.1).1
+
+pub returns-in_err-resize-clause-history : goal.returns-in_err-resize-clause-history
+returns-in_err-resize-clause-history g c = c.read_maps.ensures.history
+
+pub returns-in_err-resize-clause-reads : goal.returns-in_err-resize-clause-reads
+returns-in_err-resize-clause-reads g c = c.read_maps.ensures.reads
+
+pub returns-in_err-resize-clause-count : goal.returns-in_err-resize-clause-count
+returns-in_err-resize-clause-count g c = never_ok _ _ _ (err_from_is_err_and c.from_residual-in_err-resize.result c.from_residual-in_err-resize.ensures.1).1
+
+pub returns-in_err-resize-clause-sound : goal.returns-in_err-resize-clause-sound
+returns-in_err-resize-clause-sound g c = never_ok _ _ _ (err_from_is_err_and c.from_residual-in_err-resize.result c.from_residual-in_err-resize.ensures.1).1
+
+pub returns-in_err-resize-clause-ended : goal.returns-in_err-resize-clause-ended
+returns-in_err-resize-clause-ended g c = never_ok _ _ _ (err_from_is_err_and c.from_residual-in_err-resize.result c.from_residual-in_err-resize.ensures.1).1
+
+pub returns-in_err-resize-clause-spelled : goal.returns-in_err-resize-clause-spelled
+returns-in_err-resize-clause-spelled g c first = never_ok _ _ _ (err_from_is_err_and c.from_residual-in_err-resize.result c.from_residual-in_err-resize.ensures.1).1
+
+pub returns-in_err-resize-clause-none : goal.returns-in_err-resize-clause-none
+returns-in_err-resize-clause-none g c first = never_ok _ _ _ (err_from_is_err_and c.from_residual-in_err-resize.result c.from_residual-in_err-resize.ensures.1).1
+
+pub returns-then-not-branch-clause-history : goal.returns-then-not-branch-clause-history
+returns-then-not-branch-clause-history g c = c.read_maps.ensures.history
+
+pub returns-then-not-branch-clause-reads : goal.returns-then-not-branch-clause-reads
+returns-then-not-branch-clause-reads g c = c.read_maps.ensures.reads
+
+pub returns-then-not-branch-clause-count : goal.returns-then-not-branch-clause-count
+returns-then-not-branch-clause-count g c = tt
+
+pub returns-then-not-branch-clause-sound : goal.returns-then-not-branch-clause-sound
+returns-then-not-branch-clause-sound g c = tt
+
+pub returns-then-not-branch-clause-ended : goal.returns-then-not-branch-clause-ended
+returns-then-not-branch-clause-ended g c = tt
+
+pub returns-then-not-branch-clause-spelled : goal.returns-then-not-branch-clause-spelled
+returns-then-not-branch-clause-spelled g c first = tt
+
+pub returns-then-not-branch-clause-none : goal.returns-then-not-branch-clause-none
+returns-then-not-branch-clause-none g c first = tt
+
+pub returns-then-not-branch-clause-cause : goal.returns-then-not-branch-clause-cause
+returns-then-not-branch-clause-cause g c is = damage_given _ refl is
+
+pub returns-clause-history : goal.returns-clause-history
+returns-clause-history g c = c.read_maps.ensures.history
+
+pub returns-clause-reads : goal.returns-clause-reads
+returns-clause-reads g c = c.read_maps.ensures.reads
+
+pub returns-clause-fault : goal.returns-clause-fault
+returns-clause-fault g c first = tt
+
+pub returns-clause-cause : goal.returns-clause-cause
+returns-clause-cause g c is = none_given _ is

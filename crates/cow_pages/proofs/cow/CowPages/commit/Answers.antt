@@ -6,7 +6,10 @@ use Rattle.cow_pages.specs.Image.{array_of}
 use Rattle.cow_pages.specs.Dirty.{overlaid_array}
 use Rattle.cow_pages.specs.DirtyPages.{dirty_bytes}
 use Rattle.cow_pages.proofs.Along.{leaves_none}
-use Rattle.cow_pages.proofs.Overlaid.{durable_overlaid, nothing_dirty}
+use Rattle.cow_pages.proofs.Overlaid.{none_dirty, durable_overlaid, nothing_dirty}
+use Rattle.sector_device.specs.Device.{history_none}
+use Rattle.cow_pages.proofs.Answered.{not_both}
+use Rattle.cow_pages.proofs.Preserving.{broken_still}
 use Rattle.cow_pages.proofs.cow.CowPages.commit.Goals as goal
 
 pub returns-clause-any_moment : goal.returns-clause-any_moment
@@ -37,3 +40,32 @@ returns-clause-outcome g c =
             ∙ ap (λ (es : List ℕ). array_of image es l) same ∙ sym (as_durable l);
       };
     }
+
+pub returns-then-self-clause-history : goal.returns-then-self-clause-history
+returns-then-self-clause-history g c = history_none (g.D.Device.state c.args.self.now.device)
+
+pub returns-then-self-clause-any_moment : goal.returns-then-self-clause-any_moment
+returns-then-self-clause-any_moment g c was = not_both _ was.has_not_failed c.if-self.true
+
+pub returns-then-self-clause-outcome : goal.returns-then-self-clause-outcome
+returns-then-self-clause-outcome g c = broken_still c.args.self.now c.if-self.true
+
+pub returns-then-self-clause-nothing : goal.returns-then-self-clause-nothing
+returns-then-self-clause-nothing g c format maps = (refl, λ works. not_both _ works c.if-self.true)
+
+pub returns-then-self-clause-closed : goal.returns-then-self-clause-closed
+returns-then-self-clause-closed g c was = (refl, refl)
+
+pub returns-clause-history : goal.returns-clause-history
+returns-clause-history g c = history_none (g.D.Device.state c.args.self.now.device)
+
+pub returns-clause-nothing : goal.returns-clause-nothing
+returns-clause-nothing g c format maps = (refl, λ works. refl)
+
+pub returns-clause-closed : goal.returns-clause-closed
+returns-clause-closed g c was = not_both _ c.if-self.false was
+
+pub invariant_of-self : goal.invariant_of-self
+invariant_of-self g c =
+    let s = c.args.self.now in
+    record { sized = s.sized; idle = s.idle; outside = λ page some. absurd (none_dirty _ (c.clear.ensures.empty page) some); cached = s.cached }

@@ -1,4 +1,4 @@
-use Rattle.std.proofs.Common.{◌≡◌, ℕ, List, inl, inr, refl, sym, ap, ◌∙◌}
+use Rattle.std.proofs.Common.{◌≡◌, ◌*◌, ℕ, List, inl, inr, refl, sym, ap, ◌∙◌}
 use Rattle.sector_device.specs.Device.{timeline, history_none}
 use Rattle.sector_device.specs.Timeline.{LeavesOnly, weakened}
 use Rattle.cow_pages.specs.Commit.{IsEither}
@@ -8,10 +8,12 @@ use Rattle.cow_pages.specs.Dirty.{overlaid_array}
 use Rattle.cow_pages.specs.DirtyPages.{dirty_bytes}
 use Rattle.cow_pages.proofs.Along.{leaves_none}
 use Rattle.cow_pages.specs.PreservedLaws.{same_settled}
-use Rattle.cow_pages.proofs.Changing.{can_commit, recoverable_was, either_was}
-use Rattle.cow_pages.proofs.Overlaid.{nothing_dirty}
+use Rattle.cow_pages.proofs.Changing.{next_as, can_commit, recoverable_was, either_was}
+use Rattle.cow_pages.proofs.Overlaid.{none_dirty, nothing_dirty}
+use Rattle.cow_pages.proofs.Answered.{never_ok, not_both}
+use Rattle.cow_pages.proofs.Putting.{outside_kept, sized_kept}
 use Rattle.std.proofs.lemmas.Result.{err_from_is_err_and}
-use Rattle.cow_pages.proofs.Preserving.{commit_refused}
+use Rattle.cow_pages.proofs.Preserving.{broken_still, commit_refused}
 use Rattle.cow_pages.proofs.cow.CowPages.commit_anew.Given.{Over}
 use Rattle.cow_pages.proofs.cow.CowPages.commit_anew.Goals.{After-write_changes-written}
 use Rattle.cow_pages.proofs.cow.CowPages.commit_anew.Goals as goal
@@ -115,3 +117,85 @@ returns-in-Ok-clause-history g c = c.write_changes-written.ensures.history
 
 pub returns-in-Err-clause-history : goal.returns-in-Err-clause-history
 returns-in-Err-clause-history g c = c.write_changes-written.ensures.history
+
+-- after a failure nothing is done
+pub returns-then-self-clause-any_moment : goal.returns-then-self-clause-any_moment
+returns-then-self-clause-any_moment g c was = not_both _ was.has_not_failed c.if-self.true
+
+pub returns-then-self-clause-outcome : goal.returns-then-self-clause-outcome
+returns-then-self-clause-outcome g c = broken_still c.args.self.now c.if-self.true
+
+pub returns-then-self-clause-anew : goal.returns-then-self-clause-anew
+returns-then-self-clause-anew g c = tt
+
+pub returns-then-self-clause-closed : goal.returns-then-self-clause-closed
+returns-then-self-clause-closed g c was = (refl, refl)
+
+pub invariant_of-self : goal.invariant_of-self
+invariant_of-self g c =
+    let s = c.args.self.now in
+    let is = c.prepare.ensures.preserved in
+    record {
+      sized = sized_kept _ _ _ is.root s.sized;
+      idle = c.in_err-next.ensures.idle;
+      outside = outside_kept _ _ _ _ is.root is.durable _ s.outside;
+      cached = s.cached;
+    }
+
+pub returns-in_err-next-clause-anew : goal.returns-in_err-next-clause-anew
+returns-in_err-next-clause-anew g c =
+    let back = err_from_is_err_and c.from_residual.result c.from_residual.ensures.1 in
+    never_ok _ _ _ back.1
+
+pub returns-in_err-next-clause-closed : goal.returns-in_err-next-clause-closed
+returns-in_err-next-clause-closed g c was = not_both _ c.if-self.false was
+
+pub write_changes-written-requires-clause-sized : goal.write_changes-written-requires-clause-sized
+write_changes-written-requires-clause-sized g c = sized_kept _ _ _ c.prepare.ensures.preserved.root c.args.self.now.sized
+
+pub write_changes-written-requires-clause-outside : goal.write_changes-written-requires-clause-outside
+write_changes-written-requires-clause-outside g c =
+    let is = c.prepare.ensures.preserved in
+    outside_kept _ _ _ _ is.root is.durable _ c.args.self.now.outside
+
+pub advance-requires : goal.advance-requires
+advance-requires g c = record { next = next_as c.args.self.now.map c.prepare.new.self c.prepare.ensures.preserved c.in_ok-next.next c.in_ok-next.ensures.outcome }
+
+pub invariant_of-self-in-Ok : goal.invariant_of-self-in-Ok
+invariant_of-self-in-Ok g c =
+    let s = c.args.self.now in
+    let history = c.write_changes-written.ensures.history in
+    record {
+      sized = history.sectors ∙ s.sized ∙ ap (λ (k : ℕ). 8 * k) (sym (ap (λ r. r.pages) c.advance.ensures.root ∙ c.in_ok-next.ensures.outcome.pages_is));
+      idle = c.advance.ensures.idle;
+      outside = λ page some. absurd (none_dirty _ (c.clear.ensures.empty page) some);
+      cached = λ now. let was = history.was_faithful now in c.write_changes-written.ensures.cached was (s.cached was);
+    }
+
+pub invariant_of-self-in-Err : goal.invariant_of-self-in-Err
+invariant_of-self-in-Err g c =
+    let s = c.args.self.now in
+    let is = c.prepare.ensures.preserved in
+    let back = c.unreserve.ensures.preserved in
+    let history = c.write_changes-written.ensures.history in
+    record {
+      sized = history.sectors ∙ sized_kept _ _ _ (back.root ∙ is.root) s.sized;
+      idle = c.unreserve.ensures.idle;
+      outside = outside_kept _ _ _ _ (back.root ∙ is.root) (back.durable ∙ is.durable) _ s.outside;
+      cached = λ now. let was = history.was_faithful now in c.write_changes-written.ensures.cached was (s.cached was);
+    }
+
+pub returns-in-Ok-clause-anew : goal.returns-in-Ok-clause-anew
+returns-in-Ok-clause-anew g c = ap (λ r. r.number) c.advance.ensures.root ∙ c.in_ok-next.ensures.outcome.number_is
+
+pub returns-in-Ok-clause-closed : goal.returns-in-Ok-clause-closed
+returns-in-Ok-clause-closed g c was = not_both _ c.if-self.false was
+
+pub returns-in-Err-clause-anew : goal.returns-in-Err-clause-anew
+returns-in-Err-clause-anew g c = tt
+
+pub returns-in-Err-clause-closed : goal.returns-in-Err-clause-closed
+returns-in-Err-clause-closed g c was = not_both _ c.if-self.false was
+
+pub prepare-requires : goal.prepare-requires
+prepare-requires g c = record { idle = c.args.self.now.idle }

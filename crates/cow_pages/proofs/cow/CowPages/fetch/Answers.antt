@@ -1,4 +1,4 @@
-use Rattle.std.proofs.Common.{◌≡◌, ℕ, Bool, true, false, List, [], Option, Some, None, IsSome, unwrap_or, get_or, refl, sym, ap, ◌∙◌, inl, inr, arith}
+use Rattle.std.proofs.Common.{◌≡◌, ℕ, List, [], Option, Some, None, IsSome, unwrap_or, get_or, refl, sym, ap, ◌∙◌, inl, inr, arith}
 use Rattle.std.proofs.lemmas.List.{get_or_default}
 use Rattle.page_cache.specs.Held.{bytes_in}
 use Rattle.cow_pages.specs.Cached.{AgreesWith}
@@ -9,16 +9,13 @@ use Rattle.cow_pages.specs.ReadingLaws.{pages_read_none}
 use Rattle.cow_pages.proofs.Reading.{reads_none, reads_alone}
 use Rattle.cow_pages.proofs.Preserving.{preserved_read, preserved_still}
 use Rattle.cow_pages.proofs.Overlaid.{none_dirty, page_dirty, page_unless, overlaid_read}
+use Rattle.cow_pages.proofs.Answered.{not_both}
 use Rattle.cow_pages.proofs.Writing.{page_there}
 use Rattle.cow_pages.proofs.Bytes.{page_is}
 use Rattle.cow_pages.proofs.Cached.{same_agrees, read_agrees, read_there, put_agrees}
 use Rattle.cow_pages.proofs.cow.CowPages.fetch.Given.{Over}
 use Rattle.cow_pages.proofs.cow.CowPages.fetch.Goals.{After-read_page}
 use Rattle.cow_pages.proofs.cow.CowPages.fetch.Goals as goal
-
--- a test is not both
-not_failed : {P : Type 0} (failed : Bool) → failed ≡ false → failed ≡ true → P
-not_failed failed is was = let e : true ≡ false = sym was ∙ is in absurd cc
 
 -- the bytes that there are, whatever stands for none
 unwrapped : (bytes : Option (List ℕ)) (none : List ℕ) → IsSome bytes → bytes ≡ Some (unwrap_or bytes none)
@@ -46,7 +43,7 @@ returns-then-physical-eq0-clause-outcome g c =
     (ap (λ (p : ℕ). overlaid_page (dirty_bytes s.dirty) (g.D.Device.state s.device).content p) (sym c.page-physical.ensures.page ∙ c.if-physical-eq0.true), c.if-self.false)
 
 pub returns-then-physical-eq0-clause-closed : goal.returns-then-physical-eq0-clause-closed
-returns-then-physical-eq0-clause-closed g c was = not_failed _ c.if-self.false was
+returns-then-physical-eq0-clause-closed g c was = not_both _ c.if-self.false was
 
 pub invariant_of-self : goal.invariant_of-self
 invariant_of-self g c =
@@ -79,7 +76,7 @@ returns-in-Some-clause-outcome g c =
     }
 
 pub returns-in-Some-clause-closed : goal.returns-in-Some-clause-closed
-returns-in-Some-clause-closed g c was = not_failed _ c.if-self.false was
+returns-in-Some-clause-closed g c was = not_both _ c.if-self.false was
 
 pub invariant_of-self-in-Some-find : goal.invariant_of-self-in-Some-find
 invariant_of-self-in-Some-find g c =
@@ -118,7 +115,7 @@ returns-in-Some-find-clause-outcome g c =
     }
 
 pub returns-in-Some-find-clause-closed : goal.returns-in-Some-find-clause-closed
-returns-in-Some-find-clause-closed g c was = not_failed _ c.if-self.false was
+returns-in-Some-find-clause-closed g c was = not_both _ c.if-self.false was
 
 -- what is in the cache is what the device holds, also once a page was read
 agrees_still : (g : Over) (c : After-read_page g) → (g.D.Device.state c.read_page.new.device).faithful → AgreesWith c.find-2.new.self (g.D.Device.state c.read_page.new.device).content
@@ -135,13 +132,13 @@ pub invariant_of-self-in-Err-clause-cached : goal.invariant_of-self-in-Err-claus
 invariant_of-self-in-Err-clause-cached g c now = agrees_still g (goal.at.invariant_of-self-in-Err-clause-cached g c).After-read_page now
 
 pub returns-in-Ok-clause-closed : goal.returns-in-Ok-clause-closed
-returns-in-Ok-clause-closed g c was = not_failed _ c.if-self.false was
+returns-in-Ok-clause-closed g c was = not_both _ c.if-self.false was
 
 pub returns-in-Err-clause-outcome : goal.returns-in-Err-clause-outcome
 returns-in-Err-clause-outcome g c = record { has_failed = refl; cause = inr c.in-Err.ensures.cause }
 
 pub returns-in-Err-clause-closed : goal.returns-in-Err-clause-closed
-returns-in-Err-clause-closed g c was = not_failed _ c.if-self.false was
+returns-in-Err-clause-closed g c was = not_both _ c.if-self.false was
 
 pub invariant_of-self-in-Ok-clause-cached : goal.invariant_of-self-in-Ok-clause-cached
 invariant_of-self-in-Ok-clause-cached g c now =
@@ -190,3 +187,36 @@ returns-in-Err-clause-only_reads g c = record {
   content = λ first. reads_alone _ _ (c.read_page.ensures.alone first) (c.read_page.ensures.any_moment first);
   array = λ first l. overlaid_read (dirty_bytes c.args.self.now.dirty) _ _ (reads_alone _ _ (c.read_page.ensures.alone first) (c.read_page.ensures.any_moment first)) c.args.self.now.map.working.items l;
 }
+
+pub returns-then-self-clause-no_device_call : goal.returns-then-self-clause-no_device_call
+returns-then-self-clause-no_device_call g c held = refl
+
+pub returns-then-self-clause-closed : goal.returns-then-self-clause-closed
+returns-then-self-clause-closed g c was = (refl, refl)
+
+pub returns-then-physical-eq0-clause-no_device_call : goal.returns-then-physical-eq0-clause-no_device_call
+returns-then-physical-eq0-clause-no_device_call g c held = refl
+
+pub returns-in-Some-clause-no_device_call : goal.returns-in-Some-clause-no_device_call
+returns-in-Some-clause-no_device_call g c held = refl
+
+pub returns-in-Some-find-clause-no_device_call : goal.returns-in-Some-find-clause-no_device_call
+returns-in-Some-find-clause-no_device_call g c held = refl
+
+pub invariant_of-self-in-Err-clause-sized : goal.invariant_of-self-in-Err-clause-sized
+invariant_of-self-in-Err-clause-sized g c = c.read_page.ensures.history.sectors ∙ c.args.self.now.sized
+
+pub invariant_of-self-in-Err-clause-idle : goal.invariant_of-self-in-Err-clause-idle
+invariant_of-self-in-Err-clause-idle g c = c.args.self.now.idle
+
+pub invariant_of-self-in-Err-clause-outside : goal.invariant_of-self-in-Err-clause-outside
+invariant_of-self-in-Err-clause-outside g c = c.args.self.now.outside
+
+pub invariant_of-self-in-Ok-clause-sized : goal.invariant_of-self-in-Ok-clause-sized
+invariant_of-self-in-Ok-clause-sized g c = c.read_page.ensures.history.sectors ∙ c.args.self.now.sized
+
+pub invariant_of-self-in-Ok-clause-idle : goal.invariant_of-self-in-Ok-clause-idle
+invariant_of-self-in-Ok-clause-idle g c = c.args.self.now.idle
+
+pub invariant_of-self-in-Ok-clause-outside : goal.invariant_of-self-in-Ok-clause-outside
+invariant_of-self-in-Ok-clause-outside g c = c.args.self.now.outside

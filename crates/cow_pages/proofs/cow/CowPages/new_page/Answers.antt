@@ -1,13 +1,16 @@
-use Rattle.std.proofs.Common.{◌≡◌, ◌<◌, ℕ, IsSome, length, get_or, inl, inr, ap, sym, subst, ◌∙◌, refl, arith}
+use Rattle.std.proofs.Common.{◌≡◌, ◌<◌, ℕ, List, IsSome, length, get_or, inl, inr, ap, sym, subst, ◌∙◌, refl, arith}
 use Rattle.std.proofs.lemmas.Result.{err_from_is_err_and}
 use Rattle.cow_pages.specs.DirtyPages.{dirty_bytes}
 use Rattle.cow_pages.specs.Dirty.{overlaid_page}
 use Rattle.cow_pages.specs.Calls.{CannotTake}
 use Rattle.cow_pages.proofs.Preserving.{preserved_still, preserved_from, faulted_from}
 use Rattle.cow_pages.proofs.Consistency.{named_only}
-use Rattle.cow_pages.proofs.Putting.{entry_here, entry_apart, others_preserved, outside_as}
+use Rattle.cow_pages.proofs.Putting.{entry_here, entry_apart, others_preserved, outside_as, outside_kept, sized_kept}
 use Rattle.cow_pages.specs.declared.page_map.PageMap.{PageMap}
 use Rattle.cow_pages.proofs.Owned.{one_got}
+use Rattle.cow_pages.specs.PageMap.{IsIdle}
+use Rattle.cow_pages.specs.PreservedLaws.{preserved_same}
+use Rattle.cow_pages.proofs.Answered.{never_ok, not_both}
 use Rattle.cow_pages.proofs.cow.CowPages.new_page.Goals as goal
 
 pub returns-in_default-clause-preserved : goal.returns-in_default-clause-preserved
@@ -85,3 +88,53 @@ pub returns-clause-own : goal.returns-clause-own
 returns-clause-own g c =
     one_got c.args.self.now c.put.new.self (ap (λ (m : PageMap). m.durable.items) c.put.ensures.map ∙ c.take_new.ensures.preserved.durable)
     c.in-Ok.page c.in-Ok.physical (ap (λ (m : PageMap). m.working.items) c.put.ensures.map ∙ c.in-Ok.ensures.outcome.1.working)
+
+pub returns-then-self-clause-preserved : goal.returns-then-self-clause-preserved
+returns-then-self-clause-preserved g c = preserved_same c.args.self.now
+
+pub returns-then-self-clause-outcome : goal.returns-then-self-clause-outcome
+returns-then-self-clause-outcome g c = record { has_failed = c.if-self.true; cause = inl c.if-self.true }
+
+pub returns-then-self-clause-own : goal.returns-then-self-clause-own
+returns-then-self-clause-own g c = tt
+
+pub returns-then-self-clause-no_device_call : goal.returns-then-self-clause-no_device_call
+returns-then-self-clause-no_device_call g c space = refl
+
+pub returns-then-self-clause-closed : goal.returns-then-self-clause-closed
+returns-then-self-clause-closed g c was = (refl, refl)
+
+pub returns-in_default-clause-own : goal.returns-in_default-clause-own
+returns-in_default-clause-own g c = tt
+
+pub returns-in_default-clause-no_device_call : goal.returns-in_default-clause-no_device_call
+returns-in_default-clause-no_device_call g c space = refl
+
+pub returns-in_default-clause-closed : goal.returns-in_default-clause-closed
+returns-in_default-clause-closed g c was = not_both _ c.if-self.false was
+
+pub returns-in_err-put-clause-own : goal.returns-in_err-put-clause-own
+returns-in_err-put-clause-own g c = never_ok _ _ _ (err_from_is_err_and c.from_residual.result c.from_residual.ensures.1).1
+
+pub returns-in_err-put-clause-no_device_call : goal.returns-in_err-put-clause-no_device_call
+returns-in_err-put-clause-no_device_call g c space = c.put.ensures.no_device_call (inr space)
+
+pub returns-in_err-put-clause-closed : goal.returns-in_err-put-clause-closed
+returns-in_err-put-clause-closed g c was = not_both _ c.if-self.false was
+
+pub returns-clause-no_device_call : goal.returns-clause-no_device_call
+returns-clause-no_device_call g c space = c.put.ensures.no_device_call (inr space)
+
+pub returns-clause-closed : goal.returns-clause-closed
+returns-clause-closed g c was = not_both _ c.if-self.false was
+
+pub invariant_of-self : goal.invariant_of-self
+invariant_of-self g c =
+    let s = c.args.self.now in
+    let same = c.take_new.ensures.preserved in
+    record {
+      sized = sized_kept _ _ _ same.root s.sized;
+      idle = subst (λ (reserved : List ℕ). IsIdle reserved) (sym same.reserved) s.idle;
+      outside = outside_kept _ _ _ _ same.root same.durable _ s.outside;
+      cached = s.cached;
+    }

@@ -1,10 +1,11 @@
-use Rattle.std.proofs.Common.{◌≡◌, ℕ, List, ap, subst, refl, ◌∙◌}
+use Rattle.std.proofs.Common.{◌≡◌, ℕ, List, Err, inl, ap, subst, refl, ◌∙◌}
 use Rattle.std.proofs.Math.Path.{fun_ext}
 use Rattle.sector_device.specs.Device.{Image}
 use Rattle.cow_pages.specs.Image.{Means, array_of}
 use Rattle.cow_pages.specs.DirtyPages.{dirty_bytes}
 use Rattle.cow_pages.proofs.Meaning.{content_means}
 use Rattle.cow_pages.proofs.Overlaid.{nothing_dirty}
+use Rattle.cow_pages.specs.declared.open.OpenFault.TheVariants.{Memory, Device}
 use Rattle.cow_pages.proofs.cow.CowPages.open_with.Goals as goal
 
 pub returns-in-Ok-take_memory : goal.returns-in-Ok-take_memory
@@ -32,3 +33,19 @@ returns-in-Ok-take_memory g c =
             content = c.load.ensures.reads first;
           };
     }
+
+pub returns-in-Err : goal.returns-in-Err
+returns-in-Err g c = record {
+  history = c.load.ensures.history;
+  cause = λ is. c.in-Err.ensures.cause (ap Err is);
+  content = c.load.ensures.reads;
+  named = λ first. c.in-Err.ensures.fault first;
+}
+
+pub returns-in-Err-take_memory : goal.returns-in-Err-take_memory
+returns-in-Err-take_memory g c = record {
+  history = c.load.ensures.history;
+  cause = λ is. let e : Memory ≡ Device = is in absurd cc;
+  content = c.load.ensures.reads;
+  named = λ first. inl (c.in-Ok.ensures.none first);
+}

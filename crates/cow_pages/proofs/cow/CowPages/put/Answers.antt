@@ -5,6 +5,8 @@ use Rattle.cow_pages.specs.DirtyPages.{dirty_bytes}
 use Rattle.cow_pages.specs.PreservedLaws.{preserved_joined}
 use Rattle.cow_pages.proofs.Preserving.{preserved_still}
 use Rattle.cow_pages.proofs.Overlaid.{page_dirty, page_same, some_dirty}
+use Rattle.std.proofs.lemmas.Result.{err_from_is_err_and}
+use Rattle.cow_pages.proofs.Answered.{never_ok}
 use Rattle.cow_pages.proofs.cow.CowPages.put.Goals as goal
 
 pub invariant_of-self : goal.invariant_of-self
@@ -43,3 +45,27 @@ returns-clause-put g c =
           (λ some. c.put.ensures.others (get_or mid.map.working.items l 0) (λ is. apart (sym same ∙ is)))
           ∙ made.array first l;
     }
+
+pub returns-in_err-make_room-clause-preserved : goal.returns-in_err-make_room-clause-preserved
+returns-in_err-make_room-clause-preserved g c = c.make_room.ensures.preserved
+
+pub returns-in_err-make_room-clause-map : goal.returns-in_err-make_room-clause-map
+returns-in_err-make_room-clause-map g c = c.make_room.ensures.map
+
+pub returns-in_err-make_room-clause-put : goal.returns-in_err-make_room-clause-put
+returns-in_err-make_room-clause-put g c = never_ok _ _ _ (err_from_is_err_and c.from_residual.result c.from_residual.ensures.1).1
+
+pub returns-in_err-make_room-clause-fault : goal.returns-in_err-make_room-clause-fault
+returns-in_err-make_room-clause-fault g c = let back = err_from_is_err_and c.from_residual.result c.from_residual.ensures.1 in rw (back.1, back.2) c.in_err-make_room.ensures.fault
+
+pub returns-in_err-make_room-clause-no_device_call : goal.returns-in_err-make_room-clause-no_device_call
+returns-in_err-make_room-clause-no_device_call g c room = c.make_room.ensures.no_device_call room
+
+pub returns-clause-map : goal.returns-clause-map
+returns-clause-map g c = c.make_room.ensures.map
+
+pub returns-clause-fault : goal.returns-clause-fault
+returns-clause-fault g c = tt
+
+pub returns-clause-no_device_call : goal.returns-clause-no_device_call
+returns-clause-no_device_call g c room = c.make_room.ensures.no_device_call room

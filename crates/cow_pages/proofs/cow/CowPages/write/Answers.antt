@@ -1,4 +1,4 @@
-use Rattle.std.proofs.Common.{◌≡◌, ◌<◌, ℕ, IsSome, Ok, length, get_or, inl, inr, ap, sym, subst, ◌∙◌, refl}
+use Rattle.std.proofs.Common.{◌≡◌, ◌<◌, ℕ, List, IsSome, Ok, length, get_or, inl, inr, ap, sym, subst, ◌∙◌, refl}
 use Rattle.std.proofs.lemmas.List.{get_or_past}
 use Rattle.std.proofs.lemmas.Bool.{cases_lt}
 use Rattle.std.proofs.lemmas.Result.{MatchResult-from_both, IfErr-weaker}
@@ -8,11 +8,15 @@ use Rattle.cow_pages.specs.DirtyPages.{dirty_bytes}
 use Rattle.cow_pages.specs.Calls.{CannotWrite}
 use Rattle.cow_pages.specs.declared.page_map.PageMap.{PageMap}
 use Rattle.cow_pages.proofs.Answered.{on_ok_also, on_ok_always}
-use Rattle.cow_pages.proofs.Preserving.{preserved_still, preserved_from, faulted_from}
+use Rattle.cow_pages.proofs.Preserving.{refused_still, preserved_still, preserved_from, faulted_from}
 use Rattle.cow_pages.proofs.Overlaid.{page_used, has_entry}
 use Rattle.cow_pages.proofs.Consistency.{named_only}
-use Rattle.cow_pages.proofs.Putting.{entry_here, entry_apart, others_preserved, outside_as}
+use Rattle.cow_pages.proofs.Putting.{entry_here, entry_apart, others_preserved, outside_as, outside_kept, sized_kept}
 use Rattle.cow_pages.proofs.Owned.{one_got}
+use Rattle.cow_pages.specs.PageMap.{IsIdle}
+use Rattle.cow_pages.specs.Dirty.{overlaid_page}
+use Rattle.cow_pages.specs.PreservedLaws.{preserved_same}
+use Rattle.cow_pages.proofs.Answered.{not_both}
 use Rattle.cow_pages.proofs.cow.CowPages.write.Goals as goal
 
 pub put-requires : goal.put-requires
@@ -99,3 +103,60 @@ returns-in-Ok-clause-own g c =
     on_ok_always c.put.result
     (one_got c.args.self.now c.put.new.self (ap (λ (m : PageMap). m.durable.items) c.put.ensures.map ∙ c.own_page.ensures.preserved.durable)
     c.args.page c.in-Ok.physical (ap (λ (m : PageMap). m.working.items) c.put.ensures.map ∙ c.in-Ok.ensures.outcome.working))
+
+pub returns-then-self-clause-preserved : goal.returns-then-self-clause-preserved
+returns-then-self-clause-preserved g c = preserved_same c.args.self.now
+
+pub returns-then-self-clause-outcome : goal.returns-then-self-clause-outcome
+returns-then-self-clause-outcome g c = record { has_failed = c.if-self.true; cause = inl c.if-self.true }
+
+pub returns-then-self-clause-own : goal.returns-then-self-clause-own
+returns-then-self-clause-own g c = tt
+
+pub returns-then-self-clause-no_device_call : goal.returns-then-self-clause-no_device_call
+returns-then-self-clause-no_device_call g c held = refl
+
+pub returns-then-self-clause-closed : goal.returns-then-self-clause-closed
+returns-then-self-clause-closed g c was = (refl, refl)
+
+pub returns-then-page-eq0-clause-preserved : goal.returns-then-page-eq0-clause-preserved
+returns-then-page-eq0-clause-preserved g c = preserved_same c.args.self.now
+
+pub returns-then-page-eq0-clause-outcome : goal.returns-then-page-eq0-clause-outcome
+returns-then-page-eq0-clause-outcome g c =
+    let s = c.args.self.now in (
+      ap (λ (p : ℕ). overlaid_page (dirty_bytes s.dirty) (g.D.Device.state s.device).content p) (sym c.page.ensures.page ∙ c.if-page-eq0.true),
+      refused_still s c.if-self.false,
+    )
+
+pub returns-then-page-eq0-clause-own : goal.returns-then-page-eq0-clause-own
+returns-then-page-eq0-clause-own g c = tt
+
+pub returns-then-page-eq0-clause-no_device_call : goal.returns-then-page-eq0-clause-no_device_call
+returns-then-page-eq0-clause-no_device_call g c held = refl
+
+pub returns-then-page-eq0-clause-closed : goal.returns-then-page-eq0-clause-closed
+returns-then-page-eq0-clause-closed g c was = not_both _ c.if-self.false was
+
+pub returns-in-Ok-clause-closed : goal.returns-in-Ok-clause-closed
+returns-in-Ok-clause-closed g c was = not_both _ c.if-self.false was
+
+pub returns-in-Err-clause-own : goal.returns-in-Err-clause-own
+returns-in-Err-clause-own g c = tt
+
+pub returns-in-Err-clause-no_device_call : goal.returns-in-Err-clause-no_device_call
+returns-in-Err-clause-no_device_call g c held = refl
+
+pub returns-in-Err-clause-closed : goal.returns-in-Err-clause-closed
+returns-in-Err-clause-closed g c was = not_both _ c.if-self.false was
+
+pub invariant_of-self : goal.invariant_of-self
+invariant_of-self g c =
+    let s = c.args.self.now in
+    let same = c.own_page.ensures.preserved in
+    record {
+      sized = sized_kept _ _ _ same.root s.sized;
+      idle = subst (λ (reserved : List ℕ). IsIdle reserved) (sym same.reserved) s.idle;
+      outside = outside_kept _ _ _ _ same.root same.durable _ s.outside;
+      cached = s.cached;
+    }

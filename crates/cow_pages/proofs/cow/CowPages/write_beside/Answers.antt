@@ -1,4 +1,4 @@
-use Rattle.std.proofs.Common.{◌≡◌, ◌<◌, ◌+◌, ℕ, length, ◌∙◌}
+use Rattle.std.proofs.Common.{◌≡◌, ◌<◌, ◌+◌, ℕ, length, refl, inl, ◌∙◌}
 use Rattle.sector_device.specs.Timeline.{LeavesOnly}
 use Rattle.sector_device.specs.Device.{DeviceState, IsBehindRoots, timeline}
 use Rattle.cow_pages.specs.Cached.{AgreesWith}
@@ -10,6 +10,7 @@ use Rattle.cow_pages.specs.Preserved.{HoldsDurable}
 use Rattle.cow_pages.proofs.Beside.{agrees_beside, working_beside, settled_beside, array_beside, leaves_beside}
 use Rattle.cow_pages.proofs.cow.CowPages.write_beside.Given.{Over}
 use Rattle.cow_pages.proofs.cow.CowPages.write_beside.Goals.{After-write_beside}
+use Rattle.cow_pages.proofs.Answered.{not_both}
 use Rattle.cow_pages.proofs.cow.CowPages.write_beside.Goals as goal
 
 -- what the sectors that were written leave as it was
@@ -72,3 +73,57 @@ pub returns-in-Err-clause-stays : goal.returns-in-Err-clause-stays
 returns-in-Err-clause-stays g c holds =
     let at = (goal.at.returns-in-Err-clause-stays g c).After-write_beside in
     record { settled = settled g at holds; same = same g at holds }
+
+pub returns-then-self-clause-written : goal.returns-then-self-clause-written
+returns-then-self-clause-written g c first = tt
+
+pub returns-then-self-clause-synced : goal.returns-then-self-clause-synced
+returns-then-self-clause-synced g c first = tt
+
+pub returns-then-self-clause-memory : goal.returns-then-self-clause-memory
+returns-then-self-clause-memory g c = record { root = refl; durable = refl; working = refl; dirty = refl }
+
+pub returns-then-self-clause-array : goal.returns-then-self-clause-array
+returns-then-self-clause-array g c first l = refl
+
+pub returns-then-self-clause-leaves : goal.returns-then-self-clause-leaves
+returns-then-self-clause-leaves g c holds = holds.now
+
+pub returns-then-self-clause-stays : goal.returns-then-self-clause-stays
+returns-then-self-clause-stays g c holds = record { settled = holds.settled; same = λ l. refl }
+
+pub returns-then-self-clause-outcome : goal.returns-then-self-clause-outcome
+returns-then-self-clause-outcome g c = record { has_failed = c.if-self.true; cause = inl c.if-self.true }
+
+pub returns-in-Ok-clause-size : goal.returns-in-Ok-clause-size
+returns-in-Ok-clause-size g c = c.write_beside.ensures.size
+
+pub returns-in-Ok-clause-writes : goal.returns-in-Ok-clause-writes
+returns-in-Ok-clause-writes g c = c.write_beside.ensures.writes
+
+pub returns-in-Ok-clause-memory : goal.returns-in-Ok-clause-memory
+returns-in-Ok-clause-memory g c = record { root = refl; durable = refl; working = refl; dirty = refl }
+
+pub returns-in-Ok-clause-outcome : goal.returns-in-Ok-clause-outcome
+returns-in-Ok-clause-outcome g c = c.if-self.false
+
+pub returns-in-Ok-clause-closed : goal.returns-in-Ok-clause-closed
+returns-in-Ok-clause-closed g c was = not_both _ c.if-self.false was
+
+pub returns-in-Err-clause-size : goal.returns-in-Err-clause-size
+returns-in-Err-clause-size g c = c.write_beside.ensures.size
+
+pub returns-in-Err-clause-writes : goal.returns-in-Err-clause-writes
+returns-in-Err-clause-writes g c = c.write_beside.ensures.writes
+
+pub returns-in-Err-clause-written : goal.returns-in-Err-clause-written
+returns-in-Err-clause-written g c first = tt
+
+pub returns-in-Err-clause-synced : goal.returns-in-Err-clause-synced
+returns-in-Err-clause-synced g c first = tt
+
+pub returns-in-Err-clause-memory : goal.returns-in-Err-clause-memory
+returns-in-Err-clause-memory g c = record { root = refl; durable = refl; working = refl; dirty = refl }
+
+pub returns-in-Err-clause-closed : goal.returns-in-Err-clause-closed
+returns-in-Err-clause-closed g c was = not_both _ c.if-self.false was

@@ -1,12 +1,13 @@
 use Rattle.std.proofs.lemmas.Result.{MatchResult-at_err}
 use Rattle.pages.specs.declared.array.PageFault.{PageFault}
-use Rattle.pages.specs.declared.array.PageFault.TheVariants.{Malformed}
+use Rattle.pages.specs.declared.array.PageFault.TheVariants.{Malformed, Device}
 use Rattle.cow_pages.specs.Cow.{fetched_bytes}
 use Rattle.cow_pages.specs.Calls.{IsRead, CannotRead}
 use Rattle.cow_pages.specs.Preserved.{FailedWith}
 use Rattle.cow_pages.proofs.Answering.{on_ok_by, if_err_by}
-use Rattle.cow_pages.proofs.Preserving.{read_failed}
+use Rattle.cow_pages.proofs.Preserving.{read_failed, read_faults}
 use Rattle.cow_pages.proofs.Owned.{map_kept}
+use Rattle.std.proofs.Common.{◌≡◌, ◌⊎◌}
 use Rattle.cow_pages.proofs.over_device.CowPagesPages.fetch.Goals as goal
 
 pub returns-clause-found : goal.returns-clause-found
@@ -30,3 +31,25 @@ returns-clause-cause g c first =
 
 pub returns-clause-own : goal.returns-clause-own
 returns-clause-own g c = map_kept c.args.self.now c.fetch.new.self c.fetch.result c.fetch.ensures.only_reads.map
+
+pub returns-clause-preserved : goal.returns-clause-preserved
+returns-clause-preserved g c = c.fetch.ensures.preserved
+
+pub returns-clause-writes_nothing : goal.returns-clause-writes_nothing
+returns-clause-writes_nothing g c = c.fetch.ensures.only_reads
+
+pub returns-clause-works : goal.returns-clause-works
+returns-clause-works g c =
+    let p = c.args.self.now in
+    let q = c.fetch.new.self in
+    on_ok_by (λ (x : Unit {0}). IsRead c.args.page (fetched_bytes q) p q) (λ (fault : PageFault). CannotRead c.args.page fault p q) c.fetch.result c.fetch.ensures.outcome (λ x is. is.has_not_failed)
+
+pub returns-clause-only_reads : goal.returns-clause-only_reads
+returns-clause-only_reads g c first = record { sound = c.fetch.ensures.preserved.preserved.history.faithful first; same = c.fetch.ensures.only_reads.array first }
+
+pub returns-clause-faults : goal.returns-clause-faults
+returns-clause-faults g c =
+    let p = c.args.self.now in
+    let q = c.fetch.new.self in
+    if_err_by (λ (x : Unit {0}). IsRead c.args.page (fetched_bytes q) p q) (λ (fault : PageFault). CannotRead c.args.page fault p q) (λ fault. (fault ≡ Malformed) ⊎ (fault ≡ Device)) c.fetch.result c.fetch.ensures.outcome
+    (read_faults p q c.fetch.ensures.preserved.preserved.history c.args.page)

@@ -5,6 +5,8 @@ use Rattle.page_allocator.specs.TakenPages.{TakenPages}
 use Rattle.cow_pages.specs.PageMap.{IsConsistent}
 use Rattle.cow_pages.proofs.Consistency.{used_up}
 use Rattle.cow_pages.proofs.Reserving.{consistent_reserved}
+use Rattle.std.proofs.lemmas.List.{get_or-set_other}
+use Rattle.cow_pages.proofs.Answered.{never_ok}
 use Rattle.cow_pages.proofs.page_map.PageMap.reserve_map_page.Goals as goal
 
 pub returns-in_err-page-clause-full : goal.returns-in_err-page-clause-full
@@ -26,3 +28,21 @@ invariant_of-self-2 c =
       ended = m.ended;
       used = m.used;
     }
+
+pub returns-in_err-page-clause-reserved : goal.returns-in_err-page-clause-reserved
+returns-in_err-page-clause-reserved c = never_ok _ _ _ (err_from_is_err_and c.from_residual.result c.from_residual.ensures.1).1
+
+pub returns-in_err-page-clause-others : goal.returns-in_err-page-clause-others
+returns-in_err-page-clause-others c j other = refl
+
+pub returns-in_err-page-clause-preserved : goal.returns-in_err-page-clause-preserved
+returns-in_err-page-clause-preserved c = record { root = refl; durable = refl; working = refl }
+
+pub returns-clause-preserved : goal.returns-clause-preserved
+returns-clause-preserved c = record { root = refl; durable = refl; working = refl }
+
+pub returns-clause-others : goal.returns-clause-others
+returns-clause-others c j other = get_or-set_other c.args.self.now.reserved c.args.index j c.in_ok-page.page 0 other
+
+pub returns-clause-full : goal.returns-clause-full
+returns-clause-full c = tt
