@@ -1,6 +1,7 @@
 pub mod ByParts
 pub mod CountedRows
 pub mod EachLookedUp
+pub mod InOrder
 pub mod InPlace
 pub mod InRanges
 pub mod JoinedRows

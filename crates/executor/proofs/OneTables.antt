@@ -22,15 +22,15 @@ use Rattle.gathering.specs.Passed.{alone}
 use Rattle.gathering.specs.Queries.{answered, bound_of}
 use Rattle.gathering.proofs.Passed.{rows_are_combinations}
 use Rattle.gathering.proofs.Stages.{takes, bind_same}
-use Rattle.gathering.specs.KeyOrder.{are_first_of, first_row_cmp, unsorted}
-use Rattle.gathering.proofs.KeyOrder.{key_order_is_sorted, rising_passed}
+use Rattle.gathering.specs.KeyOrder.{are_first_of, first_row_cmp, unsorted, NeverFalls}
+use Rattle.gathering.proofs.KeyOrder.{key_order_is_sorted, pairs_passed, rising_never_falls}
 use Rattle.gathering.specs.Done.{IsKnown}
 use Rattle.gathering.proofs.Done.{all_pass}
 use Rattle.key_ranges.specs.Quiet.{GuardNeverFails}
 use Rattle.sql_ast.specs.Layout.{Layout}
 use Rattle.sql_ast.specs.Rows.{row_cmp}
 use Rattle.abstract_database.specs.Lists.{Among, Rising}
-use Rattle.std.specs.declared.cmp.Ordering.TheVariants.{Less}
+use Rattle.std.specs.Ordering.{is_gt}
 use Rattle.store.specs.declared.fault.Fault.TheVariants.{Memory, Device, Damaged}
 use Rattle.store.specs.declared.stop.Stop.{Stop}
 use Rattle.store.specs.declared.stop.Stop.TheVariants.{Refused, Failed}
@@ -39,7 +39,7 @@ use Rattle.table_rows.specs.Ranged.{records_of}
 use Rattle.table_rows.specs.Visits.{AnswerAfter}
 use Rattle.table_rows.specs.Walked.{WalksFront, Walks}
 use Rattle.executor.specs.declared.one_table.OneTable.{OneTable}
-use Rattle.executor.specs.Selected.{FitQuery, source_of, AnswersFront, CountsNoRows, GathersRows, ReadsAs}
+use Rattle.executor.specs.Selected.{FitQuery, source_of, AnswersFront, CountsNoRows, GathersInOrder, GathersRows, ReadsAs}
 
 -- ---- a row
 
@@ -79,38 +79,43 @@ whole_is table users q rows g fit rising gathers = go (passing (sees table) rows
     go (Err code) e = refl
     go (Ok seen) e =
         ap (answered users (bound_of q)) (rows_are_combinations seen)
-        ∙ sym (gathers seen (rising_passed (row_cmp table.columns.now.key) (sees table) rows seen rising e).0 (passing_part (λ row. FitsQuery users q (alone row)) (sees table) rows seen fit e))
+        ∙ sym (gathers seen (pairs_passed _ (sees table) rows seen (rising_never_falls (row_cmp table.columns.now.key) rows rising) e).0 (passing_part (λ row. FitsQuery users q (alone row)) (sees table) rows seen fit e))
 
 -- ---- rows in the order of the key
 
-alone_later : (key : List ℕ) (row : Row) (rows : List Row) → ((y : Row) → Among y rows → row_cmp key row y ≡ Less) → (c : Combination) → Among c (map alone rows) → first_row_cmp key (alone row) c ≡ Less
+alone_later : (key : List ℕ) (row : Row) (rows : List Row) → ((y : Row) → Among y rows → is_gt (row_cmp key row y) ≡ false) → (c : Combination) → Among c (map alone rows) → is_gt (first_row_cmp key (alone row) c) ≡ false
 alone_later key row [] before c among = absurd among
 alone_later key row (other ∷ rows) before c among = go among (λ later. alone_later key row rows (λ y a. before y (inr a)) c later)
   where
-    go : (alone other ≡ c) ⊎ Among c (map alone rows) → (Among c (map alone rows) → first_row_cmp key (alone row) c ≡ Less) → first_row_cmp key (alone row) c ≡ Less
-    go (inl same) rest = subst (λ (d : Combination). first_row_cmp key (alone row) d ≡ Less) same (before other (inl refl))
+    go : (alone other ≡ c) ⊎ Among c (map alone rows) → (Among c (map alone rows) → is_gt (first_row_cmp key (alone row) c) ≡ false) → is_gt (first_row_cmp key (alone row) c) ≡ false
+    go (inl same) rest = subst (λ (d : Combination). is_gt (first_row_cmp key (alone row) d) ≡ false) same (before other (inl refl))
     go (inr later) rest = rest later
 
-rising_alone : (key : List ℕ) (rows : List Row) → Rising (row_cmp key) rows → Rising (first_row_cmp key) (map alone rows)
-rising_alone key [] rising = tt
-rising_alone key (row ∷ rows) rising = (alone_later key row rows rising.0, rising_alone key rows rising.1)
+never_falls_alone : (key : List ℕ) (rows : List Row) → NeverFalls (row_cmp key) rows → NeverFalls (first_row_cmp key) (map alone rows)
+never_falls_alone key [] never = tt
+never_falls_alone key (row ∷ rows) never = (alone_later key row rows never.0, never_falls_alone key rows never.1)
 
 fits_unsorted : (users : UserNames) (q : Query) (rows : List Row) → FitQuery users q rows → AllByRecursion (FitsQuery users (unsorted q)) (map alone rows)
 fits_unsorted users q [] fit = tt
 fits_unsorted users q (row ∷ rows) fit = ((fit.0.0, tt), fits_unsorted users q rows fit.1)
 
 -- what is gathered without the sort keys
-pub gathers_unsorted : (key : List ℕ) (users : UserNames) (q : Query) (g : Gathered) → are_first_of key q.keys ≡ true
+gathers_unsorted : (key : List ℕ) (users : UserNames) (q : Query) (g : Gathered) → are_first_of key q.keys ≡ true
     → ((combinations : List Combination) → AllByRecursion (FitsQuery users (unsorted q)) combinations → answer_after g combinations ≡ answered users (bound_of (unsorted q)) combinations)
     → GathersRows key users q g
-gathers_unsorted key users q g first same rows rising fit =
-    same (map alone rows) (fits_unsorted users q rows fit) ∙ sym (key_order_is_sorted key users q (map alone rows) first (rising_alone key rows rising))
+gathers_unsorted key users q g first same rows never fit =
+    same (map alone rows) (fits_unsorted users q rows fit) ∙ sym (key_order_is_sorted key users q (map alone rows) first (never_falls_alone key rows never))
 
 -- what is gathered with them
-pub gathers_sorted : (key : List ℕ) (users : UserNames) (q : Query) (g : Gathered)
+gathers_sorted : (key : List ℕ) (users : UserNames) (q : Query) (g : Gathered)
     → ((combinations : List Combination) → AllByRecursion (FitsQuery users q) combinations → answer_after g combinations ≡ answered users (bound_of q) combinations)
     → GathersRows key users q g
-gathers_sorted key users q g same rows rising fit = same (map alone rows) (all_alone (FitsQuery users q) rows fit)
+gathers_sorted key users q g same rows never fit = same (map alone rows) (all_alone (FitsQuery users q) rows fit)
+
+-- what is gathered in the order of the key, if that is the order of the query
+pub gathers_rows : (key : List ℕ) (users : UserNames) (q : Query) (g : Gathered) → GathersInOrder key users q g → GathersRows key users q g
+gathers_rows key users q g (inl same) = gathers_sorted key users q g same
+gathers_rows key users q g (inr so) = gathers_unsorted key users q g so.0 so.1
 
 -- ---- rows that do not count
 

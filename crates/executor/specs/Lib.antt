@@ -1,4 +1,3 @@
 pub mod Joined
-pub mod Nulls
 pub mod Selected
 pub mod ByParts

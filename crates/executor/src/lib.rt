@@ -7,7 +7,6 @@ mod in_place;
 mod in_ranges;
 mod joined_rows;
 mod looked_up;
-mod nulls;
 mod one_table;
 mod outer_walk;
 mod selection;

@@ -20,30 +20,35 @@ use Rattle.abstract_database.specs.Lists.{Among, Rising}
 use Rattle.abstract_database.specs.Queries.{BoundList, each_column, each_value, their_count, Combination, Keyed, all_columns, condition_value, cut, keys_cmp, listed, ordered, put_before, sorted, with_keys}
 use Rattle.gathering.specs.declared.query.TypedSortKey.{TypedSortKey}
 use Rattle.gathering.specs.Joins.{column_in}
-use Rattle.gathering.specs.KeyOrder.{is_own_column, is_ascending_by, are_first_of, first_row_cmp, KeyOrderIsSorted}
+use Rattle.gathering.specs.KeyOrder.{is_own_column, is_ascending_by, are_first_of, first_row_cmp, KeyOrderIsSorted, NeverFalls, Pairwise}
 use Rattle.gathering.specs.Queries.{key_of, list_of, terms}
 use Rattle.std.proofs.lemmas.Bool.{and_parts as both_true}
 
 -- ---- the rows that pass stay in their order
 
-pub rising_passed : {A : Type 0} (cmp : A → A → Ordering) (p : A → Outcome) (xs ys : List A) → Rising cmp xs → passing p xs ≡ Ok ys → Rising cmp ys × ((y : A) → Among y ys → Among y xs)
-rising_passed {A} cmp p [] ys rising e = subst (λ (l : List A). Rising cmp l × ((y : A) → Among y l → Among y [])) (ok_inside [] ys e) (tt, λ y among. among)
-rising_passed {A} cmp p (x ∷ xs) ys rising e =
+pub pairs_passed : {A : Type 0} (R : A → A → Type 0) (p : A → Outcome) (xs ys : List A) → Pairwise R xs → passing p xs ≡ Ok ys → Pairwise R ys × ((y : A) → Among y ys → Among y xs)
+pairs_passed {A} R p [] ys pairs e = subst (λ (l : List A). Pairwise R l × ((y : A) → Among y l → Among y [])) (ok_inside [] ys e) (tt, λ y among. among)
+pairs_passed {A} R p (x ∷ xs) ys pairs e =
     let first = bind_ok (p x) _ ys e in
     let more = bind_ok (passing p xs) _ ys first.2 in
-    let later = rising_passed cmp p xs more.0 rising.1 more.1 in
-    subst (λ (l : List A). Rising cmp l × ((y : A) → Among y l → Among y (x ∷ xs))) (ok_inside (when_true first.0 (x ∷ more.0) more.0) ys more.2) (kept more.0 later.0 later.1 first.0)
+    let later = pairs_passed R p xs more.0 pairs.1 more.1 in
+    subst (λ (l : List A). Pairwise R l × ((y : A) → Among y l → Among y (x ∷ xs))) (ok_inside (when_true first.0 (x ∷ more.0) more.0) ys more.2) (kept more.0 later.0 later.1 first.0)
   where
     put_first : (zs : List A) → ((y : A) → Among y zs → Among y xs) → (y : A) → (x ≡ y) ⊎ Among y zs → (x ≡ y) ⊎ Among y xs
     put_first zs among y (inl is) = inl is
     put_first zs among y (inr a) = inr (among y a)
 
-    kept : (zs : List A) → Rising cmp zs → ((y : A) → Among y zs → Among y xs) → (v : Value) → Rising cmp (when_true v (x ∷ zs) zs) × ((y : A) → Among y (when_true v (x ∷ zs) zs) → Among y (x ∷ xs))
-    kept zs rise among (Boolean true) = (((λ y a. rising.0 y (among y a)), rise), λ y a. put_first zs among y a)
-    kept zs rise among (Boolean false) = (rise, λ y a. inr (among y a))
-    kept zs rise among Null = (rise, λ y a. inr (among y a))
-    kept zs rise among (Int n) = (rise, λ y a. inr (among y a))
-    kept zs rise among (Text t) = (rise, λ y a. inr (among y a))
+    kept : (zs : List A) → Pairwise R zs → ((y : A) → Among y zs → Among y xs) → (v : Value) → Pairwise R (when_true v (x ∷ zs) zs) × ((y : A) → Among y (when_true v (x ∷ zs) zs) → Among y (x ∷ xs))
+    kept zs rest among (Boolean true) = (((λ y a. pairs.0 y (among y a)), rest), λ y a. put_first zs among y a)
+    kept zs rest among (Boolean false) = (rest, λ y a. inr (among y a))
+    kept zs rest among Null = (rest, λ y a. inr (among y a))
+    kept zs rest among (Int n) = (rest, λ y a. inr (among y a))
+    kept zs rest among (Text t) = (rest, λ y a. inr (among y a))
+
+-- a list that rises never falls
+pub rising_never_falls : {A : Type 0} (cmp : A → A → Ordering) (xs : List A) → Rising cmp xs → NeverFalls cmp xs
+rising_never_falls cmp [] rising = tt
+rising_never_falls cmp (x ∷ xs) rising = ((λ y among. ap is_gt (rising.0 y among)), rising_never_falls cmp xs rising.1)
 
 -- ---- the values of sort keys that are columns
 
@@ -83,37 +88,32 @@ each_key users c (index ∷ columns) (key ∷ keys) e =
     ap (λ (r : Outcome). r >>= λ v. each (λ key. bound_value users c key.term) (map key_of keys) >>= λ vs. Ok (v ∷ vs)) (column_value users c index key.value.term own.1)
     ∙ ap (λ (r : Result (List Value) SqlState). r >>= λ vs. Ok (value_at (row_at c 0) index ∷ vs)) (each_key users c columns keys parts.1)
 
--- a combination that is before another by the columns is not behind it by the keys
-not_behind : (columns : List ℕ) (keys : List TypedSortKey) (c d : Combination) → are_first_of columns keys ≡ true → first_row_cmp columns c d ≡ Less
+-- a combination that is not behind another by the columns is not so by the keys
+not_behind : (columns : List ℕ) (keys : List TypedSortKey) (c d : Combination) → are_first_of columns keys ≡ true → is_gt (first_row_cmp columns c d) ≡ false
     → is_gt (keys_cmp (map key_of keys) (values_of columns keys c) (values_of columns keys d)) ≡ false
-not_behind columns [] c d e less = refl
-not_behind [] (key ∷ keys) c d e less = cc
-not_behind (index ∷ columns) (key ∷ keys) c d e less =
+not_behind columns [] c d e before = refl
+not_behind [] (key ∷ keys) c d e before = cc
+not_behind (index ∷ columns) (key ∷ keys) c d e before =
     let parts = both_true (is_ascending_by index key) (are_first_of columns keys) e in
     let own = both_true (not key.descending) (is_own_column index (column_in key.value.term)) parts.0 in
-    go key.descending own.0 (order_of (value_at (row_at c 0) index) (value_at (row_at d 0) index)) less (λ l. not_behind columns keys c d parts.1 l)
+    go key.descending own.0 (order_of (value_at (row_at c 0) index) (value_at (row_at d 0) index)) before (λ b. not_behind columns keys c d parts.1 b)
   where
-    go : (descending : Bool) → not descending ≡ true → (o : Ordering) → ordering_then o (first_row_cmp columns c d) ≡ Less
-        → (first_row_cmp columns c d ≡ Less → is_gt (keys_cmp (map key_of keys) (values_of columns keys c) (values_of columns keys d)) ≡ false)
+    go : (descending : Bool) → not descending ≡ true → (o : Ordering) → is_gt (ordering_then o (first_row_cmp columns c d)) ≡ false
+        → (is_gt (first_row_cmp columns c d) ≡ false → is_gt (keys_cmp (map key_of keys) (values_of columns keys c) (values_of columns keys d)) ≡ false)
         → is_gt (ordering_then (if descending then order_of (value_at (row_at d 0) index) (value_at (row_at c 0) index) else o) (keys_cmp (map key_of keys) (values_of columns keys c) (values_of columns keys d))) ≡ false
-    go true n o l later = cc
-    go false n Less l later = refl
-    go false n Equal l later = later l
-    go false n Greater l later = cc
+    go true n o b later = cc
+    go false n Less b later = refl
+    go false n Equal b later = later b
+    go false n Greater b later = cc
 
 -- ---- a list in its order is sorted
-
-abbrev NeverFalls : {A : Type 0} → (A → A → Ordering) → List A → Type 0
-NeverFalls cmp [] = Unit {0}
-NeverFalls cmp (x ∷ []) = Unit {0}
-NeverFalls cmp (x ∷ y ∷ ys) = (is_gt (cmp x y) ≡ false) × NeverFalls cmp (y ∷ ys)
 
 sorted_stays : {A : Type 0} (cmp : A → A → Ordering) (xs : List A) → NeverFalls cmp xs → sorted cmp xs ≡ xs
 sorted_stays cmp [] h = refl
 sorted_stays cmp (x ∷ []) h = refl
 sorted_stays {A} cmp (x ∷ y ∷ ys) h =
     ap (λ (l : List A). put_before cmp x l) (sorted_stays cmp (y ∷ ys) h.1)
-    ∙ ap (λ (b : Bool). if b then y ∷ put_before cmp x ys else x ∷ y ∷ ys) h.0
+    ∙ ap (λ (b : Bool). if b then y ∷ put_before cmp x ys else x ∷ y ∷ ys) (h.0 y (inl refl))
 
 module _ (users : UserNames) (columns : List ℕ) (keys : List TypedSortKey) (first : are_first_of columns keys ≡ true) where
   abbrev keyed : Combination → Keyed
@@ -125,10 +125,14 @@ module _ (users : UserNames) (columns : List ℕ) (keys : List TypedSortKey) (fi
       ap (λ (r : Result (List Value) SqlState). (r >>= λ values. Ok (record { keys = values; combination = c })) >>= λ k. each (with_keys users (map key_of keys)) cs >>= λ ks. Ok (k ∷ ks)) (each_key users c columns keys first)
       ∙ ap (λ (r : Result (List Keyed) SqlState). r >>= λ ks. Ok (keyed c ∷ ks)) (all_keyed cs)
 
-  in_place : (cs : List Combination) → Rising (first_row_cmp columns) cs → NeverFalls (λ a b. keys_cmp (map key_of keys) a.keys b.keys) (map keyed cs)
-  in_place [] rising = tt
-  in_place (c ∷ []) rising = tt
-  in_place (c ∷ d ∷ cs) rising = (not_behind columns keys c d first (rising.0 d (inl refl)), in_place (d ∷ cs) rising.1)
+  in_place : (cs : List Combination) → NeverFalls (first_row_cmp columns) cs → NeverFalls (λ a b. keys_cmp (map key_of keys) a.keys b.keys) (map keyed cs)
+  in_place [] never = tt
+  in_place (c ∷ cs) never = (before cs never.0, in_place cs never.1)
+    where
+      before : (ds : List Combination) → ((d : Combination) → Among d ds → is_gt (first_row_cmp columns c d) ≡ false) → (k : Keyed) → Among k (map keyed ds) → is_gt (keys_cmp (map key_of keys) (keyed c).keys k.keys) ≡ false
+      before [] all k among = absurd among
+      before (d ∷ ds) all k (inl is) = subst (λ (k : Keyed). is_gt (keys_cmp (map key_of keys) (keyed c).keys k.keys) ≡ false) is (not_behind columns keys c d first (all d (inl refl)))
+      before (d ∷ ds) all k (inr later) = before ds (λ e a. all e (inr a)) k later
 
   taken : (n : ℕ) (cs : List Combination) → map (λ (k : Keyed). k.combination) (take n (map keyed cs)) ≡ take n cs
   taken zero cs = refl
@@ -143,28 +147,28 @@ module _ (users : UserNames) (columns : List ℕ) (keys : List TypedSortKey) (fi
   uncut None cs = all_there cs
   uncut (Some n) cs = taken n cs
 
-  ordered_stays : (limit : Option ℕ) (cs : List Combination) → Rising (first_row_cmp columns) cs → ordered users (map key_of keys) limit cs ≡ Ok (cut limit cs)
-  ordered_stays limit cs rising =
+  ordered_stays : (limit : Option ℕ) (cs : List Combination) → NeverFalls (first_row_cmp columns) cs → ordered users (map key_of keys) limit cs ≡ Ok (cut limit cs)
+  ordered_stays limit cs never =
       ap (λ (r : Result (List Keyed) SqlState). r >>= λ ks. Ok (map (λ (k : Keyed). k.combination) (cut limit (sorted (λ a b. keys_cmp (map key_of keys) a.keys b.keys) ks)))) (all_keyed cs)
       ∙ ap (λ (l : List Keyed). let r : Result (List Combination) SqlState = Ok (map (λ (k : Keyed). k.combination) (cut limit l)) in r)
-      (sorted_stays (λ a b. keys_cmp (map key_of keys) a.keys b.keys) (map keyed cs) (in_place cs rising))
+      (sorted_stays (λ a b. keys_cmp (map key_of keys) a.keys b.keys) (map keyed cs) (in_place cs never))
       ∙ ap (λ (l : List Combination). let r : Result (List Combination) SqlState = Ok l in r) (uncut limit cs)
 
 -- ---- the query
 
-listed_alike : (users : UserNames) (columns : List ℕ) (keys : List TypedSortKey) → are_first_of columns keys ≡ true → (list : BoundList) (limit : Option ℕ) (cs : List Combination) → Rising (first_row_cmp columns) cs
+listed_alike : (users : UserNames) (columns : List ℕ) (keys : List TypedSortKey) → are_first_of columns keys ≡ true → (list : BoundList) (limit : Option ℕ) (cs : List Combination) → NeverFalls (first_row_cmp columns) cs
     → listed users list (map key_of keys) limit cs ≡ listed users list [] limit cs
-listed_alike users columns keys first their_count limit cs rising = refl
-listed_alike users columns keys first each_column limit cs rising =
-    ap (λ (r : Result (List Combination) SqlState). r >>= λ rows. Ok (map all_columns rows)) (ordered_stays users columns keys first limit cs rising ∙ sym (ordered_stays users columns [] refl limit cs rising))
-listed_alike users columns keys first (each_value values) limit cs rising =
+listed_alike users columns keys first their_count limit cs never = refl
+listed_alike users columns keys first each_column limit cs never =
+    ap (λ (r : Result (List Combination) SqlState). r >>= λ rows. Ok (map all_columns rows)) (ordered_stays users columns keys first limit cs never ∙ sym (ordered_stays users columns [] refl limit cs never))
+listed_alike users columns keys first (each_value values) limit cs never =
     ap (λ (r : Result (List Combination) SqlState). r >>= λ rows. each (λ row. each (bound_value users row) values) rows)
-    (ordered_stays users columns keys first limit cs rising ∙ sym (ordered_stays users columns [] refl limit cs rising))
+    (ordered_stays users columns keys first limit cs never ∙ sym (ordered_stays users columns [] refl limit cs never))
 
 pub key_order_is_sorted : KeyOrderIsSorted
-key_order_is_sorted columns users q combinations first rising = go (passing (condition_value users (terms q.conditions)) combinations) refl
+key_order_is_sorted columns users q combinations first never = go (passing (condition_value users (terms q.conditions)) combinations) refl
   where
     go : (r : Result (List Combination) SqlState) → passing (condition_value users (terms q.conditions)) combinations ≡ r
         → (r >>= listed users (list_of q.list) (map key_of q.keys) q.limit) ≡ (r >>= listed users (list_of q.list) [] q.limit)
     go (Err code) is = refl
-    go (Ok chosen) is = listed_alike users columns q.keys first (list_of q.list) q.limit chosen (rising_passed (first_row_cmp columns) (condition_value users (terms q.conditions)) combinations chosen rising is).0
+    go (Ok chosen) is = listed_alike users columns q.keys first (list_of q.list) q.limit chosen (pairs_passed _ (condition_value users (terms q.conditions)) combinations chosen never is).0

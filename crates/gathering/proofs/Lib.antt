@@ -1,5 +1,6 @@
 pub mod AnswerRows
 pub mod Candidates
+pub mod Apart
 pub mod Columns
 pub mod Comparing
 pub mod Combining
@@ -12,6 +13,7 @@ pub mod KeyOrder
 pub mod Keeping
 pub mod Kept
 pub mod Looking
+pub mod NullColumns
 pub mod Narrowed
 pub mod Numbered
 pub mod Ordered

@@ -1,11 +1,12 @@
 -- Sort keys in whose order the rows of a table stand already.
 use Rattle.std.specs.Prelude.{◌≡◌, ℕ, Bool, true, false, not, ◌&&◌, nat_eq, List, [], ◌∷◌, Option, Some, None}
+use Rattle.std.specs.Ordering.{is_gt}
 use Rattle.std.specs.declared.cmp.Ordering.{Ordering}
 use Rattle.sql_ast.specs.Rows.{row_cmp}
 use Rattle.sql_ast.specs.declared.scope.ColumnIndex.{ColumnIndex}
 use Rattle.expressions.specs.Meaning.{UserNames}
 use Rattle.abstract_database.specs.Expressions.{row_at}
-use Rattle.abstract_database.specs.Lists.{Rising}
+use Rattle.abstract_database.specs.Lists.{Among}
 use Rattle.abstract_database.specs.Queries.{Combination}
 use Rattle.gathering.specs.declared.query.TypedSortKey.{TypedSortKey}
 use Rattle.gathering.specs.declared.query.Query.{Query}
@@ -35,7 +36,16 @@ unsorted q = record { list = q.list; conditions = q.conditions; keys = []; limit
 abbrev pub first_row_cmp : List ℕ → Combination → Combination → Ordering
 first_row_cmp columns c d = row_cmp columns (row_at c 0) (row_at d 0)
 
--- combinations that rise by columns are sorted by the first of them
+-- each two elements of a list, in their order, are so
+abbrev pub Pairwise : {X : Type 0} → (X → X → Type 0) → List X → Type 0
+Pairwise R [] = Unit {0}
+Pairwise {X} R (x ∷ xs) = ((y : X) → Among y xs → R x y) × Pairwise R xs
+
+-- no element is behind one that comes later
+abbrev pub NeverFalls : {X : Type 0} → (X → X → Ordering) → List X → Type 0
+NeverFalls cmp xs = Pairwise (λ x y. is_gt (cmp x y) ≡ false) xs
+
+-- combinations that never fall by columns are sorted by the first of them
 abbrev pub KeyOrderIsSorted : Type 0
-KeyOrderIsSorted = (columns : List ℕ) (users : UserNames) (q : Query) (combinations : List Combination) → are_first_of columns q.keys ≡ true → Rising (first_row_cmp columns) combinations
+KeyOrderIsSorted = (columns : List ℕ) (users : UserNames) (q : Query) (combinations : List Combination) → are_first_of columns q.keys ≡ true → NeverFalls (first_row_cmp columns) combinations
     → answered users (bound_of q) combinations ≡ answered users (bound_of (unsorted q)) combinations

@@ -1,6 +1,7 @@
 pub mod Queries
 pub mod Answers
 pub mod Chains
+pub mod Codes
 pub mod SortValues
 pub mod Entries
 pub mod RowOrder
@@ -15,6 +16,7 @@ pub mod Passed
 pub mod Stable
 pub mod Joins
 pub mod KeyOrder
+pub mod Nulls
 pub mod Numbered
 pub mod Searches
 pub mod Ordered
