@@ -1,6 +1,6 @@
 //! The productions that are single names, numbers and expressions.
 
-use crate::production::{KnownProduction, Part, Production};
+use crate::production::{KnownProduction, Production, Readable};
 use expr_parser::parse_error::ParseError;
 use expr_parser::parser::expr_at;
 use expr_parser::reader::{kind_at, name_at};
@@ -10,7 +10,7 @@ use sql_lexer::token::{Token, TokenKind};
 use sql_types::name::Name;
 use std::alloc::Global;
 
-impl Part for Name {
+impl Readable for Name {
     ghost use Rattle.std.specs.Prelude.{refl};
     ghost use Rattle.sql_grammar.specs.Phrases.{name as a_name};
 
@@ -49,7 +49,7 @@ impl KnownProduction for Name {
     ghost repeatable = { refl };
 }
 
-impl Part for Expr {
+impl Readable for Expr {
     ghost use Rattle.std.specs.Prelude.{refl};
     ghost use Rattle.sql_grammar.specs.Phrases.{expr as an_expression};
 
@@ -74,7 +74,7 @@ impl Production for Expr {
 }
 
 /// A number below 2^63 is a production.
-impl Part for u64 {
+impl Readable for u64 {
     ghost use Rattle.std.specs.Prelude.{refl};
     ghost use Rattle.sql_grammar.specs.Phrases.{number as a_number};
 

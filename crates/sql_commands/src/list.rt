@@ -1,6 +1,6 @@
 //! Lists: productions with a comma between two, and such lists in parentheses.
 
-use crate::production::{KnownProduction, Part, Production};
+use crate::production::{KnownProduction, Production, Readable};
 use crate::steps::{then, token};
 use expr_parser::parse_error::ParseError;
 use expr_parser::reader::has;
@@ -12,7 +12,7 @@ use std::marker::PhantomData;
 /// `phrase {"," phrase}`: a list with a comma between two.
 pub struct ListOf<T>(PhantomData<T>);
 
-impl<T: Production> Part for ListOf<T> {
+impl<T: Production> Readable for ListOf<T> {
     ghost use Rattle.sql_grammar.specs.Phrases.{listed};
     ghost use Rattle.sql_commands.specs.Determined.{list_determined};
 
@@ -42,7 +42,7 @@ impl<T: Production> Part for ListOf<T> {
 /// `"(" phrase {"," phrase} ")"`: a list in parentheses.
 pub struct InParentheses<T>(PhantomData<T>);
 
-impl<T: Production> Part for InParentheses<T> {
+impl<T: Production> Readable for InParentheses<T> {
     ghost use Rattle.sql_grammar.specs.Phrases.{parenthesized};
 
     type Value = Items<T::Value>;

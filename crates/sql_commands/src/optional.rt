@@ -1,6 +1,6 @@
 //! Productions that may be left out.
 
-use crate::production::{KnownProduction, Part};
+use crate::production::{KnownProduction, Readable};
 use expr_parser::parse_error::ParseError;
 use sql_lexer::token::Token;
 use std::alloc::Global;
@@ -9,7 +9,7 @@ use std::marker::PhantomData;
 /// `[phrase]`: a production, or nothing where no token begins it.
 pub struct Optional<T>(PhantomData<T>);
 
-impl<T: KnownProduction> Part for Optional<T> {
+impl<T: KnownProduction> Readable for Optional<T> {
     ghost use Rattle.sql_grammar.specs.Phrases.{optional};
     ghost use Rattle.sql_commands.specs.Determined.{optional_determined};
 

@@ -7,7 +7,7 @@ ghost use Rattle.sql_commands.specs.Steps.{ReadsNext};
 ghost use Rattle.sql_commands.specs.Commands.{a_check, a_using, create_policy as a_create_policy, drop_policy as a_drop_policy, enclosed as an_enclosed};
 
 use crate::list::ListOf;
-use crate::production::{Part, Production};
+use crate::production::{Production, Readable};
 use crate::steps::{after_word, then, token};
 use expr_parser::parse_error::ParseError;
 use expr_parser::reader::has;
@@ -38,7 +38,7 @@ const KINDS: [(TokenKind, PolicyKind); 2] = [
 ];
 
 /// `PERMISSIVE | RESTRICTIVE`
-impl Part for PolicyKind {
+impl Readable for PolicyKind {
     ghost use Rattle.std.specs.Prelude.{refl};
     ghost use Rattle.sql_commands.specs.Commands.{a_policy_kind};
 
@@ -81,7 +81,7 @@ const COMMANDS: [(TokenKind, PolicyCommand); 5] = [
 ];
 
 /// `ALL | SELECT | INSERT | UPDATE | DELETE`
-impl Part for PolicyCommand {
+impl Readable for PolicyCommand {
     ghost use Rattle.std.specs.Prelude.{refl};
     ghost use Rattle.sql_commands.specs.Commands.{a_policy_command};
 

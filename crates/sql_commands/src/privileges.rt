@@ -6,7 +6,7 @@ ghost use Rattle.sql_commands.specs.Commands.{grant as a_grant, revoke as a_revo
 
 use crate::list::{InParentheses, ListOf};
 use crate::optional::Optional;
-use crate::production::{Part, Production};
+use crate::production::{Production, Readable};
 use crate::steps::{skip, then, three_words, token};
 use expr_parser::parse_error::ParseError;
 use expr_parser::reader::has;
@@ -41,7 +41,7 @@ const ACTIONS: [(TokenKind, Action); 4] = [
 ];
 
 /// `SELECT | INSERT | UPDATE | DELETE`
-impl Part for Action {
+impl Readable for Action {
     ghost use Rattle.std.specs.Prelude.{refl};
     ghost use Rattle.sql_commands.specs.Commands.{an_action};
 
@@ -57,7 +57,7 @@ impl Part for Action {
 }
 
 /// `(SELECT | INSERT | UPDATE | DELETE) ["(" names ")"]`
-impl Part for NamedAction {
+impl Readable for NamedAction {
     ghost use Rattle.std.specs.Prelude.{refl};
     ghost use Rattle.sql_commands.specs.Commands.{a_named_action};
 
@@ -87,7 +87,7 @@ impl Production for NamedAction {
 }
 
 /// `PUBLIC | name`
-impl Part for Grantee {
+impl Readable for Grantee {
     ghost use Rattle.std.specs.Prelude.{refl};
     ghost use Rattle.sql_commands.specs.Commands.{a_grantee};
 
@@ -114,7 +114,7 @@ impl Production for Grantee {
 
 /// `ALL [PRIVILEGES] ["(" names ")"] | action {"," action}`, where an action may have columns of its
 /// own.
-impl Part for Privileges {
+impl Readable for Privileges {
     ghost use Rattle.std.specs.Prelude.{refl};
     ghost use Rattle.sql_commands.specs.Commands.{some_privileges};
 

@@ -10,7 +10,7 @@ use sql_lexer::token::Token;
 use std::alloc::Global;
 
 /// A part of the grammar: a phrase, and how it is read.
-pub trait Part {
+pub trait Readable {
     /// What it is read as.
     type Value: Drop;
 
@@ -29,7 +29,7 @@ pub trait Part {
 }
 
 /// A production of the grammar: a part that a list may have.
-pub trait Production: Part {
+pub trait Production: Readable {
     /// It has a token at least, and a list of it in parentheses is read in one way.
     ghost listable: { is_determined (parenthesized Self.phrase) ≡ true };
 }

@@ -7,7 +7,7 @@ ghost use Rattle.std.specs.Prelude.{◌≡◌, IfOk};
 
 use crate::list::ListOf;
 use crate::optional::Optional;
-use crate::production::{KnownProduction, Part, Production};
+use crate::production::{KnownProduction, Production, Readable};
 use crate::repeated::Repeated;
 use crate::sort_value::sort_value;
 use crate::steps::{after_word, then, token};
@@ -27,7 +27,7 @@ use std::alloc::{AllocError, Global};
 // [AS name | name]
 struct Alias;
 
-impl Part for Alias {
+impl Readable for Alias {
     ghost use Rattle.std.specs.Prelude.{refl};
     ghost use Rattle.sql_commands.specs.Commands.{an_alias};
 
@@ -51,7 +51,7 @@ impl Part for Alias {
 }
 
 /// `name [[AS] name]`
-impl Part for TableReference {
+impl Readable for TableReference {
     ghost use Rattle.std.specs.Prelude.{refl};
     ghost use Rattle.sql_commands.specs.Commands.{a_table};
 
@@ -130,7 +130,7 @@ fn plain_join(alloc: Global, tokens: &[Token], at: usize) -> Result<(Join, usize
 }
 
 /// `CROSS JOIN table | [INNER] JOIN table ON expr`
-impl Part for Join {
+impl Readable for Join {
     ghost use Rattle.std.specs.Prelude.{refl};
     ghost use Rattle.sql_commands.specs.Commands.{a_join};
 
@@ -186,7 +186,7 @@ pub enum MoreTables {
 // "," table {"," table} | {join}
 struct FurtherTables;
 
-impl Part for FurtherTables {
+impl Readable for FurtherTables {
     ghost use Rattle.std.specs.Prelude.{refl};
     ghost use Rattle.sql_commands.specs.Commands.{more_tables};
 
@@ -234,7 +234,7 @@ fn from_clause(
 // table {"," table} | table {join}
 struct Tables;
 
-impl Part for Tables {
+impl Readable for Tables {
     ghost use Rattle.std.specs.Prelude.{refl};
     ghost use Rattle.sql_commands.specs.Commands.{some_tables};
 
@@ -262,7 +262,7 @@ const DIRECTIONS: [(TokenKind, SortDirection); 2] = [
 ];
 
 /// `expr [ASC | DESC]`, where the expression is no number by itself.
-impl Part for SortKey {
+impl Readable for SortKey {
     ghost use Rattle.std.specs.Prelude.{refl};
     ghost use Rattle.sql_commands.specs.Commands.{a_sort_key};
 
@@ -286,9 +286,9 @@ impl Production for SortKey {
 }
 
 // [ORDER BY key {"," key}]
-struct Order;
+struct OrderBy;
 
-impl Part for Order {
+impl Readable for OrderBy {
     ghost use Rattle.std.specs.Prelude.{refl};
     ghost use Rattle.sql_grammar.specs.Phrases.{optional};
     ghost use Rattle.sql_commands.specs.Commands.{an_order};
@@ -318,7 +318,7 @@ impl Part for Order {
 }
 
 /// `tables [WHERE expr] [ORDER BY key {"," key}] [LIMIT number]`
-impl Part for TableExpression {
+impl Readable for TableExpression {
     ghost use Rattle.std.specs.Prelude.{refl};
     ghost use Rattle.sql_commands.specs.Commands.{a_source};
 
@@ -333,7 +333,7 @@ impl Part for TableExpression {
     ) -> Result<(TableExpression, usize), ParseError> {
         let read = then::<_, Tables>(alloc, tokens, Ok(((), at)));
         let read = after_word::<_, Expr>(alloc, tokens, read, TokenKind::Reserved(Reserved::Where));
-        let read = then::<_, Order>(alloc, tokens, read);
+        let read = then::<_, OrderBy>(alloc, tokens, read);
         let ((((((), tables), condition), order), limit), end) = after_word::<_, u64>(
             alloc,
             tokens,
@@ -355,7 +355,7 @@ impl Part for TableExpression {
 }
 
 /// `"*" | expr {"," expr}`
-impl Part for SelectList {
+impl Readable for SelectList {
     ghost use Rattle.std.specs.Prelude.{refl};
     ghost use Rattle.sql_commands.specs.Commands.{a_select_list};
 

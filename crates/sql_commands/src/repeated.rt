@@ -1,6 +1,6 @@
 //! Productions that are repeated, with nothing between two.
 
-use crate::production::{KnownProduction, Part};
+use crate::production::{KnownProduction, Readable};
 use expr_parser::parse_error::ParseError;
 use sql_lexer::token::Token;
 use sql_types::items::Items;
@@ -10,7 +10,7 @@ use std::marker::PhantomData;
 /// `{phrase}`: productions one after the other, as many as there are.
 pub struct Repeated<T>(PhantomData<T>);
 
-impl<T: KnownProduction> Part for Repeated<T> {
+impl<T: KnownProduction> Readable for Repeated<T> {
     ghost use Rattle.sql_grammar.specs.Phrases.{many};
 
     type Value = Items<T::Value>;

@@ -4,7 +4,7 @@ ghost use Rattle.sql_lexer.specs.Lexeme.{lexemes};
 ghost use Rattle.sql_grammar.specs.LookAhead.{Reads};
 ghost use Rattle.sql_commands.specs.Commands.{create_role as a_create_role, drop_role as a_drop_role, set_role as a_set_role, reset_role as a_reset_role};
 
-use crate::production::{KnownProduction, Part, Production};
+use crate::production::{KnownProduction, Production, Readable};
 use crate::repeated::Repeated;
 use crate::steps::{skip, then, token};
 use expr_parser::parse_error::ParseError;
@@ -47,7 +47,7 @@ const ATTRIBUTES: [(TokenKind, RoleAttribute); 6] = [
 ];
 
 /// `SUPERUSER | NOSUPERUSER | LOGIN | NOLOGIN | BYPASSRLS | NOBYPASSRLS`
-impl Part for RoleAttribute {
+impl Readable for RoleAttribute {
     ghost use Rattle.std.specs.Prelude.{refl};
     ghost use Rattle.sql_commands.specs.Commands.{an_attribute};
 
@@ -120,7 +120,7 @@ pub fn drop_role(alloc: Global, tokens: &[Token]) -> Result<(Statement, usize), 
 // NONE | name
 struct RoleOrNone;
 
-impl Part for RoleOrNone {
+impl Readable for RoleOrNone {
     ghost use Rattle.std.specs.Prelude.{refl};
     ghost use Rattle.sql_commands.specs.Commands.{role_or_none};
 

@@ -6,7 +6,7 @@ ghost use Rattle.sql_commands.specs.Commands.{insert as an_insert, update as an_
 
 use crate::list::{InParentheses, ListOf};
 use crate::optional::Optional;
-use crate::production::{Part, Production};
+use crate::production::{Production, Readable};
 use crate::steps::{after_word, then, token};
 use expr_parser::parse_error::ParseError;
 use sql_ast::expr::Expr;
@@ -18,7 +18,7 @@ use sql_types::name::Name;
 use std::alloc::Global;
 
 /// `name "=" expr`
-impl Part for Assignment {
+impl Readable for Assignment {
     ghost use Rattle.std.specs.Prelude.{refl};
     ghost use Rattle.sql_commands.specs.Commands.{an_assignment};
 

@@ -6,7 +6,7 @@ ghost use Rattle.expr_parser.specs.Grammar.{counted};
 ghost use Rattle.sql_grammar.specs.Phrases.{IsLoneNumber, sort_value as a_sort_value};
 ghost use Rattle.sql_grammar.specs.LookAhead.{Reads};
 
-use crate::production::Part;
+use crate::production::Readable;
 use expr_parser::parse_error::ParseError;
 use expr_parser::reader::{has, kind_at};
 use sql_ast::expr::Expr;

@@ -7,7 +7,7 @@ ghost use Rattle.sql_lexer.specs.Lexeme.{lexemes};
 ghost use Rattle.sql_grammar.specs.Phrases.{after, noise, optional, three_words as three_words_phrase};
 ghost use Rattle.sql_commands.specs.Steps.{PassesToken, ReadsNext};
 
-use crate::production::Part;
+use crate::production::Readable;
 use expr_parser::parse_error::ParseError;
 use expr_parser::reader::has;
 use sql_grammar::expect::expect;
@@ -29,7 +29,7 @@ pub fn token<A: Drop>(
 }
 
 /// A part of the grammar.
-pub fn then<A: Drop, P: Part>(
+pub fn then<A: Drop, P: Readable>(
     alloc: Global,
     tokens: &[Token],
     read: Result<(A, usize), ParseError>,
@@ -42,7 +42,7 @@ pub fn then<A: Drop, P: Part>(
 }
 
 /// `[WORD phrase]`: the part after a word, or nothing where the word does not stand.
-pub fn after_word<A: Drop, P: Part>(
+pub fn after_word<A: Drop, P: Readable>(
     alloc: Global,
     tokens: &[Token],
     read: Result<(A, usize), ParseError>,

@@ -5,7 +5,7 @@ ghost use Rattle.sql_grammar.specs.LookAhead.{Reads};
 ghost use Rattle.sql_commands.specs.Commands.{create_table as a_create_table, drop_table as a_drop_table, alter_table as an_alter_table};
 
 use crate::list::InParentheses;
-use crate::production::{KnownProduction, Part, Production};
+use crate::production::{KnownProduction, Production, Readable};
 use crate::repeated::Repeated;
 use crate::steps::{then, token};
 use expr_parser::parse_error::ParseError;
@@ -36,7 +36,7 @@ const TYPES: [(TokenKind, ColumnType); 4] = [
 ];
 
 /// `BIGINT | TEXT | BOOLEAN | BOOL`
-impl Part for ColumnType {
+impl Readable for ColumnType {
     ghost use Rattle.std.specs.Prelude.{refl};
     ghost use Rattle.sql_commands.specs.Commands.{a_type};
 
@@ -52,7 +52,7 @@ impl Part for ColumnType {
 }
 
 /// `NOT NULL | PRIMARY KEY`
-impl Part for ColumnConstraint {
+impl Readable for ColumnConstraint {
     ghost use Rattle.std.specs.Prelude.{refl};
     ghost use Rattle.sql_commands.specs.Commands.{a_constraint};
 
@@ -100,7 +100,7 @@ const FIRST_OF_CONSTRAINTS: [(TokenKind, ()); 2] = [
 ];
 
 /// `PRIMARY KEY "(" names ")" | name type {NOT NULL | PRIMARY KEY}`
-impl Part for TableElement {
+impl Readable for TableElement {
     ghost use Rattle.std.specs.Prelude.{refl};
     ghost use Rattle.sql_commands.specs.Commands.{an_element};
 
@@ -195,7 +195,7 @@ const CHANGES: [(TokenKind, RowSecurityChange); 3] = [
 ];
 
 /// `ENABLE | DISABLE | FORCE | NO FORCE`
-impl Part for RowSecurityChange {
+impl Readable for RowSecurityChange {
     ghost use Rattle.std.specs.Prelude.{refl};
     ghost use Rattle.sql_commands.specs.Commands.{a_change};
 

@@ -51,7 +51,7 @@ use crate::stops::images::Image;
 use crate::stops::kinds::Kind;
 use crate::stops::openings::{Opening, hinder_migration};
 use crate::stops::parts::Parts;
-use crate::stops::places::Step;
+use crate::stops::places::PlaceStep;
 use crate::stops::scripts::Script;
 use crate::stops::servers::{CACHE_PAGES, DeviceServer, open_new};
 use crate::stops::tallies::Tests;
@@ -153,7 +153,7 @@ fn stop_commit(alloc: Global, name: &str, script: &Script, index: usize, tests: 
         index,
         cache: CACHE_PAGES,
     };
-    tests.begin(Step::Events(index));
+    tests.begin(PlaceStep::Events(index));
     hinder_each(alloc, &event, Kind::Stops, tests);
     tests.lines.put(name);
     tests.lines.put(": event ");
@@ -190,7 +190,7 @@ fn fail_events(alloc: Global, script: &Script, cache: usize, every: usize, tests
             index,
             cache,
         };
-        tests.begin(Step::Events(index));
+        tests.begin(PlaceStep::Events(index));
         hinder_each(alloc, &event, Kind::Failures, tests);
     }
 }
@@ -211,7 +211,7 @@ fn fail_last_openings(
         last,
         cache,
     };
-    tests.begin(Step::Events(last));
+    tests.begin(PlaceStep::Events(last));
     hinder_each(alloc, &opening, Kind::Openings, tests);
     Ok(())
 }
@@ -250,7 +250,7 @@ fn hinder_bytes(
     tests: &mut Tests,
 ) -> Result<(), TestFault> {
     let image = Image::of_bytes(alloc, bytes)?;
-    tests.begin(Step::Events(0));
+    tests.begin(PlaceStep::Events(0));
     hinder_migration(alloc, &image, tests)?;
     tests.lines.put(name);
     tests.lines.put(": migration: ");
@@ -263,6 +263,6 @@ fn copy_last(rt: &HostRuntime, alloc: Global, tests: &mut Tests) -> Result<(), T
     let (name, part) = COPIED;
     let script = read_script(rt, alloc, name)?;
     let source = image_at_end(alloc, &script)?;
-    tests.begin(Step::Events(script.talk.events.len()));
+    tests.begin(PlaceStep::Events(script.talk.events.len()));
     stop_copies(alloc, &source, tests.parts.step(part) as u64, tests)
 }

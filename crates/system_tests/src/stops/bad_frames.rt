@@ -3,7 +3,7 @@
 use crate::servers::open_server;
 use crate::stops::fault::TestFault;
 use crate::stops::kinds::Kind;
-use crate::stops::places::Step;
+use crate::stops::places::PlaceStep;
 use crate::stops::tallies::Tests;
 use crate::stores::new_in_memory;
 use connections::connection::{End, serve_connection};
@@ -44,7 +44,7 @@ impl Read for PieceReader<'_> {
 /// Sends each bad frame, and then one that would be answered by itself, whole and byte by byte.
 pub fn send_bad_frames(alloc: Global, tests: &mut Tests) {
     for (index, frame) in BAD_FRAMES.iter().enumerate() {
-        tests.enter(Step::Frame(index));
+        tests.enter(PlaceStep::Frame(index));
         tests.count_tried(Kind::Frames);
         tests.leave(Kind::Frames, check_bad_frame(alloc, *frame));
     }

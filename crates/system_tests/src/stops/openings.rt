@@ -4,9 +4,9 @@ use crate::stops::choices::Choice;
 use crate::stops::fault::TestFault;
 use crate::stops::images::Image;
 use crate::stops::kinds::Kind;
-use crate::stops::places::Step;
+use crate::stops::places::PlaceStep;
 use crate::stops::scripts::Script;
-use crate::stops::servers::{CACHE_PAGES, Found, attempt_opening, find_and_end, find_on};
+use crate::stops::servers::{CACHE_PAGES, FoundDatabase, attempt_opening, find_and_end, find_on};
 use crate::stops::tallies::Tests;
 use crate::stops::work::{Attempt, Work, hinder_each};
 use sector_device::MemDevice;
@@ -65,7 +65,7 @@ fn find_again(
     tests: &mut Tests,
 ) -> Result<(), TestFault> {
     for choice in &image.choices(alloc)? {
-        tests.enter(Step::Restart(*choice));
+        tests.enter(PlaceStep::Restart(*choice));
         tests.count_opened(kind);
         let found = check_records(alloc, image, *choice, records);
         tests.leave(kind, found);
@@ -92,7 +92,7 @@ fn check_records(
 #[derive(Clone, Copy)]
 struct Migrating<'a> {
     image: &'a Image,
-    migrated: &'a Found,
+    migrated: &'a FoundDatabase,
 }
 
 impl Work for Migrating<'_> {
@@ -142,7 +142,7 @@ impl Work for Migrating<'_> {
 struct MigratingAgain<'a> {
     image: &'a Image,
     choice: Choice,
-    migrated: &'a Found,
+    migrated: &'a FoundDatabase,
 }
 
 impl Work for MigratingAgain<'_> {
@@ -157,7 +157,11 @@ impl Work for MigratingAgain<'_> {
 }
 
 /// Opens a server on a device. Its records are of the second spelling, and they and their number are those after a migration.
-fn check_migrated(alloc: Global, device: MemDevice, migrated: &Found) -> Result<usize, TestFault> {
+fn check_migrated(
+    alloc: Global,
+    device: MemDevice,
+    migrated: &FoundDatabase,
+) -> Result<usize, TestFault> {
     let found = find_on(alloc, device)?;
     let is_next = found.format == 2 && found.number == migrated.number;
     if is_next && found.records.as_slice() == migrated.records.as_slice() {

@@ -4,7 +4,7 @@ use crate::stops::choices::Choice;
 
 /// A step to the place where something was tried.
 #[derive(Clone, Copy, Debug)]
-pub enum Step {
+pub enum PlaceStep {
     /// So many events were answered before the one under way.
     Events(usize),
     /// The device was hindered after so many writes or calls.

@@ -136,27 +136,30 @@ fn is_opened(fault: Option<TestFault>) -> Result<bool, TestFault> {
 
 /// What a server found on a device: the records, the number of the last commit, and the format.
 #[derive(Drop)]
-pub struct Found {
+pub struct FoundDatabase {
     pub records: Vec<u8>,
     pub number: u64,
     pub format: u32,
 }
 
 /// Opens a server on a device, and tells what it found.
-pub fn find_on(alloc: Global, device: MemDevice) -> Result<Found, TestFault> {
+pub fn find_on(alloc: Global, device: MemDevice) -> Result<FoundDatabase, TestFault> {
     let (found, _) = find_and_end(alloc, device)?;
     Ok(found)
 }
 
 /// Opens a server on a device and ends it, and tells what it found.
-pub fn find_and_end(alloc: Global, device: MemDevice) -> Result<(Found, MemDevice), TestFault> {
+pub fn find_and_end(
+    alloc: Global,
+    device: MemDevice,
+) -> Result<(FoundDatabase, MemDevice), TestFault> {
     let mut store = open_device(alloc, device, CACHE_PAGES)?.into_store();
     let scanned = scan(alloc, &mut store);
     let (number, format) = (store.number(), format_of(&store));
     // a device is dropped by one call, and a store is not
     let device = device_of(store);
     let records = scanned?;
-    let found = Found {
+    let found = FoundDatabase {
         records,
         number,
         format,

@@ -4,7 +4,7 @@ use crate::lines::Lines;
 use crate::stops::fault::TestFault;
 use crate::stops::kinds::Kind;
 use crate::stops::parts::Parts;
-use crate::stops::places::Step;
+use crate::stops::places::PlaceStep;
 use std::alloc::Global;
 use std::io;
 
@@ -134,7 +134,7 @@ pub struct Tests {
     /// The lines that are printed next: of disagreements, and of what was tried.
     pub lines: Lines,
     /// The place that is tried.
-    place: Vec<Step>,
+    place: Vec<PlaceStep>,
     /// What was tried since the last line was printed.
     now: Tallies,
     /// What was tried in the whole run.
@@ -154,13 +154,13 @@ impl Tests {
     }
 
     /// Begins at a place.
-    pub fn begin(&mut self, step: Step) {
+    pub fn begin(&mut self, step: PlaceStep) {
         self.place.clear();
         self.enter(step);
     }
 
     /// Takes a step to the place that is tried.
-    pub fn enter(&mut self, step: Step) {
+    pub fn enter(&mut self, step: PlaceStep) {
         if self.place.push(step).is_err() {
             self.lines.refuse();
         }

@@ -4,7 +4,7 @@ use crate::stops::choices::Choice;
 use crate::stops::fault::TestFault;
 use crate::stops::images::Image;
 use crate::stops::kinds::Kind;
-use crate::stops::places::Step;
+use crate::stops::places::PlaceStep;
 use crate::stops::tallies::Tests;
 use sector_device::{Device, MemDevice};
 use std::alloc::Global;
@@ -78,7 +78,7 @@ pub trait Work {
 /// Hinders work after each count, until it is done all the same.
 pub fn hinder_each<W: Work>(alloc: Global, work: &W, kind: Kind, tests: &mut Tests) {
     for count in 0..MAX_COUNT {
-        tests.enter(Step::Count(count));
+        tests.enter(PlaceStep::Count(count));
         let (is_done, tried) = try_after(alloc, work, kind, count, tests);
         tests.leave(kind, tried);
         if is_done {
@@ -119,7 +119,7 @@ fn try_left<W: Work>(
     tests: &mut Tests,
 ) -> Result<(), TestFault> {
     for choice in &attempt.image.choices(alloc)? {
-        tests.enter(Step::Restart(*choice));
+        tests.enter(PlaceStep::Restart(*choice));
         let checked = check_restart(alloc, work, kind, attempt, *choice, tests);
         tests.leave(kind, checked);
     }

@@ -6,7 +6,7 @@ pub returns-then-not-has : goal.returns-then-not-has
 returns-then-not-has g c = found_here c.in_ok-values.was (left_out (iff_false c.has.ensures.value c.if-not-has.true))
 
 pub returns-in_err-value : goal.returns-in_err-value
-returns-in_err-value g c = lost_here c.in_ok-values.was (after_never (clause_determined {A = g.row.P-Value.Denot} c.args.word g.P.Part.phrase g.met.P.Part.determined) (c.has.ensures.value.0 c.if-not-has.false) c.in_err-value.ensures) c.from_residual-in_err-value.ensures.1
+returns-in_err-value g c = lost_here c.in_ok-values.was (after_never (clause_determined {A = g.row.P-Value.Denot} c.args.word g.P.Readable.phrase g.met.P.Readable.determined) (c.has.ensures.value.0 c.if-not-has.false) c.in_err-value.ensures) c.from_residual-in_err-value.ensures.1
 
 pub returns : goal.returns
-returns g c = found_here c.in_ok-values.was (after_there (clause_determined {A = g.row.P-Value.Denot} c.args.word g.P.Part.phrase g.met.P.Part.determined) (c.has.ensures.value.0 c.if-not-has.false) c.in_ok-value.ensures)
+returns g c = found_here c.in_ok-values.was (after_there (clause_determined {A = g.row.P-Value.Denot} c.args.word g.P.Readable.phrase g.met.P.Readable.determined) (c.has.ensures.value.0 c.if-not-has.false) c.in_ok-value.ensures)
