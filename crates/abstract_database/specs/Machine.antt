@@ -53,7 +53,7 @@ pub record Session : Type 0 where
 
 -- ---- machines
 
--- who holds the write slot, and the database with that session's changes
+-- who holds the writer lock, and the database with that session's changes
 pub record Holder : Type 0 where
   pub session : ℕ
   pub database : Database
@@ -115,7 +115,7 @@ as_role role s = record s { role = role }
 abbrev pub with_session_changed : Machine → ℕ → Session → Machine
 with_session_changed m number s = record m { sessions = with_session m.sessions number s }
 
--- ---- the write slot
+-- ---- the writer lock
 
 abbrev pub is_held_by_other : ℕ → Option Holder → Bool
 is_held_by_other number None = false
@@ -202,7 +202,7 @@ abbrev pub keeps_role : Database → Session → Bool
 keeps_role db s = has_role db s.role && may_set_role db s.login s.role
 
 -- refused in this order: in a failed block, without its login role, without its set role or the leave to set it, and
--- for the write slot
+-- for the writer lock
 abbrev pub may_execute : Machine → ℕ → Session → Statement → Result (Unit {0}) SqlState
 may_execute m number s x = do
   unfailed ← require (not (has_failed s.block)) InFailedTransaction

@@ -9,7 +9,7 @@ pub mod Putting
 pub mod Ordered
 pub mod Granting
 pub mod Placing
-pub mod Regranting
+pub mod DescriptorEdits
 pub mod Setting
 pub mod PartsAfter
 pub mod NameLemmas

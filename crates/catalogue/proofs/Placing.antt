@@ -92,10 +92,10 @@ module _ {X : Type 0} (cmp : X → X → Ordering) (total : IsTotalOrder cmp) (j
     each_put_rises (z ∷ zs) xs r = each_put_rises zs (put cmp joined z xs) (put_rises z (stays z) xs r)
 
 -- what is so of each and of each that comes is so of each after that
-pub of_each_put : (P : Descriptor → Type 0) (come ds : List Descriptor) → Each P come → Each P ds → Each P (put_each descriptor_cmp the_new come ds)
+pub of_each_put : (P : Descriptor → Type 0) (added ds : List Descriptor) → Each P added → Each P ds → Each P (put_each descriptor_cmp the_new added ds)
 of_each_put P [] ds arriving held = held
-of_each_put P (d ∷ come) ds arriving held =
-    of_each_put P come (put descriptor_cmp the_new d ds) (λ x among. arriving x (inr among))
+of_each_put P (d ∷ added) ds arriving held =
+    of_each_put P added (put descriptor_cmp the_new d ds) (λ x among. arriving x (inr among))
     (of_with descriptor_cmp descriptors_ordered the_new d ds P (arriving d (inl refl)) held (λ y among e. arriving d (inl refl)))
 
 -- ---- descriptors that are searched by their key

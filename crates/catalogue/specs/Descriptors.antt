@@ -10,8 +10,8 @@ use Rattle.stored_database.specs.Definitions.{TableDefinition}
 -- the descriptors that go from the table of a name, and those that come for it after that
 pub record DescriptorsChanged : Type 0 where
   pub table : TheName
-  pub gone : List Descriptor
-  pub come : List Descriptor
+  pub removed : List Descriptor
+  pub added : List Descriptor
 
 -- the descriptor is for the table of this name
 abbrev pub IsForTable : TheName → Descriptor → Type 0
@@ -24,7 +24,7 @@ put_each cmp joined (z ∷ zs) xs = put_each cmp joined zs (put cmp joined z xs)
 
 -- descriptors without those that go and with those that come, each in place of the one of its key
 abbrev pub descriptors_after : DescriptorsChanged → List Descriptor → List Descriptor
-descriptors_after c ds = put_each descriptor_cmp the_new c.come (drop_where (is_named_in c.gone) ds)
+descriptors_after c ds = put_each descriptor_cmp the_new c.added (drop_where (is_named_in c.removed) ds)
 
 -- the table after the change
 abbrev pub table_after : DescriptorsChanged → TableDefinition → TableDefinition

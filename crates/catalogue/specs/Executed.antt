@@ -4,8 +4,8 @@ use Rattle.sql_types.specs.declared.state.SqlState.{SqlState}
 use Rattle.expressions.specs.Meaning.{UserNames}
 use Rattle.store.specs.Records.{Records, Changes, IsOrdered, applied}
 use Rattle.store.specs.declared.fault.Fault.TheVariants.{Memory, Device, Damaged}
-use Rattle.store.specs.declared.stop.Stop.{Stop}
-use Rattle.store.specs.declared.stop.Stop.TheVariants.{Refused, Failed}
+use Rattle.store.specs.declared.stop.StatementError.{StatementError}
+use Rattle.store.specs.declared.stop.StatementError.TheVariants.{Refused, Failed}
 use Rattle.abstract_database.specs.Database.{Database}
 use Rattle.abstract_database.specs.Statements.{Effect, effect}
 use Rattle.stored_database.specs.Definitions.{Definitions}
@@ -28,7 +28,7 @@ pub record IsMade (records : Records) (d : Definitions) (made : TheEffect) (mean
   pub leads : Leads made.changes records (definitions_after made.schema d) after
 
 -- the statement is carried out or refused as is meant, unless an allocation or the device fails
-abbrev pub Executes : Records → Definitions → Result TheEffect Stop → Result Effect SqlState → Type 0
+abbrev pub Executes : Records → Definitions → Result TheEffect StatementError → Result Effect SqlState → Type 0
 Executes records d (Ok made) meant = IsMade records d made meant
 Executes records d (Err (Refused code)) meant = meant ≡ Err code
 Executes records d (Err (Failed Memory)) meant = Unit {0}
@@ -36,6 +36,6 @@ Executes records d (Err (Failed Device)) meant = Unit {0}
 Executes records d (Err (Failed Damaged)) meant = ⊥
 
 -- over whatever records show a database of these definitions, the statement of such users is carried out or refused as is meant
-abbrev pub Defines : (UserNames → Type 0) → Execution → Definitions → Result TheEffect Stop → Type 0
+abbrev pub Defines : (UserNames → Type 0) → Execution → Definitions → Result TheEffect StatementError → Type 0
 Defines who run d result = (records : Records) (db : Database) (users : UserNames) →
     IsOrdered records → Shows records d db → who users → Executes records d result (run db users)

@@ -118,9 +118,9 @@ with_mask_of ds x = record x { mask = mask_given x.action (grantee_name x.grante
 
 -- what is left of an entry, if anything is, where some descriptors went and these are left
 abbrev pub still_given : List Descriptor → List Descriptor → Granted → Option Granted
-still_given gone left x = cond (is_given gone x) (cond (is_given left x) (Some (with_mask_of left x)) None) (Some x)
+still_given removed left x = cond (is_given removed x) (cond (is_given left x) (Some (with_mask_of left x)) None) (Some x)
 
 -- what is left of each
 abbrev pub left_of : List Descriptor → List Descriptor → List Granted → List Granted
-left_of gone left [] = []
-left_of gone left (x ∷ xs) = option_to_list (still_given gone left x) ++ left_of gone left xs
+left_of removed left [] = []
+left_of removed left (x ∷ xs) = option_to_list (still_given removed left x) ++ left_of removed left xs

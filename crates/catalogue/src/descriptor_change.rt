@@ -15,8 +15,8 @@ use std::marker::Model;
 #[derive(Drop)]
 pub struct DescriptorChange {
     table: Name,
-    gone: Items<Descriptor>,
-    come: Items<Descriptor>,
+    removed: Items<Descriptor>,
+    added: Items<Descriptor>,
 }
 
 impl Model for DescriptorChange {
@@ -25,18 +25,26 @@ impl Model for DescriptorChange {
 
     ghost Value = { DescriptorsChanged };
 
-    ghost view = { λ c. record { table = c.table; gone = c.gone; come = c.come } };
+    ghost view = { λ c. record { table = c.table; removed = c.removed; added = c.added } };
 
-    ghost invariant = { λ c. Each (IsForTable c.table) c.come };
+    ghost invariant = { λ c. Each (IsForTable c.table) c.added };
 }
 
 impl DescriptorChange {
     /// The change by which these go from the table of this name, and then those come.
-    pub fn new(table: Name, gone: Items<Descriptor>, come: Items<Descriptor>) -> DescriptorChange
-        requires { Each (IsForTable table) come }
-        ensures { result ≡ record { table = table; gone = gone; come = come } }
+    pub fn new(
+        table: Name,
+        removed: Items<Descriptor>,
+        added: Items<Descriptor>,
+    ) -> DescriptorChange
+        requires { Each (IsForTable table) added }
+        ensures { result ≡ record { table = table; removed = removed; added = added } }
     {
-        DescriptorChange { table, gone, come }
+        DescriptorChange {
+            table,
+            removed,
+            added,
+        }
     }
 
     /// The name of the table, lent.
@@ -47,31 +55,31 @@ impl DescriptorChange {
     }
 
     /// The privilege descriptors that go, lent.
-    pub fn gone(&self) -> &[Descriptor]
-        ensures { result.now ≡ self.now.gone }
+    pub fn removed(&self) -> &[Descriptor]
+        ensures { result.now ≡ self.now.removed }
     {
-        self.gone.as_slice()
+        self.removed.as_slice()
     }
 
     /// The privilege descriptors that come, lent.
-    pub fn come(&self) -> &[Descriptor]
-        ensures come { result.now ≡ self.now.come }
-        ensures own { Each (IsForTable self.now.table) self.now.come }
+    pub fn added(&self) -> &[Descriptor]
+        ensures added { result.now ≡ self.now.added }
+        ensures own { Each (IsForTable self.now.table) self.now.added }
     {
-        self.come.as_slice()
+        self.added.as_slice()
     }
 
     /// The privilege descriptors that go and those that come, in their memory.
     pub(crate) fn into_lists(self) -> (Items<Descriptor>, Items<Descriptor>)
-        ensures gone { result.0 ≡ self.gone }
-        ensures come { result.1 ≡ self.come }
-        ensures own { Each (IsForTable self.table) self.come }
+        ensures removed { result.0 ≡ self.removed }
+        ensures added { result.1 ≡ self.added }
+        ensures own { Each (IsForTable self.table) self.added }
     {
         let DescriptorChange {
             table: _,
-            gone,
-            come,
+            removed,
+            added,
         } = self;
-        (gone, come)
+        (removed, added)
     }
 }

@@ -7,6 +7,7 @@
 pub mod change;
 pub mod definitions;
 pub mod descriptor_change;
+pub(crate) mod descriptor_edit;
 pub mod effect;
 pub(crate) mod grants;
 pub mod laws;
@@ -14,7 +15,6 @@ pub mod names;
 pub mod numbers;
 pub mod order;
 pub mod policy;
-pub(crate) mod regranted;
-pub(crate) mod room;
+pub(crate) mod reservation;
 pub mod staged;
 pub mod table;

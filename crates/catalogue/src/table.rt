@@ -15,7 +15,7 @@ use crate::descriptor_change::DescriptorChange;
 use crate::grants::GrantIndex;
 use crate::order::{compare_descriptors, compare_names, descriptors_rise, policies_rise};
 use crate::policy::CataloguePolicy;
-use crate::room::{Room, changed};
+use crate::reservation::{Reservation, changed};
 use sql_ast::columns::Columns;
 use sql_ast::privilege::{Action, Descriptor};
 use sql_types::items::Items;
@@ -132,15 +132,15 @@ impl TableDefinition {
     }
 
     /// Makes a change of the privilege descriptors of the table in the memory that was taken for it.
-    pub(crate) fn change_descriptors(&mut self, change: DescriptorChange, room: Room)
+    pub(crate) fn change_descriptors(&mut self, change: DescriptorChange, reservation: Reservation)
         requires table { change.table ≡ self.old.definition.name }
-        requires room { HasRoomFor change self.old.descriptors room }
+        requires reservation { HasRoomFor change self.old.descriptors reservation }
         ensures { self.new ≡ table_after change self.old }
     {
-        let alloc = room.allocator();
+        let alloc = reservation.allocator();
         let descriptors = mem::replace(&mut self.parts.descriptors, Items::new(alloc));
         let index = mem::replace(&mut self.grants, GrantIndex::empty(alloc));
-        let (descriptors, index) = changed(descriptors, index, change, room);
+        let (descriptors, index) = changed(descriptors, index, change, reservation);
         self.parts.descriptors = descriptors;
         self.grants = index;
     }

@@ -2,7 +2,7 @@
 use Rattle.std.proofs.Common.{◌≡◌, List, ◌++◌, map, ap, sym, ◌∙◌}
 use Rattle.sql_ast.specs.declared.role.Role.{Role}
 use Rattle.sql_ast.specs.declared.role.Membership.{Membership}
-use Rattle.stored_database.specs.Spelling.{role_record, membership_record}
+use Rattle.stored_database.specs.RecordFormat.{role_record, membership_record}
 use Rattle.store.specs.Records.{Records, Changes, applied}
 use Rattle.catalogue_changes.specs.Differences.{differences, applied_in_turn}
 use Rattle.catalogue_changes.specs.Entries.{Adds}

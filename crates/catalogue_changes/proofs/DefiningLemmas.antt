@@ -8,10 +8,10 @@ use Rattle.sql_types.specs.declared.tag.Tag.{Tag}
 use Rattle.sql_types.specs.declared.warning.Warning.{Warning}
 use Rattle.expressions.specs.Meaning.{UserNames}
 use Rattle.store.specs.Records.{Changes}
-use Rattle.store.specs.Stop.{IsStopBy, FailsForMemory}
+use Rattle.store.specs.StatementError.{IsStopBy, FailsForMemory}
 use Rattle.store.specs.declared.fault.Fault.TheVariants.{Memory, Device, Damaged}
-use Rattle.store.specs.declared.stop.Stop.{Stop}
-use Rattle.store.specs.declared.stop.Stop.TheVariants.{Refused, Failed}
+use Rattle.store.specs.declared.stop.StatementError.{StatementError}
+use Rattle.store.specs.declared.stop.StatementError.TheVariants.{Refused, Failed}
 use Rattle.abstract_database.specs.Database.{Database}
 use Rattle.stored_database.specs.Definitions.{Definitions}
 use Rattle.stored_database.specs.Valid.{Describes}
@@ -24,7 +24,7 @@ use Rattle.catalogue_changes.specs.Carried.{Carries, Refuses}
 use Rattle.catalogue_changes.specs.Defined.{effect_defined}
 
 -- a refusal stops a statement for memory alone, or as a refusal
-pub fails_for_memory : (code : SqlState) (stop : Stop) → IsStopBy code stop → FailsForMemory stop
+pub fails_for_memory : (code : SqlState) (stop : StatementError) → IsStopBy code stop → FailsForMemory stop
 fails_for_memory code (Refused c) is = tt
 fails_for_memory code (Failed Memory) is = refl
 fails_for_memory code (Failed Device) is = absurd is
@@ -43,11 +43,11 @@ module _ (who : UserNames → Type 0) (run : Execution) (d : Definitions) where
   refused_by code meant = λ records db users ordered shown by. meant db users (shown_described records d db shown) by
 
   -- memory failed
-  pub out_of_memory : (stop : Stop) → stop ≡ Failed Memory → Defines who run d (Err stop)
-  out_of_memory stop is = subst (λ (s : Stop). Defines who run d (Err s)) (sym is) (λ records db users ordered shown by. tt)
+  pub out_of_memory : (stop : StatementError) → stop ≡ Failed Memory → Defines who run d (Err stop)
+  out_of_memory stop is = subst (λ (s : StatementError). Defines who run d (Err s)) (sym is) (λ records db users ordered shown by. tt)
 
   -- stopped by a refusal
-  pub stopped_by : (refusal : Refusal) (stop : Stop) → IsStopBy refusal.0 stop → Refuses who run d refusal → Defines who run d (Err stop)
+  pub stopped_by : (refusal : Refusal) (stop : StatementError) → IsStopBy refusal.0 stop → Refuses who run d refusal → Defines who run d (Err stop)
   stopped_by refusal (Refused c) is (inl memory) = absurd (is.1 memory)
   stopped_by refusal (Refused c) is (inr meant) = λ records db users ordered shown by.
       meant db users (shown_described records d db shown) by ∙ ap (λ (code : SqlState). Err code) (sym is.0)
@@ -56,11 +56,11 @@ module _ (who : UserNames → Type 0) (run : Execution) (d : Definitions) where
   stopped_by refusal (Failed Damaged) is refuses = absurd is
 
   -- handed on
-  pub handed_on : (refusal : Refusal) (result : Result Effect Stop) → IsErrAnd result (λ stop. IsStopBy refusal.0 stop) → Refuses who run d refusal → Defines who run d result
+  pub handed_on : (refusal : Refusal) (result : Result Effect StatementError) → IsErrAnd result (λ stop. IsStopBy refusal.0 stop) → Refuses who run d refusal → Defines who run d result
   handed_on refusal (Ok made) is refuses = absurd is
   handed_on refusal (Err stop) is refuses = stopped_by refusal stop is refuses
 
 -- a refusal that is handed on fails for memory alone
-pub handed_on_fails : (refusal : Refusal) (result : Result Effect Stop) → IsErrAnd result (λ stop. IsStopBy refusal.0 stop) → IfErr result FailsForMemory
+pub handed_on_fails : (refusal : Refusal) (result : Result Effect StatementError) → IsErrAnd result (λ stop. IsStopBy refusal.0 stop) → IfErr result FailsForMemory
 handed_on_fails refusal (Ok made) is = absurd is
 handed_on_fails refusal (Err stop) is = fails_for_memory refusal.0 stop is

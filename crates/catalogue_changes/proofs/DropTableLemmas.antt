@@ -16,7 +16,7 @@ use Rattle.abstract_database.specs.Whole.{Each, IsWhole, clauses_of}
 use Rattle.abstract_database.proofs.ListLemmas.{bytes_same, same_bytes}
 use Rattle.abstract_database.proofs.ElementLemmas.{any_found, of_filter, into_filter}
 use Rattle.stored_database.specs.Definitions.{TableDefinition, Definitions, definition_cmp, ids_of, policies_of, database_with, database_of}
-use Rattle.stored_database.specs.Spelling.{table_prefix, table_record, descriptor_prefix, descriptor_record, policy_prefix, policy_record}
+use Rattle.stored_database.specs.RecordFormat.{table_prefix, table_record, descriptor_prefix, descriptor_record, policy_prefix, policy_record}
 use Rattle.expr_parser.specs.Written.{IsAsWritten}
 use Rattle.stored_database.specs.Valid.{AreValid}
 use Rattle.stored_database.specs.Records.{HoldsTable, Shows, HasNoRecords}
@@ -161,8 +161,8 @@ module _ (name : TheName) (records : Records) (d : Definitions) (db after : Data
         ∙ step3.elsewhere (has_prefix table_prefix) (kinds_apart 5 3 (big_bytes 4 table.id) [] refl)
         ∙ step2.elsewhere (has_prefix table_prefix) (kinds_apart 4 3 (big_bytes 4 table.id) [] refl) ∙ step1.held
 
-    gone : HasNoRecords r4 table.id
-    gone = record {
+    removed : HasNoRecords r4 table.id
+    removed = record {
       descriptors = step4.elsewhere (has_prefix (descriptor_prefix table.id)) (kinds_apart 6 4 (big_bytes 4 table.id) (big_bytes 4 table.id) refl)
           ∙ step3.elsewhere (has_prefix (descriptor_prefix table.id)) (kinds_apart 5 4 (big_bytes 4 table.id) (big_bytes 4 table.id) refl) ∙ step2.held;
       policies = step4.elsewhere (has_prefix (policy_prefix table.id)) (kinds_apart 6 5 (big_bytes 4 table.id) (big_bytes 4 table.id) refl) ∙ step3.held;
@@ -197,7 +197,7 @@ module _ (name : TheName) (records : Records) (d : Definitions) (db after : Data
 
     pub drop_shown : Shows (applied_in_turn (record_changes (change.DropTable name) d records) records) e after
     drop_shown = subst (λ (z : Records). Shows z e after) (sym in_steps)
-        (table_shown records r4 d e db s table.id small confined ids (inr gone)
+        (table_shown records r4 d e db s table.id small confined ids (inr removed)
         after rows refl refl held_tables each_held (rows_dropped records r4 name d.tables s.rows row_stays s.held) valid_after is_after whole.rows)
 
 pub drop_table_leads : (name : TheName) → Leads (change.DropTable name)

@@ -15,11 +15,11 @@ use Rattle.catalogue_changes.proofs.ItemLemmas.{same_front}
 
 module _ {X : Type 0} (cmp : X → X → Ordering) (total : IsTotalOrder cmp) where
   abbrev pub named_in : List X → X → Bool
-  named_in gone x = list_any (λ n. is_eq (cmp n x)) gone
+  named_in removed x = list_any (λ n. is_eq (cmp n x)) removed
 
   -- the list without those that go and with those that come
   abbrev pub items_after : List X → List X → List X → List X
-  items_after come gone xs = put_each cmp the_new come (drop_where (named_in gone) xs)
+  items_after added removed xs = put_each cmp the_new added (drop_where (named_in removed) xs)
 
   turned_to : (x y : X) (o : Ordering) → cmp x y ≡ o → cmp y x ≡ ordering_reverse o
   turned_to x y o e = total.antisymm y x ∙ ap ordering_reverse e
@@ -46,20 +46,20 @@ module _ {X : Type 0} (cmp : X → X → Ordering) (total : IsTotalOrder cmp) wh
   put_at o d y ys e = ap (λ (p : Ordering). cond (is_lt p) (d ∷ y ∷ ys) (cond (is_eq p) (d ∷ ys) (y ∷ put cmp the_new d ys))) e
 
   -- what stands before all that come stays the first
-  stays_first : (come : List X) (y : X) (ys : List X) → AreAfter y come → put_each cmp the_new come (y ∷ ys) ≡ y ∷ put_each cmp the_new come ys
+  stays_first : (added : List X) (y : X) (ys : List X) → AreAfter y added → put_each cmp the_new added (y ∷ ys) ≡ y ∷ put_each cmp the_new added ys
   stays_first [] y ys after = refl
-  stays_first (d ∷ come) y ys after =
-      ap (put_each cmp the_new come) (put_at Greater d y ys (turned_to y d Less (after d (inl refl))))
-      ∙ stays_first come y (put cmp the_new d ys) (λ x h. after x (inr h))
+  stays_first (d ∷ added) y ys after =
+      ap (put_each cmp the_new added) (put_at Greater d y ys (turned_to y d Less (after d (inl refl))))
+      ∙ stays_first added y (put cmp the_new d ys) (λ x h. after x (inr h))
 
   -- what stands before all others is put first
   put_first : (d : X) (ys : List X) → AreAfter d ys → put cmp the_new d ys ≡ d ∷ ys
   put_first d [] after = refl
   put_first d (y ∷ ys) after = put_at Less d y ys (after y (inl refl))
 
-  put_among_none : (come : List X) → Rising cmp come → put_each cmp the_new come [] ≡ come
+  put_among_none : (added : List X) → Rising cmp added → put_each cmp the_new added [] ≡ added
   put_among_none [] r = refl
-  put_among_none (d ∷ come) r = stays_first come d [] r.0 ∙ ap (λ (l : List X). d ∷ l) (put_among_none come r.1)
+  put_among_none (d ∷ added) r = stays_first added d [] r.0 ∙ ap (λ (l : List X). d ∷ l) (put_among_none added r.1)
 
   of_put_after : (x d : X) (ys : List X) → cmp x d ≡ Less → AreAfter x ys → AreAfter x (put cmp the_new d ys)
   of_put_after x d [] less after y (inl is) = subst (λ (v : X). cmp x v ≡ Less) is less
@@ -73,9 +73,9 @@ module _ {X : Type 0} (cmp : X → X → Ordering) (total : IsTotalOrder cmp) wh
     go Greater (inl is) later = after y (inl is)
     go Greater (inr k) later = later k
 
-  of_each_after : (x : X) (come ys : List X) → AreAfter x come → AreAfter x ys → AreAfter x (put_each cmp the_new come ys)
+  of_each_after : (x : X) (added ys : List X) → AreAfter x added → AreAfter x ys → AreAfter x (put_each cmp the_new added ys)
   of_each_after x [] ys come_after after = after
-  of_each_after x (d ∷ come) ys come_after after = of_each_after x come (put cmp the_new d ys) (λ v among. come_after v (inr among)) (of_put_after x d ys (come_after d (inl refl)) after)
+  of_each_after x (d ∷ added) ys come_after after = of_each_after x added (put cmp the_new d ys) (λ v among. come_after v (inr among)) (of_put_after x d ys (come_after d (inl refl)) after)
 
   -- ---- what goes
 
@@ -83,37 +83,37 @@ module _ {X : Type 0} (cmp : X → X → Ordering) (total : IsTotalOrder cmp) wh
   not_it : (x y : X) → cmp x y ≡ Less → is_eq (cmp x y) ≡ false
   not_it x y less = ap is_eq less
 
-  first_out : (x : X) (gone ys : List X) → AreAfter x ys → drop_where (named_in (x ∷ gone)) ys ≡ drop_where (named_in gone) ys
-  first_out x gone [] after = refl
-  first_out x gone (y ∷ ys) after =
-      ap (λ (b : Bool). cond (not b) (y ∷ drop_where (named_in (x ∷ gone)) ys) (drop_where (named_in (x ∷ gone)) ys)) (is_other (is_eq (cmp x y)) (named_in gone y) (not_it x y (after y (inl refl))))
-      ∙ ap (λ (l : List X). cond (not (named_in gone y)) (y ∷ l) l) (first_out x gone ys (λ v among. after v (inr among))) where
+  first_out : (x : X) (removed ys : List X) → AreAfter x ys → drop_where (named_in (x ∷ removed)) ys ≡ drop_where (named_in removed) ys
+  first_out x removed [] after = refl
+  first_out x removed (y ∷ ys) after =
+      ap (λ (b : Bool). cond (not b) (y ∷ drop_where (named_in (x ∷ removed)) ys) (drop_where (named_in (x ∷ removed)) ys)) (is_other (is_eq (cmp x y)) (named_in removed y) (not_it x y (after y (inl refl))))
+      ∙ ap (λ (l : List X). cond (not (named_in removed y)) (y ∷ l) l) (first_out x removed ys (λ v among. after v (inr among))) where
         is_other : (a b : Bool) → a ≡ false → (a || b) ≡ b
         is_other true b e = cc
         is_other false b e = refl
 
-  kept_at : (gone ys : List X) (y : X) (b : Bool) → named_in gone y ≡ b → drop_where (named_in gone) (y ∷ ys) ≡ cond (not b) (y ∷ drop_where (named_in gone) ys) (drop_where (named_in gone) ys)
-  kept_at gone ys y b e = ap (λ (c : Bool). cond (not c) (y ∷ drop_where (named_in gone) ys) (drop_where (named_in gone) ys)) e
+  kept_at : (removed ys : List X) (y : X) (b : Bool) → named_in removed y ≡ b → drop_where (named_in removed) (y ∷ ys) ≡ cond (not b) (y ∷ drop_where (named_in removed) ys) (drop_where (named_in removed) ys)
+  kept_at removed ys y b e = ap (λ (c : Bool). cond (not c) (y ∷ drop_where (named_in removed) ys) (drop_where (named_in removed) ys)) e
 
-  left_after : (x : X) (gone ys : List X) → AreAfter x ys → AreAfter x (drop_where (named_in gone) ys)
-  left_after x gone ys after y h = after y (of_filter (λ v. not (named_in gone v)) ys y h).0
+  left_after : (x : X) (removed ys : List X) → AreAfter x ys → AreAfter x (drop_where (named_in removed) ys)
+  left_after x removed ys after y h = after y (of_filter (λ v. not (named_in removed v)) ys y h).0
 
   abbrev AreThere : List X → List X → Type 0
-  AreThere gone xs = (g : X) → Among g gone → Among g xs
+  AreThere removed xs = (g : X) → Among g removed → Among g xs
 
   -- what goes and is no first item is there behind it
-  there_behind : (x : X) (xs gone : List X) → AreThere gone (x ∷ xs) → named_in gone x ≡ false → AreThere gone xs
-  there_behind x xs gone there none g of = elim (there g of) [
+  there_behind : (x : X) (xs removed : List X) → AreThere removed (x ∷ xs) → named_in removed x ≡ false → AreThere removed xs
+  there_behind x xs removed there none g of = elim (there g of) [
     | inl is ↦
-        let found : named_in gone x ≡ true = any_holds (λ n. is_eq (cmp n x)) gone g of (subst (λ (v : X). is_eq (cmp v x) ≡ true) is (ap is_eq (itself_equal x))) in
+        let found : named_in removed x ≡ true = any_holds (λ n. is_eq (cmp n x)) removed g of (subst (λ (v : X). is_eq (cmp v x) ≡ true) is (ap is_eq (itself_equal x))) in
         let no : true ≡ false = sym found ∙ none in cc
     | inr later ↦ later
   ]
 
   -- a first item that goes is the first of those that go
-  is_first : (x g : X) (xs gone : List X) → Rising cmp (x ∷ xs) → Rising cmp (g ∷ gone) → AreThere (g ∷ gone) (x ∷ xs) → named_in (g ∷ gone) x ≡ true → x ≡ g
-  is_first x g xs gone r q there named =
-      let n = any_found (λ n. is_eq (cmp n x)) (g ∷ gone) named in
+  is_first : (x g : X) (xs removed : List X) → Rising cmp (x ∷ xs) → Rising cmp (g ∷ removed) → AreThere (g ∷ removed) (x ∷ xs) → named_in (g ∷ removed) x ≡ true → x ≡ g
+  is_first x g xs removed r q there named =
+      let n = any_found (λ n. is_eq (cmp n x)) (g ∷ removed) named in
       let equal : cmp n.0 x ≡ Equal = equal_is (cmp n.0 x) n.2 in
       elim (there g (inl refl)) [
         | inl is ↦ is
@@ -128,8 +128,8 @@ module _ {X : Type 0} (cmp : X → X → Ordering) (total : IsTotalOrder cmp) wh
             ]
       ]
 
-  there_rest : (x : X) (xs gone : List X) → Rising cmp (x ∷ gone) → AreThere (x ∷ gone) (x ∷ xs) → AreThere gone xs
-  there_rest x xs gone q there g of = elim (there g (inr of)) [
+  there_rest : (x : X) (xs removed : List X) → Rising cmp (x ∷ removed) → AreThere (x ∷ removed) (x ∷ xs) → AreThere removed xs
+  there_rest x xs removed q there g of = elim (there g (inr of)) [
     | inl is ↦ let no : Equal ≡ Less = sym (itself_equal x) ∙ subst (λ (v : X). cmp x v ≡ Less) (sym is) (q.0 g of) in cc
     | inr later ↦ later
   ]
@@ -173,29 +173,29 @@ module _ {X : Type 0} (cmp : X → X → Ordering) (total : IsTotalOrder cmp) wh
       go Greater (inl is) later = each y (inl is)
       go Greater (inr k) later = later k
 
-    each_put_of : (come ys : List X) → Each P come → Each P ys → Each P (put_each cmp the_new come ys)
+    each_put_of : (added ys : List X) → Each P added → Each P ys → Each P (put_each cmp the_new added ys)
     each_put_of [] ys comes each = each
-    each_put_of (d ∷ come) ys comes each = each_put_of come (put cmp the_new d ys) (λ v among. comes v (inr among)) (each_put d ys (comes d (inl refl)) each)
+    each_put_of (d ∷ added) ys comes each = each_put_of added (put cmp the_new d ys) (λ v among. comes v (inr among)) (each_put d ys (comes d (inl refl)) each)
 
-    each_kept : (xs gone come : List X) → Each P xs → Each P come → Each P (items_after come gone xs)
-    each_kept xs gone come each comes = each_put_of come (drop_where (named_in gone) xs) comes (λ x h. each x (of_filter (λ v. not (named_in gone v)) xs x h).0)
+    each_kept : (xs removed added : List X) → Each P xs → Each P added → Each P (items_after added removed xs)
+    each_kept xs removed added each comes = each_put_of added (drop_where (named_in removed) xs) comes (λ x h. each x (of_filter (λ v. not (named_in removed v)) xs x h).0)
 
     -- what the lists are to be, to tell what goes and comes by the differences
-    pub record AreChanges (come gone xs : List X) : Type 0 where
+    pub record AreChanges (added removed xs : List X) : Type 0 where
       pub held : Each P xs
-      pub comes : Each P come
+      pub comes : Each P added
       pub order : Rising cmp xs
-      pub gone_order : Rising cmp gone
-      pub come_order : Rising cmp come
-      pub there : AreThere gone xs
-      pub apart : (c : X) → Among c come → named_in gone c ≡ false
-      pub new : (c : X) → Among c come → (x : X) → Among x xs → cmp x c ≡ Equal → bytes_eq (spell x).1 (spell c).1 ≡ false
+      pub gone_order : Rising cmp removed
+      pub come_order : Rising cmp added
+      pub there : AreThere removed xs
+      pub apart : (c : X) → Among c added → named_in removed c ≡ false
+      pub new : (c : X) → Among c added → (x : X) → Among x xs → cmp x c ≡ Equal → bytes_eq (spell x).1 (spell c).1 ≡ false
 
     abbrev Agree : List X → List X → List X → Type 0
-    Agree come gone xs = differences (all xs) (all (items_after come gone xs)) ≡ differences (all gone) (all come)
+    Agree added removed xs = differences (all xs) (all (items_after added removed xs)) ≡ differences (all removed) (all added)
 
-    without_first : (x : X) (xs come gone gone' : List X) → AreChanges come gone (x ∷ xs) → Rising cmp gone' → AreThere gone' xs → ((c : X) → Among c come → named_in gone' c ≡ false) → AreChanges come gone' xs
-    without_first x xs come gone gone' e q there apart = record {
+    without_first : (x : X) (xs added removed removed' : List X) → AreChanges added removed (x ∷ xs) → Rising cmp removed' → AreThere removed' xs → ((c : X) → Among c added → named_in removed' c ≡ false) → AreChanges added removed' xs
+    without_first x xs added removed removed' e q there apart = record {
       held = λ v among. e.held v (inr among);
       comes = e.comes;
       order = e.order.1;
@@ -207,43 +207,43 @@ module _ {X : Type 0} (cmp : X → X → Ordering) (total : IsTotalOrder cmp) wh
     }
 
     -- all that comes stands after the first item
-    step_past : (x : X) (xs come gone : List X) → AreChanges come gone (x ∷ xs) → AreAfter x come → ((gone' : List X) → AreChanges come gone' xs → Agree come gone' xs) → Agree come gone (x ∷ xs)
-    step_past x xs come gone e after later = go (named_in gone x) refl where
-      stays : named_in gone x ≡ false → Agree come gone (x ∷ xs)
+    step_past : (x : X) (xs added removed : List X) → AreChanges added removed (x ∷ xs) → AreAfter x added → ((removed' : List X) → AreChanges added removed' xs → Agree added removed' xs) → Agree added removed (x ∷ xs)
+    step_past x xs added removed e after later = go (named_in removed x) refl where
+      stays : named_in removed x ≡ false → Agree added removed (x ∷ xs)
       stays none =
-          ap (λ (l : List X). differences (all (x ∷ xs)) (all (put_each cmp the_new come l))) (kept_at gone xs x false none)
-          ∙ ap (λ (l : List X). differences (all (x ∷ xs)) (all l)) (stays_first come x (drop_where (named_in gone) xs) after)
-          ∙ same_front (spell x) (all xs) (all (items_after come gone xs))
-          ∙ later gone (without_first x xs come gone gone e e.gone_order (there_behind x xs gone e.there none) e.apart)
+          ap (λ (l : List X). differences (all (x ∷ xs)) (all (put_each cmp the_new added l))) (kept_at removed xs x false none)
+          ∙ ap (λ (l : List X). differences (all (x ∷ xs)) (all l)) (stays_first added x (drop_where (named_in removed) xs) after)
+          ∙ same_front (spell x) (all xs) (all (items_after added removed xs))
+          ∙ later removed (without_first x xs added removed removed e e.gone_order (there_behind x xs removed e.there none) e.apart)
 
-      goes : (gone' : List X) → gone ≡ x ∷ gone' → named_in gone x ≡ true → Agree come gone (x ∷ xs)
-      goes gone' is named =
-          let e' : AreChanges come (x ∷ gone') (x ∷ xs) = subst (λ (l : List X). AreChanges come l (x ∷ xs)) is e in
-          let named' : named_in (x ∷ gone') x ≡ true = subst (λ (l : List X). named_in l x ≡ true) is named in
-          let are_changes : AreChanges come gone' xs = without_first x xs come (x ∷ gone') gone' e' e'.gone_order.1 (there_rest x xs gone' e'.gone_order e'.there) (λ c of. rest_apart (is_eq (cmp x c)) (named_in gone' c) (e'.apart c of)) in
-          subst (λ (l : List X). Agree come l (x ∷ xs)) (sym is)
-          (ap (λ (l : List X). differences (all (x ∷ xs)) (all (put_each cmp the_new come l))) (kept_at (x ∷ gone') xs x true named' ∙ first_out x gone' xs e'.order.0)
-          ∙ first_removed x xs (items_after come gone' xs) (e'.held x (inl refl)) (each_kept xs gone' come (λ v among. e'.held v (inr among)) e'.comes)
-          (of_each_after x come (drop_where (named_in gone') xs) after (left_after x gone' xs e'.order.0))
-          ∙ ap (λ (cs : Changes). removal (spell x) ∷ cs) (later gone' are_changes)
-          ∙ sym (first_removed x gone' come (e'.held x (inl refl)) e'.comes after)) where
+      goes : (removed' : List X) → removed ≡ x ∷ removed' → named_in removed x ≡ true → Agree added removed (x ∷ xs)
+      goes removed' is named =
+          let e' : AreChanges added (x ∷ removed') (x ∷ xs) = subst (λ (l : List X). AreChanges added l (x ∷ xs)) is e in
+          let named' : named_in (x ∷ removed') x ≡ true = subst (λ (l : List X). named_in l x ≡ true) is named in
+          let are_changes : AreChanges added removed' xs = without_first x xs added (x ∷ removed') removed' e' e'.gone_order.1 (there_rest x xs removed' e'.gone_order e'.there) (λ c of. rest_apart (is_eq (cmp x c)) (named_in removed' c) (e'.apart c of)) in
+          subst (λ (l : List X). Agree added l (x ∷ xs)) (sym is)
+          (ap (λ (l : List X). differences (all (x ∷ xs)) (all (put_each cmp the_new added l))) (kept_at (x ∷ removed') xs x true named' ∙ first_out x removed' xs e'.order.0)
+          ∙ first_removed x xs (items_after added removed' xs) (e'.held x (inl refl)) (each_kept xs removed' added (λ v among. e'.held v (inr among)) e'.comes)
+          (of_each_after x added (drop_where (named_in removed') xs) after (left_after x removed' xs e'.order.0))
+          ∙ ap (λ (cs : Changes). removal (spell x) ∷ cs) (later removed' are_changes)
+          ∙ sym (first_removed x removed' added (e'.held x (inl refl)) e'.comes after)) where
             rest_apart : (a b : Bool) → (a || b) ≡ false → b ≡ false
             rest_apart true b f = cc
             rest_apart false b f = f
 
-      first_of : (l : List X) → gone ≡ l → named_in gone x ≡ true → Agree come gone (x ∷ xs)
+      first_of : (l : List X) → removed ≡ l → named_in removed x ≡ true → Agree added removed (x ∷ xs)
       first_of [] is named = let no : false ≡ true = sym (ap (λ (l : List X). named_in l x) is) ∙ named in cc
       first_of (g ∷ gs) is named =
-          let e' : AreChanges come (g ∷ gs) (x ∷ xs) = subst (λ (l : List X). AreChanges come l (x ∷ xs)) is e in
+          let e' : AreChanges added (g ∷ gs) (x ∷ xs) = subst (λ (l : List X). AreChanges added l (x ∷ xs)) is e in
           let same : x ≡ g = is_first x g xs gs e'.order e'.gone_order e'.there (subst (λ (l : List X). named_in l x ≡ true) is named) in
           goes gs (is ∙ ap (λ (v : X). v ∷ gs) (sym same)) named
 
-      go : (b : Bool) → named_in gone x ≡ b → Agree come gone (x ∷ xs)
-      go true named = first_of gone refl named
+      go : (b : Bool) → named_in removed x ≡ b → Agree added removed (x ∷ xs)
+      go true named = first_of removed refl named
       go false none = stays none
 
-    gone_after : (c x : X) (xs gone : List X) → cmp c x ≡ Less → Rising cmp (x ∷ xs) → AreThere gone (x ∷ xs) → AreAfter c gone
-    gone_after c x xs gone less r there g of = elim (there g of) [
+    gone_after : (c x : X) (xs removed : List X) → cmp c x ≡ Less → Rising cmp (x ∷ xs) → AreThere removed (x ∷ xs) → AreAfter c removed
+    gone_after c x xs removed less r there g of = elim (there g of) [
       | inl is ↦ subst (λ (v : X). cmp c v ≡ Less) is less
       | inr later ↦ total.trans c x g less (r.0 g later)
     ]
@@ -256,7 +256,7 @@ module _ {X : Type 0} (cmp : X → X → Ordering) (total : IsTotalOrder cmp) wh
     neither true b f = cc
     neither false b f = (refl, f)
 
-    same_named : (gone : List X) (x c : X) → cmp x c ≡ Equal → named_in gone c ≡ false → named_in gone x ≡ false
+    same_named : (removed : List X) (x c : X) → cmp x c ≡ Equal → named_in removed c ≡ false → named_in removed x ≡ false
     same_named [] x c equal e = refl
     same_named (g ∷ gs) x c equal e =
         let behind : cmp g x ≡ cmp g c = total.antisymm g x ∙ ap ordering_reverse (total.congr x c g equal) ∙ sym (total.antisymm g c) in
@@ -264,13 +264,13 @@ module _ {X : Type 0} (cmp : X → X → Ordering) (total : IsTotalOrder cmp) wh
         ap (λ (a : Bool). a || named_in gs x) (ap is_eq behind ∙ none.0) ∙ same_named gs x c equal none.1
 
     -- the differences are those of what goes and comes; n counts the items
-    by_count : (n : ℕ) (xs come gone : List X) → length xs + length come ≤ n → AreChanges come gone xs → Agree come gone xs
-    by_count n [] come [] le e = ap (λ (l : List X). map put_of (all l)) (put_among_none come e.come_order)
-    by_count n [] come (g ∷ gs) le e = absurd (e.there g (inl refl))
-    by_count zero (x ∷ xs) come gone le e = absurd (omega (arith, le))
-    by_count (suc n) (x ∷ xs) [] gone le e = step_past x xs [] gone e (λ y h. absurd h) (λ gone' e'. by_count n xs [] gone' (omega (arith, le)) e')
-    by_count (suc n) (x ∷ xs) (c ∷ come) gone le e = go (cmp c x) refl (λ xs' come' gone' le' e'. by_count n xs' come' gone' le' e') where
-      rest_come : AreChanges come gone (x ∷ xs)
+    by_count : (n : ℕ) (xs added removed : List X) → length xs + length added ≤ n → AreChanges added removed xs → Agree added removed xs
+    by_count n [] added [] le e = ap (λ (l : List X). map put_of (all l)) (put_among_none added e.come_order)
+    by_count n [] added (g ∷ gs) le e = absurd (e.there g (inl refl))
+    by_count zero (x ∷ xs) added removed le e = absurd (omega (arith, le))
+    by_count (suc n) (x ∷ xs) [] removed le e = step_past x xs [] removed e (λ y h. absurd h) (λ removed' e'. by_count n xs [] removed' (omega (arith, le)) e')
+    by_count (suc n) (x ∷ xs) (c ∷ added) removed le e = go (cmp c x) refl (λ xs' added' removed' le' e'. by_count n xs' added' removed' le' e') where
+      rest_come : AreChanges added removed (x ∷ xs)
       rest_come = record {
         held = e.held;
         comes = λ v among. e.comes v (inr among);
@@ -282,36 +282,36 @@ module _ {X : Type 0} (cmp : X → X → Ordering) (total : IsTotalOrder cmp) wh
         new = λ v of. e.new v (inr of);
       }
 
-      after_come : AreAfter c come
+      after_come : AreAfter c added
       after_come = e.come_order.0
 
-      go : (o : Ordering) → cmp c x ≡ o → ((xs' come' gone' : List X) → length xs' + length come' ≤ n → AreChanges come' gone' xs' → Agree come' gone' xs') → Agree (c ∷ come) gone (x ∷ xs)
+      go : (o : Ordering) → cmp c x ≡ o → ((xs' added' removed' : List X) → length xs' + length added' ≤ n → AreChanges added' removed' xs' → Agree added' removed' xs') → Agree (c ∷ added) removed (x ∷ xs)
       go Less less rec =
           let after : AreAfter c (x ∷ xs) = all_after c x xs less e.order in
-          let left : AreAfter c (drop_where (named_in gone) (x ∷ xs)) = left_after c gone (x ∷ xs) after in
-          ap (λ (l : List X). differences (all (x ∷ xs)) (all (put_each cmp the_new come l))) (put_first c (drop_where (named_in gone) (x ∷ xs)) left)
-          ∙ ap (λ (l : List X). differences (all (x ∷ xs)) (all l)) (stays_first come c (drop_where (named_in gone) (x ∷ xs)) after_come)
-          ∙ first_put c (x ∷ xs) (items_after come gone (x ∷ xs)) (e.comes c (inl refl)) e.held after
-          ∙ ap (λ (cs : Changes). put_of (spell c) ∷ cs) (rec (x ∷ xs) come gone (omega (arith, le)) rest_come)
-          ∙ sym (first_put c gone come (e.comes c (inl refl)) (λ g of. e.held g (e.there g of)) (gone_after c x xs gone less e.order e.there))
+          let left : AreAfter c (drop_where (named_in removed) (x ∷ xs)) = left_after c removed (x ∷ xs) after in
+          ap (λ (l : List X). differences (all (x ∷ xs)) (all (put_each cmp the_new added l))) (put_first c (drop_where (named_in removed) (x ∷ xs)) left)
+          ∙ ap (λ (l : List X). differences (all (x ∷ xs)) (all l)) (stays_first added c (drop_where (named_in removed) (x ∷ xs)) after_come)
+          ∙ first_put c (x ∷ xs) (items_after added removed (x ∷ xs)) (e.comes c (inl refl)) e.held after
+          ∙ ap (λ (cs : Changes). put_of (spell c) ∷ cs) (rec (x ∷ xs) added removed (omega (arith, le)) rest_come)
+          ∙ sym (first_put c removed added (e.comes c (inl refl)) (λ g of. e.held g (e.there g of)) (gone_after c x xs removed less e.order e.there))
       go Equal equal rec =
           let other : cmp x c ≡ Equal = turned_to c x Equal equal in
-          let none : named_in gone x ≡ false = same_named gone x c other (e.apart c (inl refl)) in
-          let there : AreThere gone xs = there_behind x xs gone e.there none in
-          let behind : AreAfter c gone = λ g of. total.congr c x g equal ∙ e.order.0 g (there g of) in
-          ap (λ (l : List X). differences (all (x ∷ xs)) (all (put_each cmp the_new (c ∷ come) l))) (kept_at gone xs x false none)
-          ∙ ap (λ (l : List X). differences (all (x ∷ xs)) (all (put_each cmp the_new come l))) (put_at Equal c x (drop_where (named_in gone) xs) equal)
-          ∙ ap (λ (l : List X). differences (all (x ∷ xs)) (all l)) (stays_first come c (drop_where (named_in gone) xs) after_come)
-          ∙ first_replaced x c xs (items_after come gone xs) (e.held x (inl refl)) (e.comes c (inl refl)) other (e.new c (inl refl) x (inl refl) other)
-          ∙ ap (λ (cs : Changes). put_of (spell c) ∷ cs) (rec xs come gone (omega (arith, le)) (without_first x xs come gone gone rest_come e.gone_order there (λ v of. e.apart v (inr of))))
-          ∙ sym (first_put c gone come (e.comes c (inl refl)) (λ g of. e.held g (e.there g of)) behind)
+          let none : named_in removed x ≡ false = same_named removed x c other (e.apart c (inl refl)) in
+          let there : AreThere removed xs = there_behind x xs removed e.there none in
+          let behind : AreAfter c removed = λ g of. total.congr c x g equal ∙ e.order.0 g (there g of) in
+          ap (λ (l : List X). differences (all (x ∷ xs)) (all (put_each cmp the_new (c ∷ added) l))) (kept_at removed xs x false none)
+          ∙ ap (λ (l : List X). differences (all (x ∷ xs)) (all (put_each cmp the_new added l))) (put_at Equal c x (drop_where (named_in removed) xs) equal)
+          ∙ ap (λ (l : List X). differences (all (x ∷ xs)) (all l)) (stays_first added c (drop_where (named_in removed) xs) after_come)
+          ∙ first_replaced x c xs (items_after added removed xs) (e.held x (inl refl)) (e.comes c (inl refl)) other (e.new c (inl refl) x (inl refl) other)
+          ∙ ap (λ (cs : Changes). put_of (spell c) ∷ cs) (rec xs added removed (omega (arith, le)) (without_first x xs added removed removed rest_come e.gone_order there (λ v of. e.apart v (inr of))))
+          ∙ sym (first_put c removed added (e.comes c (inl refl)) (λ g of. e.held g (e.there g of)) behind)
       go Greater greater rec =
           let first : cmp x c ≡ Less = turned_to c x Greater greater in
-          let after : AreAfter x (c ∷ come) = λ y h. past y h first in
-          step_past x xs (c ∷ come) gone e after (λ gone' e'. rec xs (c ∷ come) gone' (omega (arith, le)) e') where
-            past : (y : X) → Among y (c ∷ come) → cmp x c ≡ Less → cmp x y ≡ Less
+          let after : AreAfter x (c ∷ added) = λ y h. past y h first in
+          step_past x xs (c ∷ added) removed e after (λ removed' e'. rec xs (c ∷ added) removed' (omega (arith, le)) e') where
+            past : (y : X) → Among y (c ∷ added) → cmp x c ≡ Less → cmp x y ≡ Less
             past y (inl is) less = subst (λ (v : X). cmp x v ≡ Less) is less
             past y (inr later) less = total.trans x c y less (e.come_order.0 y later)
 
-    pub changes_differ : (xs come gone : List X) → AreChanges come gone xs → differences (all xs) (all (items_after come gone xs)) ≡ differences (all gone) (all come)
-    changes_differ xs come gone e = by_count (length xs + length come) xs come gone (omega arith) e
+    pub changes_differ : (xs added removed : List X) → AreChanges added removed xs → differences (all xs) (all (items_after added removed xs)) ≡ differences (all removed) (all added)
+    changes_differ xs added removed e = by_count (length xs + length added) xs added removed (omega arith) e

@@ -116,8 +116,8 @@ module _ {X : Type 0} (name : X → TheName) (spell : X → Record) (agrees : (a
   -- ---- an item that goes
 
   module _ (n : TheName) where
-    abbrev gone : List X → Changes
-    gone xs = differences (map spell (filter (named n) xs)) []
+    abbrev removed : List X → Changes
+    removed xs = differences (map spell (filter (named n) xs)) []
 
     first_goes : (y : X) (ys : List X) → Rising by_name (y ∷ ys) → differences (spell y ∷ map spell ys) (map spell ys) ≡ removal (spell y) ∷ []
     first_goes y [] r = refl
@@ -128,10 +128,10 @@ module _ {X : Type 0} (name : X → TheName) (spell : X → Record) (agrees : (a
         (agrees y z ∙ r.0 z (inl refl))
         ∙ ap (λ (cs : Changes). removal sy ∷ cs) (none_differs rest)
 
-    drop_of_item : (xs : List X) → Rising by_name xs → differences (map spell xs) (map spell (drop_where (named n) xs)) ≡ gone xs
+    drop_of_item : (xs : List X) → Rising by_name xs → differences (map spell xs) (map spell (drop_where (named n) xs)) ≡ removed xs
     drop_of_item [] r = refl
     drop_of_item (y ∷ ys) r = go (named n y) refl (drop_of_item ys r.1) where
-      go : (b : Bool) → named n y ≡ b → differences (map spell ys) (map spell (drop_where (named n) ys)) ≡ gone ys
+      go : (b : Bool) → named n y ≡ b → differences (map spell ys) (map spell (drop_where (named n) ys)) ≡ removed ys
           → differences (map spell (y ∷ ys)) (map spell (cond (not b) (y ∷ drop_where (named n) ys) (drop_where (named n) ys)))
           ≡ differences (map spell (cond b (y ∷ filter (named n) ys) (filter (named n) ys))) []
       go true c later =

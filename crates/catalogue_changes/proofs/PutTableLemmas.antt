@@ -19,7 +19,7 @@ use Rattle.abstract_database.specs.Whole.{Each, IsWhole, clauses_of}
 use Rattle.abstract_database.proofs.ListLemmas.{bytes_same, same_bytes}
 use Rattle.abstract_database.proofs.ElementLemmas.{any_found}
 use Rattle.stored_database.specs.Definitions.{TableDefinition, Definitions, definition_cmp, ids_of, tables_with, descriptors_of, policies_of, database_with, database_of}
-use Rattle.stored_database.specs.Spelling.{table_prefix, table_record, descriptor_prefix, descriptor_record, policy_prefix, policy_record}
+use Rattle.stored_database.specs.RecordFormat.{table_prefix, table_record, descriptor_prefix, descriptor_record, policy_prefix, policy_record}
 use Rattle.expr_parser.specs.Written.{IsAsWritten}
 use Rattle.stored_database.specs.Items.{IsStoredDescriptor, IsStoredPolicy}
 use Rattle.stored_database.specs.Valid.{IsNumbered, AreValid}

@@ -9,10 +9,10 @@ use Rattle.abstract_database.specs.Lists.{TheName, put, the_new, drop_where}
 use Rattle.abstract_database.specs.Database.{Database, is_role_named, role_cmp, membership_cmp}
 use Rattle.abstract_database.specs.Whole.{IsWhole}
 use Rattle.stored_database.specs.Definitions.{TableDefinition, Definitions, ids_of, database_with}
-use Rattle.stored_database.specs.Spelling.{role_prefix, role_record, membership_prefix, membership_record, table_prefix, descriptor_prefix, policy_prefix}
+use Rattle.stored_database.specs.RecordFormat.{role_prefix, role_record, membership_prefix, membership_record, table_prefix, descriptor_prefix, policy_prefix}
 use Rattle.stored_database.specs.Items.{IsStoredMembership}
 use Rattle.stored_database.specs.Valid.{AreValid}
-use Rattle.stored_database.specs.Records.{is_stray, is_stray_row, Shows}
+use Rattle.stored_database.specs.Records.{is_orphan, is_orphan_row, Shows}
 use Rattle.stored_database.proofs.KeyOrder.{role_order, membership_order}
 use Rattle.stored_database.proofs.Validity.{stored_memberships}
 use Rattle.stored_database.proofs.Wholeness.{as_many, whole_without_rows}
@@ -21,7 +21,7 @@ use Rattle.catalogue.specs.declared.change.SchemaChange.TheVariants as change
 use Rattle.catalogue.specs.Changes.{changed, concerns}
 use Rattle.catalogue_changes.specs.SchemaChanges.{role_changes, membership_changes, Leads}
 use Rattle.entry_differences.proofs.DifferenceLemmas.{in_turn_append}
-use Rattle.catalogue_changes.proofs.TurnLemmas.{AreApart, kinds_apart, roles_no_strays, memberships_no_strays, no_stray_rows, IsTurned, turned, ordered_spelled, spelled_pass, rows_stay}
+use Rattle.catalogue_changes.proofs.TurnLemmas.{AreApart, kinds_apart, roles_no_orphans, memberships_no_orphans, no_orphan_rows, IsTurned, turned, ordered_spelled, spelled_pass, rows_stay}
 
 -- the definitions with these roles and memberships
 abbrev pub with_people : List Role → List Membership → Definitions → Definitions
@@ -76,12 +76,12 @@ module _ (records : Records) (d : Definitions) (db : Database) (s : Shows record
           policies = stays (has_prefix (policy_prefix t.id)) (kinds_apart 1 5 [] (big_bytes 4 t.id) refl) (kinds_apart 2 5 [] (big_bytes 4 t.id) refl) ∙ (s.defined.held.of_tables t among).policies;
         };
       };
-      no_other = stays (is_stray (ids_of d.tables)) (roles_no_strays (ids_of d.tables)) (memberships_no_strays (ids_of d.tables)) ∙ s.defined.no_other;
+      no_other = stays (is_orphan (ids_of d.tables)) (roles_no_orphans (ids_of d.tables)) (memberships_no_orphans (ids_of d.tables)) ∙ s.defined.no_other;
       valid = valid_after;
     };
     rows = s.rows;
     held = rows_stay records new d.tables s.rows (λ t among. stays (has_prefix (row_prefix t.id)) (kinds_apart 1 6 [] (big_bytes 4 t.id) refl) (kinds_apart 2 6 [] (big_bytes 4 t.id) refl)) s.held;
-    no_other_row = stays (is_stray_row (ids_of d.tables)) (no_stray_rows 1 [] (ids_of d.tables) refl) (no_stray_rows 2 [] (ids_of d.tables) refl) ∙ s.no_other_row;
+    no_other_row = stays (is_orphan_row (ids_of d.tables)) (no_orphan_rows 1 [] (ids_of d.tables) refl) (no_orphan_rows 2 [] (ids_of d.tables) refl) ∙ s.no_other_row;
     is = is_after;
     whole_rows = whole.rows;
   }

@@ -12,7 +12,7 @@ use Rattle.row_codec.specs.Rows.{row_prefix}
 use Rattle.abstract_database.specs.Lists.{TheName, name_cmp, Among, Rising, put, drop_where}
 use Rattle.abstract_database.specs.Database.{Table, is_table_named, table_cmp}
 use Rattle.stored_database.specs.Definitions.{TableDefinition, definition_cmp, table_with, tables_with}
-use Rattle.stored_database.specs.Spelling.{row_record}
+use Rattle.stored_database.specs.RecordFormat.{row_record}
 use Rattle.stored_database.specs.Records.{HoldRows}
 use Rattle.catalogue.specs.Lookups.{is_definition_named}
 use Rattle.catalogue_changes.specs.SchemaChanges.{with_old_rows}

@@ -14,7 +14,7 @@ use Rattle.abstract_database.proofs.DescriptorOrder.{names_ordered, descriptors_
 use Rattle.stored_database.specs.Definitions.{TableDefinition, Definitions, definition_cmp}
 use Rattle.stored_database.specs.Entries.{entries_of}
 use Rattle.stored_database.specs.Items.{IsStoredDescriptor}
-use Rattle.stored_database.specs.Spelling.{bit, table_record, descriptor_record, policy_record}
+use Rattle.stored_database.specs.RecordFormat.{bit, table_record, descriptor_record, policy_record}
 use Rattle.stored_database.specs.Valid.{Describes, AreValid}
 use Rattle.stored_database.proofs.KeyOrder.{descriptor_order}
 use Rattle.stored_database.proofs.Spelled.{described_shown}
@@ -121,16 +121,16 @@ put_is_there d (y ∷ ys) = go (descriptor_cmp d y) (put_is_there d ys) where
   go Equal later = inl refl
   go Greater later = inr later
 
-stays_there : (x : Descriptor) (come ds : List Descriptor) → Among x ds → ((d : Descriptor) → Among d come → descriptor_cmp x d ≡ Less) → Among x (put_each descriptor_cmp the_new come ds)
+stays_there : (x : Descriptor) (added ds : List Descriptor) → Among x ds → ((d : Descriptor) → Among d added → descriptor_cmp x d ≡ Less) → Among x (put_each descriptor_cmp the_new added ds)
 stays_there x [] ds h behind = h
-stays_there x (d ∷ come) ds h behind = stays_there x come (put descriptor_cmp the_new d ds) (put_there_too x d ds h apart) (λ v among. behind v (inr among)) where
+stays_there x (d ∷ added) ds h behind = stays_there x added (put descriptor_cmp the_new d ds) (put_there_too x d ds h apart) (λ v among. behind v (inr among)) where
   apart : descriptor_cmp d x ≡ Equal → ⊥
   apart e = let no : Greater ≡ Equal = sym (descriptors_ordered.antisymm d x ∙ ap ordering_reverse (behind d (inl refl))) ∙ e in cc
 
-come_is_there : (come ds : List Descriptor) → Rising descriptor_cmp come → (x : Descriptor) → Among x come → Among x (put_each descriptor_cmp the_new come ds)
+come_is_there : (added ds : List Descriptor) → Rising descriptor_cmp added → (x : Descriptor) → Among x added → Among x (put_each descriptor_cmp the_new added ds)
 come_is_there [] ds r x h = absurd h
-come_is_there (d ∷ come) ds r x (inl is) = subst (λ (v : Descriptor). Among v (put_each descriptor_cmp the_new come (put descriptor_cmp the_new d ds))) is (stays_there d come (put descriptor_cmp the_new d ds) (put_is_there d ds) r.0)
-come_is_there (d ∷ come) ds r x (inr later) = come_is_there come (put descriptor_cmp the_new d ds) r.1 x later
+come_is_there (d ∷ added) ds r x (inl is) = subst (λ (v : Descriptor). Among v (put_each descriptor_cmp the_new added (put descriptor_cmp the_new d ds))) is (stays_there d added (put descriptor_cmp the_new d ds) (put_is_there d ds) r.0)
+come_is_there (d ∷ added) ds r x (inr later) = come_is_there added (put descriptor_cmp the_new d ds) r.1 x later
 
 other_flag : (a b : Bool) → a ≡ not b → bytes_eq (bit a ∷ []) (bit b ∷ []) ≡ false
 other_flag true true e = cc
@@ -173,10 +173,10 @@ module _ (c : DescriptorsChanged) (d : Definitions) (db after : Database) (s : D
     valid : AreValid (changed (change.PutTable new) d)
     valid = valid_after new (entries_of d s.rows) d db after (described_shown d db s) fits.after put whole_after
 
-    are_changes : AreChanges descriptor_cmp descriptors_ordered (descriptor_record t.id) (IsStoredDescriptor t.definition.name) (descriptor_order t.definition.name t.id) c.come c.gone t.descriptors
+    are_changes : AreChanges descriptor_cmp descriptors_ordered (descriptor_record t.id) (IsStoredDescriptor t.definition.name) (descriptor_order t.definition.name t.id) c.added c.removed t.descriptors
     are_changes = record {
       held = stored_descriptors d s.valid t (among d db s c.table t fits.found);
-      comes = λ x of. stored_descriptors (changed (change.PutTable new) d) valid new (put_there new d.tables) x (come_is_there c.come (drop_where (is_named_in c.gone) t.descriptors) fits.change.fits.come_rise x of);
+      comes = λ x of. stored_descriptors (changed (change.PutTable new) d) valid new (put_there new d.tables) x (come_is_there c.added (drop_where (is_named_in c.removed) t.descriptors) fits.change.fits.come_rise x of);
       order = (parts_in_order d s.valid t (among d db s c.table t fits.found)).descriptor_order;
       gone_order = fits.change.fits.gone_rise;
       come_order = fits.change.fits.come_rise;
@@ -199,14 +199,14 @@ module _ (c : DescriptorsChanged) (d : Definitions) (db after : Database) (s : D
         ap (λ (ts : List TableDefinition). differences (policy_entries ts) (map (policy_record t.id) t.policies)) olds_of_table
         ∙ ap (λ (es : Records). differences es (map (policy_record t.id) t.policies)) (append-nil (map (policy_record t.id) t.policies))
         ∙ none_differs (map (policy_record t.id) t.policies) in
-        let descriptors : differences (descriptor_entries (tables_named t.definition.name d)) (spelled new.descriptors) ≡ differences (spelled c.gone) (spelled c.come) =
+        let descriptors : differences (descriptor_entries (tables_named t.definition.name d)) (spelled new.descriptors) ≡ differences (spelled c.removed) (spelled c.added) =
         ap (λ (ts : List TableDefinition). differences (descriptor_entries ts) (spelled new.descriptors)) olds_of_table
         ∙ ap (λ (es : Records). differences es (spelled new.descriptors)) (append-nil (spelled t.descriptors))
-        ∙ changes_differ descriptor_cmp descriptors_ordered (descriptor_record t.id) (IsStoredDescriptor t.definition.name) (descriptor_order t.definition.name t.id) t.descriptors c.come c.gone are_changes in
-        let same : record_changes (change.SetDescriptors c) d records ≡ differences (spelled c.gone) (spelled c.come) =
-        ap (λ (ts : List TableDefinition). differences (entries_in ts c.gone) (entries_in ts c.come)) olds
-        ∙ ap (λ (es : Records). differences es (entries_in (t ∷ []) c.come)) (append-nil (spelled c.gone))
-        ∙ ap (differences (spelled c.gone)) (append-nil (spelled c.come)) in
+        ∙ changes_differ descriptor_cmp descriptors_ordered (descriptor_record t.id) (IsStoredDescriptor t.definition.name) (descriptor_order t.definition.name t.id) t.descriptors c.added c.removed are_changes in
+        let same : record_changes (change.SetDescriptors c) d records ≡ differences (spelled c.removed) (spelled c.added) =
+        ap (λ (ts : List TableDefinition). differences (entries_in ts c.removed) (entries_in ts c.added)) olds
+        ∙ ap (λ (es : Records). differences es (entries_in (t ∷ []) c.added)) (append-nil (spelled c.removed))
+        ∙ ap (differences (spelled c.removed)) (append-nil (spelled c.added)) in
         ap (λ (cs : Changes). cs ++ (differences (descriptor_entries (tables_named t.definition.name d)) (spelled new.descriptors) ++ differences (policy_entries (tables_named t.definition.name d)) (map (policy_record t.id) t.policies))) tables
         ∙ ap (λ (cs : Changes). differences (descriptor_entries (tables_named t.definition.name d)) (spelled new.descriptors) ++ cs) policies
         ∙ append-nil (differences (descriptor_entries (tables_named t.definition.name d)) (spelled new.descriptors))
@@ -233,14 +233,14 @@ module _ (c : DescriptorsChanged) (d : Definitions) (t : TableDefinition) (found
 
   module _ (changes : IsChangeOf t c) where
     -- what goes has records that a store takes where the table has them
-    pub storable_gone : AreStorableTables d.tables → AllByRecursion (IsStorableDescriptor t.id) c.gone
+    pub storable_gone : AreStorableTables d.tables → AllByRecursion (IsStorableDescriptor t.id) c.removed
     storable_gone all =
-        all_of (IsStorableDescriptor t.id) c.gone (λ x of.
+        all_of (IsStorableDescriptor t.id) c.removed (λ x of.
         each_of (IsStorableDescriptor t.id) t.descriptors (each_of IsStorableTable d.tables all t found_there.0).descriptors x (changes.fits.there x of))
 
     -- and what comes where the table after the change has them
-    pub storable_come : IsStorableTable (table_after c t) → AllByRecursion (IsStorableDescriptor t.id) c.come
+    pub storable_come : IsStorableTable (table_after c t) → AllByRecursion (IsStorableDescriptor t.id) c.added
     storable_come one =
-        all_of (IsStorableDescriptor t.id) c.come (λ x of.
+        all_of (IsStorableDescriptor t.id) c.added (λ x of.
         each_of (IsStorableDescriptor t.id) (descriptors_after c t.descriptors) one.descriptors x
-        (come_is_there c.come (drop_where (is_named_in c.gone) t.descriptors) changes.fits.come_rise x of))
+        (come_is_there c.added (drop_where (is_named_in c.removed) t.descriptors) changes.fits.come_rise x of))

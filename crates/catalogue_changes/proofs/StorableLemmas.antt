@@ -15,7 +15,7 @@ use Rattle.abstract_database.specs.Database.{Database}
 use Rattle.abstract_database.specs.Sizes.{clause_size}
 use Rattle.abstract_database.specs.Whole.{Each, ConcernsRoles, IsWhole}
 use Rattle.stored_database.specs.Definitions.{TableDefinition, Definitions}
-use Rattle.stored_database.specs.Spelling.{place_byte}
+use Rattle.stored_database.specs.RecordFormat.{place_byte}
 use Rattle.stored_database.specs.Entries.{IsRecordSize}
 use Rattle.stored_database.specs.Valid.{AreValid, Describes}
 use Rattle.stored_database.specs.Records.{Shows}

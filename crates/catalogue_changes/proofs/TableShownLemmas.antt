@@ -11,13 +11,13 @@ use Rattle.abstract_database.specs.Database.{Database}
 use Rattle.abstract_database.specs.Whole.{Each, HasWholeRows}
 use Rattle.abstract_database.proofs.ElementLemmas.{any_found, any_holds}
 use Rattle.stored_database.specs.Definitions.{TableDefinition, Definitions, ids_of, database_with}
-use Rattle.stored_database.specs.Spelling.{role_prefix, role_record, membership_prefix, membership_record, table_prefix, table_record, descriptor_prefix, policy_prefix, rows_prefix}
+use Rattle.stored_database.specs.RecordFormat.{role_prefix, role_record, membership_prefix, membership_record, table_prefix, table_record, descriptor_prefix, policy_prefix, rows_prefix}
 use Rattle.stored_database.specs.Valid.{AreValid}
-use Rattle.stored_database.specs.Records.{is_key_of, is_stray, HoldsTable, HoldRows, is_row_key_of, is_stray_row, HasNoRecords, Shows}
+use Rattle.stored_database.specs.Records.{is_key_of, is_orphan, HoldsTable, HoldRows, is_row_key_of, is_orphan_row, HasNoRecords, Shows}
 use Rattle.stored_database.proofs.Tables.{small_id}
 use Rattle.stored_database.proofs.AllRecords.{into_where, of_where, none_there, KindOf, of_role, of_membership, of_table, of_row, of_descriptor, of_policy, kind_of, of_row_table}
 use Rattle.stored_database.proofs.Spelled.{where_none, kind_alone}
-use Rattle.catalogue_changes.proofs.TurnLemmas.{AreApart, kinds_apart, ids_apart, roles_no_strays, memberships_no_strays, tables_no_strays, rows_no_strays, table_keys_no_strays, no_stray_rows}
+use Rattle.catalogue_changes.proofs.TurnLemmas.{AreApart, kinds_apart, ids_apart, roles_no_orphans, memberships_no_orphans, tables_no_orphans, rows_no_orphans, table_keys_no_orphans, no_orphan_rows}
 
 -- nothing is changed but records of tables, and records with this number
 abbrev pub IsConfined : ℕ → Records → Records → Type 0
@@ -33,79 +33,79 @@ fails_second true b h = ap not h
 fails_second false b h = refl
 
 module _ (old new : Records) (d e : Definitions) (db : Database) (s : Shows old d db) (i : ℕ) (small : i < 2 ^ 32) (confined : IsConfined i old new)
-    (ids : (j : ℕ) → Among j (ids_of d.tables) → Among j (ids_of e.tables) ⊎ (j ≡ i)) (gone : Among i (ids_of e.tables) ⊎ HasNoRecords new i) where
+    (ids : (j : ℕ) → Among j (ids_of d.tables) → Among j (ids_of e.tables) ⊎ (j ≡ i)) (removed : Among i (ids_of e.tables) ⊎ HasNoRecords new i) where
   -- the record was there before, where a test does not concern what may have changed
   was_there : (q : List ℕ → Bool) → AreApart (has_prefix table_prefix) q → AreApart (has_prefix (descriptor_prefix i)) q → AreApart (has_prefix (policy_prefix i)) q
       → AreApart (has_prefix (row_prefix i)) q → (r : Record) → Among r new → q r.0 ≡ true → Among r old
   was_there q a b c f r among pass = of_where q old r (subst (λ (rs : Records). Among r rs) (confined q a b c f) (into_where q new r among pass))
 
-  -- a stray key that is not of this number
-  abbrev is_other_stray : List ℕ → Bool
-  is_other_stray k = is_stray (ids_of e.tables) k && not (is_key_of k i)
+  -- an orphan key that is not of this number
+  abbrev is_other_orphan : List ℕ → Bool
+  is_other_orphan k = is_orphan (ids_of e.tables) k && not (is_key_of k i)
 
-  of_number : (r : Record) → Among r new → is_key_of r.0 i ≡ true → is_stray (ids_of e.tables) r.0 ≡ false
-  of_number r among h = elim gone [
-    | inl there ↦ table_keys_no_strays (ids_of e.tables) i there r.0 h
+  of_number : (r : Record) → Among r new → is_key_of r.0 i ≡ true → is_orphan (ids_of e.tables) r.0 ≡ false
+  of_number r among h = elim removed [
+    | inl there ↦ table_keys_no_orphans (ids_of e.tables) i there r.0 h
     | inr none ↦ elim (or_cases (has_prefix (descriptor_prefix i) r.0) (has_prefix (policy_prefix i) r.0) h) [
       | inl p ↦ absurd (both_ways (has_prefix (descriptor_prefix i) r.0) (none_there (has_prefix (descriptor_prefix i)) new none.descriptors r among) p)
       | inr p ↦ absurd (both_ways (has_prefix (policy_prefix i) r.0) (none_there (has_prefix (policy_prefix i)) new none.policies r among) p)
     ]
   ]
 
-  of_id : (r : Record) → is_key_of r.0 i ≡ false → (j : ℕ) → Among j (ids_of d.tables) → is_key_of r.0 j ≡ true → is_stray (ids_of e.tables) r.0 ≡ false
+  of_id : (r : Record) → is_key_of r.0 i ≡ false → (j : ℕ) → Among j (ids_of d.tables) → is_key_of r.0 j ≡ true → is_orphan (ids_of e.tables) r.0 ≡ false
   of_id r other j there h = elim (ids j there) [
-    | inl still ↦ table_keys_no_strays (ids_of e.tables) j still r.0 h
+    | inl still ↦ table_keys_no_orphans (ids_of e.tables) j still r.0 h
     | inr is ↦ absurd (both_ways (is_key_of r.0 i) other (subst (λ (n : ℕ). is_key_of r.0 n ≡ true) is h))
   ]
 
-  of_kind : (r : Record) → is_key_of r.0 i ≡ false → KindOf (ids_of d.tables) r.0 → is_stray (ids_of e.tables) r.0 ≡ false
-  of_kind r other (of_role h) = roles_no_strays (ids_of e.tables) r.0 h
-  of_kind r other (of_membership h) = memberships_no_strays (ids_of e.tables) r.0 h
-  of_kind r other (of_table h) = tables_no_strays (ids_of e.tables) r.0 h
-  of_kind r other (of_row h) = rows_no_strays (ids_of e.tables) r.0 h
+  of_kind : (r : Record) → is_key_of r.0 i ≡ false → KindOf (ids_of d.tables) r.0 → is_orphan (ids_of e.tables) r.0 ≡ false
+  of_kind r other (of_role h) = roles_no_orphans (ids_of e.tables) r.0 h
+  of_kind r other (of_membership h) = memberships_no_orphans (ids_of e.tables) r.0 h
+  of_kind r other (of_table h) = tables_no_orphans (ids_of e.tables) r.0 h
+  of_kind r other (of_row h) = rows_no_orphans (ids_of e.tables) r.0 h
   of_kind r other (of_descriptor j there h) = of_id r other j there (or_left (has_prefix (descriptor_prefix j) r.0) (has_prefix (policy_prefix j) r.0) h)
   of_kind r other (of_policy j there h) = of_id r other j there (or_right (has_prefix (descriptor_prefix j) r.0) (has_prefix (policy_prefix j) r.0) h)
 
-  not_stray : (r : Record) → Among r new → is_stray (ids_of e.tables) r.0 ≡ false
-  not_stray r among = false_from_ne_true (is_stray (ids_of e.tables) r.0) (λ stray. go (is_key_of r.0 i) refl stray) where
-    go : (b : Bool) → is_key_of r.0 i ≡ b → is_stray (ids_of e.tables) r.0 ≡ true → ⊥
-    go true h stray = both_ways (is_stray (ids_of e.tables) r.0) (of_number r among h) stray
-    go false h stray =
-        both_ways (is_stray (ids_of e.tables) r.0)
-        (of_kind r h (kind_of (ids_of d.tables) r.0 (none_there (is_stray (ids_of d.tables)) old s.defined.no_other r
-        (was_there is_other_stray
-        (λ k p. fails_first (is_stray (ids_of e.tables) k) (not (is_key_of k i)) (tables_no_strays (ids_of e.tables) k p))
-        (λ k p. fails_second (is_stray (ids_of e.tables) k) (is_key_of k i) (or_left (has_prefix (descriptor_prefix i) k) (has_prefix (policy_prefix i) k) p))
-        (λ k p. fails_second (is_stray (ids_of e.tables) k) (is_key_of k i) (or_right (has_prefix (descriptor_prefix i) k) (has_prefix (policy_prefix i) k) p))
-        (λ k p. fails_first (is_stray (ids_of e.tables) k) (not (is_key_of k i)) (rows_no_strays (ids_of e.tables) k (kind_alone 6 (big_bytes 4 i) k p)))
-        r among (and_from (is_stray (ids_of e.tables) r.0) (not (is_key_of r.0 i)) stray (not_from_false (is_key_of r.0 i) h)))))) stray
+  not_orphan : (r : Record) → Among r new → is_orphan (ids_of e.tables) r.0 ≡ false
+  not_orphan r among = false_from_ne_true (is_orphan (ids_of e.tables) r.0) (λ orphan. go (is_key_of r.0 i) refl orphan) where
+    go : (b : Bool) → is_key_of r.0 i ≡ b → is_orphan (ids_of e.tables) r.0 ≡ true → ⊥
+    go true h orphan = both_ways (is_orphan (ids_of e.tables) r.0) (of_number r among h) orphan
+    go false h orphan =
+        both_ways (is_orphan (ids_of e.tables) r.0)
+        (of_kind r h (kind_of (ids_of d.tables) r.0 (none_there (is_orphan (ids_of d.tables)) old s.defined.no_other r
+        (was_there is_other_orphan
+        (λ k p. fails_first (is_orphan (ids_of e.tables) k) (not (is_key_of k i)) (tables_no_orphans (ids_of e.tables) k p))
+        (λ k p. fails_second (is_orphan (ids_of e.tables) k) (is_key_of k i) (or_left (has_prefix (descriptor_prefix i) k) (has_prefix (policy_prefix i) k) p))
+        (λ k p. fails_second (is_orphan (ids_of e.tables) k) (is_key_of k i) (or_right (has_prefix (descriptor_prefix i) k) (has_prefix (policy_prefix i) k) p))
+        (λ k p. fails_first (is_orphan (ids_of e.tables) k) (not (is_key_of k i)) (rows_no_orphans (ids_of e.tables) k (kind_alone 6 (big_bytes 4 i) k p)))
+        r among (and_from (is_orphan (ids_of e.tables) r.0) (not (is_key_of r.0 i)) orphan (not_from_false (is_key_of r.0 i) h)))))) orphan
 
   -- ---- rows
 
-  abbrev is_other_stray_row : List ℕ → Bool
-  is_other_stray_row k = is_stray_row (ids_of e.tables) k && not (has_prefix (row_prefix i) k)
+  abbrev is_other_orphan_row : List ℕ → Bool
+  is_other_orphan_row k = is_orphan_row (ids_of e.tables) k && not (has_prefix (row_prefix i) k)
 
-  row_of : (r : Record) (j : ℕ) → Among j (ids_of e.tables) → has_prefix (row_prefix j) r.0 ≡ true → is_stray_row (ids_of e.tables) r.0 ≡ false
+  row_of : (r : Record) (j : ℕ) → Among j (ids_of e.tables) → has_prefix (row_prefix j) r.0 ≡ true → is_orphan_row (ids_of e.tables) r.0 ≡ false
   row_of r j there h = fails_second (has_prefix rows_prefix r.0) (list_any (is_row_key_of r.0) (ids_of e.tables)) (any_holds (is_row_key_of r.0) (ids_of e.tables) j there h)
 
-  not_stray_row : (r : Record) → Among r new → is_stray_row (ids_of e.tables) r.0 ≡ false
-  not_stray_row r among = false_from_ne_true (is_stray_row (ids_of e.tables) r.0) (λ stray. go (has_prefix (row_prefix i) r.0) refl stray) where
-    go : (b : Bool) → has_prefix (row_prefix i) r.0 ≡ b → is_stray_row (ids_of e.tables) r.0 ≡ true → ⊥
-    go true h stray = elim gone [
-      | inl there ↦ both_ways (is_stray_row (ids_of e.tables) r.0) (row_of r i there h) stray
+  not_orphan_row : (r : Record) → Among r new → is_orphan_row (ids_of e.tables) r.0 ≡ false
+  not_orphan_row r among = false_from_ne_true (is_orphan_row (ids_of e.tables) r.0) (λ orphan. go (has_prefix (row_prefix i) r.0) refl orphan) where
+    go : (b : Bool) → has_prefix (row_prefix i) r.0 ≡ b → is_orphan_row (ids_of e.tables) r.0 ≡ true → ⊥
+    go true h orphan = elim removed [
+      | inl there ↦ both_ways (is_orphan_row (ids_of e.tables) r.0) (row_of r i there h) orphan
       | inr none ↦ both_ways (has_prefix (row_prefix i) r.0) (none_there (has_prefix (row_prefix i)) new none.rows r among) h
     ]
-    go false h stray =
-        let parts = and_parts (has_prefix rows_prefix r.0) (not (list_any (is_row_key_of r.0) (ids_of e.tables))) stray in
-        let there = was_there is_other_stray_row
-        (λ k p. fails_first (is_stray_row (ids_of e.tables) k) (not (has_prefix (row_prefix i) k)) (no_stray_rows 3 [] (ids_of e.tables) refl k p))
-        (λ k p. fails_first (is_stray_row (ids_of e.tables) k) (not (has_prefix (row_prefix i) k)) (no_stray_rows 4 (big_bytes 4 i) (ids_of e.tables) refl k p))
-        (λ k p. fails_first (is_stray_row (ids_of e.tables) k) (not (has_prefix (row_prefix i) k)) (no_stray_rows 5 (big_bytes 4 i) (ids_of e.tables) refl k p))
-        (λ k p. fails_second (is_stray_row (ids_of e.tables) k) (has_prefix (row_prefix i) k) p)
-        r among (and_from (is_stray_row (ids_of e.tables) r.0) (not (has_prefix (row_prefix i) r.0)) stray (not_from_false (has_prefix (row_prefix i) r.0) h)) in
-        let found = any_found (is_row_key_of r.0) (ids_of d.tables) (of_row_table (ids_of d.tables) r.0 parts.0 (none_there (is_stray_row (ids_of d.tables)) old s.no_other_row r there)) in
+    go false h orphan =
+        let parts = and_parts (has_prefix rows_prefix r.0) (not (list_any (is_row_key_of r.0) (ids_of e.tables))) orphan in
+        let there = was_there is_other_orphan_row
+        (λ k p. fails_first (is_orphan_row (ids_of e.tables) k) (not (has_prefix (row_prefix i) k)) (no_orphan_rows 3 [] (ids_of e.tables) refl k p))
+        (λ k p. fails_first (is_orphan_row (ids_of e.tables) k) (not (has_prefix (row_prefix i) k)) (no_orphan_rows 4 (big_bytes 4 i) (ids_of e.tables) refl k p))
+        (λ k p. fails_first (is_orphan_row (ids_of e.tables) k) (not (has_prefix (row_prefix i) k)) (no_orphan_rows 5 (big_bytes 4 i) (ids_of e.tables) refl k p))
+        (λ k p. fails_second (is_orphan_row (ids_of e.tables) k) (has_prefix (row_prefix i) k) p)
+        r among (and_from (is_orphan_row (ids_of e.tables) r.0) (not (has_prefix (row_prefix i) r.0)) orphan (not_from_false (has_prefix (row_prefix i) r.0) h)) in
+        let found = any_found (is_row_key_of r.0) (ids_of d.tables) (of_row_table (ids_of d.tables) r.0 parts.0 (none_there (is_orphan_row (ids_of d.tables)) old s.no_other_row r there)) in
         elim (ids found.0 found.1) [
-          | inl still ↦ both_ways (is_stray_row (ids_of e.tables) r.0) (row_of r found.0 still found.2) stray
+          | inl still ↦ both_ways (is_orphan_row (ids_of e.tables) r.0) (row_of r found.0 still found.2) orphan
           | inr is ↦ both_ways (has_prefix (row_prefix i) r.0) h (subst (λ (n : ℕ). has_prefix (row_prefix n) r.0 ≡ true) is found.2)
         ]
 
@@ -143,12 +143,12 @@ module _ (old new : Records) (d e : Definitions) (db : Database) (s : Shows old 
         tables = tables;
         of_tables = λ (u : TableDefinition) among. elim (each u among) [ inl old_one ↦ stays_held u old_one.0 old_one.1 | inr now ↦ now ];
       };
-      no_other = where_none (is_stray (ids_of e.tables)) new not_stray;
+      no_other = where_none (is_orphan (ids_of e.tables)) new not_orphan;
       valid = valid;
     };
     rows = rows;
     held = held;
-    no_other_row = where_none (is_stray_row (ids_of e.tables)) new not_stray_row;
+    no_other_row = where_none (is_orphan_row (ids_of e.tables)) new not_orphan_row;
     is = is;
     whole_rows = whole;
   }

@@ -8,7 +8,7 @@ use Rattle.store.specs.Records.{Records}
 use Rattle.store.specs.declared.fault.Fault.{Fault}
 use Rattle.store.specs.declared.fault.Fault.TheVariants.{Damaged}
 use Rattle.stored_database.specs.Definitions.{TableDefinition, definition_cmp}
-use Rattle.stored_database.specs.Spelling.{table_record}
+use Rattle.stored_database.specs.RecordFormat.{table_record}
 use Rattle.catalogue.specs.Lookups.{is_definition_named}
 use Rattle.catalogue_changes.specs.Differences.{differences}
 use Rattle.catalogue_changes.specs.Entries.{HaveRecordSizes, AreStorableDescriptors, IsStorableTable, AreStorableTables, AreStorable}

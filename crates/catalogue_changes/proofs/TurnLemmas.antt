@@ -12,8 +12,8 @@ use Rattle.abstract_database.specs.Lists.{Among, Rising}
 use Rattle.abstract_database.specs.Whole.{Each}
 use Rattle.abstract_database.proofs.ElementLemmas.{any_holds}
 use Rattle.stored_database.specs.Definitions.{TableDefinition}
-use Rattle.stored_database.specs.Spelling.{role_prefix, membership_prefix, table_prefix, rows_prefix}
-use Rattle.stored_database.specs.Records.{is_key_of, is_stray, is_stray_row, HoldRows}
+use Rattle.stored_database.specs.RecordFormat.{role_prefix, membership_prefix, table_prefix, rows_prefix}
+use Rattle.stored_database.specs.Records.{is_key_of, is_orphan, is_orphan_row, HoldRows}
 use Rattle.stored_database.proofs.Lists.{of_map, rest_of_each}
 use Rattle.stored_database.proofs.Prefixes.{one_id}
 use Rattle.catalogue_changes.specs.Differences.{differences, applied_in_turn}
@@ -36,9 +36,9 @@ pub ids_apart : (kind a b : ℕ) → a < 2 ^ 32 → b < 2 ^ 32 → (a ≡ b → 
 ids_apart kind a b small_a small_b differ key h =
     false_from_ne_true (has_prefix (kind ∷ big_bytes 4 b) key) (λ e. differ (one_id kind key a b small_a small_b h e))
 
--- a key of a kind is no stray
-pub roles_no_strays : (ids : List ℕ) → AreApart (has_prefix role_prefix) (is_stray ids)
-roles_no_strays ids key h = ap (λ (b : Bool). not (b || has_prefix membership_prefix key || has_prefix table_prefix key || has_prefix rows_prefix key || list_any (is_key_of key) ids)) h
+-- a key of a kind is no orphan
+pub roles_no_orphans : (ids : List ℕ) → AreApart (has_prefix role_prefix) (is_orphan ids)
+roles_no_orphans ids key h = ap (λ (b : Bool). not (b || has_prefix membership_prefix key || has_prefix table_prefix key || has_prefix rows_prefix key || list_any (is_key_of key) ids)) h
 
 second : (a b c d e : Bool) → b ≡ true → not (a || b || c || d || e) ≡ false
 second true b c d e h = refl
@@ -51,11 +51,11 @@ third false true c d e h = refl
 third false false true d e h = refl
 third false false false d e h = cc
 
-pub memberships_no_strays : (ids : List ℕ) → AreApart (has_prefix membership_prefix) (is_stray ids)
-memberships_no_strays ids key h = second (has_prefix role_prefix key) (has_prefix membership_prefix key) (has_prefix table_prefix key) (has_prefix rows_prefix key) (list_any (is_key_of key) ids) h
+pub memberships_no_orphans : (ids : List ℕ) → AreApart (has_prefix membership_prefix) (is_orphan ids)
+memberships_no_orphans ids key h = second (has_prefix role_prefix key) (has_prefix membership_prefix key) (has_prefix table_prefix key) (has_prefix rows_prefix key) (list_any (is_key_of key) ids) h
 
-pub tables_no_strays : (ids : List ℕ) → AreApart (has_prefix table_prefix) (is_stray ids)
-tables_no_strays ids key h = third (has_prefix role_prefix key) (has_prefix membership_prefix key) (has_prefix table_prefix key) (has_prefix rows_prefix key) (list_any (is_key_of key) ids) h
+pub tables_no_orphans : (ids : List ℕ) → AreApart (has_prefix table_prefix) (is_orphan ids)
+tables_no_orphans ids key h = third (has_prefix role_prefix key) (has_prefix membership_prefix key) (has_prefix table_prefix key) (has_prefix rows_prefix key) (list_any (is_key_of key) ids) h
 
 fourth : (a b c d e : Bool) → d ≡ true → not (a || b || c || d || e) ≡ false
 fourth true b c d e h = refl
@@ -64,8 +64,8 @@ fourth false false true d e h = refl
 fourth false false false true e h = refl
 fourth false false false false e h = cc
 
-pub rows_no_strays : (ids : List ℕ) → AreApart (has_prefix rows_prefix) (is_stray ids)
-rows_no_strays ids key h = fourth (has_prefix role_prefix key) (has_prefix membership_prefix key) (has_prefix table_prefix key) (has_prefix rows_prefix key) (list_any (is_key_of key) ids) h
+pub rows_no_orphans : (ids : List ℕ) → AreApart (has_prefix rows_prefix) (is_orphan ids)
+rows_no_orphans ids key h = fourth (has_prefix role_prefix key) (has_prefix membership_prefix key) (has_prefix table_prefix key) (has_prefix rows_prefix key) (list_any (is_key_of key) ids) h
 
 fifth : (a b c d e : Bool) → e ≡ true → not (a || b || c || d || e) ≡ false
 fifth true b c d e h = refl
@@ -76,13 +76,13 @@ fifth false false false false true h = refl
 fifth false false false false false h = cc
 
 -- nor is one of a table's number
-pub table_keys_no_strays : (ids : List ℕ) (id : ℕ) → Among id ids → (key : List ℕ) → is_key_of key id ≡ true → is_stray ids key ≡ false
-table_keys_no_strays ids id among key h =
+pub table_keys_no_orphans : (ids : List ℕ) (id : ℕ) → Among id ids → (key : List ℕ) → is_key_of key id ≡ true → is_orphan ids key ≡ false
+table_keys_no_orphans ids id among key h =
     fifth (has_prefix role_prefix key) (has_prefix membership_prefix key) (has_prefix table_prefix key) (has_prefix rows_prefix key) (list_any (is_key_of key) ids) (any_holds (is_key_of key) ids id among h)
 
--- a key of another kind than rows is no stray row
-pub no_stray_rows : (j : ℕ) (ps ids : List ℕ) → nat_eq 6 j ≡ false → AreApart (has_prefix (j ∷ ps)) (is_stray_row ids)
-no_stray_rows j ps ids differ key h = ap (λ (b : Bool). b && not (list_any (λ (id : ℕ). has_prefix (row_prefix id) key) ids)) (kinds_apart j 6 ps [] differ key h)
+-- a key of another kind than rows is no orphan row
+pub no_orphan_rows : (j : ℕ) (ps ids : List ℕ) → nat_eq 6 j ≡ false → AreApart (has_prefix (j ∷ ps)) (is_orphan_row ids)
+no_orphan_rows j ps ids differ key h = ap (λ (b : Bool). b && not (list_any (λ (id : ℕ). has_prefix (row_prefix id) key) ids)) (kinds_apart j 6 ps [] differ key h)
 
 -- ---- one kind is turned
 

@@ -10,15 +10,15 @@ use Rattle.catalogue.specs.Descriptors.{DescriptorsChanged, IsForTable}
 
 -- what goes is there; what comes is for the table of this name, has another grant option than what is there of its key, and is of
 -- no key of what goes; both are in order
-pub record Fits (name : TheName) (gone come ds : List Descriptor) : Type 0 where
-  pub gone_rise : Rising descriptor_cmp gone
-  pub come_rise : Rising descriptor_cmp come
-  pub own : Each (IsForTable name) come
-  pub there : Each (λ (d : Descriptor). Among d ds) gone
-  pub new : (d : Descriptor) → Among d come → (e : Descriptor) → Among e ds → same_key e d ≡ true → e.grantable ≡ not d.grantable
-  pub apart : Each (λ (d : Descriptor). is_named_in gone d ≡ false) come
+pub record Fits (name : TheName) (removed added ds : List Descriptor) : Type 0 where
+  pub gone_rise : Rising descriptor_cmp removed
+  pub come_rise : Rising descriptor_cmp added
+  pub own : Each (IsForTable name) added
+  pub there : Each (λ (d : Descriptor). Among d ds) removed
+  pub new : (d : Descriptor) → Among d added → (e : Descriptor) → Among e ds → same_key e d ≡ true → e.grantable ≡ not d.grantable
+  pub apart : Each (λ (d : Descriptor). is_named_in removed d ≡ false) added
 
 -- the change is one of this table
 pub record IsChangeOf (t : TableDefinition) (c : DescriptorsChanged) : Type 0 where
   pub table : c.table ≡ t.definition.name
-  pub fits : Fits t.definition.name c.gone c.come t.descriptors
+  pub fits : Fits t.definition.name c.removed c.added t.descriptors

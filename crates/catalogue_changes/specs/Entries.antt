@@ -7,7 +7,7 @@ use Rattle.sql_ast.specs.declared.privilege.Descriptor.{Descriptor}
 use Rattle.sql_ast.specs.declared.policy.Policy.{Policy}
 use Rattle.stored_database.specs.Definitions.{TableDefinition, Definitions}
 use Rattle.stored_database.specs.Entries.{IsRecordSize}
-use Rattle.stored_database.specs.Spelling.{table_record, descriptor_record, policy_record}
+use Rattle.stored_database.specs.RecordFormat.{table_record, descriptor_record, policy_record}
 use Rattle.catalogue_changes.specs.Sizes.{FitsRecord, HasPlace}
 pub use Rattle.entry_differences.specs.Additions.{Adds, HaveRecordSizes}
 

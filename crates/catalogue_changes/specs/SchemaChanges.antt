@@ -11,7 +11,7 @@ use Rattle.abstract_database.specs.Database.{Table, Database, role_cmp, table_cm
 use Rattle.abstract_database.specs.Definitions.{without_role, without_table}
 use Rattle.abstract_database.specs.Whole.{Each, IsWhole}
 use Rattle.stored_database.specs.Definitions.{TableDefinition, Definitions, table_with}
-use Rattle.stored_database.specs.Spelling.{role_record, membership_record, table_record, descriptor_record, policy_record}
+use Rattle.stored_database.specs.RecordFormat.{role_record, membership_record, table_record, descriptor_record, policy_record}
 use Rattle.expr_parser.specs.Written.{IsAsWritten}
 use Rattle.stored_database.specs.Valid.{IsNumbered}
 use Rattle.stored_database.specs.Records.{Shows}
@@ -138,7 +138,7 @@ record_changes (change.PutTable t) d records =
     ++ (differences (descriptor_entries (tables_named t.definition.name d)) (map (descriptor_record t.id) t.descriptors)
     ++ differences (policy_entries (tables_named t.definition.name d)) (map (policy_record t.id) t.policies))
 record_changes (change.DropTable name) d records = table_changes d (changed (change.DropTable name) d) ++ part_removals records (tables_named name d)
-record_changes (change.SetDescriptors c) d records = differences (entries_in (tables_named c.table d) c.gone) (entries_in (tables_named c.table d) c.come)
+record_changes (change.SetDescriptors c) d records = differences (entries_in (tables_named c.table d) c.removed) (entries_in (tables_named c.table d) c.added)
 
 -- ---- the law
 

@@ -6,7 +6,7 @@ use Rattle.sql_ast.specs.declared.policy.PolicyClause.{PolicyClause}
 use Rattle.sql_ast.specs.declared.policy.PolicyRoles.{PolicyRoles}
 use Rattle.sql_ast.specs.declared.policy.PolicyRoles.TheVariants as roles
 use Rattle.abstract_database.specs.Whole.{max_policy_roles}
-use Rattle.stored_database.specs.Spelling.{place_byte}
+use Rattle.stored_database.specs.RecordFormat.{place_byte}
 
 -- a byte has room for the place
 abbrev pub HasPlace : Descriptor → Type 0

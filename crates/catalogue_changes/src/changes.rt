@@ -3,7 +3,7 @@
 ghost use Rattle.std.specs.Prelude.{◌≡◌, ◌≢◌, [], ◌∷◌, map, option_to_list, Err, OnOk};
 ghost use Rattle.std.specs.Option.{option_copied};
 ghost use Rattle.std.specs.List.{AllByRecursion};
-ghost use Rattle.stored_database.specs.Spelling.{role_record, membership_record, table_record, descriptor_record, policy_record};
+ghost use Rattle.stored_database.specs.RecordFormat.{role_record, membership_record, table_record, descriptor_record, policy_record};
 ghost use Rattle.catalogue_changes.specs.Differences.{differences};
 ghost use Rattle.catalogue_changes.specs.Entries.{Adds, HaveRecordSizes, IsStorableDescriptor, AreStorableDescriptors, AreStorable};
 ghost use Rattle.catalogue_changes.specs.SchemaChanges.{descriptor_entries as descriptor_entries_of, policy_entries as policy_entries_of};
@@ -30,9 +30,9 @@ pub fn push_role_change(
         (differences (map role_record (option_to_list (option_copied old.entry)))
         (map role_record (option_to_list (option_copied new.entry)))) out.old out.new) }
 {
-    let gone = role_entries(alloc, old)?;
+    let removed = role_entries(alloc, old)?;
     let came = role_entries(alloc, new)?;
-    push_differences(gone.as_slice(), came.as_slice(), out)
+    push_differences(removed.as_slice(), came.as_slice(), out)
 }
 
 /// Adds the changes that take the records of memberships to those of others, both in their order:
@@ -48,9 +48,9 @@ pub fn push_membership_changes(
         (differences (map membership_record old.now) (map membership_record new.now))
         out.old out.new) }
 {
-    let gone = membership_entries(alloc, old)?;
+    let removed = membership_entries(alloc, old)?;
     let came = membership_entries(alloc, new)?;
-    push_differences(gone.as_slice(), came.as_slice(), out)
+    push_differences(removed.as_slice(), came.as_slice(), out)
 }
 
 /// Adds the change that takes the record of an old table, if there is one, to that of a new one, if
@@ -72,9 +72,9 @@ pub fn push_table_change(
         → result ≢ Err Fault.Damaged }
     ensures no_device { result ≢ Err Fault.Device }
 {
-    let gone = table_entries(alloc, old)?;
+    let removed = table_entries(alloc, old)?;
     let came = table_entries(alloc, new)?;
-    push_differences(gone.as_slice(), came.as_slice(), out)?;
+    push_differences(removed.as_slice(), came.as_slice(), out)?;
     Ok(())
 }
 
@@ -96,11 +96,11 @@ pub fn push_descriptor_changes(
     ensures no_device { result ≢ Err Fault.Device }
 {
     let came = descriptor_entries(alloc, table.id(), table.descriptors())?;
-    let gone = match old {
+    let removed = match old {
         Some(old) => descriptor_entries(alloc, old.id(), old.descriptors())?,
         None => Vec::new(alloc),
     };
-    push_differences(gone.as_slice(), came.as_slice(), out)?;
+    push_differences(removed.as_slice(), came.as_slice(), out)?;
     Ok(())
 }
 
@@ -121,10 +121,10 @@ pub fn push_policy_changes(
     ensures no_device { result ≢ Err Fault.Device }
 {
     let came = policy_entries(alloc, table.id(), table.policies())?;
-    let gone = match old {
+    let removed = match old {
         Some(old) => policy_entries(alloc, old.id(), old.policies())?,
         None => Vec::new(alloc),
     };
-    push_differences(gone.as_slice(), came.as_slice(), out)?;
+    push_differences(removed.as_slice(), came.as_slice(), out)?;
     Ok(())
 }

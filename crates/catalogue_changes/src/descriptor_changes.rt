@@ -64,8 +64,8 @@ fn push_descriptor_records(
     ensures no_device { result ≢ Err Fault.Device }
 {
     let _in_order = catalogue.tables();
-    let gone = descriptor_entries(alloc, table.id(), change.gone())?;
-    let come = descriptor_entries(alloc, table.id(), change.come())?;
-    push_differences(gone.as_slice(), come.as_slice(), out)?;
+    let removed = descriptor_entries(alloc, table.id(), change.removed())?;
+    let added = descriptor_entries(alloc, table.id(), change.added())?;
+    push_differences(removed.as_slice(), added.as_slice(), out)?;
     Ok(())
 }

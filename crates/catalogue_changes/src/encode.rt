@@ -3,7 +3,7 @@
 
 ghost use Rattle.std.specs.Prelude.{◌≡◌, ◌≢◌, ◌≤◌, ◌<◌, ◌^◌, [], ◌∷◌, ◌++◌, flat_map, length, Err, IfOk, IfSome, MatchOption, OnOk};
 ghost use Rattle.byteorder.specs.Endian.{big_bytes};
-ghost use Rattle.stored_database.specs.Spelling.{ended, flag, place_byte, type_number, column_bytes, layout_bytes, role_flags, role_record, membership_record, table_record, descriptor_record, policy_record, kind_number, command_number, roles_bytes, clause_bytes};
+ghost use Rattle.stored_database.specs.RecordFormat.{ended, flag, place_byte, type_number, column_bytes, layout_bytes, role_flags, role_record, membership_record, table_record, descriptor_record, policy_record, kind_number, command_number, roles_bytes, clause_bytes};
 ghost use Rattle.stored_database.specs.Entries.{IsRecordSize};
 ghost use Rattle.catalogue_changes.specs.Sizes.{FitsRecord, HasPlace, HasCountableRoles, HasShortText};
 

@@ -3,7 +3,7 @@
 ghost use Rattle.std.specs.Prelude.{◌≡◌, ◌≢◌, map, option_to_list, Err, IfOk};
 ghost use Rattle.std.specs.Option.{option_copied};
 ghost use Rattle.std.specs.List.{AllByRecursion};
-ghost use Rattle.stored_database.specs.Spelling.{role_record, membership_record, table_record, descriptor_record, policy_record};
+ghost use Rattle.stored_database.specs.RecordFormat.{role_record, membership_record, table_record, descriptor_record, policy_record};
 ghost use Rattle.stored_database.specs.Entries.{IsRecordSize};
 ghost use Rattle.catalogue.specs.Policies.{policies_in};
 ghost use Rattle.catalogue_changes.specs.Entries.{HaveRecordSizes, IsStorable, IsStorableDescriptor};

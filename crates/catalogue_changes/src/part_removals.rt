@@ -73,9 +73,9 @@ fn push_descriptor_removals(
         → result ≢ Err Fault.Damaged }
     ensures no_device { result ≢ Err Fault.Device }
 {
-    let gone = descriptor_entries(alloc, table.id(), table.descriptors())?;
+    let removed = descriptor_entries(alloc, table.id(), table.descriptors())?;
     let none = Vec::new(alloc);
-    push_differences(gone.as_slice(), none.as_slice(), out)?;
+    push_differences(removed.as_slice(), none.as_slice(), out)?;
     Ok(())
 }
 
@@ -91,8 +91,8 @@ fn push_policy_removals(
         → result ≢ Err Fault.Damaged }
     ensures no_device { result ≢ Err Fault.Device }
 {
-    let gone = policy_entries(alloc, table.id(), table.policies())?;
+    let removed = policy_entries(alloc, table.id(), table.policies())?;
     let none = Vec::new(alloc);
-    push_differences(gone.as_slice(), none.as_slice(), out)?;
+    push_differences(removed.as_slice(), none.as_slice(), out)?;
     Ok(())
 }

@@ -6,7 +6,7 @@ use Rattle.sql_ast.specs.Scope.{Table}
 use Rattle.store.specs.Records.{Records}
 use Rattle.abstract_database.specs.Lists.{TheName}
 use Rattle.abstract_database.specs.Whole.{Each}
-use Rattle.stored_database.specs.Spelling.{policy_prefix, policy_record}
+use Rattle.stored_database.specs.RecordFormat.{policy_prefix, policy_record}
 use Rattle.stored_database.proofs.Lists.{into_right}
 use Rattle.catalogue.specs.declared.policy.CataloguePolicy.{CataloguePolicy}
 use Rattle.catalogue.specs.Policies.{HasConditions, IsBoundPolicy, BindsPolicy, policies_in}

@@ -6,7 +6,7 @@ use Rattle.sql_ast.specs.Read.{IsReadClause}
 use Rattle.store.specs.Records.{Record, Records, IsOrdered}
 use Rattle.abstract_database.specs.Lists.{Among}
 use Rattle.stored_database.specs.Definitions.{TableDefinition, Definitions, definition_cmp, ids_of}
-use Rattle.stored_database.specs.Spelling.{table_prefix, table_record}
+use Rattle.stored_database.specs.RecordFormat.{table_prefix, table_record}
 use Rattle.stored_database.specs.Items.{AreStored}
 use Rattle.stored_database.specs.Records.{HoldDefinitions, Define}
 use Rattle.stored_database.proofs.KeyOrder.{table_order, held_rise, held_in_order}
@@ -16,7 +16,7 @@ use Rattle.catalogue.specs.Catalogues.{AreInOrder}
 use Rattle.catalogue.proofs.ValidDefinitions.{have_conditions}
 use Rattle.catalogue_records.specs.Clauses.{HasUtf8}
 use Rattle.catalogue_records.specs.Parts.{IsTableAlone}
-use Rattle.catalogue_loading.specs.Held.{HasHeldParts, alone, AreHeldDefinitions, HasNoStray}
+use Rattle.catalogue_loading.specs.Held.{HasHeldParts, alone, AreHeldDefinitions, HasNoOrphan}
 use Rattle.catalogue_loading.specs.Recorded.{AreRecorded}
 
 -- a table's own record says nothing of its privilege descriptors and policies
@@ -58,8 +58,8 @@ module _ (records : Records) (d : Definitions) (h : AreHeldDefinitions records d
         tables = held_rise (λ (t : TableDefinition). Unit {0}) definition_cmp table_record (λ a b p q. table_order a b) records table_prefix d.tables o definitions_held.tables (λ t among. tt);
       }
 
-  -- and without strays they are all that is recorded
-  pub held_recorded : IsOrdered records → HasNoStray (ids_of d.tables) records → AreRecorded records d
+  -- and without orphans they are all that is recorded
+  pub held_recorded : IsOrdered records → HasNoOrphan (ids_of d.tables) records → AreRecorded records d
   held_recorded o none = record {
     held = definitions_held;
     no_other = none;

@@ -2,5 +2,5 @@ pub mod Finding
 pub mod BindingLemmas
 pub mod TableLemmas
 pub mod DefinitionLemmas
-pub mod StrayLemmas
+pub mod OrphanLemmas
 pub mod RecordedLemmas

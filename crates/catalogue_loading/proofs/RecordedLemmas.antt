@@ -8,7 +8,7 @@ use Rattle.store.specs.Records.{Records}
 use Rattle.abstract_database.specs.Database.{TableOf}
 use Rattle.abstract_database.specs.Whole.{Each}
 use Rattle.stored_database.specs.Definitions.{TableDefinition, Definitions}
-use Rattle.stored_database.specs.Spelling.{table_record}
+use Rattle.stored_database.specs.RecordFormat.{table_record}
 use Rattle.stored_database.specs.Items.{IsStoredTable, HasStoredItems, AreStored}
 use Rattle.stored_database.specs.Records.{HoldsTable, HoldDefinitions, Define}
 use Rattle.stored_database.specs.Valid.{AreValid}

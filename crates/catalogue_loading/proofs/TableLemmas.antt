@@ -9,7 +9,7 @@ use Rattle.abstract_database.specs.Lists.{Among}
 use Rattle.abstract_database.specs.Database.{TableOf, descriptor_cmp, policy_cmp}
 use Rattle.abstract_database.specs.Whole.{Each}
 use Rattle.stored_database.specs.Definitions.{TableDefinition}
-use Rattle.stored_database.specs.Spelling.{table_prefix, table_record, descriptor_prefix, descriptor_record, policy_prefix, policy_record}
+use Rattle.stored_database.specs.RecordFormat.{table_prefix, table_record, descriptor_prefix, descriptor_record, policy_prefix, policy_record}
 use Rattle.stored_database.specs.Items.{IsStoredDescriptor, IsStoredPolicy}
 use Rattle.stored_database.proofs.KeyOrder.{descriptor_order, policy_order, held_rise}
 use Rattle.stored_database.proofs.Lists.{same_items, of_map, into_right}

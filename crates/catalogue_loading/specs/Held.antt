@@ -7,9 +7,9 @@ use Rattle.store.specs.Records.{Records, entries_where}
 use Rattle.abstract_database.specs.Lists.{TheName}
 use Rattle.abstract_database.specs.Whole.{Each, IsWholeRole}
 use Rattle.stored_database.specs.Definitions.{TableDefinition, Definitions}
-use Rattle.stored_database.specs.Spelling.{role_prefix, role_record, membership_prefix, membership_record, table_prefix, table_record, descriptor_prefix, descriptor_record, policy_prefix, policy_record}
+use Rattle.stored_database.specs.RecordFormat.{role_prefix, role_record, membership_prefix, membership_record, table_prefix, table_record, descriptor_prefix, descriptor_record, policy_prefix, policy_record}
 use Rattle.stored_database.specs.Items.{IsStoredMembership, IsStoredDescriptor}
-use Rattle.stored_database.specs.Records.{is_stray}
+use Rattle.stored_database.specs.Records.{is_orphan}
 use Rattle.catalogue.specs.declared.policy.CataloguePolicy.{CataloguePolicy}
 use Rattle.catalogue.specs.Policies.{scope_of, HasConditions, IsBoundPolicy, policies_in}
 use Rattle.catalogue_records.specs.Clauses.{IsPolicyAlone}
@@ -54,9 +54,9 @@ pub record AreHeldDefinitions (records : Records) (d : Definitions) : Type 0 whe
   pub memberships : AreHeld IsStoredMembership membership_record records membership_prefix d.memberships
   pub tables : AreHeldTables records d.tables
 
--- no record is a stray where these are the numbers of the tables
-abbrev pub HasNoStray : List ℕ → Records → Type 0
-HasNoStray ids records = entries_where (is_stray ids) records ≡ []
+-- no record is an orphan where these are the numbers of the tables
+abbrev pub HasNoOrphan : List ℕ → Records → Type 0
+HasNoOrphan ids records = entries_where (is_orphan ids) records ≡ []
 
 -- ---- binding
 

@@ -9,7 +9,7 @@ use Rattle.stored_database.specs.Items.{AreStored}
 use Rattle.stored_database.specs.Records.{HoldDefinitions, Define}
 use Rattle.stored_database.specs.Valid.{IsNumbered}
 use Rattle.catalogue_loading.specs.Found.{Finds}
-use Rattle.catalogue_loading.specs.Held.{HasNoStray}
+use Rattle.catalogue_loading.specs.Held.{HasNoOrphan}
 
 -- each policy of the table is one of it, with conditions over its columns
 abbrev pub HasPoliciesOfIt : TableDefinition → Type 0
@@ -19,7 +19,7 @@ HasPoliciesOfIt t = Each (IsPolicyOf t.definition) t.policies
 -- database may have; whether they are valid together is not said.
 pub record AreRecorded (records : Records) (d : Definitions) : Type 0 where
   pub held : HoldDefinitions records d
-  pub no_other : HasNoStray (ids_of d.tables) records
+  pub no_other : HasNoOrphan (ids_of d.tables) records
   pub stored : AreStored d
   pub order : IsInOrder (database_of d)
   pub roles : Each IsWholeRole d.roles

@@ -8,7 +8,7 @@ ghost use Rattle.catalogue_loading.specs.Found.{FindsAs};
 ghost use Rattle.catalogue_loading.specs.Held.{AreHeldDefinitions};
 ghost use Rattle.catalogue_loading.specs.Recorded.{ReadsDefinitions};
 
-use crate::strays::check_strays;
+use crate::orphans::check_orphans;
 use crate::tables::read_tables;
 use catalogue::definitions::{Catalogue, CatalogueParts};
 use catalogue_records::{MembershipReader, RoleReader, load_items};
@@ -22,7 +22,7 @@ const MEMBERSHIP: u8 = 2;
 
 /// The definitions of a database, read from the records of a map, with the conditions of policies
 /// bound to the columns of their tables. Each record is read once and each policy parsed once; then
-/// one walk over all records looks for strays.
+/// one walk over all records looks for orphans.
 ///
 /// Memory: an allocation failed. Device: the map answered it. Damaged: one of the records is none
 /// that a database writes, so they define nothing. That all records are well formed does not make
@@ -39,7 +39,7 @@ pub fn read_definitions<M: Map>(alloc: Global, map: &mut M) -> Result<Catalogue,
     if !parts.are_in_order() {
         return Err(Fault::Damaged);
     }
-    match check_strays(alloc, map, parts.tables.as_slice()) {
+    match check_orphans(alloc, map, parts.tables.as_slice()) {
         Ok(()) => {}
         Err(fault) => return Err(fault),
     }

@@ -3,8 +3,8 @@
 
 mod definitions;
 mod laws;
+mod orphans;
 mod parts;
-mod strays;
 mod tables;
 mod whole;
 

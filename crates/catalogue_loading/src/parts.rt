@@ -5,7 +5,7 @@ ghost use Rattle.store.specs.Store.{StoreState};
 ghost use Rattle.store.specs.Readers.{HasRead};
 ghost use Rattle.abstract_database.specs.Whole.{Each};
 ghost use Rattle.stored_database.specs.Items.{IsStoredDescriptor};
-ghost use Rattle.stored_database.specs.Spelling.{descriptor_prefix, descriptor_record};
+ghost use Rattle.stored_database.specs.RecordFormat.{descriptor_prefix, descriptor_record};
 ghost use Rattle.catalogue.specs.Policies.{scope_of, IsBoundPolicy, policies_in};
 ghost use Rattle.catalogue_records.specs.Walks.{LoadsItems};
 ghost use Rattle.catalogue_loading.specs.Found.{FindsAs};

@@ -14,7 +14,7 @@ use Rattle.sql_ast.specs.Layout.{Layout}
 use Rattle.abstract_database.specs.Lists.{Among}
 use Rattle.abstract_database.specs.Whole.{Each}
 use Rattle.row_codec.specs.Rows.{row_prefix, row_key}
-use Rattle.stored_database.specs.Spelling.{row_record}
+use Rattle.stored_database.specs.RecordFormat.{row_record}
 use Rattle.stored_database.proofs.Lists.{first_of_each, rest_of_each, of_map}
 use Rattle.catalogue_records.specs.Checks.{GoesPast, FailsAt, Tests, AllPass, ChecksRecords, IsRowRecord}
 use Rattle.catalogue_records.specs.Walks.{AreHeld}

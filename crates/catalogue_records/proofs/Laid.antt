@@ -6,7 +6,7 @@ use Rattle.sql_ast.specs.declared.columns.Column.{Column}
 use Rattle.sql_ast.specs.Layout.{Layout, IsLayout}
 use Rattle.store.specs.Records.{Record}
 use Rattle.stored_database.specs.Definitions.{TableDefinition}
-use Rattle.stored_database.specs.Spelling.{ended, flag, column_bytes, layout_bytes, table_flags, table_record}
+use Rattle.stored_database.specs.RecordFormat.{ended, flag, column_bytes, layout_bytes, table_flags, table_record}
 use Rattle.catalogue_records.specs.Decoding.{IsSpelled, IsFront, IsOnlyFront}
 use Rattle.catalogue_records.specs.Parts.{AreParts, HasName, IsStoredLayout, IsTableAlone, key_bytes}
 

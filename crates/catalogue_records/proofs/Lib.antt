@@ -8,4 +8,4 @@ pub mod Laid
 pub mod Written
 pub mod PolicyRecords
 pub mod Checking
-pub mod Stray
+pub mod Orphan

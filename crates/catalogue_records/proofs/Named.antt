@@ -12,7 +12,7 @@ use Rattle.store.specs.declared.fault.Fault.{Fault}
 use Rattle.store.specs.declared.fault.Fault.TheVariants.{Memory, Device, Damaged}
 use Rattle.store.specs.Records.{Record}
 use Rattle.stored_database.specs.Items.{IsStoredMembership}
-use Rattle.stored_database.specs.Spelling.{ended, membership_record}
+use Rattle.stored_database.specs.RecordFormat.{ended, membership_record}
 use Rattle.catalogue_records.specs.Decoding.{IsSpelled, Decodes, IsOnlyFront, DecodesFront}
 
 -- the names of a membership that has this record

@@ -14,7 +14,7 @@ use Rattle.abstract_database.specs.Lists.{TheName}
 use Rattle.abstract_database.specs.Sizes.{clause_size, policy_size}
 use Rattle.expr_parser.specs.Written.{IsAsWritten}
 use Rattle.stored_database.specs.Items.{AreStoredRoles}
-use Rattle.stored_database.specs.Spelling.{kind_number, command_number, roles_bytes, policy_prefix, policy_record}
+use Rattle.stored_database.specs.RecordFormat.{kind_number, command_number, roles_bytes, policy_prefix, policy_record}
 use Rattle.stored_database.proofs.Lengths.{policy_long}
 use Rattle.catalogue_records.specs.Clauses.{IsStoredClauseIfAny, AreStoredClauses, clauses_bytes, HasUtf8, IsPolicyAlone}
 use Rattle.catalogue_records.specs.Decoding.{IsSpelled, Decodes, IsFront, IsOnlyFront}

@@ -14,7 +14,7 @@ use Rattle.store.specs.Records.{Record}
 use Rattle.abstract_database.specs.Lists.{TheName}
 use Rattle.abstract_database.specs.Database.{action_number}
 use Rattle.stored_database.specs.Items.{IsStoredGrantor, IsStoredDescriptor}
-use Rattle.stored_database.specs.Spelling.{ended, place_byte, descriptor_prefix, descriptor_record}
+use Rattle.stored_database.specs.RecordFormat.{ended, place_byte, descriptor_prefix, descriptor_record}
 use Rattle.stored_database.proofs.Names.{no_zero_of}
 use Rattle.catalogue_records.specs.Decoding.{Decodes, IsSpelled, IsFront, IsOnlyFront, DecodesFront}
 use Rattle.catalogue_records.specs.Parties.{AreParties, IsStoredColumn, grantor_bytes, grantee_bytes, parties_bytes}

@@ -8,7 +8,7 @@ use Rattle.sql_ast.specs.declared.policy.PolicyClause.{PolicyClause}
 use Rattle.sql_lexer.specs.Lexeme.{Lexeme}
 use Rattle.sql_lexer.specs.Lexing.{Lexes}
 use Rattle.expr_parser.specs.Written.{IsAsWritten, IsTrimmed}
-use Rattle.stored_database.specs.Spelling.{clause_bytes}
+use Rattle.stored_database.specs.RecordFormat.{clause_bytes}
 use Rattle.catalogue_records.specs.Clauses.{SpansText, text_of, IsStoredClauseIfAny}
 use Rattle.catalogue_records.specs.Decoding.{IsSpelled, IsFront, IsOnlyFront}
 

@@ -7,8 +7,8 @@ use Rattle.sql_types.specs.Row.{Row}
 use Rattle.sql_ast.specs.Fits.{FitsTable}
 use Rattle.sql_ast.specs.Layout.{Layout}
 use Rattle.abstract_database.specs.Whole.{Each}
-use Rattle.stored_database.specs.Spelling.{row_record}
-use Rattle.stored_database.specs.Records.{is_stray, is_stray_row}
+use Rattle.stored_database.specs.RecordFormat.{row_record}
+use Rattle.stored_database.specs.Records.{is_orphan, is_orphan_row}
 use Rattle.catalogue_records.specs.Decoding.{IsSpelled}
 
 -- the first of these records is as it is to be, and the others are ahead then
@@ -50,9 +50,9 @@ abbrev pub IsRowRecord : ℕ → Layout → Record → Type 0
 IsRowRecord id layout e = (row : Row) × IsSpelled (FitsTable layout) (row_record id layout) e row
 
 -- the record is of a kind, and where it is a descriptor or a policy, of a table of one of these numbers
-abbrev pub IsNoStray : List ℕ → Record → Type 0
-IsNoStray ids e = is_stray ids e.0 ≡ false
+abbrev pub IsNoOrphan : List ℕ → Record → Type 0
+IsNoOrphan ids e = is_orphan ids e.0 ≡ false
 
 -- the record is no row's, or that of a row of a table of one of these numbers
-abbrev pub IsNoStrayRow : List ℕ → Record → Type 0
-IsNoStrayRow ids e = is_stray_row ids e.0 ≡ false
+abbrev pub IsNoOrphanRow : List ℕ → Record → Type 0
+IsNoOrphanRow ids e = is_orphan_row ids e.0 ≡ false

@@ -9,7 +9,7 @@ use Rattle.sql_lexer.specs.Slices.{text_between}
 use Rattle.abstract_database.specs.Lists.{TheName}
 use Rattle.expr_parser.specs.Written.{IsAsWritten}
 use Rattle.stored_database.specs.Items.{IsStoredPolicy}
-use Rattle.stored_database.specs.Spelling.{clause_bytes}
+use Rattle.stored_database.specs.RecordFormat.{clause_bytes}
 
 -- a text is the slice of itself from the first of these tokens to the last
 abbrev pub SpansText : List ℕ → List Lexeme → Type 0

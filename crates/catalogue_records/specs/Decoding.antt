@@ -5,16 +5,16 @@ use Rattle.store.specs.declared.fault.Fault.{Fault}
 use Rattle.store.specs.declared.fault.Fault.TheVariants.{Memory, Device, Damaged}
 
 -- the item is one that a database may have, and this is how it is spelled
-pub record IsSpelled {X S : Type 0} (IsValid : X → Type 0) (spell : X → S) (spelling : S) (x : X) : Type 0 where
+pub record IsSpelled {X S : Type 0} (IsValid : X → Type 0) (spell : X → S) (record_format : S) (x : X) : Type 0 where
   pub valid : IsValid x
-  pub spelled : spell x ≡ spelling
+  pub spelled : spell x ≡ record_format
 
 -- the item with this spelling, or Damaged where it is the spelling of none. An allocation may always fail; no device is read
 abbrev pub Decodes : {X S : Type 0} → (X → Type 0) → (X → S) → S → Result X Fault → Type 0
-Decodes IsValid spell spelling (Ok x) = IsSpelled IsValid spell spelling x
-Decodes IsValid spell spelling (Err Memory) = Unit {0}
-Decodes IsValid spell spelling (Err Device) = ⊥
-Decodes {X} IsValid spell spelling (Err Damaged) = (x : X) → IsSpelled IsValid spell spelling x → ⊥
+Decodes IsValid spell record_format (Ok x) = IsSpelled IsValid spell record_format x
+Decodes IsValid spell record_format (Err Memory) = Unit {0}
+Decodes IsValid spell record_format (Err Device) = ⊥
+Decodes {X} IsValid spell record_format (Err Damaged) = (x : X) → IsSpelled IsValid spell record_format x → ⊥
 
 -- the bytes begin with the spelling of the item, and these are the others
 pub record IsFront {X : Type 0} (IsValid : X → Type 0) (spell : X → List ℕ) (bytes : List ℕ) (x : X) (rest : List ℕ) : Type 0 where

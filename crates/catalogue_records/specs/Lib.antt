@@ -4,4 +4,4 @@ pub mod Parties
 pub mod Parts
 pub mod Clauses
 pub mod Checks
-pub mod Strays
+pub mod Orphans

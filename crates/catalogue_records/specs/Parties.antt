@@ -5,7 +5,7 @@ use Rattle.sql_ast.specs.declared.privilege.Grantee.{Grantee}
 use Rattle.sql_ast.specs.Read.{IsReadGrantee}
 use Rattle.abstract_database.specs.Database.{grantor_name, grantee_name}
 use Rattle.stored_database.specs.Items.{IsStoredGrantor}
-use Rattle.stored_database.specs.Spelling.{ended}
+use Rattle.stored_database.specs.RecordFormat.{ended}
 
 -- none for the whole table, or a column of the 16 that a table may have
 abbrev pub IsStoredColumn : Option ℕ → Type 0

@@ -4,7 +4,7 @@ ghost use Rattle.std.specs.Prelude.{◌≡◌, ◌≢◌, ◌<◌, ◌^◌, ℕ,
 ghost use Rattle.byteorder.specs.Endian.{big_bytes};
 ghost use Rattle.sql_types.specs.Domain.{IsText};
 ghost use Rattle.sql_types.specs.Name.{IsUtf8Name};
-ghost use Rattle.stored_database.specs.Spelling.{bit, ended};
+ghost use Rattle.stored_database.specs.RecordFormat.{bit, ended};
 ghost use Rattle.catalogue_records.specs.Decoding.{Decodes, DecodesFront};
 
 use row_codec::{key_cell_at, table_prefix};
@@ -66,7 +66,7 @@ pub trait Coded: Copy {
 }
 
 impl Coded for bool {
-    ghost use Rattle.stored_database.specs.Spelling.{bit};
+    ghost use Rattle.stored_database.specs.RecordFormat.{bit};
 
     ghost code = { bit };
 

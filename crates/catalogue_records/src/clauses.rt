@@ -5,7 +5,7 @@ ghost use Rattle.std.specs.Str.{IsUtf8};
 ghost use Rattle.byteorder.specs.Endian.{big_bytes};
 ghost use Rattle.sql_lexer.specs.Lexeme.{ArePlaced, lexemes};
 ghost use Rattle.expr_parser.specs.Written.{IsAsWritten, IsTrimmed};
-ghost use Rattle.stored_database.specs.Spelling.{clause_bytes};
+ghost use Rattle.stored_database.specs.RecordFormat.{clause_bytes};
 ghost use Rattle.catalogue_records.specs.Clauses.{AreStoredClauses, IsStoredClauseIfAny, SpansText, clauses_bytes, text_of};
 ghost use Rattle.catalogue_records.specs.Decoding.{Decodes, DecodesFront};
 

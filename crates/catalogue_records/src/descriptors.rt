@@ -5,7 +5,7 @@ ghost use Rattle.sql_ast.specs.declared.privilege.Action.{Action};
 ghost use Rattle.sql_ast.specs.Read.{IsReadGrantee};
 ghost use Rattle.abstract_database.specs.Database.{action_number};
 ghost use Rattle.stored_database.specs.Items.{IsStoredDescriptor, IsStoredGrantor};
-ghost use Rattle.stored_database.specs.Spelling.{descriptor_prefix, descriptor_record, place_byte};
+ghost use Rattle.stored_database.specs.RecordFormat.{descriptor_prefix, descriptor_record, place_byte};
 ghost use Rattle.catalogue_records.specs.Decoding.{Decodes, DecodesFront};
 ghost use Rattle.catalogue_records.specs.Parties.{AreParties, IsStoredColumn, grantee_bytes, grantor_bytes, parties_bytes};
 
@@ -54,7 +54,7 @@ impl<'a> ItemReader for DescriptorReader<'a> {
     type Item = Descriptor;
 
     ghost use Rattle.stored_database.specs.Items.{IsStoredDescriptor};
-    ghost use Rattle.stored_database.specs.Spelling.{descriptor_record};
+    ghost use Rattle.stored_database.specs.RecordFormat.{descriptor_record};
 
     ghost IsValid = { λ reader. IsStoredDescriptor reader.table.now };
 

@@ -2,7 +2,7 @@
 
 ghost use Rattle.std.specs.Prelude.{◌≡◌, ◌∷◌, [], ◌++◌};
 ghost use Rattle.stored_database.specs.Items.{IsStoredMembership};
-ghost use Rattle.stored_database.specs.Spelling.{membership_record};
+ghost use Rattle.stored_database.specs.RecordFormat.{membership_record};
 ghost use Rattle.catalogue_records.specs.Decoding.{Decodes};
 
 use crate::bytes::{name_at, only_bit};
@@ -19,7 +19,7 @@ impl ItemReader for MembershipReader {
     type Item = Membership;
 
     ghost use Rattle.stored_database.specs.Items.{IsStoredMembership};
-    ghost use Rattle.stored_database.specs.Spelling.{membership_record};
+    ghost use Rattle.stored_database.specs.RecordFormat.{membership_record};
 
     ghost IsValid = { λ reader. IsStoredMembership };
 

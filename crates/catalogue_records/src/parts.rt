@@ -36,7 +36,7 @@ impl RecordPart for EndedName {
     type Item = Name;
 
     ghost use Rattle.sql_types.specs.Name.{IsUtf8Name};
-    ghost use Rattle.stored_database.specs.Spelling.{ended};
+    ghost use Rattle.stored_database.specs.RecordFormat.{ended};
 
     ghost IsValid = { IsUtf8Name };
 

@@ -4,7 +4,7 @@ ghost use Rattle.std.specs.Prelude.{◌≡◌};
 ghost use Rattle.sql_ast.specs.declared.policy.PolicyCommand.{PolicyCommand};
 ghost use Rattle.sql_ast.specs.declared.policy.PolicyKind.{PolicyKind};
 ghost use Rattle.stored_database.specs.Items.{AreStoredRoles};
-ghost use Rattle.stored_database.specs.Spelling.{command_number, kind_number, policy_prefix, policy_record, roles_bytes};
+ghost use Rattle.stored_database.specs.RecordFormat.{command_number, kind_number, policy_prefix, policy_record, roles_bytes};
 ghost use Rattle.catalogue_records.specs.Clauses.{IsPolicyAlone};
 ghost use Rattle.catalogue_records.specs.Decoding.{Decodes, DecodesFront};
 
@@ -52,7 +52,7 @@ impl<'a> PolicyReader<'a> {
 impl<'a> ItemReader for PolicyReader<'a> {
     type Item = Policy;
 
-    ghost use Rattle.stored_database.specs.Spelling.{policy_record};
+    ghost use Rattle.stored_database.specs.RecordFormat.{policy_record};
     ghost use Rattle.catalogue_records.specs.Clauses.{IsPolicyAlone};
 
     ghost IsValid = { λ reader. IsPolicyAlone reader.table.now };
@@ -65,7 +65,7 @@ impl<'a> ItemReader for PolicyReader<'a> {
 }
 
 impl Coded for PolicyKind {
-    ghost use Rattle.stored_database.specs.Spelling.{kind_number};
+    ghost use Rattle.stored_database.specs.RecordFormat.{kind_number};
 
     ghost code = { kind_number };
 
@@ -79,7 +79,7 @@ impl Coded for PolicyKind {
 }
 
 impl Coded for PolicyCommand {
-    ghost use Rattle.stored_database.specs.Spelling.{command_number};
+    ghost use Rattle.stored_database.specs.RecordFormat.{command_number};
 
     ghost code = { command_number };
 

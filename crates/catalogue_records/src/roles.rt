@@ -3,7 +3,7 @@
 ghost use Rattle.std.specs.Prelude.{◌≡◌, ◌∷◌, [], MatchOption};
 ghost use Rattle.sql_ast.specs.declared.role.RoleAttributes.{RoleAttributes};
 ghost use Rattle.abstract_database.specs.Whole.{IsWholeRole};
-ghost use Rattle.stored_database.specs.Spelling.{role_flags, role_record};
+ghost use Rattle.stored_database.specs.RecordFormat.{role_flags, role_record};
 ghost use Rattle.catalogue_records.specs.Decoding.{Decodes};
 
 use crate::bytes::decode_name;
@@ -20,7 +20,7 @@ impl ItemReader for RoleReader {
     type Item = Role;
 
     ghost use Rattle.abstract_database.specs.Whole.{IsWholeRole};
-    ghost use Rattle.stored_database.specs.Spelling.{role_record};
+    ghost use Rattle.stored_database.specs.RecordFormat.{role_record};
 
     ghost IsValid = { λ reader. IsWholeRole };
 

@@ -6,7 +6,7 @@ ghost use Rattle.sql_ast.specs.Fits.{FitsTable};
 ghost use Rattle.sql_ast.specs.Layout.{Layout};
 ghost use Rattle.store.specs.Records.{Records};
 ghost use Rattle.row_codec.specs.Rows.{row_prefix};
-ghost use Rattle.stored_database.specs.Spelling.{row_record};
+ghost use Rattle.stored_database.specs.RecordFormat.{row_record};
 ghost use Rattle.catalogue_records.specs.Checks.{AllPass, IsRowRecord};
 ghost use Rattle.catalogue_records.specs.Walks.{AreHeld};
 

@@ -4,7 +4,7 @@
 ghost use Rattle.std.specs.Prelude.{◌≡◌, [], ◌++◌, ◌<◌, ◌^◌, ◌+◌, ℕ, Bool, List, IfSome, MatchOption};
 ghost use Rattle.byteorder.specs.Endian.{big_bytes};
 ghost use Rattle.sql_ast.specs.declared.columns.ColumnType.{ColumnType};
-ghost use Rattle.stored_database.specs.Spelling.{column_bytes, flag, layout_bytes, table_record, type_number};
+ghost use Rattle.stored_database.specs.RecordFormat.{column_bytes, flag, layout_bytes, table_record, type_number};
 ghost use Rattle.catalogue_records.specs.Decoding.{Decodes, DecodesFront};
 ghost use Rattle.catalogue_records.specs.Parts.{HasName, IsStoredLayout, IsTableAlone, key_bytes};
 
@@ -68,7 +68,7 @@ pub struct TableReader;
 impl ItemReader for TableReader {
     type Item = TableRecord;
 
-    ghost use Rattle.stored_database.specs.Spelling.{table_record};
+    ghost use Rattle.stored_database.specs.RecordFormat.{table_record};
     ghost use Rattle.catalogue_records.specs.Parts.{IsTableAlone};
 
     ghost IsValid = { λ reader. IsTableAlone };
@@ -87,7 +87,7 @@ struct ColumnPart;
 impl RecordPart for ColumnPart {
     type Item = Column;
 
-    ghost use Rattle.stored_database.specs.Spelling.{column_bytes};
+    ghost use Rattle.stored_database.specs.RecordFormat.{column_bytes};
     ghost use Rattle.catalogue_records.specs.Parts.{HasName};
 
     ghost IsValid = { HasName };
@@ -100,7 +100,7 @@ impl RecordPart for ColumnPart {
 }
 
 impl Coded for ColumnType {
-    ghost use Rattle.stored_database.specs.Spelling.{type_number};
+    ghost use Rattle.stored_database.specs.RecordFormat.{type_number};
 
     ghost code = { type_number };
 

@@ -9,8 +9,8 @@ use Rattle.clap.specs.declared.parser.matches.ArgMatches.TheViews.{out-ArgMatche
 use Rattle.clap.specs.declared.parser.matches.SubCommand.{SubCommand}
 use Rattle.clap.specs.declared.error.Error.{Error}
 use Rattle.clap.specs.declared.error.kind.ErrorKind.TheVariants as kind
-use Rattle.commands.specs.declared.command.Order.{Order}
-use Rattle.commands.specs.declared.command.Order.TheVariants as order
+use Rattle.commands.specs.declared.command.Invocation.{Invocation}
+use Rattle.commands.specs.declared.command.Invocation.TheVariants as order
 use Rattle.commands.specs.declared.command.UsageFault.{UsageFault}
 use Rattle.commands.specs.declared.command.UsageFault.TheVariants as usage
 use Rattle.commands.specs.CommandGrammar.{program_app}
@@ -70,7 +70,7 @@ module _ (words : TheWords) (name : TheWord) (rows : List Row) (fits : fault_of 
       record { named = sym (ap named_in same); words = subst (λ rs. HasWords rs given) (ap rows_in same) gives.words }
 
   -- words that give an order ask for it
-  pub order_asks : (o : Order) → IsOrdered (GivesAs name rows) o → Asks words o
+  pub order_asks : (o : Invocation) → IsOrdered (GivesAs name rows) o → Asks words o
   order_asks (order.Format file pages admin journal) has = (has.0, gives_of _ has.1, has.2, has.3)
   order_asks (order.Copy file new pages journal) has = (has.0, gives_of _ has.1, has.2)
   order_asks (order.Journal file on) has = gives_of _ has
@@ -100,7 +100,7 @@ module _ (words : TheWords) (name : TheWord) (rows : List Row) (fits : fault_of 
 among : (words : TheWords) (e : Error) → HasKind (fault_of program_app words) e → (kind_of e ≡ kind.OutOfMemory → ⊥) → EndsReading (kind_of e) words
 among words e kinds other = elim kinds [ inl memory ↦ absurd (other memory) | inr is ↦ is ]
 
-asks_by : (words : TheWords) (e : Error) (r : Result Order UsageFault) → HasKind (fault_of program_app words) e → IsReadFrom e r → IfOk r (Asks words)
+asks_by : (words : TheWords) (e : Error) (r : Result Invocation UsageFault) → HasKind (fault_of program_app words) e → IsReadFrom e r → IfOk r (Asks words)
 asks_by words e (Ok order.Help) kinds read = subst (λ k. EndsReading k words) read (among words e kinds (λ m. let bad : kind.OutOfMemory ≡ kind.DisplayHelp = sym m ∙ read in cc))
 asks_by words e (Ok order.Version) kinds read = subst (λ k. EndsReading k words) read (among words e kinds (λ m. let bad : kind.OutOfMemory ≡ kind.DisplayVersion = sym m ∙ read in cc))
 asks_by words e (Ok (order.Format file pages admin journal)) kinds read = absurd read
@@ -114,7 +114,7 @@ asks_by words e (Ok (order.Check file)) kinds read = absurd read
 asks_by words e (Ok (order.Describe file role json)) kinds read = absurd read
 asks_by words e (Err u) kinds read = tt
 
-refuses_by : (words : TheWords) (e : Error) (r : Result Order UsageFault) → HasKind (fault_of program_app words) e → IsReadFrom e r → IfErr r (Refuses words)
+refuses_by : (words : TheWords) (e : Error) (r : Result Invocation UsageFault) → HasKind (fault_of program_app words) e → IsReadFrom e r → IfErr r (Refuses words)
 refuses_by words e (Ok o) kinds read = tt
 refuses_by words e (Err (usage.Grammar mistake)) kinds read =
     subst (λ f. Refuses words (usage.Grammar f)) (sym read.0) (read.1, among words e kinds read.1.not_memory)
@@ -128,7 +128,7 @@ refuses_by words e (Err usage.Encoding) kinds read = absurd read
 refuses_by words e (Err usage.Memory) kinds read = tt
 
 -- an error of the parse is read as what the words ask for, or are refused for
-pub error_read : (a : App) (words lent : TheWords) (result : Result ArgMatches Error) (e : Error) (r : Result Order UsageFault) → a ≡ program_app → lent ≡ words → result ≡ Err e
+pub error_read : (a : App) (words lent : TheWords) (result : Result ArgMatches Error) (e : Error) (r : Result Invocation UsageFault) → a ≡ program_app → lent ≡ words → result ≡ Err e
     → (is_simple_and_free a ≡ true → FailsBy (fault_of a lent) result) → IsReadFrom e r → IfOk r (Asks words) × IfErr r (Refuses words)
 error_read a words lent result e r by same is fails read =
     let kinds : HasKind (fault_of program_app words) e = subst (λ x. FailsBy (fault_of program_app words) x) is (fails_by a words lent result by same fails) in

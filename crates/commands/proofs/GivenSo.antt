@@ -1,8 +1,8 @@
 -- What is said of words that are given so is said of a command that gives them so.
 use Rattle.std.proofs.Common.{◌≡◌, ◌∙◌, ap, sym, refl, subst, Option, Result, Ok, Err}
 use Rattle.std.specs.Prelude.{IfErr, IsErrAnd}
-use Rattle.commands.specs.declared.command.Order.{Order}
-use Rattle.commands.specs.declared.command.Order.TheVariants as order
+use Rattle.commands.specs.declared.command.Invocation.{Invocation}
+use Rattle.commands.specs.declared.command.Invocation.TheVariants as order
 use Rattle.commands.specs.declared.command.UsageFault.{UsageFault}
 use Rattle.commands.specs.declared.command.UsageFault.TheVariants as usage
 use Rattle.commands.specs.declared.number.NumberOption.{NumberOption}
@@ -13,7 +13,7 @@ module _ (G : Given → Type 0) (words : Given) (gives : G words) where
   so : (given : Given) → given ≡ words → G given
   so given is = subst G (sym is) gives
 
-  pub ordered_so : (o : Order) → IsOrdered (λ given. given ≡ words) o → IsOrdered G o
+  pub ordered_so : (o : Invocation) → IsOrdered (λ given. given ≡ words) o → IsOrdered G o
   ordered_so (order.Format file pages admin journal) has = (has.0, so _ has.1, has.2, has.3)
   ordered_so (order.Copy file new pages journal) has = (has.0, so _ has.1, has.2)
   ordered_so (order.Journal file on) has = so _ has

@@ -7,8 +7,8 @@ use Rattle.clap.specs.declared.error.Error.{Error}
 use Rattle.clap.specs.declared.error.kind.ErrorKind.{ErrorKind}
 use Rattle.clap.specs.declared.error.kind.ErrorKind.TheVariants as kind
 use Rattle.sql_types.specs.Name.{IsName}
-use Rattle.commands.specs.declared.command.Order.{Order}
-use Rattle.commands.specs.declared.command.Order.TheVariants as order
+use Rattle.commands.specs.declared.command.Invocation.{Invocation}
+use Rattle.commands.specs.declared.command.Invocation.TheVariants as order
 use Rattle.commands.specs.declared.command.UsageFault.{UsageFault}
 use Rattle.commands.specs.declared.command.UsageFault.TheVariants as usage
 use Rattle.commands.specs.declared.number.NumberOption.{NumberOption}
@@ -116,7 +116,7 @@ IsRoleName (Some name) = IsName name
 
 -- of what is given the order says the words as they stand, but the numbers as such; names are those that a role can have, and paths of sockets
 -- those that the system takes
-abbrev pub IsOrdered : (Given → Type 0) → Order → Type 0
+abbrev pub IsOrdered : (Given → Type 0) → Invocation → Type 0
 IsOrdered G (order.Format file pages admin journal) = (number : TheWord) × G (Format file.now number admin.now journal) × IsNumberFor Pages number pages × IsName admin.now
 IsOrdered G (order.Copy file new pages journal) = (number : TheWord) × G (Copy file.now new.now number journal) × IsNumberFor Pages number pages
 IsOrdered G (order.Journal file on) = G (Journal file.now (switch_word on))
@@ -130,7 +130,7 @@ IsOrdered G order.Help = ⊥
 IsOrdered G order.Version = ⊥
 
 -- the words give this order, or reading them ends at a flag for help or the version
-abbrev pub Asks : TheWords → Order → Type 0
+abbrev pub Asks : TheWords → Invocation → Type 0
 Asks words order.Help = EndsReading kind.DisplayHelp words
 Asks words order.Version = EndsReading kind.DisplayVersion words
 Asks words o = IsOrdered (Gives words) o
@@ -203,7 +203,7 @@ Refuses words u = IsUnfit (Gives words) u
 -- ---- an error of `clap`
 
 -- an error is an order where it is a request for help or the version, and else a fault
-abbrev pub IsReadFrom : Error → Result Order UsageFault → Type 0
+abbrev pub IsReadFrom : Error → Result Invocation UsageFault → Type 0
 IsReadFrom e (Ok order.Help) = kind_of e ≡ kind.DisplayHelp
 IsReadFrom e (Ok order.Version) = kind_of e ≡ kind.DisplayVersion
 IsReadFrom e (Err (usage.Grammar mistake)) = (mistake ≡ e) × IsMistake e

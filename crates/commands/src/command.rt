@@ -8,8 +8,8 @@ ghost use Rattle.commands.specs.Numbers.{IsNumberFor};
 ghost use Rattle.commands.specs.declared.number.NumberOption.TheVariants.{Idle};
 ghost use Rattle.commands.specs.Usage.{usage_reason};
 
+use crate::error_reason::ErrorReason;
 use crate::grammar::program_command;
-use crate::mistake::Mistake;
 use crate::number::NumberOption;
 use clap::ArgMatches;
 use clap::error::{Error, ErrorKind};
@@ -20,7 +20,7 @@ use std::fmt;
 /// What a command line asks for. Words are as they were given; numbers are in the range of their
 /// option.
 #[derive(Clone, Copy)]
-pub enum Order<'a> {
+pub enum Invocation<'a> {
     /// `format FILE --pages N --admin NAME`: makes FILE, a database of N pages whose one role is the
     /// superuser NAME. With `--journal` it has a journal.
     Format {
@@ -117,7 +117,7 @@ impl fmt::Display for UsageFault<'_> {
 
     fn fmt<W: fmt::Write>(&self, f: &mut fmt::Formatter<W>) -> fmt::Result {
         match self {
-            UsageFault::Grammar(error) => write!(f, "{}", Mistake(error)),
+            UsageFault::Grammar(error) => write!(f, "{}", ErrorReason(error)),
             UsageFault::Form => write!(f, "run takes FILE SCRIPT, or --memory NAME SCRIPT"),
             UsageFault::Serving => {
                 write!(
@@ -149,7 +149,10 @@ impl fmt::Display for UsageFault<'_> {
 /// once; or a flag for help or the version. Words that give none are refused: by `Grammar`, `Form`, `Serving`,
 /// `Number`, `Path`, `Name` or `Switch`.
 /// `Memory` may come of any words.
-pub fn read_command<'a>(alloc: Global, words: &'a [&'a str]) -> Result<Order<'a>, UsageFault<'a>>
+pub fn read_command<'a>(
+    alloc: Global,
+    words: &'a [&'a str],
+) -> Result<Invocation<'a>, UsageFault<'a>>
     ensures asked { IfOk result (Asks (lent_words words.entry.now)) }
     ensures refused { IfErr result (Refuses (lent_words words.entry.now)) }
 {
@@ -167,19 +170,19 @@ pub fn read_command<'a>(alloc: Global, words: &'a [&'a str]) -> Result<Order<'a>
 }
 
 /// What an error of `clap` is: a request for help or the version, or a fault.
-fn read_error<'a>(error: Error) -> Result<Order<'a>, UsageFault<'a>>
+fn read_error<'a>(error: Error) -> Result<Invocation<'a>, UsageFault<'a>>
     ensures { IsReadFrom error result }
 {
     match error.kind() {
-        ErrorKind::DisplayHelp => Ok(Order::Help),
-        ErrorKind::DisplayVersion => Ok(Order::Version),
+        ErrorKind::DisplayHelp => Ok(Invocation::Help),
+        ErrorKind::DisplayVersion => Ok(Invocation::Version),
         ErrorKind::OutOfMemory => Err(UsageFault::Memory),
         _ => Err(UsageFault::Grammar(error)),
     }
 }
 
 /// The order that the words after the command of this name give.
-fn read_given<'a>(name: &str, given: &ArgMatches<'a>) -> Result<Order<'a>, UsageFault<'a>>
+fn read_given<'a>(name: &str, given: &ArgMatches<'a>) -> Result<Invocation<'a>, UsageFault<'a>>
     ensures asked { IfOk result (IsOrdered (GivesAs name.now (rows_of (found_of given.now)))) }
     ensures refused { IfErr result (IsUnfit (GivesAs name.now (rows_of (found_of given.now)))) }
 {
@@ -196,7 +199,7 @@ fn read_given<'a>(name: &str, given: &ArgMatches<'a>) -> Result<Order<'a>, Usage
 }
 
 /// The order that the words after `format` give.
-fn read_format<'a>(given: &ArgMatches<'a>) -> Result<Order<'a>, UsageFault<'a>>
+fn read_format<'a>(given: &ArgMatches<'a>) -> Result<Invocation<'a>, UsageFault<'a>>
     ensures asked { IfOk result (IsOrdered (GivesAs (codes "format") (rows_of (found_of given.now)))) }
     ensures refused { IfErr result (IsUnfit (GivesAs (codes "format") (rows_of (found_of given.now)))) }
 {
@@ -217,7 +220,7 @@ fn read_format<'a>(given: &ArgMatches<'a>) -> Result<Order<'a>, UsageFault<'a>>
     if !is_name(admin) {
         return Err(UsageFault::Name(admin));
     }
-    Ok(Order::Format {
+    Ok(Invocation::Format {
         file,
         pages,
         admin,
@@ -226,7 +229,7 @@ fn read_format<'a>(given: &ArgMatches<'a>) -> Result<Order<'a>, UsageFault<'a>>
 }
 
 /// The order that the words after `copy` give.
-fn read_copy<'a>(given: &ArgMatches<'a>) -> Result<Order<'a>, UsageFault<'a>>
+fn read_copy<'a>(given: &ArgMatches<'a>) -> Result<Invocation<'a>, UsageFault<'a>>
     ensures asked { IfOk result (IsOrdered (GivesAs (codes "copy") (rows_of (found_of given.now)))) }
     ensures refused { IfErr result (IsUnfit (GivesAs (codes "copy") (rows_of (found_of given.now)))) }
 {
@@ -241,7 +244,7 @@ fn read_copy<'a>(given: &ArgMatches<'a>) -> Result<Order<'a>, UsageFault<'a>>
     };
     let journal = given.get_flag("journal");
     let pages = read_number(NumberOption::Pages, word)?;
-    Ok(Order::Copy {
+    Ok(Invocation::Copy {
         file,
         new,
         pages,
@@ -250,7 +253,7 @@ fn read_copy<'a>(given: &ArgMatches<'a>) -> Result<Order<'a>, UsageFault<'a>>
 }
 
 /// The order that the words after `journal` give.
-fn read_journal<'a>(given: &ArgMatches<'a>) -> Result<Order<'a>, UsageFault<'a>>
+fn read_journal<'a>(given: &ArgMatches<'a>) -> Result<Invocation<'a>, UsageFault<'a>>
     ensures asked { IfOk result (IsOrdered (GivesAs (codes "journal") (rows_of (found_of given.now)))) }
     ensures refused { IfErr result (IsUnfit (GivesAs (codes "journal") (rows_of (found_of given.now)))) }
 {
@@ -264,19 +267,19 @@ fn read_journal<'a>(given: &ArgMatches<'a>) -> Result<Order<'a>, UsageFault<'a>>
 }
 
 /// The order to give a file a journal, or to take its journal away.
-fn switch_journal<'a>(file: &'a str, word: &'a str) -> Result<Order<'a>, UsageFault<'a>>
+fn switch_journal<'a>(file: &'a str, word: &'a str) -> Result<Invocation<'a>, UsageFault<'a>>
     ensures asked { IfOk result (IsOrdered (λ given. given ≡ Journal file.now word.now)) }
     ensures refused { IfErr result (IsUnfit (λ given. given ≡ Journal file.now word.now)) }
 {
     match word {
-        "on" => Ok(Order::Journal { file, on: true }),
-        "off" => Ok(Order::Journal { file, on: false }),
+        "on" => Ok(Invocation::Journal { file, on: true }),
+        "off" => Ok(Invocation::Journal { file, on: false }),
         _ => Err(UsageFault::Switch(word)),
     }
 }
 
 /// The order that the words after `run` give.
-fn read_run<'a>(given: &ArgMatches<'a>) -> Result<Order<'a>, UsageFault<'a>>
+fn read_run<'a>(given: &ArgMatches<'a>) -> Result<Invocation<'a>, UsageFault<'a>>
     ensures asked { IfOk result (IsOrdered (GivesAs (codes "run") (rows_of (found_of given.now)))) }
     ensures refused { IfErr result (IsUnfit (GivesAs (codes "run") (rows_of (found_of given.now)))) }
 {
@@ -287,7 +290,7 @@ fn read_run<'a>(given: &ArgMatches<'a>) -> Result<Order<'a>, UsageFault<'a>>
         let Some(script) = given.get_str("second") else {
             return Err(UsageFault::Form);
         };
-        return Ok(Order::Run {
+        return Ok(Invocation::Run {
             file: first,
             script,
         });
@@ -298,14 +301,14 @@ fn read_run<'a>(given: &ArgMatches<'a>) -> Result<Order<'a>, UsageFault<'a>>
     if !is_name(admin) {
         return Err(UsageFault::Name(admin));
     }
-    Ok(Order::RunMemory {
+    Ok(Invocation::RunMemory {
         admin,
         script: first,
     })
 }
 
 /// The order that the words after `serve` give.
-fn read_serve<'a>(given: &ArgMatches<'a>) -> Result<Order<'a>, UsageFault<'a>>
+fn read_serve<'a>(given: &ArgMatches<'a>) -> Result<Invocation<'a>, UsageFault<'a>>
     ensures asked { IfOk result (IsOrdered (GivesAs (codes "serve") (rows_of (found_of given.now)))) }
     ensures refused { IfErr result (IsUnfit (GivesAs (codes "serve") (rows_of (found_of given.now)))) }
 {
@@ -334,7 +337,7 @@ fn serve_on_port<'a>(
     port_word: &'a str,
     count_word: &'a str,
     limit: Option<&'a str>,
-) -> Result<Order<'a>, UsageFault<'a>>
+) -> Result<Invocation<'a>, UsageFault<'a>>
     ensures asked { IfOk result (IsOrdered (λ given. given
         ≡ Serve file.now port_word.now count_word.now (lent_word limit.entry))) }
     ensures refused { IfErr result (IsUnfit (λ given. given
@@ -343,7 +346,7 @@ fn serve_on_port<'a>(
     let port = read_number(NumberOption::Port, port_word)?;
     let connections = read_number(NumberOption::Connections, count_word)?;
     let idle = read_limit(limit)?;
-    Ok(Order::Serve {
+    Ok(Invocation::Serve {
         file,
         port: port as u16,
         connections,
@@ -357,7 +360,7 @@ fn serve_on_socket<'a>(
     socket: &'a str,
     count_word: &'a str,
     limit: Option<&'a str>,
-) -> Result<Order<'a>, UsageFault<'a>>
+) -> Result<Invocation<'a>, UsageFault<'a>>
     ensures asked { IfOk result (IsOrdered (λ given. given
         ≡ ServeSocket file.now socket.now count_word.now (lent_word limit.entry))) }
     ensures refused { IfErr result (IsUnfit (λ given. given
@@ -368,7 +371,7 @@ fn serve_on_socket<'a>(
     }
     let connections = read_number(NumberOption::Connections, count_word)?;
     let idle = read_limit(limit)?;
-    Ok(Order::ServeSocket {
+    Ok(Invocation::ServeSocket {
         file,
         socket,
         connections,
@@ -399,18 +402,18 @@ fn read_number<'a>(option: NumberOption, word: &'a str) -> Result<u32, UsageFaul
 }
 
 /// The order that the word after `check` gives.
-fn read_check<'a>(given: &ArgMatches<'a>) -> Result<Order<'a>, UsageFault<'a>>
+fn read_check<'a>(given: &ArgMatches<'a>) -> Result<Invocation<'a>, UsageFault<'a>>
     ensures asked { IfOk result (IsOrdered (GivesAs (codes "check") (rows_of (found_of given.now)))) }
     ensures refused { IfErr result (IsUnfit (GivesAs (codes "check") (rows_of (found_of given.now)))) }
 {
     match given.get_str("file") {
-        Some(file) => Ok(Order::Check { file }),
+        Some(file) => Ok(Invocation::Check { file }),
         None => Err(UsageFault::Form),
     }
 }
 
 /// The order that the words after `describe` give.
-fn read_describe<'a>(given: &ArgMatches<'a>) -> Result<Order<'a>, UsageFault<'a>>
+fn read_describe<'a>(given: &ArgMatches<'a>) -> Result<Invocation<'a>, UsageFault<'a>>
     ensures asked { IfOk result (IsOrdered (GivesAs (codes "describe") (rows_of (found_of given.now)))) }
     ensures refused { IfErr result (IsUnfit (GivesAs (codes "describe") (rows_of (found_of given.now)))) }
 {
@@ -424,7 +427,7 @@ fn read_describe<'a>(given: &ArgMatches<'a>) -> Result<Order<'a>, UsageFault<'a>
             return Err(UsageFault::Name(name));
         }
     }
-    Ok(Order::Describe { file, role, json })
+    Ok(Invocation::Describe { file, role, json })
 }
 
 /// Whether a role can have this name: it has 1 to 63 bytes, none of them zero.

@@ -2,7 +2,7 @@
 #![tactic(auto)]
 
 pub mod command;
+mod error_reason;
 mod grammar;
-mod mistake;
 pub mod number;
 pub mod texts;

@@ -7,7 +7,7 @@ ghost use Rattle.connections.specs.Connection.{AnswersBadFrame, BreaksBadFrame};
 
 use crate::frame_sink::TakesFrames;
 use script_runs::telling::{answer_event, session_of};
-use server::decide::Decide;
+use server::decide::EventHandler;
 use server::server::Server;
 use sql_types::answer::Answer;
 use sql_types::event::Event;
@@ -19,7 +19,7 @@ use store::Store;
 /// event is taken, and not before the step. Once all are told the answers go out. After an error the
 /// events carried out are a beginning of these, and all their answers but the last were told; how
 /// much has gone out is not said.
-pub fn answer_events<S: Store, X: Decide, K: TakesFrames>(
+pub fn answer_events<S: Store, X: EventHandler, K: TakesFrames>(
     server: &mut Server<S, X>,
     events: &[Event],
     sink: &mut K,
@@ -43,7 +43,7 @@ pub fn answer_events<S: Store, X: Decide, K: TakesFrames>(
 }
 
 // Answers a bad frame, which no session sent, and lets the answer go out.
-pub(crate) fn answer_bad_frame<S: Store, X: Decide, K: TakesFrames>(
+pub(crate) fn answer_bad_frame<S: Store, X: EventHandler, K: TakesFrames>(
     server: &Server<S, X>,
     sink: &mut K,
 ) -> io::Result<()>

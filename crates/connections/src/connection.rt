@@ -9,7 +9,7 @@ ghost use Rattle.connections.specs.Connection.{input_of, IsServed, IsConnection,
 use crate::answering::{answer_bad_frame, answer_events};
 use crate::frame_sink::TakesFrames;
 use script_runs::run::close_sessions;
-use server::decide::Decide;
+use server::decide::EventHandler;
 use server::server::Server;
 use std::alloc::Global;
 use store::Store;
@@ -50,7 +50,7 @@ pub enum End {
 ///
 /// However it ends, the sessions that are still open are then closed in the order of their opening,
 /// and these answers are not told. A server that has stopped closes none.
-pub fn serve_connection<S: Store, X: Decide, R: Input, K: TakesFrames>(
+pub fn serve_connection<S: Store, X: EventHandler, R: Input, K: TakesFrames>(
     alloc: Global,
     server: &mut Server<S, X>,
     reader: &mut R,
@@ -69,7 +69,7 @@ pub fn serve_connection<S: Store, X: Decide, R: Input, K: TakesFrames>(
 }
 
 // Answers the events that the bytes of the reader spell.
-fn serve_events<S: Store, X: Decide, R: Input, K: TakesFrames>(
+fn serve_events<S: Store, X: EventHandler, R: Input, K: TakesFrames>(
     alloc: Global,
     server: &mut Server<S, X>,
     reader: &mut R,
@@ -103,7 +103,7 @@ fn serve_events<S: Store, X: Decide, R: Input, K: TakesFrames>(
 
 // Answers the events whose frames a piece completes, lets the answers go out, and answers why the
 // connection ends there, if it does.
-fn serve_piece<S: Store, X: Decide, K: TakesFrames>(
+fn serve_piece<S: Store, X: EventHandler, K: TakesFrames>(
     server: &mut Server<S, X>,
     piece: &[u8],
     frames: &mut Frames,

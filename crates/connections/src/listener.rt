@@ -9,7 +9,7 @@ ghost use Rattle.connections.specs.Listener.{ServesAtMost};
 
 use crate::connection::serve_connection;
 use crate::listen::Listen;
-use server::decide::Decide;
+use server::decide::EventHandler;
 use server::server::Server;
 use std::alloc::Global;
 use store::Store;
@@ -33,7 +33,7 @@ pub enum Served {
 /// besides, and is then closed. An error of a connection ends that connection and nothing else.
 /// Between two connections no session is open. Once the server has stopped, no further connection
 /// is taken, and where it had stopped before, none at all.
-pub fn serve_listener<S: Store, X: Decide, L: Listen>(
+pub fn serve_listener<S: Store, X: EventHandler, L: Listen>(
     alloc: Global,
     server: &mut Server<S, X>,
     listener: &mut L,

@@ -9,7 +9,7 @@ ghost use Rattle.connections.specs.Numbers.{AddsNumber};
 
 use crate::frame_sink::TakesFrames;
 use script_runs::sink::Sink;
-use server::decide::Decide;
+use server::decide::EventHandler;
 use server::server::Server;
 use sql_types::answer::Answer;
 use std::alloc::Global;
@@ -76,7 +76,7 @@ impl TakesFrames for Recorder {
 /// A recorder that was told of an event before the event was carried out has kept the number from
 /// before: it was told after the event only where nothing was committed. Where the telling of the
 /// first answer failed, it has kept no number at all.
-pub fn told_too_early_is_seen<S: Store, X: Decide>(
+pub fn told_too_early_is_seen<S: Store, X: EventHandler>(
     old: &Server<S, X>,
     new: &Server<S, X>,
     first: &Recorder,

@@ -6,7 +6,7 @@ use Rattle.sector_device.specs.Timeline.{LeavesOnly, joined, weakened}
 use Rattle.store.specs.Records.{Records, Changes, IsOrdered, applied}
 use Rattle.store.specs.Contents.{changed_by_batch}
 use Rattle.store.specs.Store.{Contents, StoreState, Commits, HasCause, IsUnchanged, KeepsHistory, MayLeaveDuring, OnlyReads, stored}
-use Rattle.storage_sizes.specs.declared.spelling.Spelling.{Spelling}
+use Rattle.storage_sizes.specs.declared.record_format.RecordFormat.{RecordFormat}
 use Rattle.store.specs.declared.fault.Fault.{Fault}
 use Rattle.store.specs.declared.fault.StoreFault.{StoreFault}
 use Rattle.store.specs.declared.fault.StoreFault.TheVariants.{Full, Memory, Device, Number}
@@ -25,7 +25,7 @@ pub record Grows (ahead : Records → Type 0) (records : Records) (old new : Sto
   pub all : records ≡ had ++ later
   pub is_ahead : ahead later
   pub map : new.map ≡ mark ∷ had
-  pub spelling : new.spelling ≡ old.spelling
+  pub record_format : new.record_format ≡ old.record_format
   pub sound : new.sound
   pub works : new.has_failed ≡ false
   pub leaves : LeavesOnly IsUnfinished old.time new.time
@@ -57,7 +57,7 @@ grown_on A B records old mid new batch o commits g fill =
       all = split ∙ sym (append_assoc g.had f.0 f.1);
       is_ahead = f.4;
       map = at.committed.map ∙ made;
-      spelling = at.committed.spelling ∙ g.spelling;
+      record_format = at.committed.record_format ∙ g.record_format;
       sound = commits.history.sound g.sound;
       works = commits.failed ∙ g.works;
       leaves = joined IsUnfinished old.time mid.time new.time g.leaves
@@ -132,13 +132,13 @@ last_leaves A records whole old mid new batch result g is commits =
       | inr same ↦ inr (same ∙ ap (λ (c : Contents). Some c) is)
     ]) (commits.at_once g.sound g.works).leaves)
 
-abbrev of : Spelling → Records → Contents
-of spelling records = record { spelling = spelling; records = records }
+abbrev of : RecordFormat → Records → Contents
+of record_format records = record { record_format = record_format; records = records }
 
 -- the mark goes with the last records
 pub finished : (A : Records → Type 0) (source : Records) (old mid new : StoreState) (batch : Changes) (result : Result (Unit {0}) RecordCopyFault) → IsOrdered (mark ∷ behind_mark source)
     → Finishes result batch mid new → ((fault : Fault) → result ≡ Err (Read fault) → new ≡ mid) → Grows A (behind_mark source) old mid
-    → ((later : Records) → A later → batch ≡ put_in later []) → Copies result (whole old.spelling source) old new
+    → ((later : Records) → A later → batch ≡ put_in later []) → Copies result (whole old.record_format source) old new
 finished A source old mid new batch result o done same g fill = by_answer result done same
   where
     records : applied (unmarked batch) mid.map ≡ behind_mark source
@@ -147,29 +147,29 @@ finished A source old mid new batch result o done same g fill = by_answer result
         ∙ ap (λ (cs : Changes). applied (unmarked cs) (mark ∷ g.had)) (fill g.later g.is_ahead)
         ∙ ends g.had g.later (subst (λ (xs : Records). IsOrdered (mark ∷ xs)) g.all o) ∙ sym g.all
 
-    is : changed_by_batch (unmarked batch) (stored mid) ≡ whole old.spelling source
-    is = contents _ _ _ _ g.spelling records
+    is : changed_by_batch (unmarked batch) (stored mid) ≡ whole old.record_format source
+    is = contents _ _ _ _ g.record_format records
       where
-        contents : (s t : Spelling) (xs ys : Records) → s ≡ t → xs ≡ ys → of s xs ≡ of t ys
-        contents s t xs ys a b = ap (λ (z : Spelling). of z xs) a ∙ ap (λ (zs : Records). of t zs) b
+        contents : (s t : RecordFormat) (xs ys : Records) → s ≡ t → xs ≡ ys → of s xs ≡ of t ys
+        contents s t xs ys a b = ap (λ (z : RecordFormat). of z xs) a ∙ ap (λ (zs : Records). of t zs) b
 
-    by_answer : (r : Result (Unit {0}) RecordCopyFault) → Finishes r batch mid new → ((fault : Fault) → r ≡ Err (Read fault) → new ≡ mid) → Copies r (whole old.spelling source) old new
+    by_answer : (r : Result (Unit {0}) RecordCopyFault) → Finishes r batch mid new → ((fault : Fault) → r ≡ Err (Read fault) → new ≡ mid) → Copies r (whole old.record_format source) old new
     by_answer (Ok x) commits kept =
         let at = commits.at_once g.sound g.works in
         record {
-          leaves = last_leaves A (behind_mark source) (whole old.spelling source) old mid new batch (Ok x) g is commits;
+          leaves = last_leaves A (behind_mark source) (whole old.record_format source) old mid new batch (Ok x) g is commits;
           after = record {
             sound = commits.history.sound g.sound;
             works = commits.failed ∙ g.works;
-            stored_is = now at.committed.spelling at.committed.map ∙ is;
+            stored_is = now at.committed.record_format at.committed.map ∙ is;
             left = λ y left. at.left y left ∙ ap (λ (c : Contents). Some c) is;
           };
         }
       where
-        now : new.spelling ≡ mid.spelling → new.map ≡ applied (unmarked batch) mid.map → stored new ≡ changed_by_batch (unmarked batch) (stored mid)
-        now a b = ap (λ (z : Spelling). of z new.map) a ∙ ap (λ (zs : Records). of mid.spelling zs) b
-    by_answer (Err (Read fault)) commits kept = subst (λ (s : StoreState). Copies (Err (Read fault)) (whole old.spelling source) old s) (sym (kept fault refl)) (stopped A (behind_mark source) (whole old.spelling source) old mid fault g)
-    by_answer (Err (Write fault)) commits kept = record { leaves = last_leaves A (behind_mark source) (whole old.spelling source) old mid new batch (Err fault) g is commits; after = after_fault A (behind_mark source) (whole old.spelling source) _ old mid new fault g commits }
+        now : new.record_format ≡ mid.record_format → new.map ≡ applied (unmarked batch) mid.map → stored new ≡ changed_by_batch (unmarked batch) (stored mid)
+        now a b = ap (λ (z : RecordFormat). of z new.map) a ∙ ap (λ (zs : Records). of mid.record_format zs) b
+    by_answer (Err (Read fault)) commits kept = subst (λ (s : StoreState). Copies (Err (Read fault)) (whole old.record_format source) old s) (sym (kept fault refl)) (stopped A (behind_mark source) (whole old.record_format source) old mid fault g)
+    by_answer (Err (Write fault)) commits kept = record { leaves = last_leaves A (behind_mark source) (whole old.record_format source) old mid new batch (Err fault) g is commits; after = after_fault A (behind_mark source) (whole old.record_format source) _ old mid new fault g commits }
 
 -- some of the records are put into an empty batch
 pub some_put : (B : Records → Type 0) (more : Bool) (xs : Records) (start new : Changes) → more ≡ true → start ≡ [] → Fills B more xs start new → Fills B true xs [] new

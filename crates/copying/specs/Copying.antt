@@ -1,6 +1,6 @@
 -- Copies of records, which begin with a mark until they are whole.
 use Rattle.std.specs.Prelude.{◌≡◌, ◌⊎◌, ◌≤◌, ◌^◌, Bool, true, false, [], ◌∷◌, ◌++◌, Option, Some, None, Result, Ok, Err}
-use Rattle.storage_sizes.specs.declared.spelling.Spelling.{Spelling}
+use Rattle.storage_sizes.specs.declared.record_format.RecordFormat.{RecordFormat}
 use Rattle.sector_device.specs.Timeline.{LeavesOnly}
 use Rattle.store.specs.declared.fault.StoreFault.{StoreFault}
 use Rattle.store.specs.declared.fault.StoreFault.TheVariants.{Full, Memory, Device, Number}
@@ -30,8 +30,8 @@ Fills ahead true records old new = (taken : Records) × (later : Records) × (re
 Fills ahead false records old new = new ≡ put_in records old
 
 -- the contents of a whole copy
-abbrev pub whole : Spelling → Records → Contents
-whole spelling records = record { spelling = spelling; records = behind_mark records }
+abbrev pub whole : RecordFormat → Records → Contents
+whole record_format records = record { record_format = record_format; records = behind_mark records }
 
 -- what is left is a copy that is not whole yet: its first record is the mark
 abbrev pub IsUnfinished : Option Contents → Type 0

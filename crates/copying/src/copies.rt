@@ -11,7 +11,7 @@ ghost use Rattle.copying.specs.Copying.{Copies, Finishes, HasCopyCause, HasOutsi
 use crate::fault::RecordCopyFault;
 use crate::mark::MARK;
 use crate::taking::take_records;
-use crate::watch::Watch;
+use crate::watch::CopyProgress;
 use std::alloc::Global;
 use store::{Batch, Fault, Map, Store};
 
@@ -55,7 +55,7 @@ fn finish<S: Store>(target: &mut S, batch: Batch) -> Result<(), RecordCopyFault>
 /// `Read`: the source is the cause, or `Memory`: an allocation failed, in the copy too. `Damaged`: a record of the source
 /// is of no size that a store takes. `Write`: the target is the cause: no room is left in it, an allocation
 /// failed, or its device failed. `Number` never comes in a store that has had fewer than 2^63 commits.
-pub fn copy_records<M: Map, S: Store, W: Watch>(
+pub fn copy_records<M: Map, S: Store, W: CopyProgress>(
     alloc: Global,
     source: &mut M,
     target: &mut S,
@@ -66,7 +66,7 @@ pub fn copy_records<M: Map, S: Store, W: Watch>(
     ensures history { KeepsHistory (S.state target.old) (S.state target.new) }
     ensures copies { (M.state source.old).sound → (S.state target.old).sound
         → (S.state target.old).has_failed ≡ false → (S.state target.old).map ≡ mark ∷ []
-        → Copies result (whole (S.state target.old).spelling (M.state source.old).map)
+        → Copies result (whole (S.state target.old).record_format (M.state source.old).map)
         (S.state target.old) (S.state target.new) }
     ensures cause { IfErr result (λ fault. HasCopyCause fault (M.state source.old)
         (M.state source.new) (S.state target.old) (S.state target.new)) }

@@ -10,4 +10,4 @@ mod watch;
 pub use copies::copy_records;
 pub use fault::RecordCopyFault;
 pub use mark::mark_of_a_copy;
-pub use watch::{Unwatched, Watch};
+pub use watch::{CopyProgress, Unwatched};

@@ -1,7 +1,7 @@
 //! Who watches a copy.
 
 /// Who is told how far a copy is. It has no part of what is copied, nor of where: so whatever it does, the copy is the same.
-pub trait Watch {
+pub trait CopyProgress {
     /// Tells that so many bytes of keys and values are copied, and the copy goes on.
     fn tell(&mut self, bytes: u64);
 }
@@ -10,6 +10,6 @@ pub trait Watch {
 #[derive(Clone, Copy, Drop)]
 pub struct Unwatched;
 
-impl Watch for Unwatched {
+impl CopyProgress for Unwatched {
     fn tell(&mut self, _bytes: u64) {}
 }

@@ -43,7 +43,7 @@ pub(crate) fn write_pages<D: Device>(
 {
     for index in 0..dirty.len() {
         if let Some((page, bytes)) = dirty.page_at(index) {
-            cache.forget(page);
+            cache.invalidate(page);
             write_page(device, SECTORS_PER_PAGE * page, bytes)?;
             cache.put(page, bytes);
         }

@@ -15,7 +15,9 @@ use page_cache::PageCache;
 use page_nodes::PageView;
 use page_roots::Format;
 use pages::{PAGE_SIZE, PageFault};
-use sector_device::{BesideDevice, Device, DeviceFault, SECTOR_SIZE, SECTORS_PER_PAGE, read_page};
+use sector_device::{
+    Device, DeviceFault, ProtectedSectors, SECTOR_SIZE, SECTORS_PER_PAGE, read_page,
+};
 use std::alloc::{AllocError, Global};
 
 /// The pages of a cache for which no other number is asked: 1 MiB, and a twentieth of it for offsets of their cells.
@@ -446,7 +448,7 @@ impl<D: Device> CowPages<D> {
     }
 }
 
-impl<D: BesideDevice> CowPages<D> {
+impl<D: ProtectedSectors> CowPages<D> {
     ghost use Rattle.std.specs.Prelude.{true, false, length, OnOk, IsErr, MatchResult};
     ghost use Rattle.cow_pages.specs.Cow.{device_below, has_failed, working_array, KeepsMemory, IsFaulted, LeavesDurable, StaysDurable, MakesNoDeviceCall};
     ghost use Rattle.cow_pages.specs.Preserved.{HoldsDurable};
@@ -457,7 +459,7 @@ impl<D: BesideDevice> CowPages<D> {
     /// sync. A stop during the call or after it leaves in each of them, by itself, what it might have left before or the
     /// bytes written to it; after `Ok` these alone. Neither array changes, and a stop leaves the durable one. The error
     /// says that the device failed in this call or an earlier one.
-    pub fn write_beside(
+    pub fn write_protected(
         &mut self,
         first: u32,
         sectors: &[[u8; SECTOR_SIZE]],
@@ -481,7 +483,7 @@ impl<D: BesideDevice> CowPages<D> {
         if self.has_failed {
             return Err(DeviceFault);
         }
-        match self.device.write_beside(first, sectors) {
+        match self.device.write_protected(first, sectors) {
             Ok(()) => Ok(()),
             Err(_) => {
                 self.has_failed = true;

@@ -59,7 +59,7 @@ fn write_maps<D: Device>(
     for index in 0..MAX_MAP_PAGES {
         let page = pages[index];
         if page != 0 {
-            cache.forget(page);
+            cache.invalidate(page);
             put_map(entries, index, scratch);
             write_page(device, SECTORS_PER_PAGE * page, scratch)?;
         }

@@ -1,8 +1,8 @@
 -- A copy of a store and of the device below it, by what a copy of records does.
 use Rattle.std.proofs.Common.{◌≡◌, ◌⊎◌, ◌/◌, ◌^◌, ◌-◌, ℕ, inl, inr, List, Result, Ok, Err, IfErr, false, refl, sym, ap, subst, ◌∙◌, arith}
 use Rattle.std.proofs.lemmas.Bool.{cases_lt, false≢true}
-use Rattle.storage_sizes.specs.declared.spelling.Spelling.{Spelling}
-use Rattle.storage_sizes.specs.declared.spelling.Spelling.TheVariants.{Second}
+use Rattle.storage_sizes.specs.declared.record_format.RecordFormat.{RecordFormat}
+use Rattle.storage_sizes.specs.declared.record_format.RecordFormat.TheVariants.{V2}
 use Rattle.storage_sizes.specs.Spellings.{current}
 use Rattle.sector_device.specs.Device.{DeviceState, Image, HasFailed, IsLeft}
 use Rattle.store.specs.declared.fault.Fault.{Fault}
@@ -38,26 +38,26 @@ use Rattle.database_copies.proofs.Reading.{under_lists}
 
 -- the records of a database, all behind the mark, are in the second spelling
 whole_is : ((records : Records) (db : Database) → StandsFor records db → behind_mark records ≡ records) → (contents : Contents) (lists : List Changes) (db : Database) → Stands contents db
-    → applied_all lists contents.records ≡ spelled_in_second contents.spelling contents.records → whole current (applied_all lists contents.records) ≡ in_second contents
+    → applied_all lists contents.records ≡ spelled_in_second contents.record_format contents.records → whole current (applied_all lists contents.records) ≡ in_second contents
 unfolding current
 whole_is all contents lists db stands is =
-    ap (λ (es : Records). whole Second es) is ∙ ap (λ (es : Records). let c : Contents = record { spelling = Second; records = es } in c) (all (spelled_in_second contents.spelling contents.records) db stands)
+    ap (λ (es : Records). whole V2 es) is ∙ ap (λ (es : Records). let c : Contents = record { record_format = V2; records = es } in c) (all (spelled_in_second contents.record_format contents.records) db stands)
 
 pub copies_read : {E : Type 0} (state : E → DeviceState) → ((records : Records) (db : Database) → StandsFor records db → behind_mark records ≡ records) → (contents : Contents) (lists : List Changes)
     (result : Result (Unit {0}) RecordsFault) (old new : E) → IsRead contents lists → CopiesTo state (applied_all lists contents.records) result old new → CopiesRead contents state result old new
 copies_read state all contents lists result old new is copies = (
   is.1,
   is.2,
-  subst (λ (c : Contents). CopiesAll state c result old new) (whole_is all contents lists is.1 is.2 (under_lists contents.spelling contents.records lists is.0)) copies,
+  subst (λ (c : Contents). CopiesAll state c result old new) (whole_is all contents lists is.1 is.2 (under_lists contents.record_format contents.records lists is.0)) copies,
 )
 
 -- no record of a database has a size that no store takes
 pub no_outsized : ((records : Records) (db : Database) → StandsFor records db → HasOutsized records → ⊥) → ((records : Records) (db : Database) → StandsFor records db → behind_mark records ≡ records)
     → (contents : Contents) (lists : List Changes) → IsRead contents lists → HasOutsized (behind_mark (applied_all lists contents.records)) → ⊥
 no_outsized sizes all contents lists is has =
-    let same = under_lists contents.spelling contents.records lists is.0 in
-    sizes (spelled_in_second contents.spelling contents.records) is.1 is.2
-    (subst HasOutsized (ap behind_mark same ∙ all (spelled_in_second contents.spelling contents.records) is.1 is.2) has)
+    let same = under_lists contents.record_format contents.records lists is.0 in
+    sizes (spelled_in_second contents.record_format contents.records) is.1 is.2
+    (subst HasOutsized (ap behind_mark same ∙ all (spelled_in_second contents.record_format contents.records) is.1 is.2) has)
 
 pub refused_copy : {E : Type 0} (state : E → DeviceState) (contents : Contents) (fault : RecordsFault) (old new : E) → CopiesRead contents state (Err fault) old new → (fault ≡ records.Damaged → ⊥)
     → CopiesStore contents state (Err (fault_of_copy fault)) old new

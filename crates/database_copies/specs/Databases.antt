@@ -1,6 +1,6 @@
 -- What copying the database on a device to another device does.
 use Rattle.std.specs.Prelude.{◌≡◌, ◌⊎◌, ◌/◌, false, List, Some, Result, Ok, Err}
-use Rattle.storage_sizes.specs.declared.spelling.Spelling.{Spelling}
+use Rattle.storage_sizes.specs.declared.record_format.RecordFormat.{RecordFormat}
 use Rattle.sector_device.specs.Device.{DeviceState, Image, HasFailed, IsLeft}
 use Rattle.store.specs.declared.fault.Fault.TheVariants as read
 use Rattle.store.specs.Readers.{HasFaultCause}
@@ -39,7 +39,7 @@ told_of (Err fault) = Err (fault_of_copy fault)
 
 -- the lists spell the contents in the second spelling, in which they stand for a database
 abbrev pub IsRead : Contents → List Changes → Type 0
-IsRead contents lists = AreRespelling contents.spelling contents.records lists × (db : Database) × Stands contents db
+IsRead contents lists = AreRespelling contents.record_format contents.records lists × (db : Database) × Stands contents db
 
 -- the contents stand for a database, and are copied in the second spelling, with this answer
 abbrev pub CopiesRead : {E : Type 0} → Contents → (E → DeviceState) → Result (Unit {0}) RecordsFault → E → E → Type 0

@@ -9,7 +9,7 @@ ghost use Rattle.database_copies.specs.Databases.{CopiesDatabase, CopiesStore, H
 use crate::fault::DatabaseCopyFault;
 use crate::source::read_source;
 use crate::under::copy_under;
-use device_copies::{Watch, copied_records_stand};
+use device_copies::{CopyProgress, copied_records_stand};
 use device_store::DeviceStore;
 use journal_store::JournalDevice;
 use sector_device::Device;
@@ -29,7 +29,7 @@ use store::Store;
 /// `Memory`: an allocation failed.
 ///
 /// The watch is told now and then how far a large copy is.
-pub fn copy_database<D: JournalDevice, E: Device, W: Watch>(
+pub fn copy_database<D: JournalDevice, E: Device, W: CopyProgress>(
     alloc: Global,
     source: D,
     target: E,
@@ -49,7 +49,7 @@ pub fn copy_database<D: JournalDevice, E: Device, W: Watch>(
 }
 
 // Copies the database that the contents of a store stand for to a device.
-fn copy_store<S: Store, E: Device, W: Watch>(
+fn copy_store<S: Store, E: Device, W: CopyProgress>(
     alloc: Global,
     store: &mut S,
     target: E,

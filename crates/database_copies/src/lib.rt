@@ -7,5 +7,5 @@ mod source;
 mod under;
 
 pub use database::copy_database;
-pub use device_copies::{Unwatched, Watch};
+pub use device_copies::{CopyProgress, Unwatched};
 pub use fault::DatabaseCopyFault;

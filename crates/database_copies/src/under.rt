@@ -6,14 +6,14 @@ ghost use Rattle.transactions.specs.Views.{applied_all};
 ghost use Rattle.copying.specs.Copying.{HasOutsized, behind_mark};
 ghost use Rattle.device_copies.specs.Copies.{CopiesTo, HasSourceCause};
 
-use device_copies::{DeviceCopyFault, Watch, copy_to_device};
+use device_copies::{CopyProgress, DeviceCopyFault, copy_to_device};
 use sector_device::Device;
 use std::alloc::Global;
 use store::{Batch, Map};
 use transactions::View;
 
 /// Copies the records of a map under lists of changes to a device, as `copy_to_device` does. The map is only read.
-pub(crate) fn copy_under<M: Map, E: Device, W: Watch>(
+pub(crate) fn copy_under<M: Map, E: Device, W: CopyProgress>(
     alloc: Global,
     map: &mut M,
     lists: &[Batch],

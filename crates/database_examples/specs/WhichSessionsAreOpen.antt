@@ -38,7 +38,7 @@ sessions_begin_anew = Shows (
     ∷ b (statement.OfSession of_session.Commit) gives warning warning.NoActiveTransaction tag.Commit
     ∷ [])
 
--- two sessions of one role have each its own block and set role, and one write slot between them
+-- two sessions of one role have each its own block and set role, and one writer lock between them
 abbrev pub two_sessions_of_one_role : Type 0
 two_sessions_of_one_role = Shows (
     r (create_role "team" []) gives ok tag.CreateRole

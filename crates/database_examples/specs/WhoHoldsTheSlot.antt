@@ -1,4 +1,4 @@
--- Who holds the write slot: which statements take it, until when, and what another session is told.
+-- Who holds the writer lock: which statements take it, until when, and what another session is told.
 use Rattle.std.specs.Prelude.{[], codes, ◌∷◌}
 use Rattle.sql_types.specs.declared.state.SqlState.TheVariants as state
 use Rattle.sql_types.specs.declared.tag.Tag.TheVariants as tag
@@ -71,7 +71,7 @@ refused_slot_fails_the_block = Shows (
     ∷ b select_keys gives numbers (1 ∷ [])
     ∷ [])
 
--- the write slot is checked before names and privileges
+-- the writer lock is checked before names and privileges
 abbrev pub slot_before_names : Type 0
 slot_before_names = Shows (
     a (statement.OfSession of_session.Begin) gives ok tag.Begin
@@ -108,7 +108,7 @@ definitions_take_the_slot = Shows (
     ∷ r (grant select_on (the_role "cid")) gives ok tag.Grant
     ∷ [])
 
--- the write slot is one for all tables, also where the blocks write nothing in common
+-- the writer lock is one for all tables, also where the blocks write nothing in common
 abbrev pub two_tables_one_slot : Type 0
 two_tables_one_slot = Shows (
     b create_u gives ok tag.CreateTable

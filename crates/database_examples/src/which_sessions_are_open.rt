@@ -12,7 +12,7 @@ pub fn sessions_begin_anew()
     ensures { sessions_begin_anew }
 {}
 
-/// Two sessions of one role have each its own block and set role, and one write slot between them.
+/// Two sessions of one role have each its own block and set role, and one writer lock between them.
 pub fn two_sessions_of_one_role()
     ensures { two_sessions_of_one_role }
 {}

@@ -1,4 +1,4 @@
-//! Who holds the write slot: which statements take it, until when, and what another session is told.
+//! Who holds the writer lock: which statements take it, until when, and what another session is told.
 
 ghost use Rattle.database_examples.specs.WhoHoldsTheSlot.{one_writer, refused_write_takes_no_slot, slot_until_close, close_undoes, refused_slot_fails_the_block, slot_before_names, warned_grant_takes_the_slot, definitions_take_the_slot, two_tables_one_slot, every_writing_statement, session_refusals_before_the_slot};
 
@@ -27,7 +27,7 @@ pub fn refused_slot_fails_the_block()
     ensures { refused_slot_fails_the_block }
 {}
 
-/// The write slot is checked before names and privileges.
+/// The writer lock is checked before names and privileges.
 pub fn slot_before_names()
     ensures { slot_before_names }
 {}
@@ -43,7 +43,7 @@ pub fn definitions_take_the_slot()
     ensures { definitions_take_the_slot }
 {}
 
-/// The write slot is one for all tables, also where the blocks write nothing in common.
+/// The writer lock is one for all tables, also where the blocks write nothing in common.
 pub fn two_tables_one_slot()
     ensures { two_tables_one_slot }
 {}

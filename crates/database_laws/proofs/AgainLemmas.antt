@@ -62,34 +62,34 @@ module _ (P : TheName → Bool) (table : TheName) (p : Privilege) where
       ap (λ (b : Bool). filter P (flat_map (λ (x : Descriptor). role_of x.grantee) (cond b (d ∷ filter grantable_for ds) (filter grantable_for ds)))) e
       ∙ ap (λ (b : Bool). filter P (cond b (role_of d.grantee) []) ++ holders_in ds) (sym e)
 
-  without_quiet_at : (N : Descriptor → Bool) (d : Descriptor) (ds : List Descriptor) (b : Bool) → N d ≡ b → (b ≡ true → holder_in d ≡ []) → holders_in ds ≡ holders_in (drop_where N ds) →
+  without_infallible_at : (N : Descriptor → Bool) (d : Descriptor) (ds : List Descriptor) (b : Bool) → N d ≡ b → (b ≡ true → holder_in d ≡ []) → holders_in ds ≡ holders_in (drop_where N ds) →
       holders_in (d ∷ ds) ≡ holders_in (cond (not b) (d ∷ drop_where N ds) (drop_where N ds))
-  without_quiet_at N d ds true e quiet go = holders_first d ds (grantable_for d) refl ∙ ap (λ l. l ++ holders_in ds) (quiet refl) ∙ go
-  without_quiet_at N d ds false e quiet go = holders_first d ds (grantable_for d) refl ∙ ap (λ l. holder_in d ++ l) go ∙ sym (holders_first d (drop_where N ds) (grantable_for d) refl)
+  without_infallible_at N d ds true e infallible go = holders_first d ds (grantable_for d) refl ∙ ap (λ l. l ++ holders_in ds) (infallible refl) ∙ go
+  without_infallible_at N d ds false e infallible go = holders_first d ds (grantable_for d) refl ∙ ap (λ l. holder_in d ++ l) go ∙ sym (holders_first d (drop_where N ds) (grantable_for d) refl)
 
   -- descriptors that make no holder may go
-  pub without_quiet : (N : Descriptor → Bool) (ds : List Descriptor) → ((d : Descriptor) → Among d ds → N d ≡ true → holder_in d ≡ []) → holders_in ds ≡ holders_in (drop_where N ds)
-  without_quiet N [] h = refl
-  without_quiet N (d ∷ ds) h = without_quiet_at N d ds (N d) refl (h d (inl refl)) (without_quiet N ds (λ x k. h x (inr k)))
+  pub without_infallible : (N : Descriptor → Bool) (ds : List Descriptor) → ((d : Descriptor) → Among d ds → N d ≡ true → holder_in d ≡ []) → holders_in ds ≡ holders_in (drop_where N ds)
+  without_infallible N [] h = refl
+  without_infallible N (d ∷ ds) h = without_infallible_at N d ds (N d) refl (h d (inl refl)) (without_infallible N ds (λ x k. h x (inr k)))
 
-  quiet_name : (name : TheName) → P name ≡ false → (b : Bool) → filter P (cond b (name ∷ []) []) ≡ []
-  quiet_name name e true = ap (λ (b : Bool). cond {A = List TheName} b (name ∷ []) []) e
-  quiet_name name e false = refl
+  infallible_name : (name : TheName) → P name ≡ false → (b : Bool) → filter P (cond b (name ∷ []) []) ≡ []
+  infallible_name name e true = ap (λ (b : Bool). cond {A = List TheName} b (name ∷ []) []) e
+  infallible_name name e false = refl
 
-  quiet_public : (b : Bool) → filter P (cond {A = List TheName} b [] []) ≡ []
-  quiet_public true = refl
-  quiet_public false = refl
+  infallible_public : (b : Bool) → filter P (cond {A = List TheName} b [] []) ≡ []
+  infallible_public true = refl
+  infallible_public false = refl
 
-  pub quiet_grantee : (g : Grantee) → ((name : TheName) → g ≡ grantee.Role name → P name ≡ false) → (b : Bool) → filter P (cond b (role_of g) []) ≡ []
-  quiet_grantee grantee.Public h b = quiet_public b
-  quiet_grantee (grantee.Role name) h b = quiet_name name (h name refl) b
+  pub infallible_grantee : (g : Grantee) → ((name : TheName) → g ≡ grantee.Role name → P name ≡ false) → (b : Bool) → filter P (cond b (role_of g) []) ≡ []
+  infallible_grantee grantee.Public h b = infallible_public b
+  infallible_grantee (grantee.Role name) h b = infallible_name name (h name refl) b
 
   and_false : (b c : Bool) → c ≡ false → (b && c) ≡ false
   and_false true c e = e
   and_false false c e = refl
 
-  pub quiet_plain : (d : Descriptor) → d.grantable ≡ false → holder_in d ≡ []
-  quiet_plain d e = ap (λ (b : Bool). filter P (cond b (role_of d.grantee) [])) (and_false (is_for table p d) d.grantable e)
+  pub infallible_plain : (d : Descriptor) → d.grantable ≡ false → holder_in d ≡ []
+  infallible_plain d e = ap (λ (b : Bool). filter P (cond b (role_of d.grantee) [])) (and_false (is_for table p d) d.grantable e)
 
 -- a test that is made within P finds the same in what P lets pass
 any_within_at : (P f : TheName → Bool) → ((n : TheName) → f n ≡ true → P n ≡ true) → (n : TheName) (ns : List TheName) (b : Bool) → P n ≡ b → list_any f ns ≡ list_any f (filter P ns) →
@@ -129,24 +129,24 @@ module _ (db : Database) (users : UserNames) (g : Grant) (t : TableOf) (e : Effe
   mine = is_in db.memberships users.current
 
   -- a new descriptor makes no role a holder that this one is in
-  given_quiet : acts_as_owner db users.current t.owner ≡ false → (p : Privilege) (d : Descriptor) → IsNamedByGrant db users g t d → d.grantable ≡ g.with_grant_option → (b : Bool) → g.with_grant_option ≡ b → holder_in mine t.name p d ≡ []
-  given_quiet plain p d k o true on =
-      quiet_grantee mine t.name p d.grantee
+  given_infallible : acts_as_owner db users.current t.owner ≡ false → (p : Privilege) (d : Descriptor) → IsNamedByGrant db users g t d → d.grantable ≡ g.with_grant_option → (b : Bool) → g.with_grant_option ≡ b → holder_in mine t.name p d ≡ []
+  given_infallible plain p d k o true on =
+      infallible_grantee mine t.name p d.grantee
       (λ name is. false_from_ne_true (mine name) (λ yes.
       let acts = n.to_others on name (subst (λ x. Among x g.grantees) is k.to_grantee) (found_role db.memberships users.current name yes) in
       let contrary : true ≡ false = sym (acts_told db users.current t p t.owner acts) ∙ plain in cc))
       (grantable_for mine t.name p d)
-  given_quiet plain p d k o false off = quiet_plain mine t.name p d (o ∙ off)
+  given_infallible plain p d k o false off = infallible_plain mine t.name p d (o ∙ off)
 
-  after_quiet : acts_as_owner db users.current t.owner ≡ false → (p : Privilege) (y : Descriptor) → IsAfterGrant db (IsNamedByGrant db users g t) g.with_grant_option y → is_taken_by (map without_option ds) y ≡ true → holder_in mine t.name p y ≡ []
-  after_quiet plain p y (was_there h) e =
+  after_infallible : acts_as_owner db users.current t.owner ≡ false → (p : Privilege) (y : Descriptor) → IsAfterGrant db (IsNamedByGrant db users g t) g.with_grant_option y → is_taken_by (map without_option ds) y ≡ true → holder_in mine t.name p y ≡ []
+  after_infallible plain p y (was_there h) e =
       let contrary : true ≡ false = sym e ∙ named_none ds y (λ d k. others d y k h) in cc
-  after_quiet plain p y (is_given k o) e = given_quiet plain p y k o g.with_grant_option refl
-  after_quiet plain p y (is_raised old h k on is) e = absurd (none_taken old h (taken_named db users.current t (privileges_of t.layout g.privileges) g.grantees old k))
+  after_infallible plain p y (is_given k o) e = given_infallible plain p y k o g.with_grant_option refl
+  after_infallible plain p y (is_raised old h k on is) e = absurd (none_taken old h (taken_named db users.current t (privileges_of t.layout g.privileges) g.grantees old k))
 
   holders_stay : acts_as_owner db users.current t.owner ≡ false → (p : Privilege) → holders_in mine t.name p after ≡ holders_in mine t.name p db.descriptors
   holders_stay plain p =
-      without_quiet mine t.name p (is_taken_by (map without_option ds)) after (λ y h k. after_quiet plain p y (gives db users g t e s y h) k)
+      without_infallible mine t.name p (is_taken_by (map without_option ds)) after (λ y h k. after_infallible plain p y (gives db users g t e s y h) k)
       ∙ ap (holders_in mine t.name p) (taken_back ds db.descriptors others)
 
   mine_itself : (x : TheName) → bytes_eq users.current x ≡ true → mine x ≡ true

@@ -30,7 +30,7 @@ use Rattle.abstract_database.proofs.CheckLemmas.{delete_checked}
 use Rattle.abstract_database.proofs.ListLemmas.{bytes_same}
 use Rattle.abstract_database.proofs.ResultLemmas.{ok_inside, bind_ok, Every}
 use Rattle.database_laws.specs.Readings.{columns_read_by_delete}
-use Rattle.database_laws.specs.Worlds.{has_value, is_unmet, is_silent, LookAlike, EndAlike}
+use Rattle.database_laws.specs.Worlds.{has_value, is_unmet, is_silent, SameApparentRows, EndAlike}
 use Rattle.database_laws.proofs.ReadingLemmas.{delete_as_written}
 use Rattle.database_laws.proofs.RowLemmas.{chosen_row}
 use Rattle.database_laws.proofs.RowChangeLemmas.{rows_of_one}
@@ -57,7 +57,7 @@ ChosenAlike silent (Err c) (Err k) = c ≡ k
 ChosenAlike silent (Ok cs) (Err k) = ⊥
 ChosenAlike silent (Err c) (Ok ks) = ⊥
 
-module _ (silent : Row → Bool) (f : Row → Result Chosen SqlState) (of : (row : Row) → Every (λ (c : Chosen). c.row ≡ row) (f row)) (quiet : (row : Row) → silent row ≡ true → f row ≡ Ok (record { row = row; new = None })) where
+module _ (silent : Row → Bool) (f : Row → Result Chosen SqlState) (of : (row : Row) → Every (λ (c : Chosen). c.row ≡ row) (f row)) (infallible : (row : Row) → silent row ≡ true → f row ≡ Ok (record { row = row; new = None })) where
   others_keep : (b : Bool) (x : Row) (said all : List Row) → silent x ≡ false → said ≡ drop_where silent all → cond b (x ∷ []) [] ++ said ≡ drop_where silent (cond b (x ∷ []) [] ++ all)
   others_keep true x said all e go = ap (λ l. x ∷ l) go ∙ sym (ap (λ m. cond (not m) (x ∷ drop_where silent all) (drop_where silent all)) e)
   others_keep false x said all e go = go
@@ -87,7 +87,7 @@ module _ (silent : Row → Bool) (f : Row → Result Chosen SqlState) (of : (row
   beside_at : (row : Row) (rows : List Row) (b : Bool) → silent row ≡ b → EndsBeside silent f (drop_where silent rows) (each f rows) →
       EndsBeside silent f (cond (not b) (row ∷ drop_where silent rows) (drop_where silent rows)) (each f (row ∷ rows))
   beside_at row rows true e go =
-      subst (λ (r : Result Chosen SqlState). EndsBeside silent f (drop_where silent rows) (r >>= λ y. each f rows >>= λ ys. Ok (y ∷ ys))) (sym (quiet row e))
+      subst (λ (r : Result Chosen SqlState). EndsBeside silent f (drop_where silent rows) (r >>= λ y. each f rows >>= λ ys. Ok (y ∷ ys))) (sym (infallible row e))
       (beside_silent row (drop_where silent rows) (each f rows) e go)
   beside_at row rows false e go = beside_said row (drop_where silent rows) (f row) (each f rows) e refl go
 
@@ -181,7 +181,7 @@ module _ (db : Database) (users : UserNames) (t : TableOf) (condition : Row → 
 
 -- ---- the rows of one table are set in both
 
-module _ (users : UserNames) (d e : Database) (alike : LookAlike users d e) where
+module _ (users : UserNames) (d e : Database) (alike : SameApparentRows users d e) where
   pub defined_alike : (name : TheName) → definition_named d name ≡ definition_named e name
   defined_alike name = definitions_alone d name ∙ ap (λ (x : Database). definition_named x name) alike.definitions ∙ sym (definitions_alone e name)
 
@@ -206,7 +206,7 @@ module _ (users : UserNames) (d e : Database) (alike : LookAlike users d e) wher
         ∙ ap (λ (f : Row → Bool). drop_where f ys) (silent_alike t)
         ∙ sym (ap (drop_where (is_silent e users t)) (rows_after e t.name y.0 ys y.1)))
 
-    pub set_alike : LookAlike users (with_rows_of t.name xs d) (with_rows_of t.name ys e)
+    pub set_alike : SameApparentRows users (with_rows_of t.name xs d) (with_rows_of t.name ys e)
     set_alike = record {
       definitions = (rows_of_one t.name xs d).definitions ∙ alike.definitions ∙ sym (rows_of_one t.name ys e).definitions;
       rows = λ u h. rows_set_at u (definitions_alone d u.name ∙ ap (λ (x : Database). definition_named x u.name) (sym (rows_of_one t.name xs d).definitions) ∙ sym (definitions_alone (with_rows_of t.name xs d) u.name) ∙ h) (bytes_eq u.name t.name) refl;
@@ -230,7 +230,7 @@ delete_alone db users s = ap (λ (find : TheName → Option TableOf). delete_che
 abbrev left_by : List Chosen → Changed
 left_by chosen = record { rows = other_rows chosen; count = length (new_rows chosen) }
 
-module _ (users : UserNames) (d e : Database) (alike : LookAlike users d e) (s : Delete) where
+module _ (users : UserNames) (d e : Database) (alike : SameApparentRows users d e) (s : Delete) where
   abbrev removed_from : Database → CheckedDelete → Result (List Chosen) SqlState → Result Effect SqlState
   removed_from db c r = (r >>= λ chosen. Ok (left_by chosen)) >>= λ changed. Ok (counted tag.Delete changed.count (with_rows_of c.table.name changed.rows db))
 

@@ -23,7 +23,7 @@ use Rattle.database_laws.specs.Stages.{apart_from_rows}
 use Rattle.abstract_database.specs.Machine.{Block, Outside, Inside, Failed, Session, Event, executes, Reading, Machine, Holder, Transition, refuses, succeeds, session_of, with_session, users_of, in_block, as_role, with_session_changed, is_held_by_other, released, seen_by, seen, after_refusal, refused, transition_or_refusal, changes_database, is_writing, sets_role, has_failed, keeps_role, may_execute, begin, with_role_set, with_block_ended, commit, rollback, with_changes, applied, where_admitted, execute_of_session, execute_on_database, execute_in, execute, running_transition}
 use Rattle.abstract_database.proofs.ResultLemmas.{require_ok, Every, every_bind, every_ok}
 use Rattle.database_laws.specs.Invariants.{HoldsOfHolder, IsSound}
-use Rattle.database_laws.specs.HiddenRuns.{MayActAs, AllAlike, holds_slot, IsAlikeFor, AreSound, answer_to, goes_by_visible, may_unhide, IsException, by_key, by_count, by_definition}
+use Rattle.database_laws.specs.HiddenRuns.{MayActAs, SameApparentRowsForLogin, holds_slot, MachinesAlikeForSession, AreSound, answer_to, goes_by_visible, may_unhide, IsException, by_key, by_count, by_definition}
 use Rattle.database_laws.proofs.CommitLemmas.{session_there}
 use Rattle.database_laws.proofs.StatementLemmas.{exec_answers, staged, reads_no_rows}
 use Rattle.database_laws.proofs.AllAlikeRows.{EndAll, rows_end}
@@ -36,21 +36,21 @@ held_at number h committed b e = ap (λ (x : Bool). cond x h.database committed)
 
 module _ (login : TheName) where
   -- where both hold the slot, or neither does, other databases may be committed
-  seen_where : (number : ℕ) (g h : Option Holder) (old c new f : Database) → holds_slot number g ≡ holds_slot number h → AllAlike login (seen_by number g old) (seen_by number h c) → AllAlike login new f →
-      AllAlike login (seen_by number g new) (seen_by number h f)
+  seen_where : (number : ℕ) (g h : Option Holder) (old c new f : Database) → holds_slot number g ≡ holds_slot number h → SameApparentRowsForLogin login (seen_by number g old) (seen_by number h c) → SameApparentRowsForLogin login new f →
+      SameApparentRowsForLogin login (seen_by number g new) (seen_by number h f)
   seen_where number None None old c new f same alike next = next
-  seen_where number None (Some h) old c new f same alike next = subst (λ (x : Database). AllAlike login new x) (sym (held_at number h f false (sym same))) next
-  seen_where number (Some g) None old c new f same alike next = subst (λ (x : Database). AllAlike login x f) (sym (held_at number g new false same)) next
+  seen_where number None (Some h) old c new f same alike next = subst (λ (x : Database). SameApparentRowsForLogin login new x) (sym (held_at number h f false (sym same))) next
+  seen_where number (Some g) None old c new f same alike next = subst (λ (x : Database). SameApparentRowsForLogin login x f) (sym (held_at number g new false same)) next
   seen_where number (Some g) (Some h) old c new f same alike next = by_slot (g.session == number) refl where
-    by_slot : (b : Bool) → (g.session == number) ≡ b → AllAlike login (seen_by number (Some g) new) (seen_by number (Some h) f)
+    by_slot : (b : Bool) → (g.session == number) ≡ b → SameApparentRowsForLogin login (seen_by number (Some g) new) (seen_by number (Some h) f)
     by_slot true e =
         let e' : (h.session == number) ≡ true = sym same ∙ e in
-        subst (λ (x : Database). AllAlike login x (seen_by number (Some h) f)) (held_at number g old true e ∙ sym (held_at number g new true e))
-        (subst (λ (x : Database). AllAlike login (seen_by number (Some g) old) x) (held_at number h c true e' ∙ sym (held_at number h f true e')) alike)
+        subst (λ (x : Database). SameApparentRowsForLogin login x (seen_by number (Some h) f)) (held_at number g old true e ∙ sym (held_at number g new true e))
+        (subst (λ (x : Database). SameApparentRowsForLogin login (seen_by number (Some g) old) x) (held_at number h c true e' ∙ sym (held_at number h f true e')) alike)
     by_slot false e =
         let e' : (h.session == number) ≡ false = sym same ∙ e in
-        subst (λ (x : Database). AllAlike login x (seen_by number (Some h) f)) (sym (held_at number g new false e))
-        (subst (λ (x : Database). AllAlike login new x) (sym (held_at number h f false e')) next)
+        subst (λ (x : Database). SameApparentRowsForLogin login x (seen_by number (Some h) f)) (sym (held_at number g new false e))
+        (subst (λ (x : Database). SameApparentRowsForLogin login new x) (sym (held_at number h f false e')) next)
 
 -- once it is given up, the committed database is seen, and the slot is not held
 given_up_at : (number : ℕ) (h : Holder) (db : Database) (b : Bool) → (h.session == number) ≡ b → (seen_by number (cond b None (Some h)) db ≡ db) × (holds_slot number (cond b None (Some h)) ≡ false)
@@ -78,9 +78,9 @@ module _ (number : ℕ) (login : TheName) where
   pub data MoveAlike (m k : Machine) : Machine → Machine → Type 0 where
     stay : MoveAlike m k m k
     change : (s : Session) → s.login ≡ login → MoveAlike m k (with_session_changed m number s) (with_session_changed k number s)
-    end : (s : Session) (role : TheName) (d e : Database) → s.login ≡ login → AllAlike login d e → MoveAlike m k (with_block_ended m number s d role) (with_block_ended k number s e role)
-    commit_at_once : (d e : Database) → AllAlike login d e → MoveAlike m k (record m { committed = d }) (record k { committed = e })
-    hold : (d e : Database) → AllAlike login d e → MoveAlike m k (record m { holder = Some (record { session = number; database = d }) }) (record k { holder = Some (record { session = number; database = e }) })
+    end : (s : Session) (role : TheName) (d e : Database) → s.login ≡ login → SameApparentRowsForLogin login d e → MoveAlike m k (with_block_ended m number s d role) (with_block_ended k number s e role)
+    commit_at_once : (d e : Database) → SameApparentRowsForLogin login d e → MoveAlike m k (record m { committed = d }) (record k { committed = e })
+    hold : (d e : Database) → SameApparentRowsForLogin login d e → MoveAlike m k (record m { holder = Some (record { session = number; database = d }) }) (record k { holder = Some (record { session = number; database = e }) })
 
   there_alike : (m k : Machine) (s : Session) → session_of number (with_session m.sessions number s) ≡ session_of number (with_session k.sessions number s)
   there_alike m k s = session_there m.sessions number s ∙ sym (session_there k.sessions number s)
@@ -91,7 +91,7 @@ module _ (number : ℕ) (login : TheName) where
     login_of None = []
     login_of (Some x) = x.login
 
-  pub moved : (m k : Machine) → IsAlikeFor number login m k → (n j : Machine) → MoveAlike m k n j → IsAlikeFor number login n j
+  pub moved : (m k : Machine) → MachinesAlikeForSession number login m k → (n j : Machine) → MoveAlike m k n j → MachinesAlikeForSession number login n j
   moved m k st n j stay = st
   moved m k st n j (change s own) = record {
     session = there_alike m k s;
@@ -110,7 +110,7 @@ module _ (number : ℕ) (login : TheName) where
         stopped = st.stopped;
         slot = free_d.1 ∙ sym free_e.1;
         committed = are;
-        seen = subst (λ (x : Database). AllAlike login x (seen_by number (released number k.holder) e)) (sym free_d.0) (subst (λ (x : Database). AllAlike login d x) (sym free_e.0) are);
+        seen = subst (λ (x : Database). SameApparentRowsForLogin login x (seen_by number (released number k.holder) e)) (sym free_d.0) (subst (λ (x : Database). SameApparentRowsForLogin login d x) (sym free_e.0) are);
       }
   moved m k st n j (commit_at_once d e are) = record {
     session = st.session;
@@ -129,7 +129,7 @@ module _ (number : ℕ) (login : TheName) where
         stopped = st.stopped;
         slot = on_d.1 ∙ sym on_e.1;
         committed = st.committed;
-        seen = subst (λ (x : Database). AllAlike login x (seen_by number (Some (record { session = number; database = e })) k.committed)) (sym on_d.0) (subst (λ (x : Database). AllAlike login d x) (sym on_e.0) are);
+        seen = subst (λ (x : Database). SameApparentRowsForLogin login x (seen_by number (Some (record { session = number; database = e })) k.committed)) (sym on_d.0) (subst (λ (x : Database). SameApparentRowsForLogin login d x) (sym on_e.0) are);
       }
 
   -- one answer, and both move alike
@@ -139,7 +139,7 @@ module _ (number : ℕ) (login : TheName) where
 
   -- ---- one statement of the session
 
-  module _ (m k : Machine) (st : IsAlikeFor number login m k) (on_m : AreSound m) (on_k : AreSound k) (s : Session) (own : s.login ≡ login) where
+  module _ (m k : Machine) (st : MachinesAlikeForSession number login m k) (on_m : AreSound m) (on_k : AreSound k) (s : Session) (own : s.login ≡ login) where
     abbrev Both : Transition → Transition → Type 0
     Both t u = Alike m k t u
 
@@ -254,12 +254,12 @@ module _ (number : ℕ) (login : TheName) where
           every_bind (λ (u : Unit {0}). may_set_role (seen m number) s.login s.role ≡ true) (require (keeps_role (seen m number) s) InsufficientPrivilege) _ (λ c c-is.
           λ u u-is. (and_parts (has_role (seen m number) s.role) (may_set_role (seen m number) s.login s.role) (require_ok (keeps_role (seen m number) s) InsufficientPrivilege c c-is)).1)))
 
-    with_changes_both : (b : Block) (d e : Database) → AllAlike login d e → MoveAlike m k (with_changes m number b d) (with_changes k number b e)
+    with_changes_both : (b : Block) (d e : Database) → SameApparentRowsForLogin login d e → MoveAlike m k (with_changes m number b d) (with_changes k number b e)
     with_changes_both Outside d e are = commit_at_once d e are
     with_changes_both (Inside role) d e are = hold d e are
     with_changes_both (Failed role) d e are = stay
 
-    applied_both : (writing : Bool) (a b : Effect) → a.answer ≡ b.answer → AllAlike login a.database b.database → Both (applied m number s writing a) (applied k number s writing b)
+    applied_both : (writing : Bool) (a b : Effect) → a.answer ≡ b.answer → SameApparentRowsForLogin login a.database b.database → Both (applied m number s writing a) (applied k number s writing b)
     applied_both true a b same are = record { answers = same; move = with_changes_both s.block a.database b.database are }
     applied_both false a b same are = record { answers = same; move = stay }
 

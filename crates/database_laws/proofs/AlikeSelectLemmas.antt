@@ -20,8 +20,8 @@ use Rattle.abstract_database.specs.Checks.{find_definition, checked_select}
 use Rattle.abstract_database.specs.Statements.{effect, source_of, selected, select}
 use Rattle.abstract_database.proofs.CheckLemmas.{select_checked}
 use Rattle.abstract_database.proofs.ResultLemmas.{each_from}
-use Rattle.database_laws.specs.Visible.{is_met, visible_rows, AgreeFor, HasValue, NoGuardFails}
-use Rattle.database_laws.specs.Worlds.{has_value, is_unmet, is_silent, apparent_rows, LookAlike, EndAlike}
+use Rattle.database_laws.specs.Visible.{is_met, visible_rows, SameVisibleRows, HasValue, NoGuardFails}
+use Rattle.database_laws.specs.Worlds.{has_value, is_unmet, is_silent, apparent_rows, SameApparentRows, EndAlike}
 use Rattle.database_laws.proofs.WorldLemmas.{checked_alone, named_by_itself}
 
 -- ---- rows that pass
@@ -54,7 +54,7 @@ module _ (db : Database) (users : UserNames) (t : TableOf) where
 
 -- ---- SELECT
 
-module _ (users : UserNames) (d e : Database) (alike : LookAlike users d e) where
+module _ (users : UserNames) (d e : Database) (alike : SameApparentRows users d e) where
   abbrev select_guard : Database → TableOf → Row → Outcome
   select_guard db t = guard db users t action.Select using_clause
 
@@ -156,15 +156,15 @@ module _ (users : UserNames) (d e : Database) where
   visible_of_apparent db t = filter_inner (is_visible db t) (λ row. not (is_silent db users t row)) (rows_named db t.name)
       (λ row h. met_said (guard db users t action.Select using_clause row) (has_value (guard db users t action.Update using_clause row) && has_value (guard db users t action.Delete using_clause row)) h)
 
-  pub agree_of_alike : LookAlike users d e → AgreeFor users d e
+  pub agree_of_alike : SameApparentRows users d e → SameVisibleRows users d e
   agree_of_alike alike = record {
     definitions = alike.definitions;
     rows = λ t h. sym (visible_of_apparent d t) ∙ ap (filter (is_visible d t)) (alike.rows t h)
         ∙ ap (λ (x : Database). filter (is_visible x t) (apparent_rows e users t)) alike.definitions ∙ visible_of_apparent e t;
   }
 
-  pub alike_of_agree : AgreeFor users d e → NoGuardFails action.Select users d → NoGuardFails action.Update users d → NoGuardFails action.Delete users d →
-      NoGuardFails action.Select users e → NoGuardFails action.Update users e → NoGuardFails action.Delete users e → ((t : TableOf) → definition_named d t.name ≡ Some t → definition_named e t.name ≡ Some t) → LookAlike users d e
+  pub alike_of_agree : SameVisibleRows users d e → NoGuardFails action.Select users d → NoGuardFails action.Update users d → NoGuardFails action.Delete users d →
+      NoGuardFails action.Select users e → NoGuardFails action.Update users e → NoGuardFails action.Delete users e → ((t : TableOf) → definition_named d t.name ≡ Some t → definition_named e t.name ≡ Some t) → SameApparentRows users d e
   alike_of_agree agree a b c i j k named = record {
     definitions = agree.definitions;
     rows = λ t h. apparent_is_visible users d a b c t h ∙ agree.rows t h ∙ sym (apparent_is_visible users e i j k t (named t h));

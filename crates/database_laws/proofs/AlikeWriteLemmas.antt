@@ -44,7 +44,7 @@ use Rattle.abstract_database.specs.Statements.{inserted, insert, updated, update
 use Rattle.abstract_database.proofs.CheckLemmas.{insert_checked, update_checked}
 use Rattle.database_laws.specs.Tables.{EachTable}
 use Rattle.database_laws.specs.Invariants.{IsSound}
-use Rattle.database_laws.specs.Worlds.{LookAlike, EndAlike, EndAlikeWithoutKeys}
+use Rattle.database_laws.specs.Worlds.{SameApparentRows, EndAlike, EndAlikeWithoutKeys}
 use Rattle.database_laws.proofs.RowLemmas.{chosen_row}
 use Rattle.database_laws.proofs.WriteLemmas.{find_changed}
 use Rattle.database_laws.proofs.WholeLists.{find_found}
@@ -176,7 +176,7 @@ module _ (layout : Layout) (g : Guard) (kept other new : List Row) where
 
 -- ---- what two statements leave
 
-module _ (users : UserNames) (d e : Database) (alike : LookAlike users d e) where
+module _ (users : UserNames) (d e : Database) (alike : SameApparentRows users d e) where
   -- both put rows in the place of one table's rows: they keep rows alike, whatever test drops some, and the new ones are the same
   pub record WroteAlike (a b : Effect) : Type 0 where
     pub t : TableOf
@@ -209,7 +209,7 @@ module _ (users : UserNames) (d e : Database) (alike : LookAlike users d e) wher
 
   -- so what they leave looks alike to each to whom the databases did
   module _ (x : DatabaseStatement) (on_d : IsSound d) (on_e : IsSound e) where
-    pub left_alike : (v : UserNames) → LookAlike v d e → (a b : Effect) → exec_as d users x ≡ Ok a → exec_as e users x ≡ Ok b → WroteAlike a b → LookAlike v a.database b.database
+    pub left_alike : (v : UserNames) → SameApparentRows v d e → (a b : Effect) → exec_as d users x ≡ Ok a → exec_as e users x ≡ Ok b → WroteAlike a b → SameApparentRows v a.database b.database
     left_alike v likewise a b f g w =
         let after_d = subst (λ (y : Database). EachTable IsInKeyOrder y) w.first_is (sound_for d users x a f on_d).1 in
         let after_e = subst (λ (y : Database). EachTable IsInKeyOrder y) w.second_is (sound_for e users x b g on_e).1 in
@@ -218,8 +218,8 @@ module _ (users : UserNames) (d e : Database) (alike : LookAlike users d e) wher
         let same = w.keeps silent (likewise.rows w.t w.named ∙ ap (λ (h : Row → Bool). drop_where h (rows_named e w.t.name)) (sym (silent_alike v d e likewise w.t))) in
         let said = said_alike silent w.t.layout w.new w.kept w.other w.rows w.others same w.first w.second
         (rises d w.t w.named w.rows after_d) (rises e w.t named_e w.others after_e) in
-        subst (λ (y : Database). LookAlike v y b.database) (sym w.first_is)
-        (subst (λ (y : Database). LookAlike v (with_rows_of w.t.name w.rows d) y) (sym w.second_is) (set_alike v d e likewise w.t w.named w.rows w.others said))
+        subst (λ (y : Database). SameApparentRows v y b.database) (sym w.first_is)
+        (subst (λ (y : Database). SameApparentRows v (with_rows_of w.t.name w.rows d) y) (sym w.second_is) (set_alike v d e likewise w.t w.named w.rows w.others said))
 
     pub ended : (r s : Result Effect SqlState) → exec_as d users x ≡ r → exec_as e users x ≡ s → WriteAlike r s → EndAlike users r s
     ended (Ok a) (Ok b) f g w = (w.answers, left_alike users alike a b f g w)
@@ -247,7 +247,7 @@ insert_alone db users s = ap (λ (find : TheName → Option TableOf). insert_che
 abbrev pub FailsByKey : Result Effect SqlState → Type 0
 FailsByKey r = r ≡ Err UniqueViolation
 
-module _ (users : UserNames) (d e : Database) (alike : LookAlike users d e) (s : Insert) where
+module _ (users : UserNames) (d e : Database) (alike : SameApparentRows users d e) (s : Insert) where
   abbrev added_to : Database → CheckedInsert → Result (List Row) SqlState → Result Effect SqlState
   added_to db c r = r >>= λ rows. Ok (counted tag.Insert (length c.rows) (with_rows_of c.table.name rows db))
 
@@ -352,7 +352,7 @@ update_alone db users s = ap (λ (find : TheName → Option TableOf). update_che
 abbrev rows_so : ℕ → List Row → Changed
 rows_so count rows = record { rows = rows; count = count }
 
-module _ (users : UserNames) (d e : Database) (alike : LookAlike users d e) (s : Update) where
+module _ (users : UserNames) (d e : Database) (alike : SameApparentRows users d e) (s : Update) where
   abbrev set_in : Database → CheckedUpdate → List Row → Result (List Row) SqlState → Result Effect SqlState
   set_in db c new r = (r >>= λ after. Ok (rows_so (length new) after)) >>= λ changed. Ok (counted tag.Update changed.count (with_rows_of c.table.name changed.rows db))
 

@@ -29,9 +29,9 @@ use Rattle.abstract_database.proofs.ListLemmas.{same_bytes}
 use Rattle.abstract_database.proofs.ResultLemmas.{Every, every_bind, every_ok}
 use Rattle.database_laws.specs.Readings.{columns_read_by_update, columns_read_by_delete}
 use Rattle.database_laws.specs.Invariants.{IsSound}
-use Rattle.database_laws.specs.Worlds.{LookAlike, EndAlike}
+use Rattle.database_laws.specs.Worlds.{SameApparentRows, EndAlike}
 use Rattle.database_laws.specs.OnePolicy.{Concerns, HasPoliciesForAll}
-use Rattle.database_laws.specs.HiddenRuns.{MayActAs, AllAlike, is_for_all_commands, has_policies_for_all, goes_by_visible}
+use Rattle.database_laws.specs.HiddenRuns.{MayActAs, SameApparentRowsForLogin, is_for_all_commands, has_policies_for_all, goes_by_visible}
 use Rattle.database_laws.proofs.RowLemmas.{all_of_list}
 use Rattle.database_laws.proofs.RowChangeLemmas.{rows_of_one}
 use Rattle.database_laws.proofs.ConcernLemmas.{deleted_in_its_table}
@@ -44,20 +44,20 @@ use Rattle.database_laws.proofs.OnePolicy.{update_over, delete_over}
 
 -- ---- databases afterwards
 
-module _ (login : TheName) (d e : Database) (alike : AllAlike login d e) where
+module _ (login : TheName) (d e : Database) (alike : SameApparentRowsForLogin login d e) where
   pub acts_before : (a : Database) → without_rows a ≡ without_rows d → (pair : UserPair) → MayActAs a login pair → MayActAs d login pair
   acts_before a same pair acts = (acts.0, sym (ap (λ (x : Database). may_set_role x login pair.current) same) ∙ acts.1)
 
   -- the definitions stay, and what is left looks alike to each to whom the databases did
-  pub all_after : (a b : Database) → without_rows a ≡ without_rows d → without_rows b ≡ without_rows e → ((pair : UserPair) → MayActAs d login pair → LookAlike (as_seen pair d) a b) → AllAlike login a b
+  pub all_after : (a b : Database) → without_rows a ≡ without_rows d → without_rows b ≡ without_rows e → ((pair : UserPair) → MayActAs d login pair → SameApparentRows (as_seen pair d) a b) → SameApparentRowsForLogin login a b
   all_after a b on_d on_e each = record {
     definitions = on_d ∙ alike.definitions ∙ sym on_e;
-    rows = λ pair acts. subst (λ (u : UserNames). LookAlike u a b) (ap (λ (x : Database). as_seen pair x) (sym on_d)) (each pair (acts_before a on_d pair acts));
+    rows = λ pair acts. subst (λ (u : UserNames). SameApparentRows u a b) (ap (λ (x : Database). as_seen pair x) (sym on_d)) (each pair (acts_before a on_d pair acts));
   }
 
 -- refused with one code, or carried out with one answer, and what they leave looks alike again to all
 abbrev pub EndAll : TheName → Result Effect SqlState → Result Effect SqlState → Type 0
-EndAll login (Ok a) (Ok b) = (a.answer ≡ b.answer) × AllAlike login a.database b.database
+EndAll login (Ok a) (Ok b) = (a.answer ≡ b.answer) × SameApparentRowsForLogin login a.database b.database
 EndAll login (Err c) (Err k) = c ≡ k
 EndAll login (Ok a) (Err k) = ⊥
 EndAll login (Err c) (Ok b) = ⊥
@@ -94,11 +94,11 @@ select_leaves db users s =
     every_bind (λ (x : Effect). x.database ≡ db) (query (map (source_of db users) c.tables) users c.query) _ (λ rows rows-is.
     every_ok (λ (x : Effect). x.database ≡ db) (effect (answer.Rows rows) db) refl))
 
-module _ (login : TheName) (d e : Database) (alike : AllAlike login d e) (on_d : IsSound d) (on_e : IsSound e) (pair : UserPair) (may : MayActAs d login pair) where
+module _ (login : TheName) (d e : Database) (alike : SameApparentRowsForLogin login d e) (on_d : IsSound d) (on_e : IsSound e) (pair : UserPair) (may : MayActAs d login pair) where
   abbrev users : UserNames
   users = as_seen pair d
 
-  own : LookAlike users d e
+  own : SameApparentRows users d e
   own = alike.rows pair may
 
   wrote : (x : RowStatement) (r k : Result Effect SqlState) → exec_as d users (on_database.OverRows x) ≡ r → exec_as e users (on_database.OverRows x) ≡ k → WriteAlike users d e own r k → EndAll login r k
@@ -127,8 +127,8 @@ module _ (login : TheName) (d e : Database) (alike : AllAlike login d e) (on_d :
   selected_at : (s : Select) (r k : Result Effect SqlState) → select d users s ≡ r → select e users s ≡ k → EndAlike users r k → EndAll login r k
   selected_at s (Ok a) (Ok b) f g h = (
     h.0,
-    subst (λ (x : Database). AllAlike login x b.database) (sym (select_leaves d users s a f))
-        (subst (λ (x : Database). AllAlike login d x) (sym (select_leaves e users s b g)) alike),
+    subst (λ (x : Database). SameApparentRowsForLogin login x b.database) (sym (select_leaves d users s a f))
+        (subst (λ (x : Database). SameApparentRowsForLogin login d x) (sym (select_leaves e users s b g)) alike),
   )
   selected_at s (Err c) (Err k) f g h = h
   selected_at s (Ok a) (Err k) f g h = h

@@ -11,7 +11,7 @@ use Rattle.abstract_database.specs.Database.{Database}
 use Rattle.abstract_database.specs.Statements.{Effect, insert, update, exec_as}
 use Rattle.abstract_database.proofs.CheckLemmas.{update_checked}
 use Rattle.database_laws.specs.Invariants.{IsSound}
-use Rattle.database_laws.specs.Worlds.{LookAlike, inserts_before_others, updates_before_others}
+use Rattle.database_laws.specs.Worlds.{SameApparentRows, inserts_before_others, updates_before_others}
 use Rattle.database_laws.proofs.ReadingLemmas.{update_as_written}
 use Rattle.database_laws.proofs.AlikeLemmas.{PassesOver, silent_not_updated}
 use Rattle.database_laws.proofs.AlikeWriteLemmas.{FailsByKey, WriteAlike, left_alike, insert_writes, insert_checks, without_keys, update_writes}
@@ -20,9 +20,9 @@ use Rattle.database_laws.proofs.AlikeWriteLemmas.{FailsByKey, WriteAlike, left_a
 not_by_key : (r : Result Effect SqlState) (a : Effect) → r ≡ Ok a → FailsByKey r → ⊥
 not_by_key r a is fails = let wrong : ◌≡◌ {A = Result Effect SqlState} (Ok a) (Err UniqueViolation) = sym is ∙ fails in cc
 
-module _ (users v : UserNames) (d e : Database) (on_d : IsSound d) (on_e : IsSound e) (own : LookAlike users d e) (others : LookAlike v d e) where
+module _ (users v : UserNames) (d e : Database) (on_d : IsSound d) (on_e : IsSound e) (own : SameApparentRows users d e) (others : SameApparentRows v d e) where
   left : (x : RowStatement) (a b : Effect) → exec_as d users (on_database.OverRows x) ≡ Ok a → exec_as e users (on_database.OverRows x) ≡ Ok b →
-      WriteAlike users d e own (exec_as d users (on_database.OverRows x)) (exec_as e users (on_database.OverRows x)) → LookAlike v a.database b.database
+      WriteAlike users d e own (exec_as d users (on_database.OverRows x)) (exec_as e users (on_database.OverRows x)) → SameApparentRows v a.database b.database
   left x a b f g w =
       left_alike users d e own (on_database.OverRows x) on_d on_e v others a b f g
       (subst (λ (r : Result Effect SqlState). WriteAlike users d e own (Ok a) r) g

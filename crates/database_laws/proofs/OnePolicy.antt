@@ -31,7 +31,7 @@ use Rattle.abstract_database.proofs.ResultLemmas.{bind_ok}
 use Rattle.abstract_database.proofs.RowOrder.{RowFits, row_reversed, apart_of, of_apart}
 use Rattle.database_laws.specs.Tables.{EachTable, IsTyped, HasDistinctKeys}
 use Rattle.database_laws.specs.Invariants.{IsSound}
-use Rattle.database_laws.specs.Worlds.{is_unmet, is_silent, LookAlike, EndAlike, EndAlikeWithoutKeys}
+use Rattle.database_laws.specs.Worlds.{is_unmet, is_silent, SameApparentRows, EndAlike, EndAlikeWithoutKeys}
 use Rattle.database_laws.specs.OnePolicy.{HasPoliciesForAll, SpeaksOfKeys, IsForAll, IsByKey, one_policy_for_all, keys_tell_nothing}
 use Rattle.database_laws.proofs.RowLemmas.{Part, of_part, apart_part, chosen_row, others_part}
 use Rattle.database_laws.proofs.TableLemmas.{inserted_rows_fit, updated_rows_fit}
@@ -128,7 +128,7 @@ module _ (db : Database) (users : UserNames) (t : TableOf) (keys : SpeaksOfKeys 
 
 -- ---- statements
 
-module _ (users : UserNames) (d e : Database) (alike : LookAlike users d e) (on_d : IsSound d) (on_e : IsSound e) where
+module _ (users : UserNames) (d e : Database) (alike : SameApparentRows users d e) (on_d : IsSound d) (on_e : IsSound e) where
   abbrev SpeakOf : TheName → Type 0
   SpeakOf table = (t : TableOf) → t.name ≡ table → definition_named d t.name ≡ Some t → SpeaksOfKeys d users.current t
 
@@ -182,20 +182,20 @@ module _ (users : UserNames) (d e : Database) (alike : LookAlike users d e) (on_
   }) on_d on_e
 
 -- over the other database the users are the same
-pub other_users : (pair : UserPair) (d e : Database) (x : DatabaseStatement) → LookAlike (as_seen pair d) d e → exec_as e (as_seen pair d) x ≡ exec e pair x
+pub other_users : (pair : UserPair) (d e : Database) (x : DatabaseStatement) → SameApparentRows (as_seen pair d) d e → exec_as e (as_seen pair d) x ≡ exec e pair x
 other_users pair d e x alike = ap (λ (db : Database). exec_as e (as_seen pair db) x) alike.definitions
 
 abbrev over : RowStatement → DatabaseStatement
 over x = on_database.OverRows x
 
-for_all_users : (users : UserNames) (d e : Database) (x : RowStatement) → IsForAll d users.current x → IsSound d → IsSound e → LookAlike users d e → EndAlikeWithoutKeys users (exec_as d users (over x)) (exec_as e users (over x))
+for_all_users : (users : UserNames) (d e : Database) (x : RowStatement) → IsForAll d users.current x → IsSound d → IsSound e → SameApparentRows users d e → EndAlikeWithoutKeys users (exec_as d users (over x)) (exec_as e users (over x))
 for_all_users users d e (over_rows.Select s) all on_d on_e alike m n = select_ends_alike users d e alike s
 for_all_users users d e (over_rows.Insert s) all on_d on_e alike m n = insert_ends_alike users d e alike s on_d on_e m n
 for_all_users users d e (over_rows.Update s) all on_d on_e alike m n =
     checked_update_ends_alike users d e alike s (without_keys users d e alike s (update_over users d e alike on_d on_e s (all s.table refl)) m n) on_d on_e
 for_all_users users d e (over_rows.Delete s) all on_d on_e alike m n = passing_delete_ends_alike users d e alike s (delete_over users d e alike on_d on_e s (all s.table refl))
 
-by_key_users : (users : UserNames) (d e : Database) (x : RowStatement) → IsForAll d users.current x → IsByKey d users.current x → IsSound d → IsSound e → LookAlike users d e → EndAlike users (exec_as d users (over x)) (exec_as e users (over x))
+by_key_users : (users : UserNames) (d e : Database) (x : RowStatement) → IsForAll d users.current x → IsByKey d users.current x → IsSound d → IsSound e → SameApparentRows users d e → EndAlike users (exec_as d users (over x)) (exec_as e users (over x))
 by_key_users users d e (over_rows.Select s) all by_key on_d on_e alike = select_ends_alike users d e alike s
 by_key_users users d e (over_rows.Insert s) all by_key on_d on_e alike =
     insert_by_keys users d e alike on_d on_e s (all s.table refl) (λ t own named. by_key t (ap (λ (n : TheName). Some n) (sym own)) named)

@@ -8,7 +8,7 @@ use Rattle.abstract_database.specs.Database.{TableOf, Database, definition_named
 use Rattle.abstract_database.specs.Statements.{Effect, delete}
 use Rattle.abstract_database.proofs.ListLemmas.{bytes_same}
 use Rattle.database_laws.specs.RowChanges.{is_deleted}
-use Rattle.database_laws.specs.Worlds.{is_silent, LookAlike}
+use Rattle.database_laws.specs.Worlds.{is_silent, SameApparentRows}
 use Rattle.database_laws.proofs.ConcernLemmas.{deleted_in_its_table, deleted_its_rows}
 use Rattle.database_laws.proofs.WorldLemmas.{definitions_alone}
 use Rattle.database_laws.proofs.AlikeLemmas.{defined_alike}
@@ -25,7 +25,7 @@ pub both_ways : (f g : Row → Bool) (xs : List Row) → filter f (filter g xs) 
 both_ways f g [] = refl
 both_ways f g (x ∷ xs) = both_ways_at f g x xs (f x) (g x) refl refl (both_ways f g xs)
 
-module _ (users v : UserNames) (d e : Database) (s : Delete) (a b : Effect) (alike : LookAlike v d e) (on_d : delete d users s ≡ Ok a) (on_e : delete e users s ≡ Ok b) where
+module _ (users v : UserNames) (d e : Database) (s : Delete) (a b : Effect) (alike : SameApparentRows v d e) (on_d : delete d users s ≡ Ok a) (on_e : delete e users s ≡ Ok b) where
   rows_left : (t : TableOf) → definition_named d t.name ≡ Some t → (c : Bool) → bytes_eq t.name s.table ≡ c →
       drop_where (is_silent d v t) (rows_named a.database t.name) ≡ drop_where (is_silent e v t) (rows_named b.database t.name)
   rows_left t h false c =
@@ -46,7 +46,7 @@ module _ (users v : UserNames) (d e : Database) (s : Delete) (a b : Effect) (ali
       ∙ both_ways (λ row. not (is_deleted e users t s row)) (λ row. not (is_silent e v t row)) (rows_named e s.table)
       ∙ sym (ap (λ n. filter (λ row. not (is_silent e v t row)) (rows_named b.database n)) one ∙ ap (filter (λ row. not (is_silent e v t row))) gone_e.rows)
 
-  pub delete_for_others : LookAlike v a.database b.database
+  pub delete_for_others : SameApparentRows v a.database b.database
   delete_for_others = record {
     definitions = (deleted_in_its_table d users s a on_d).definitions ∙ alike.definitions ∙ sym (deleted_in_its_table e users s b on_e).definitions;
     rows = λ t h. subst (λ (f : Row → Bool). drop_where f (rows_named a.database t.name) ≡ drop_where (is_silent b.database v t) (rows_named b.database t.name))

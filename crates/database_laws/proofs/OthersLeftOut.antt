@@ -17,8 +17,8 @@ use Rattle.abstract_database.specs.Whole.{Each}
 use Rattle.abstract_database.specs.Machine.{Block, Outside, Inside, Failed, Session, Event, opens, executes, closes, Reading, Machine, Holder, Transition, refuses, succeeds, session_of, users_of, as_role, with_session_changed, is_held_by_other, released, seen_by, seen, open_session, close_session, after_refusal, transition_or_refusal, is_writing, may_execute, begin, with_role_set, commit, rollback, applied, where_admitted, changes_database, execute_of_session, execute_in, execute, running_transition, transition}
 use Rattle.abstract_database.proofs.ResultLemmas.{Every, every_bind, every_ok}
 use Rattle.database_laws.specs.Sessions.{number_of}
-use Rattle.database_laws.specs.Worlds.{LookAlike}
-use Rattle.database_laws.specs.HiddenRuns.{AllAlike, holds_slot, IsAlikeFor, AreSound, IsOwn, after, IsUnaffectedByOthers, ended, closed, excepted, kept_waiting, crowded_out, answered, left_out, IsOwnOrOthers, others_may_be_left_out}
+use Rattle.database_laws.specs.Worlds.{SameApparentRows}
+use Rattle.database_laws.specs.HiddenRuns.{SameApparentRowsForLogin, holds_slot, MachinesAlikeForSession, AreSound, IsOwn, after, IsUnaffectedByOthers, ended, closed, excepted, kept_waiting, crowded_out, answered, left_out, IsOwnOrOthers, others_may_be_left_out}
 use Rattle.database_laws.proofs.MachineLemmas.{Same, opened_same}
 use Rattle.database_laws.proofs.SlotLemmas.{transition_preserves}
 use Rattle.database_laws.proofs.SessionLemmas.{others_stay}
@@ -146,42 +146,42 @@ holder_is_other number n (Some h) apart own = ap not (not_both number n h.sessio
 
 -- ---- what looks like one looks like the other
 
-look_back : (v : UserNames) (d a e : Database) → LookAlike v d a → LookAlike v d e → LookAlike v a e
+look_back : (v : UserNames) (d a e : Database) → SameApparentRows v d a → SameApparentRows v d e → SameApparentRows v a e
 look_back v d a e p q = record {
   definitions = sym p.definitions ∙ q.definitions;
   rows = λ t h. let named = defined_alike v d a p t.name ∙ h in sym (p.rows t named) ∙ q.rows t named;
 }
 
-pub all_back : (login : TheName) (d a e : Database) → AllAlike login d a → AllAlike login d e → AllAlike login a e
+pub all_back : (login : TheName) (d a e : Database) → SameApparentRowsForLogin login d a → SameApparentRowsForLogin login d e → SameApparentRowsForLogin login a e
 all_back login d a e p q = record {
   definitions = sym p.definitions ∙ q.definitions;
   rows = λ pair acts.
       let before = acts_before login d e q a (sym p.definitions) pair acts in
-      subst (λ (u : UserNames). LookAlike u a e) (ap (λ (x : Database). as_seen pair x) p.definitions) (look_back (as_seen pair d) d a e (p.rows pair before) (q.rows pair before));
+      subst (λ (u : UserNames). SameApparentRows u a e) (ap (λ (x : Database). as_seen pair x) p.definitions) (look_back (as_seen pair d) d a e (p.rows pair before) (q.rows pair before));
 }
 
-module _ (number : ℕ) (login : TheName) (m k : Machine) (st : IsAlikeFor number login m k) (event : Event Reading) (apart : nat_eq number (number_of event) ≡ false)
-    (hides : AllAlike login m.committed (after m event).committed) where
-  committed_alike : AllAlike login (after m event).committed k.committed
+module _ (number : ℕ) (login : TheName) (m k : Machine) (st : MachinesAlikeForSession number login m k) (event : Event Reading) (apart : nat_eq number (number_of event) ≡ false)
+    (hides : SameApparentRowsForLogin login m.committed (after m event).committed) where
+  committed_alike : SameApparentRowsForLogin login (after m event).committed k.committed
   committed_alike = all_back login m.committed (after m event).committed k.committed hides st.committed
 
   session_stays : session_of number (after m event).sessions ≡ session_of number m.sessions
   session_stays = others_stay m event number apart
 
-  slot_and_seen : (b : Bool) → holds_slot number m.holder ≡ b → (holds_slot number (after m event).holder ≡ holds_slot number m.holder) × AllAlike login (seen (after m event) number) (seen k number)
+  slot_and_seen : (b : Bool) → holds_slot number m.holder ≡ b → (holds_slot number (after m event).holder ≡ holds_slot number m.holder) × SameApparentRowsForLogin login (seen (after m event) number) (seen k number)
   slot_and_seen true own =
       let same = transition_preserves m event (holder_is_other number (number_of event) m.holder apart own) in (
         ap (holds_slot number) same.1,
-        subst (λ (x : Database). AllAlike login x (seen k number)) (sym (ap (λ (h : Option Holder). seen_by number h (after m event).committed) same.1 ∙ ap (seen_by number m.holder) same.0)) st.seen,
+        subst (λ (x : Database). SameApparentRowsForLogin login x (seen k number)) (sym (ap (λ (h : Option Holder). seen_by number h (after m event).committed) same.1 ∙ ap (seen_by number m.holder) same.0)) st.seen,
       )
   slot_and_seen false own =
       let free = not_held_at number (number_of event) m.holder (after m event).holder apart own (turns m event).slot in (
         free ∙ sym own,
-        subst (λ (x : Database). AllAlike login x (seen k number)) (sym (seen_free number (after m event).holder (after m event).committed free))
-            (subst (λ (x : Database). AllAlike login (after m event).committed x) (sym (seen_free number k.holder k.committed (sym st.slot ∙ own))) committed_alike),
+        subst (λ (x : Database). SameApparentRowsForLogin login x (seen k number)) (sym (seen_free number (after m event).holder (after m event).committed free))
+            (subst (λ (x : Database). SameApparentRowsForLogin login (after m event).committed x) (sym (seen_free number k.holder k.committed (sym st.slot ∙ own))) committed_alike),
       )
 
-  pub alike_after_others : IsAlikeFor number login (after m event) k
+  pub alike_after_others : MachinesAlikeForSession number login (after m event) k
   alike_after_others =
       let places = slot_and_seen (holds_slot number m.holder) refl in
       record {
@@ -201,12 +201,12 @@ or_false false b e = (refl, e)
 
 module _ (number : ℕ) (login : TheName) where
   abbrev Continues : Machine → Machine → List (Event Reading) → Type 0
-  Continues m k later = (n j : Machine) → IsAlikeFor number login n j → AreSound n → AreSound j → IsUnaffectedByOthers number login n j later
+  Continues m k later = (n j : Machine) → MachinesAlikeForSession number login n j → AreSound n → AreSound j → IsUnaffectedByOthers number login n j later
 
   abbrev Unaffected : Machine → Machine → List (Event Reading) → Type 0
   Unaffected m k events = IsUnaffectedByOthers number login m k events
 
-  module _ (m k : Machine) (st : IsAlikeFor number login m k) (on_m : AreSound m) (on_k : AreSound k) (later : List (Event Reading)) (go : Continues m k later) where
+  module _ (m k : Machine) (st : MachinesAlikeForSession number login m k) (on_m : AreSound m) (on_k : AreSound k) (later : List (Event Reading)) (go : Continues m k later) where
     next : (event : Event Reading) → IsOwn number login event → Step number login m k event → Unaffected m k (event ∷ later)
     next event own (inl exception) = excepted own exception
     next event own (inr both) = answered own both.answers (go (after m event) (after k event) (moved number login m k st (after m event) (after k event) both.move) (sound_after m event on_m) (sound_after k event on_k))
@@ -250,7 +250,7 @@ module _ (number : ℕ) (login : TheName) where
     one event (inl own) = own_event event own
     one event (inr apart) = left_out apart (λ hides. go (after m event) k (alike_after_others number login m k st event apart hides) (sound_after m event on_m) on_k)
 
-  runs : (m k : Machine) (events : List (Event Reading)) → IsAlikeFor number login m k → AreSound m → AreSound k → Each (IsOwnOrOthers number login) events → Unaffected m k events
+  runs : (m k : Machine) (events : List (Event Reading)) → MachinesAlikeForSession number login m k → AreSound m → AreSound k → Each (IsOwnOrOthers number login) events → Unaffected m k events
   runs m k [] st on_m on_k are = ended
   runs m k (event ∷ later) st on_m on_k are =
       one m k st on_m on_k later (λ n j there on_n on_j. runs n j later there on_n on_j (λ x h. are x (inr h))) event (are event (inl refl))

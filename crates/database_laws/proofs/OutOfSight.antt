@@ -23,7 +23,7 @@ use Rattle.abstract_database.proofs.RowOrder.{row_reversed}
 use Rattle.database_laws.specs.Tables.{EachTable}
 use Rattle.database_laws.specs.Invariants.{IsSound}
 use Rattle.database_laws.specs.RowChanges.{ChangesRowsOf}
-use Rattle.database_laws.specs.Worlds.{is_silent, LookAlike}
+use Rattle.database_laws.specs.Worlds.{is_silent, SameApparentRows}
 use Rattle.database_laws.specs.OutOfSight.{MayWrite, inserts, makes, changes, removes, IsOutOfSight, WritesOutOfSight, unseen_by_others, unseen_by_all}
 use Rattle.database_laws.proofs.TableLemmas.{no_double}
 use Rattle.database_laws.proofs.RisingLemmas.{dropped_rise}
@@ -68,7 +68,7 @@ module _ (others : UserNames) (db : Database) (on : IsSound db) (t : TableOf) (n
         let is : t ≡ u = same_Some t u (sym named ∙ ap (definition_named db) (sym one) ∙ h) in
         subst (λ (z : TableOf). drop_where (is_silent db others z) (rows_named db z.name) ≡ drop_where (is_silent db others z) (rows_named after z.name)) is of_table
 
-    looks_as_before : LookAlike others db after
+    looks_as_before : SameApparentRows others db after
     looks_as_before = record {
       definitions = sym alone.definitions;
       rows = λ u h. of_each u h (bytes_eq u.name t.name) refl
@@ -91,7 +91,7 @@ module _ (users others : UserNames) (db : Database) (on : IsSound db) where
   says_something t hides row says (inl p) = p
   says_something t hides row says (inr may) = let contrary : true ≡ false = sym (hides row may) ∙ says in cc
 
-  wrote_unseen : (x : RowStatement) (name : TheName) (e : Effect) → exec_as db users (on_database.OverRows x) ≡ Ok e → (w : Wrote name e) → IsOutOfSight db users others w.t → LookAlike others db e.database
+  wrote_unseen : (x : RowStatement) (name : TheName) (e : Effect) → exec_as db users (on_database.OverRows x) ≡ Ok e → (w : Wrote name e) → IsOutOfSight db users others w.t → SameApparentRows others db e.database
   wrote_unseen x name e is w hides =
       looks_as_before others db on w.t w.named e.database (sound_for db users (on_database.OverRows x) e is on).1
       (subst (λ (n : TheName). ChangesRowsOf n db e.database) (sym w.own) w.alone)
@@ -161,11 +161,11 @@ module _ (users others : UserNames) (db : Database) (on : IsSound db) where
         added = λ row h. inl (deleted_added db users s e is row h);
       }
 
-  in_its_table : (x : RowStatement) (name : TheName) (e : Effect) → exec_as db users (on_database.OverRows x) ≡ Ok e → ((t : TableOf) → t.name ≡ name → definition_named db t.name ≡ Some t → IsOutOfSight db users others t) → Wrote name e → LookAlike others db e.database
+  in_its_table : (x : RowStatement) (name : TheName) (e : Effect) → exec_as db users (on_database.OverRows x) ≡ Ok e → ((t : TableOf) → t.name ≡ name → definition_named db t.name ≡ Some t → IsOutOfSight db users others t) → Wrote name e → SameApparentRows others db e.database
   in_its_table x name e is hides w = wrote_unseen x name e is w (hides w.t w.own w.named)
 
-  pub unseen : (x : RowStatement) (e : Effect) → exec_as db users (on_database.OverRows x) ≡ Ok e → WritesOutOfSight db users others x → LookAlike others db e.database
-  unseen (over_rows.Select s) e is hides = subst (λ (x : Database). LookAlike others db x) (sym (select_leaves db users s e is)) (record { definitions = refl; rows = λ t h. refl })
+  pub unseen : (x : RowStatement) (e : Effect) → exec_as db users (on_database.OverRows x) ≡ Ok e → WritesOutOfSight db users others x → SameApparentRows others db e.database
+  unseen (over_rows.Select s) e is hides = subst (λ (x : Database). SameApparentRows others db x) (sym (select_leaves db users s e is)) (record { definitions = refl; rows = λ t h. refl })
   unseen (over_rows.Insert s) e is hides = in_its_table (over_rows.Insert s) s.table e is (λ t own named. hides t (ap (λ (n : TheName). Some n) (sym own)) named) (inserts_rows s e is)
   unseen (over_rows.Update s) e is hides = in_its_table (over_rows.Update s) s.table e is (λ t own named. hides t (ap (λ (n : TheName). Some n) (sym own)) named) (updates_rows s e is)
   unseen (over_rows.Delete s) e is hides = in_its_table (over_rows.Delete s) s.table e is (λ t own named. hides t (ap (λ (n : TheName). Some n) (sym own)) named) (deletes_rows s e is)

@@ -9,7 +9,7 @@ use Rattle.abstract_database.specs.Roles.{may_log_in}
 use Rattle.abstract_database.specs.Whole.{Each}
 use Rattle.abstract_database.specs.Machine.{Outside, Session, Event, opens, executes, closes, Reading, Machine, Holder, Transition, refuses, succeeds, session_of, with_session, with_session_changed, is_held_by_other, released, open_session, close_session, is_writing, execute, execute_in, running_transition, transition}
 use Rattle.database_laws.specs.Invariants.{IsSound}
-use Rattle.database_laws.specs.HiddenRuns.{IsAlikeFor, AreSound, IsOwn, answer_to, after, IsException, IsUnaffected, ended, closed, excepted, answered, holder_of, runs_are_alike}
+use Rattle.database_laws.specs.HiddenRuns.{MachinesAlikeForSession, AreSound, IsOwn, answer_to, after, IsException, IsUnaffected, ended, closed, excepted, answered, holder_of, runs_are_alike}
 use Rattle.database_laws.proofs.LastingLemmas.{transition_holds}
 use Rattle.database_laws.proofs.SoundLemmas.{sound}
 use Rattle.database_laws.proofs.AlikeRuns.{MoveAlike, stay, change, end, commit_at_once, hold, moved, Alike, step_in}
@@ -22,7 +22,7 @@ module _ (number : ℕ) (login : TheName) where
   abbrev pub Step : Machine → Machine → Event Reading → Type 0
   Step m k event = IsException number m k event ⊎ Alike number login m k (transition m event) (transition k event)
 
-  module _ (m k : Machine) (st : IsAlikeFor number login m k) (on_m : AreSound m) (on_k : AreSound k) where
+  module _ (m k : Machine) (st : MachinesAlikeForSession number login m k) (on_m : AreSound m) (on_k : AreSound k) where
     stopped_both : (event : Event Reading) → m.stopped ≡ true → Alike number login m k (transition m event) (transition k event)
     stopped_both event on =
         subst (λ (t : Transition). Alike number login m k t (transition k event)) (sym (ap (λ (b : Bool). cond b (refuses m IoError) (running_transition m event)) on))
@@ -132,15 +132,15 @@ module _ (number : ℕ) (login : TheName) where
   -- ---- a list of its own events
 
   abbrev Continues : Machine → Machine → List (Event Reading) → Type 0
-  Continues m k later = (n j : Machine) → SamePlaces n j → IsAlikeFor number login n j → AreSound n → AreSound j → IsUnaffected number n j later
+  Continues m k later = (n j : Machine) → SamePlaces n j → MachinesAlikeForSession number login n j → AreSound n → AreSound j → IsUnaffected number n j later
 
-  next : (m k : Machine) (event : Event Reading) (later : List (Event Reading)) → SamePlaces m k → IsAlikeFor number login m k → AreSound m → AreSound k → Continues m k later → Step m k event → IsUnaffected number m k (event ∷ later)
+  next : (m k : Machine) (event : Event Reading) (later : List (Event Reading)) → SamePlaces m k → MachinesAlikeForSession number login m k → AreSound m → AreSound k → Continues m k later → Step m k event → IsUnaffected number m k (event ∷ later)
   next m k event later p st on_m on_k go (inl exception) = excepted exception
   next m k event later p st on_m on_k go (inr both) =
       answered both.answers (go (after m event) (after k event) (places_after m k (after m event) (after k event) p both.move)
       (moved number login m k st (after m event) (after k event) both.move) (sound_after m event on_m) (sound_after k event on_k))
 
-  one : (m k : Machine) (event : Event Reading) (later : List (Event Reading)) → IsOwn number login event → SamePlaces m k → IsAlikeFor number login m k → AreSound m → AreSound k → Continues m k later → IsUnaffected number m k (event ∷ later)
+  one : (m k : Machine) (event : Event Reading) (later : List (Event Reading)) → IsOwn number login event → SamePlaces m k → MachinesAlikeForSession number login m k → AreSound m → AreSound k → Continues m k later → IsUnaffected number m k (event ∷ later)
   one m k (opens n l) later own p st on_m on_k go =
       subst (λ (x : ℕ). IsUnaffected number m k (opens x l ∷ later)) (sym own.0)
       (subst (λ (x : TheName). IsUnaffected number m k (opens number x ∷ later)) (sym own.1)
@@ -151,7 +151,7 @@ module _ (number : ℕ) (login : TheName) where
   one m k (closes n) later own p st on_m on_k go =
       subst (λ (x : ℕ). IsUnaffected number m k (closes x ∷ later)) (sym own) (closed (closes_alike m k st on_m on_k))
 
-  runs : (m k : Machine) (events : List (Event Reading)) → SamePlaces m k → IsAlikeFor number login m k → AreSound m → AreSound k → Each (IsOwn number login) events → IsUnaffected number m k events
+  runs : (m k : Machine) (events : List (Event Reading)) → SamePlaces m k → MachinesAlikeForSession number login m k → AreSound m → AreSound k → Each (IsOwn number login) events → IsUnaffected number m k events
   runs m k [] p st on_m on_k own = ended
   runs m k (event ∷ later) p st on_m on_k own =
       one m k event later (own event (inl refl)) p st on_m on_k (λ n j q there on_n on_j. runs n j later q there on_n on_j (λ x h. own x (inr h)))

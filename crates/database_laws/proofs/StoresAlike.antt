@@ -8,7 +8,7 @@ use Rattle.abstract_database.specs.Machine.{Session, Event, opens, executes, clo
 use Rattle.abstract_database.specs.Runs.{TheText, ReadingRelation, IsReadAs, MayCallStore, MayRunOutOfMemory, MayCommit, IsTransition, RanBy, Counts, Stops, At, Happens, IsStep, by_transition, for_device}
 use Rattle.abstract_database.specs.Runs as step
 use Rattle.database_laws.specs.Runs.{ReadsOnce, for_memory, for_space, for_number}
-use Rattle.database_laws.specs.HiddenRuns.{IsAlikeFor, DifferInHiddenRows, AreSound, AreSoundUnlessStopped, IsException, IsOwnText, IsInPlace, not_issued, failed, GoesAlike, by_close, by_exception, by_refusal, by_answer, stores_go_alike, AnswersAgree, none_left, closed_by, excepted_by, refused_by, agrees, stores_are_alike}
+use Rattle.database_laws.specs.HiddenRuns.{MachinesAlikeForSession, DifferInHiddenRows, AreSound, AreSoundUnlessStopped, IsException, IsOwnText, IsInPlace, not_issued, failed, GoesAlike, by_close, by_exception, by_refusal, by_answer, stores_go_alike, AnswersAgree, none_left, closed_by, excepted_by, refused_by, agrees, stores_are_alike}
 use Rattle.database_laws.proofs.RunLemmas.{only_transition}
 use Rattle.database_laws.proofs.AlikeRuns.{MoveAlike, moved}
 use Rattle.database_laws.proofs.RunsAlike.{Step, SamePlaces, places_after, holders_alike, sound_after, executed, opened, closes_alike}
@@ -23,7 +23,7 @@ module _ (Reads : ReadingRelation) (Leave LeaveOther : Stops) (once : ReadsOnce 
   own_or_not old new m event answer after (for_device t is may e a fails) = inr (failed e fails)
 
   -- what is read over one machine is read over the other
-  read_there : (m k : Machine) → IsAlikeFor number login m k → (event : Event TheText) (x : Event Reading) → IsOwnText number login event → IsReadAs Reads m event x → IsReadAs Reads k event x
+  read_there : (m k : Machine) → MachinesAlikeForSession number login m k → (event : Event TheText) (x : Event Reading) → IsOwnText number login event → IsReadAs Reads m event x → IsReadAs Reads k event x
   read_there m k st (opens n l) x own read = read
   read_there m k st (closes n) x own read = read
   read_there m k st (executes n text) x own (reading, is, reads) = (reading, is, λ may. reads (st.stopped ∙ may.0, some_there n own may.1)) where
@@ -31,7 +31,7 @@ module _ (Reads : ReadingRelation) (Leave LeaveOther : Stops) (once : ReadsOnce 
     some_there i same there = subst (λ (j : ℕ). IsSome (session_of j k.sessions) → IsSome (session_of j m.sessions)) (sym same) (λ h. subst (λ (o : Option Session). IsSome o) (sym st.session) h) there
 
   record Place (w v : At) : Type 0 where
-    alike : IsAlikeFor number login w.standing.machine v.standing.machine
+    alike : MachinesAlikeForSession number login w.standing.machine v.standing.machine
     places : SamePlaces number login w.standing.machine v.standing.machine
     first : AreSound w.standing.machine
     second : AreSound v.standing.machine

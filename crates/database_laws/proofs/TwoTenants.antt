@@ -17,9 +17,9 @@ use Rattle.abstract_database.specs.Machine.{Outside, Session}
 use Rattle.abstract_database.proofs.ListLemmas.{bytes_same}
 use Rattle.abstract_database.proofs.ResultLemmas.{ok_inside}
 use Rattle.database_laws.specs.Invariants.{IsSound}
-use Rattle.database_laws.specs.Worlds.{is_silent, LookAlike}
+use Rattle.database_laws.specs.Worlds.{is_silent, SameApparentRows}
 use Rattle.database_laws.specs.OnePolicy.{HasPoliciesForAll, IsOfKey, SpeaksOfKeys}
-use Rattle.database_laws.specs.HiddenRuns.{MayActAs, AllAlike}
+use Rattle.database_laws.specs.HiddenRuns.{MayActAs, SameApparentRowsForLogin}
 use Rattle.database_laws.specs.OutOfSight.{IsOfTenants}
 use Rattle.database_laws.specs.TwoTenants.{notes, own_notes, note, with_notes, first, second, ann, bob, MeetThePremises}
 use Rattle.database_laws.proofs.WholeSound.{whole_sound}
@@ -46,7 +46,7 @@ of_option (Some x) = refl
 one_table : (rows : List Row) (t : TableOf) → definition_named (with_notes rows) t.name ≡ Some t → notes ≡ t
 one_table rows t h = one_at rows t (bytes_eq notes.name t.name) (of_option (found_by rows (bytes_eq notes.name t.name)) ∙ h)
 
-to_ann : LookAlike (as_seen ann first) first second
+to_ann : SameApparentRows (as_seen ann first) first second
 to_ann = record {
   definitions = refl;
   rows = λ t h. subst (λ (u : TableOf). drop_where (is_silent first (as_seen ann first) u) (rows_named first u.name) ≡ drop_where (is_silent second (as_seen ann first) u) (rows_named second u.name))
@@ -111,10 +111,10 @@ acts_as_ann pair acts =
     let own : codes "ann" ≡ pair.current = bytes_same (codes "ann") pair.current (one_name (bytes_eq (codes "ann") pair.current) acts.1) in
     ap (λ (n : TheName). record { current = n; session = codes "ann" }) own ∙ ap (λ (n : TheName). record { current = pair.current; session = n }) (sym acts.0)
 
-to_all : AllAlike (codes "ann") first second
+to_all : SameApparentRowsForLogin (codes "ann") first second
 to_all = record {
   definitions = refl;
-  rows = λ pair acts. subst (λ (p : UserPair). LookAlike (as_seen p first) first second) (acts_as_ann pair acts) to_ann;
+  rows = λ pair acts. subst (λ (p : UserPair). SameApparentRows (as_seen p first) first second) (acts_as_ann pair acts) to_ann;
 }
 
 abbrev ann_session : Session

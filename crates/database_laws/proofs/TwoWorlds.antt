@@ -8,13 +8,13 @@ use Rattle.expressions.specs.Meaning.{UserNames}
 use Rattle.abstract_database.specs.Database.{Database}
 use Rattle.abstract_database.specs.Statements.{Effect, as_seen, exec_as, exec}
 use Rattle.database_laws.specs.Invariants.{IsSound}
-use Rattle.database_laws.specs.Worlds.{is_told, LookAlike, EndAlike, EndAlikeWithoutKeys, EndAgreeing, two_worlds, worlds_agree}
+use Rattle.database_laws.specs.Worlds.{is_told, SameApparentRows, EndAlike, EndAlikeWithoutKeys, EndAgreeing, two_worlds, worlds_agree}
 use Rattle.database_laws.proofs.WorldLemmas.{same_definitions}
 use Rattle.database_laws.proofs.AlikeLemmas.{delete_ends_alike}
 use Rattle.database_laws.proofs.AlikeWriteLemmas.{insert_ends_alike, update_ends_alike}
 use Rattle.database_laws.proofs.AlikeSelectLemmas.{select_ends_alike, agree_of_alike, alike_of_agree}
 
-ends_for : (users : UserNames) (d e : Database) (x : RowStatement) → is_told x ≡ true → IsSound d → IsSound e → LookAlike users d e →
+ends_for : (users : UserNames) (d e : Database) (x : RowStatement) → is_told x ≡ true → IsSound d → IsSound e → SameApparentRows users d e →
     EndAlikeWithoutKeys users (exec_as d users (on_database.OverRows x)) (exec_as e users (on_database.OverRows x))
 ends_for users d e (over_rows.Select s) told on_d on_e alike m n = select_ends_alike users d e alike s
 ends_for users d e (over_rows.Insert s) told on_d on_e alike m n = insert_ends_alike users d e alike s on_d on_e m n

@@ -19,7 +19,7 @@ use Rattle.abstract_database.specs.Machine.{Block, Outside, Inside, Failed, Sess
 use Rattle.abstract_database.proofs.ResultLemmas.{Every, every_bind, every_ok}
 use Rattle.database_laws.specs.Invariants.{HoldsOfHolder, IsSound}
 use Rattle.database_laws.specs.Sessions.{number_of}
-use Rattle.database_laws.specs.HiddenRuns.{AllAlike, AreSound}
+use Rattle.database_laws.specs.HiddenRuns.{SameApparentRowsForLogin, AreSound}
 use Rattle.database_laws.specs.OutOfSight.{IsOutOfSightOf, LooksCommitted, IsUnseenIn, IsUnseenReading, IsUnseen, unseen_events}
 use Rattle.database_laws.proofs.MachineLemmas.{Same, opened_same}
 use Rattle.database_laws.proofs.OutOfSight.{unseen_all}
@@ -28,13 +28,13 @@ use Rattle.database_laws.proofs.OthersLeftOut.{all_back}
 -- ---- to look alike is an equivalence
 
 module _ (login : TheName) where
-  pub all_same : (d : Database) → AllAlike login d d
+  pub all_same : (d : Database) → SameApparentRowsForLogin login d d
   all_same d = record { definitions = refl; rows = λ pair acts. record { definitions = refl; rows = λ t h. refl } }
 
-  all_turned : (d a : Database) → AllAlike login d a → AllAlike login a d
+  all_turned : (d a : Database) → SameApparentRowsForLogin login d a → SameApparentRowsForLogin login a d
   all_turned d a p = all_back login d a d p (all_same d)
 
-  all_joined : (d a e : Database) → AllAlike login d a → AllAlike login a e → AllAlike login d e
+  all_joined : (d a e : Database) → SameApparentRowsForLogin login d a → SameApparentRowsForLogin login a e → SameApparentRowsForLogin login d e
   all_joined d a e p q = all_back login a d e (all_turned d a p) q
 
 -- ---- the slot
@@ -57,7 +57,7 @@ sound_of_holder number (Some h) db p q = by (h.session == number) where
 
 module _ (login : TheName) (m : Machine) (number : ℕ) (was : LooksCommitted login number m) where
   record Unseen (t : Transition) : Type 0 where
-    committed : AllAlike login m.committed t.machine.committed
+    committed : SameApparentRowsForLogin login m.committed t.machine.committed
     sees : LooksCommitted login number t.machine
 
   refused_unseen : (s : Session) (code : SqlState) (b : Block) → Unseen (refuses (after_refusal m number s b) code)
@@ -65,10 +65,10 @@ module _ (login : TheName) (m : Machine) (number : ℕ) (was : LooksCommitted lo
   refused_unseen s code (Inside role) = record { committed = all_same login m.committed; sees = was }
   refused_unseen s code (Failed role) = record { committed = all_same login m.committed; sees = was }
 
-  ended_unseen : (s : Session) (t : Tag) (db : Database) (role : TheName) → AllAlike login m.committed db → Unseen (succeeds t (with_block_ended m number s db role))
+  ended_unseen : (s : Session) (t : Tag) (db : Database) (role : TheName) → SameApparentRowsForLogin login m.committed db → Unseen (succeeds t (with_block_ended m number s db role))
   ended_unseen s t db role p = record {
     committed = p;
-    sees = subst (λ (x : Database). AllAlike login db x) (sym (seen_after_release number m.holder db)) (all_same login db);
+    sees = subst (λ (x : Database). SameApparentRowsForLogin login db x) (sym (seen_after_release number m.holder db)) (all_same login db);
   }
 
   commit_unseen : (s : Session) (b : Block) → Unseen (commit m number s b)
@@ -86,25 +86,25 @@ module _ (login : TheName) (m : Machine) (number : ℕ) (was : LooksCommitted lo
   begin_unseen s (Inside role) = record { committed = all_same login m.committed; sees = was }
   begin_unseen s (Failed role) = record { committed = all_same login m.committed; sees = was }
 
-  sees_written : (h : Option Holder) (db : Database) → AllAlike login (seen_by number h m.committed) db → AllAlike login db (seen_by number h db)
+  sees_written : (h : Option Holder) (db : Database) → SameApparentRowsForLogin login (seen_by number h m.committed) db → SameApparentRowsForLogin login db (seen_by number h db)
   sees_written None db p = all_same login db
   sees_written (Some h) db p = by (h.session == number) p where
-    by : (b : Bool) → AllAlike login (cond b h.database m.committed) db → AllAlike login db (cond b h.database db)
+    by : (b : Bool) → SameApparentRowsForLogin login (cond b h.database m.committed) db → SameApparentRowsForLogin login db (cond b h.database db)
     by true q = all_turned login h.database db q
     by false q = all_same login db
 
-  written_unseen : (e : Effect) → AllAlike login (seen m number) e.database → (b : Block) → Unseen (transition_to e.answer (with_changes m number b e.database))
+  written_unseen : (e : Effect) → SameApparentRowsForLogin login (seen m number) e.database → (b : Block) → Unseen (transition_to e.answer (with_changes m number b e.database))
   written_unseen e p Outside = record {
     committed = all_joined login m.committed (seen m number) e.database was p;
     sees = sees_written m.holder e.database p;
   }
   written_unseen e p (Inside role) = record {
     committed = all_same login m.committed;
-    sees = subst (λ (c : Bool). AllAlike login m.committed (cond c e.database m.committed)) (sym (eq-eqb number number refl)) (all_joined login m.committed (seen m number) e.database was p);
+    sees = subst (λ (c : Bool). SameApparentRowsForLogin login m.committed (cond c e.database m.committed)) (sym (eq-eqb number number refl)) (all_joined login m.committed (seen m number) e.database was p);
   }
   written_unseen e p (Failed role) = record { committed = all_same login m.committed; sees = was }
 
-  applied_unseen : (s : Session) (writing : Bool) (e : Effect) → AllAlike login (seen m number) e.database → Unseen (applied m number s writing e)
+  applied_unseen : (s : Session) (writing : Bool) (e : Effect) → SameApparentRowsForLogin login (seen m number) e.database → Unseen (applied m number s writing e)
   applied_unseen s true e p = written_unseen e p s.block
   applied_unseen s false e p = record { committed = all_same login m.committed; sees = was }
 
@@ -151,15 +151,15 @@ module _ (login : TheName) (m : Machine) (number : ℕ) (was : LooksCommitted lo
   close_unseen None = record { committed = all_same login m.committed; sees = was }
   close_unseen (Some s) = record {
     committed = all_same login m.committed;
-    sees = subst (λ (x : Database). AllAlike login m.committed x) (sym (seen_after_release number m.holder m.committed)) (all_same login m.committed);
+    sees = subst (λ (x : Database). SameApparentRowsForLogin login m.committed x) (sym (seen_after_release number m.holder m.committed)) (all_same login m.committed);
   }
 
   open_unseen : (l : TheName) → Unseen (open_session m number l)
   open_unseen l =
       let s : Same m (open_session m number l).machine = opened_same m number l in record {
-        committed = subst (λ (x : Database). AllAlike login m.committed x) (sym s.committed) (all_same login m.committed);
-        sees = subst (λ (x : Database). AllAlike login x (seen_by number (open_session m number l).machine.holder x)) (sym s.committed)
-            (subst (λ (x : Option Holder). AllAlike login m.committed (seen_by number x m.committed)) (sym s.holder) was);
+        committed = subst (λ (x : Database). SameApparentRowsForLogin login m.committed x) (sym s.committed) (all_same login m.committed);
+        sees = subst (λ (x : Database). SameApparentRowsForLogin login x (seen_by number (open_session m number l).machine.holder x)) (sym s.committed)
+            (subst (λ (x : Option Holder). SameApparentRowsForLogin login m.committed (seen_by number x m.committed)) (sym s.holder) was);
       }
 
 running_unseen : (login : TheName) (m : Machine) (event : Event Reading) → AreSound m → (was : LooksCommitted login (number_of event) m) → IsUnseen login m event → Unseen login m (number_of event) was (running_transition m event)
@@ -169,6 +169,6 @@ running_unseen login m (closes n) on was h = close_unseen login m n was (session
 
 pub event_unseen : unseen_events
 event_unseen login m event on was h = at m.stopped where
-  at : (b : Bool) → AllAlike login m.committed (cond b (refuses m IoError) (running_transition m event)).machine.committed × LooksCommitted login (number_of event) (cond b (refuses m IoError) (running_transition m event)).machine
+  at : (b : Bool) → SameApparentRowsForLogin login m.committed (cond b (refuses m IoError) (running_transition m event)).machine.committed × LooksCommitted login (number_of event) (cond b (refuses m IoError) (running_transition m event)).machine
   at true = (all_same login m.committed, was)
   at false = let u = running_unseen login m event on was h in (u.committed, u.sees)

@@ -5,7 +5,7 @@ use Rattle.abstract_database.specs.Lists.{TheName, Among}
 use Rattle.abstract_database.specs.Database.{Database}
 use Rattle.abstract_database.specs.Machine.{Event, opens, executes, closes, Reading, Machine, Holder, is_held_by_other, seen_by}
 use Rattle.database_laws.specs.Sessions.{number_of}
-use Rattle.database_laws.specs.HiddenRuns.{AllAlike, AreSound, IsOwn, IsOwnOrOthers, after, IsUnaffectedByOthers, ended, closed, excepted, kept_waiting, crowded_out, answered, left_out}
+use Rattle.database_laws.specs.HiddenRuns.{SameApparentRowsForLogin, AreSound, IsOwn, IsOwnOrOthers, after, IsUnaffectedByOthers, ended, closed, excepted, kept_waiting, crowded_out, answered, left_out}
 use Rattle.database_laws.specs.OutOfSight.{LooksCommitted, IsUnseen, OthersHoldUnseen, OthersActUnseen, IsUndisturbed, no_more, is_closed, is_excepted, is_kept_waiting, is_crowded_out, is_answered, passes_over, others_are_not_noticed}
 use Rattle.database_laws.proofs.SlotLemmas.{transition_preserves}
 use Rattle.database_laws.proofs.OthersLeftOut.{SlotAfter, kept, freed, taken, turns, others_left_out}
@@ -41,7 +41,7 @@ module _ (number : ℕ) (login : TheName) (m : Machine) (event : Event Reading) 
   held_stays : is_held_by_other n m.holder ≡ true → OthersHoldUnseen number login (after m event)
   held_stays other =
       let same = transition_preserves m event other in
-      λ h is apart. subst (λ (x : Database). AllAlike login x h.database) (sym same.0) (hold h (sym same.1 ∙ is) apart)
+      λ h is apart. subst (λ (x : Database). SameApparentRowsForLogin login x h.database) (sym same.0) (hold h (sym same.1 ∙ is) apart)
 
   holder_is_of_event : is_held_by_other n m.holder ≡ false → (h : Holder) → (after m event).holder ≡ Some h → h.session ≡ n
   holder_is_of_event free h is = eqb-true h.session n (slot_is_own n m.holder (after m event).holder free (turns m event).slot h is)
@@ -54,21 +54,21 @@ module _ (number : ℕ) (login : TheName) (m : Machine) (event : Event Reading) 
         let wrong : true ≡ false = sym (eq-eqb number h.session (sym (holder_is_of_event free h is ∙ own))) ∙ apart in cc
 
   module _ (on : AreSound m) (apart : nat_eq number n ≡ false) (unseen : IsUnseen login m event) where
-    looks_at : (h : Option Holder) → m.holder ≡ h → AllAlike login m.committed (seen_by n h m.committed)
+    looks_at : (h : Option Holder) → m.holder ≡ h → SameApparentRowsForLogin login m.committed (seen_by n h m.committed)
     looks_at None e = all_same login m.committed
     looks_at (Some h) e = by (h.session == n) refl where
-      by : (b : Bool) → (h.session == n) ≡ b → AllAlike login m.committed (cond b h.database m.committed)
+      by : (b : Bool) → (h.session == n) ≡ b → SameApparentRowsForLogin login m.committed (cond b h.database m.committed)
       by true own = hold h e (subst (λ (x : ℕ). nat_eq number x ≡ false) (sym (eqb-true h.session n own)) apart)
       by false other = all_same login m.committed
 
-    pub changes_unseen : AllAlike login m.committed (after m event).committed × LooksCommitted login n (after m event)
+    pub changes_unseen : SameApparentRowsForLogin login m.committed (after m event).committed × LooksCommitted login n (after m event)
     changes_unseen = event_unseen login m event on (looks_at m.holder refl) unseen
 
-    holder_looks : (free : is_held_by_other n m.holder ≡ false) (h : Holder) → (after m event).holder ≡ Some h → AllAlike login (after m event).committed h.database
+    holder_looks : (free : is_held_by_other n m.holder ≡ false) (h : Holder) → (after m event).holder ≡ Some h → SameApparentRowsForLogin login (after m event).committed h.database
     holder_looks free h is =
         let own : (h.session == n) ≡ true = slot_is_own n m.holder (after m event).holder free (turns m event).slot h is in
-        subst (λ (b : Bool). AllAlike login (after m event).committed (cond b h.database (after m event).committed)) own
-        (subst (λ (o : Option Holder). AllAlike login (after m event).committed (seen_by n o (after m event).committed)) is changes_unseen.1)
+        subst (λ (b : Bool). SameApparentRowsForLogin login (after m event).committed (cond b h.database (after m event).committed)) own
+        (subst (λ (o : Option Holder). SameApparentRowsForLogin login (after m event).committed (seen_by n o (after m event).committed)) is changes_unseen.1)
 
     pub other_keeps : OthersHoldUnseen number login (after m event)
     other_keeps = by (is_held_by_other n m.holder) refl where

@@ -24,7 +24,7 @@ use Rattle.abstract_database.specs.Statements.{effect, source_of, selected, sele
 use Rattle.abstract_database.proofs.CheckLemmas.{found_definition, select_checked}
 use Rattle.abstract_database.proofs.ListLemmas.{bytes_same}
 use Rattle.abstract_database.proofs.ResultLemmas.{each_from}
-use Rattle.database_laws.specs.Visible.{is_met, visible_of, visible_rows, AgreeFor, NoGuardFails}
+use Rattle.database_laws.specs.Visible.{is_met, visible_of, visible_rows, SameVisibleRows, NoGuardFails}
 use Rattle.database_laws.specs.Selections.{answer_to}
 use Rattle.database_laws.proofs.VisibleLemmas.{filter_is_passing}
 use Rattle.database_laws.proofs.RowChangeLemmas.{rows_of_one}
@@ -64,10 +64,10 @@ named_by_itself db name t e =
 
 -- ---- two databases
 
-pub same_definitions : (users : UserNames) (d e : Database) → AgreeFor users d e → (name : TheName) → definition_named d name ≡ definition_named e name
+pub same_definitions : (users : UserNames) (d e : Database) → SameVisibleRows users d e → (name : TheName) → definition_named d name ≡ definition_named e name
 same_definitions users d e agree name = definitions_alone d name ∙ ap (λ (x : Database). definition_named x name) agree.definitions ∙ sym (definitions_alone e name)
 
-module _ (users : UserNames) (d e : Database) (agree : AgreeFor users d e) (on_d : NoGuardFails action.Select users d) (on_e : NoGuardFails action.Select users e) where
+module _ (users : UserNames) (d e : Database) (agree : SameVisibleRows users d e) (on_d : NoGuardFails action.Select users d) (on_e : NoGuardFails action.Select users e) where
   defined_alike : (name : TheName) → definition_named d name ≡ definition_named e name
   defined_alike name = definitions_alone d name ∙ ap (λ (x : Database). definition_named x name) agree.definitions ∙ sym (definitions_alone e name)
 
@@ -139,7 +139,7 @@ module _ (users : UserNames) (db : Database) (t : TableOf) (named : definition_n
       subst (λ d. visible_rows db users d ≡ visible_rows gone users d) same
       (sym (ap (visible_of db users t) now ∙ filter_twice (λ row. is_met (guard db users t action.Select using_clause row)) (rows_named db t.name)))
 
-  pub agree_without_hidden : AgreeFor users db gone
+  pub agree_without_hidden : SameVisibleRows users db gone
   agree_without_hidden = record {
     definitions = sym (rows_of_one t.name (visible_rows db users t) db).definitions;
     rows = λ u h. same_visible u h (bytes_eq u.name t.name) refl;

@@ -26,7 +26,7 @@ use Rattle.database_laws.specs.Invariants.{HoldsOfHolder, IsSound}
 use Rattle.database_laws.specs.OnePolicy.{target_of}
 use Rattle.database_laws.specs.Runs.{ReadsOnce, CountsAsNotIssued}
 use Rattle.database_laws.specs.Sessions.{number_of}
-use Rattle.database_laws.specs.Worlds.{LookAlike, is_told}
+use Rattle.database_laws.specs.Worlds.{SameApparentRows, is_told}
 
 -- ---- what a session may act as, and databases that look alike to it
 
@@ -35,9 +35,9 @@ abbrev pub MayActAs : Database → TheName → UserPair → Type 0
 MayActAs db login pair = (pair.session ≡ login) × (may_set_role db login pair.current ≡ true)
 
 -- the same definitions, and to each that the login role may act as the same rows that say something
-pub record AllAlike (login : TheName) (d e : Database) : Type 0 where
+pub record SameApparentRowsForLogin (login : TheName) (d e : Database) : Type 0 where
   pub definitions : without_rows d ≡ without_rows e
-  pub rows : (pair : UserPair) → MayActAs d login pair → LookAlike (as_seen pair d) d e
+  pub rows : (pair : UserPair) → MayActAs d login pair → SameApparentRows (as_seen pair d) d e
 
 -- ---- machines
 
@@ -51,20 +51,20 @@ holds_slot number (Some h) = h.session == number
 
 -- over both machines the session of this number is the same, of this login role, and what it sees, and what is committed, looks
 -- alike to all that it may act as
-pub record IsAlikeFor (number : ℕ) (login : TheName) (m k : Machine) : Type 0 where
+pub record MachinesAlikeForSession (number : ℕ) (login : TheName) (m k : Machine) : Type 0 where
   pub session : session_of number m.sessions ≡ session_of number k.sessions
   pub opened_for : (s : Session) → session_of number m.sessions ≡ Some s → s.login ≡ login
   pub stopped : m.stopped ≡ k.stopped
   pub slot : holds_slot number m.holder ≡ holds_slot number k.holder
-  pub committed : AllAlike login m.committed k.committed
-  pub seen : AllAlike login (seen m number) (seen k number)
+  pub committed : SameApparentRowsForLogin login m.committed k.committed
+  pub seen : SameApparentRowsForLogin login (seen m number) (seen k number)
 
--- the same sessions are open and the same one holds the write slot, and the databases differ only in rows that are hidden from all
+-- the same sessions are open and the same one holds the writer lock, and the databases differ only in rows that are hidden from all
 -- that the session of this number may act as
 pub record DifferInHiddenRows (number : ℕ) (login : TheName) (m k : Machine) : Type 0 where
   pub sessions : m.sessions ≡ k.sessions
   pub holder : holder_of m.holder ≡ holder_of k.holder
-  pub alike : IsAlikeFor number login m k
+  pub alike : MachinesAlikeForSession number login m k
 
 -- what is committed, and what the holder of the slot has done, is sound
 pub record AreSound (m : Machine) : Type 0 where
@@ -166,14 +166,14 @@ pub data IsUnaffectedByOthers (number : ℕ) (login : TheName) : Machine → Mac
   answered : {m k : Machine} {event : Event Reading} {later : List (Event Reading)} → IsOwn number login event → answer_to m event ≡ answer_to k event →
       IsUnaffectedByOthers number login (after m event) (after k event) later → IsUnaffectedByOthers number login m k (event ∷ later)
   left_out : {m k : Machine} {event : Event Reading} {later : List (Event Reading)} → nat_eq number (number_of event) ≡ false →
-      (AllAlike login m.committed (after m event).committed → IsUnaffectedByOthers number login (after m event) k later) → IsUnaffectedByOthers number login m k (event ∷ later)
+      (SameApparentRowsForLogin login m.committed (after m event).committed → IsUnaffectedByOthers number login (after m event) k later) → IsUnaffectedByOthers number login m k (event ∷ later)
 
 -- an event of the session, or of another one
 abbrev pub IsOwnOrOthers : ℕ → TheName → Event Reading → Type 0
 IsOwnOrOthers number login event = IsOwn number login event ⊎ (nat_eq number (number_of event) ≡ false)
 
 abbrev pub others_may_be_left_out : Type 0
-others_may_be_left_out = (number : ℕ) (login : TheName) (m k : Machine) (events : List (Event Reading)) → IsAlikeFor number login m k → AreSound m → AreSound k →
+others_may_be_left_out = (number : ℕ) (login : TheName) (m k : Machine) (events : List (Event Reading)) → MachinesAlikeForSession number login m k → AreSound m → AreSound k →
     Each (IsOwnOrOthers number login) events → IsUnaffectedByOthers number login m k events
 
 -- ---- runs over stores

@@ -15,7 +15,7 @@ use Rattle.abstract_database.specs.Guards.{is_for_role}
 use Rattle.abstract_database.specs.Expressions.{own_scope, columns_in}
 use Rattle.abstract_database.specs.Statements.{UserPair, as_seen, exec}
 use Rattle.database_laws.specs.Invariants.{IsSound}
-use Rattle.database_laws.specs.Worlds.{LookAlike, EndAlike, EndAlikeWithoutKeys}
+use Rattle.database_laws.specs.Worlds.{SameApparentRows, EndAlike, EndAlikeWithoutKeys}
 
 -- the table whose rows a statement changes
 abbrev pub target_of : RowStatement → Option TheName
@@ -55,10 +55,10 @@ IsByKey db role x = (t : TableOf) → target_of x ≡ Some t.name → definition
 -- where the policies for its user are for all commands, every statement ends alike over databases that look alike to its users, unless one
 -- is refused for a key that stands already
 abbrev pub one_policy_for_all : Type 0
-one_policy_for_all = (pair : UserPair) (d e : Database) (x : RowStatement) → IsForAll d pair.current x → IsSound d → IsSound e → LookAlike (as_seen pair d) d e →
+one_policy_for_all = (pair : UserPair) (d e : Database) (x : RowStatement) → IsForAll d pair.current x → IsSound d → IsSound e → SameApparentRows (as_seen pair d) d e →
     EndAlikeWithoutKeys (as_seen pair d) (exec d pair (on_database.OverRows x)) (exec e pair (on_database.OverRows x))
 
 -- and where they also speak of the key alone, it ends alike without exception
 abbrev pub keys_tell_nothing : Type 0
-keys_tell_nothing = (pair : UserPair) (d e : Database) (x : RowStatement) → IsForAll d pair.current x → IsByKey d pair.current x → IsSound d → IsSound e → LookAlike (as_seen pair d) d e →
+keys_tell_nothing = (pair : UserPair) (d e : Database) (x : RowStatement) → IsForAll d pair.current x → IsByKey d pair.current x → IsSound d → IsSound e → SameApparentRows (as_seen pair d) d e →
     EndAlike (as_seen pair d) (exec d pair (on_database.OverRows x)) (exec e pair (on_database.OverRows x))

@@ -20,10 +20,10 @@ use Rattle.abstract_database.specs.Statements.{Effect, UserPair, as_seen, exec}
 use Rattle.abstract_database.specs.Machine.{Session, Event, opens, executes, closes, Reading, Machine, Holder, session_of, users_of, is_held_by_other, is_writing, seen}
 use Rattle.database_laws.specs.Invariants.{IsSound}
 use Rattle.database_laws.specs.Sessions.{number_of}
-use Rattle.database_laws.specs.HiddenRuns.{MayActAs, AllAlike, IsAlikeFor, AreSound, IsOwn, answer_to, after, IsException}
+use Rattle.database_laws.specs.HiddenRuns.{MayActAs, SameApparentRowsForLogin, MachinesAlikeForSession, AreSound, IsOwn, answer_to, after, IsException}
 use Rattle.database_laws.specs.OnePolicy.{target_of, HasPoliciesForAll}
 use Rattle.database_laws.specs.Writes.{Passes}
-use Rattle.database_laws.specs.Worlds.{is_unmet, is_silent, LookAlike}
+use Rattle.database_laws.specs.Worlds.{is_unmet, is_silent, SameApparentRows}
 
 -- the guards let these users write the row: insert it, make it of another one, change it, or remove it
 pub data MayWrite (db : Database) (users : UserNames) (t : TableOf) (row : Row) : Type 0 where
@@ -43,7 +43,7 @@ WritesOutOfSight db users others x = (t : TableOf) → target_of x ≡ Some t.na
 -- what such a statement leaves looks to the others as it did before
 abbrev pub unseen_by_others : Type 0
 unseen_by_others = (pair : UserPair) (others : UserNames) (db : Database) (x : RowStatement) (e : Effect) → IsSound db → WritesOutOfSight db (as_seen pair db) others x →
-    exec db pair (on_database.OverRows x) ≡ Ok e → LookAlike others db e.database
+    exec db pair (on_database.OverRows x) ≡ Ok e → SameApparentRows others db e.database
 
 -- ---- all that a login role may act as
 
@@ -54,13 +54,13 @@ IsOutOfSightOf login db users x = (pair : UserPair) → MayActAs db login pair �
 -- what it leaves looks to all of them as it did before
 abbrev pub unseen_by_all : Type 0
 unseen_by_all = (pair : UserPair) (login : TheName) (db : Database) (x : RowStatement) (e : Effect) → IsSound db → IsOutOfSightOf login db (as_seen pair db) x →
-    exec db pair (on_database.OverRows x) ≡ Ok e → AllAlike login db e.database
+    exec db pair (on_database.OverRows x) ≡ Ok e → SameApparentRowsForLogin login db e.database
 
 -- ---- events of sessions
 
 -- what the session of this number sees looks, to all that the login role may act as, like what is committed
 abbrev pub LooksCommitted : TheName → ℕ → Machine → Type 0
-LooksCommitted login number m = AllAlike login m.committed (seen m number)
+LooksCommitted login number m = SameApparentRowsForLogin login m.committed (seen m number)
 
 -- a statement over rows that is out of their sight, or one that concerns the session alone
 abbrev pub IsUnseenIn : TheName → Database → UserPair → Statement → Type 0
@@ -81,13 +81,13 @@ IsUnseen login m (closes number) = Unit {0}
 -- it changes what is committed, and what its session sees, only out of the sight of all that the login role may act as
 abbrev pub unseen_events : Type 0
 unseen_events = (login : TheName) (m : Machine) (event : Event Reading) → AreSound m → LooksCommitted login (number_of event) m → IsUnseen login m event →
-    AllAlike login m.committed (after m event).committed × LooksCommitted login (number_of event) (after m event)
+    SameApparentRowsForLogin login m.committed (after m event).committed × LooksCommitted login (number_of event) (after m event)
 
 -- ---- runs among others
 
--- what another session has done, which holds the write slot, looks to all that the login role may act as like what is committed
+-- what another session has done, which holds the writer lock, looks to all that the login role may act as like what is committed
 abbrev pub OthersHoldUnseen : ℕ → TheName → Machine → Type 0
-OthersHoldUnseen number login m = (h : Holder) → m.holder ≡ Some h → nat_eq number h.session ≡ false → AllAlike login m.committed h.database
+OthersHoldUnseen number login m = (h : Holder) → m.holder ≡ Some h → nat_eq number h.session ≡ false → SameApparentRowsForLogin login m.committed h.database
 
 -- an event of the session, or of another one, out of the sight of all that the login role may act as
 abbrev pub IsOwnOrUnseen : ℕ → TheName → Machine → Event Reading → Type 0
@@ -115,7 +115,7 @@ pub data IsUndisturbed (number : ℕ) (login : TheName) : Machine → Machine �
 
 -- so they are where each other event is out of sight
 abbrev pub others_are_not_noticed : Type 0
-others_are_not_noticed = (number : ℕ) (login : TheName) (m k : Machine) (events : List (Event Reading)) → IsAlikeFor number login m k → AreSound m → AreSound k →
+others_are_not_noticed = (number : ℕ) (login : TheName) (m k : Machine) (events : List (Event Reading)) → MachinesAlikeForSession number login m k → AreSound m → AreSound k →
     OthersHoldUnseen number login m → OthersActUnseen number login m events → IsUndisturbed number login m k events
 
 -- ---- tables of tenants

@@ -30,7 +30,7 @@ use Rattle.abstract_database.specs.Checks.{find_definition}
 use Rattle.abstract_database.specs.Statements.{Effect, effect, select}
 use Rattle.database_laws.specs.Queries.{listed_of}
 use Rattle.database_laws.specs.Tables.{EachTable, IsTyped}
-use Rattle.database_laws.specs.Visible.{is_met, visible_rows, AgreeFor, NoGuardFails}
+use Rattle.database_laws.specs.Visible.{is_met, visible_rows, SameVisibleRows, NoGuardFails}
 
 -- ---- the combinations that are chosen
 
@@ -118,10 +118,10 @@ answer_to r = r >>= λ e. Ok e.answer
 
 -- a SELECT has one answer over databases that agree in what its users may see, where no guard fails on a hidden row
 abbrev pub hidden_rows_do_not_show : Type 0
-hidden_rows_do_not_show = (users : UserNames) (d e : Database) (s : Select) → AgreeFor users d e →
+hidden_rows_do_not_show = (users : UserNames) (d e : Database) (s : Select) → SameVisibleRows users d e →
     NoGuardFails action.Select users d → NoGuardFails action.Select users e → answer_to (select d users s) ≡ answer_to (select e users s)
 
 -- a database agrees with the one in which a table's hidden rows are gone
 abbrev pub hidden_rows_may_go : Type 0
 hidden_rows_may_go = (users : UserNames) (db : Database) (t : TableOf) → definition_named db t.name ≡ Some t →
-    AgreeFor users db (with_rows_of t.name (visible_rows db users t) db)
+    SameVisibleRows users db (with_rows_of t.name (visible_rows db users t) db)

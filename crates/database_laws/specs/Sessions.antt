@@ -1,4 +1,4 @@
--- Laws of the machine of sessions: refusals and the write slot.
+-- Laws of the machine of sessions: refusals and the writer lock.
 use Rattle.std.specs.Prelude.{◌≡◌, ◌⊎◌, ◌==◌, ℕ, nat_eq, true, false, Some, Ok}
 use Rattle.sql_types.specs.declared.state.SqlState.{SqlState}
 use Rattle.sql_types.specs.declared.answer.Answer.TheVariants as answer
@@ -37,7 +37,7 @@ abbrev pub blocks_keep_their_role : Type 0
 blocks_keep_their_role = (m : Machine) (number : ℕ) (s after : Session) (reading : Reading) → IsOpen m number s →
     session_of number (executed m number reading).machine.sessions ≡ Some after → (after.login ≡ s.login) × IsFollowedBy s.block after.block
 
--- ---- the write slot
+-- ---- the writer lock
 
 -- while a session holds the slot, no event of another changes the committed database, or what the holder has done
 abbrev pub only_the_holder_changes : Type 0

@@ -28,9 +28,9 @@ use Rattle.abstract_database.specs.Statements.{UserPair, as_seen}
 use Rattle.abstract_database.specs.Machine.{Event, executes, Reading, Outside, Machine}
 use Rattle.abstract_database.specs.Whole.{IsWhole}
 use Rattle.database_laws.specs.Invariants.{IsSound}
-use Rattle.database_laws.specs.Worlds.{LookAlike}
+use Rattle.database_laws.specs.Worlds.{SameApparentRows}
 use Rattle.database_laws.specs.OnePolicy.{HasPoliciesForAll, SpeaksOfKeys}
-use Rattle.database_laws.specs.HiddenRuns.{IsAlikeFor, AreSound, answer_to}
+use Rattle.database_laws.specs.HiddenRuns.{MachinesAlikeForSession, AreSound, answer_to}
 use Rattle.database_laws.specs.OutOfSight.{IsOutOfSight, IsOfTenants}
 
 -- CREATE TABLE notes (tenant TEXT, k BIGINT, PRIMARY KEY (tenant, k)), with row security enabled and forced
@@ -108,7 +108,7 @@ her_note = answer.Rows (note "ann" 1 ∷ [])
 
 pub record MeetThePremises : Type 0 where
   pub differ : first ≡ second → ⊥
-  pub alike : LookAlike (as_seen ann first) first second
+  pub alike : SameApparentRows (as_seen ann first) first second
   pub whole_first : IsWhole first
   pub whole_second : IsWhole second
   pub sound_first : IsSound first
@@ -118,6 +118,6 @@ pub record MeetThePremises : Type 0 where
   -- what bob may write is out of ann's sight
   pub of_tenants : IsOfTenants first notes (record { table = None; column = codes "tenant" })
   pub unseen : IsOutOfSight first (as_seen bob first) (as_seen ann first) notes
-  pub machines : IsAlikeFor 1 (codes "ann") (opened_by_ann first) (opened_by_ann second)
+  pub machines : MachinesAlikeForSession 1 (codes "ann") (opened_by_ann first) (opened_by_ann second)
   pub sound_machines : AreSound (opened_by_ann first) × AreSound (opened_by_ann second)
   pub told : (answer_to (opened_by_ann first) ann_asks ≡ her_note) × (answer_to (opened_by_ann second) ann_asks ≡ her_note)

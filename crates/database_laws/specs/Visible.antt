@@ -43,7 +43,7 @@ is_concerned db users t a reads condition row =
 -- ---- two databases
 
 -- the same definitions, and in each table the same rows that the SELECT guard lets pass for these users, in one order
-pub record AgreeFor (users : UserNames) (d e : Database) : Type 0 where
+pub record SameVisibleRows (users : UserNames) (d e : Database) : Type 0 where
   pub definitions : without_rows d ≡ without_rows e
   pub rows : (t : TableOf) → definition_named d t.name ≡ Some t → visible_rows d users t ≡ visible_rows e users t
 

@@ -24,7 +24,7 @@ use Rattle.abstract_database.specs.Statements.{Effect, insert, update, delete, U
 use Rattle.abstract_database.specs.Machine.{Session, Machine, session_of, users_of, is_held_by_other, seen, executes, transition}
 use Rattle.database_laws.specs.Readings.{columns_read_by_update, columns_read_by_delete}
 use Rattle.database_laws.specs.Invariants.{IsSound}
-use Rattle.database_laws.specs.Visible.{AgreeFor, NoGuardFails}
+use Rattle.database_laws.specs.Visible.{SameVisibleRows, NoGuardFails}
 
 -- ---- rows that say nothing
 
@@ -52,7 +52,7 @@ abbrev pub apparent_rows : Database → UserNames → TableOf → List Row
 apparent_rows db users t = drop_where (is_silent db users t) (rows_named db t.name)
 
 -- the same definitions, and in each table the same rows that say something
-pub record LookAlike (users : UserNames) (d e : Database) : Type 0 where
+pub record SameApparentRows (users : UserNames) (d e : Database) : Type 0 where
   pub definitions : without_rows d ≡ without_rows e
   pub rows : (t : TableOf) → definition_named d t.name ≡ Some t → apparent_rows d users t ≡ apparent_rows e users t
 
@@ -60,7 +60,7 @@ pub record LookAlike (users : UserNames) (d e : Database) : Type 0 where
 
 -- refused with one code, or carried out with one answer, and what they leave looks alike again
 abbrev pub EndAlike : UserNames → Result Effect SqlState → Result Effect SqlState → Type 0
-EndAlike users (Ok a) (Ok b) = (a.answer ≡ b.answer) × LookAlike users a.database b.database
+EndAlike users (Ok a) (Ok b) = (a.answer ≡ b.answer) × SameApparentRows users a.database b.database
 EndAlike users (Err c) (Err k) = c ≡ k
 EndAlike users (Ok a) (Err k) = ⊥
 EndAlike users (Err c) (Ok b) = ⊥
@@ -71,17 +71,17 @@ EndAlikeWithoutKeys users r s = (r ≡ Err UniqueViolation → ⊥) → (s ≡ E
 
 -- a DELETE that reads a column
 abbrev pub deletes_alike : Type 0
-deletes_alike = (users : UserNames) (d e : Database) (s : Delete) → has_any (columns_read_by_delete s) ≡ true → LookAlike users d e →
+deletes_alike = (users : UserNames) (d e : Database) (s : Delete) → has_any (columns_read_by_delete s) ≡ true → SameApparentRows users d e →
     EndAlike users (delete d users s) (delete e users s)
 
 -- an INSERT
 abbrev pub inserts_alike : Type 0
-inserts_alike = (users : UserNames) (d e : Database) (s : Insert) → IsSound d → IsSound e → LookAlike users d e → EndAlikeWithoutKeys users (insert d users s) (insert e users s)
+inserts_alike = (users : UserNames) (d e : Database) (s : Insert) → IsSound d → IsSound e → SameApparentRows users d e → EndAlikeWithoutKeys users (insert d users s) (insert e users s)
 
 -- an UPDATE that reads a column
 abbrev pub updates_alike : Type 0
 updates_alike = (users : UserNames) (d e : Database) (s : Update) → has_any (columns_read_by_update s) ≡ true → IsSound d → IsSound e →
-    LookAlike users d e → EndAlikeWithoutKeys users (update d users s) (update e users s)
+    SameApparentRows users d e → EndAlikeWithoutKeys users (update d users s) (update e users s)
 
 -- ---- two worlds
 
@@ -94,58 +94,58 @@ is_told (over_rows.Delete s) = has_any (columns_read_by_delete s)
 
 -- over databases that look alike to its users, such a statement ends alike
 abbrev pub two_worlds : Type 0
-two_worlds = (pair : UserPair) (d e : Database) (x : RowStatement) → is_told x ≡ true → IsSound d → IsSound e → LookAlike (as_seen pair d) d e →
+two_worlds = (pair : UserPair) (d e : Database) (x : RowStatement) → is_told x ≡ true → IsSound d → IsSound e → SameApparentRows (as_seen pair d) d e →
     EndAlikeWithoutKeys (as_seen pair d) (exec d pair (on_database.OverRows x)) (exec e pair (on_database.OverRows x))
 
 -- no guard of existing rows fails for these users
-pub record AreQuiet (users : UserNames) (db : Database) : Type 0 where
+pub record AreInfallible (users : UserNames) (db : Database) : Type 0 where
   pub select : NoGuardFails action.Select users db
   pub update : NoGuardFails action.Update users db
   pub delete : NoGuardFails action.Delete users db
 
 -- refused with one code, or carried out with one answer, and what they leave agrees in all that the users may see
 abbrev pub EndAgreeing : UserNames → Result Effect SqlState → Result Effect SqlState → Type 0
-EndAgreeing users (Ok a) (Ok b) = (a.answer ≡ b.answer) × AgreeFor users a.database b.database
+EndAgreeing users (Ok a) (Ok b) = (a.answer ≡ b.answer) × SameVisibleRows users a.database b.database
 EndAgreeing users (Err c) (Err k) = c ≡ k
 EndAgreeing users (Ok a) (Err k) = ⊥
 EndAgreeing users (Err c) (Ok b) = ⊥
 
 -- so over databases that agree in all but rows that the guard of SELECT hides, where no guard fails
 abbrev pub worlds_agree : Type 0
-worlds_agree = (pair : UserPair) (d e : Database) (x : RowStatement) → is_told x ≡ true → IsSound d → IsSound e → AgreeFor (as_seen pair d) d e →
-    AreQuiet (as_seen pair d) d → AreQuiet (as_seen pair d) e → (exec d pair (on_database.OverRows x) ≡ Err UniqueViolation → ⊥) → (exec e pair (on_database.OverRows x) ≡ Err UniqueViolation → ⊥) →
+worlds_agree = (pair : UserPair) (d e : Database) (x : RowStatement) → is_told x ≡ true → IsSound d → IsSound e → SameVisibleRows (as_seen pair d) d e →
+    AreInfallible (as_seen pair d) d → AreInfallible (as_seen pair d) e → (exec d pair (on_database.OverRows x) ≡ Err UniqueViolation → ⊥) → (exec e pair (on_database.OverRows x) ≡ Err UniqueViolation → ⊥) →
     EndAgreeing (as_seen pair d) (exec d pair (on_database.OverRows x)) (exec e pair (on_database.OverRows x))
 
 -- ---- sessions
 
 -- over both machines the session may do the same, and sees databases that look alike to its users
-pub record SeeAlike (number : ℕ) (s : Session) (m k : Machine) : Type 0 where
+pub record MachinesAlikeForStatement (number : ℕ) (s : Session) (m k : Machine) : Type 0 where
   pub sessions : m.sessions ≡ k.sessions
   pub stopped : m.stopped ≡ k.stopped
   pub slot : is_held_by_other number m.holder ≡ is_held_by_other number k.holder
-  pub rows : LookAlike (as_seen (users_of s) (seen m number)) (seen m number) (seen k number)
+  pub rows : SameApparentRows (as_seen (users_of s) (seen m number)) (seen m number) (seen k number)
 
 abbrev pub answer_from : Machine → ℕ → RowStatement → Answer
 answer_from m number x = (transition m (executes number (Ok (statement.OnDatabase (on_database.OverRows x))))).answer
 
 -- a session is answered the same by both, unless one of the answers is that a key stands already
 abbrev pub answers_hide : Type 0
-answers_hide = (number : ℕ) (s : Session) (m k : Machine) (x : RowStatement) → is_told x ≡ true → session_of number m.sessions ≡ Some s → SeeAlike number s m k →
+answers_hide = (number : ℕ) (s : Session) (m k : Machine) (x : RowStatement) → is_told x ≡ true → session_of number m.sessions ≡ Some s → MachinesAlikeForStatement number s m k →
     IsSound (seen m number) → IsSound (seen k number) →
     (answer_from m number x ≡ answer.Refused UniqueViolation → ⊥) → (answer_from k number x ≡ answer.Refused UniqueViolation → ⊥) →
     answer_from m number x ≡ answer_from k number x
 
 -- a DELETE over databases that look alike to others leaves databases that look alike to them
 abbrev pub deletes_before_others : Type 0
-deletes_before_others = (users v : UserNames) (d e : Database) (s : Delete) (a b : Effect) → LookAlike v d e → delete d users s ≡ Ok a → delete e users s ≡ Ok b →
-    LookAlike v a.database b.database
+deletes_before_others = (users v : UserNames) (d e : Database) (s : Delete) (a b : Effect) → SameApparentRows v d e → delete d users s ≡ Ok a → delete e users s ≡ Ok b →
+    SameApparentRows v a.database b.database
 
 -- so does an INSERT over databases that look alike to its users too
 abbrev pub inserts_before_others : Type 0
-inserts_before_others = (users v : UserNames) (d e : Database) (s : Insert) (a b : Effect) → IsSound d → IsSound e → LookAlike users d e → LookAlike v d e →
-    insert d users s ≡ Ok a → insert e users s ≡ Ok b → LookAlike v a.database b.database
+inserts_before_others = (users v : UserNames) (d e : Database) (s : Insert) (a b : Effect) → IsSound d → IsSound e → SameApparentRows users d e → SameApparentRows v d e →
+    insert d users s ≡ Ok a → insert e users s ≡ Ok b → SameApparentRows v a.database b.database
 
 -- and an UPDATE that reads a column
 abbrev pub updates_before_others : Type 0
 updates_before_others = (users v : UserNames) (d e : Database) (s : Update) (a b : Effect) → has_any (columns_read_by_update s) ≡ true → IsSound d → IsSound e →
-    LookAlike users d e → LookAlike v d e → update d users s ≡ Ok a → update e users s ≡ Ok b → LookAlike v a.database b.database
+    SameApparentRows users d e → SameApparentRows v d e → update d users s ≡ Ok a → update e users s ≡ Ok b → SameApparentRows v a.database b.database

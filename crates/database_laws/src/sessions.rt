@@ -1,4 +1,4 @@
-//! Laws of sessions: of refusals, of what one leaves of the others, and of the write slot.
+//! Laws of sessions: of refusals, of what one leaves of the others, and of the writer lock.
 
 ghost use Rattle.database_laws.specs.HiddenRuns.{runs_are_alike, others_may_be_left_out};
 ghost use Rattle.database_laws.specs.OutOfSight.{unseen_by_others, unseen_by_all, unseen_events, others_are_not_noticed, apart_is_out_of_sight, tenants_are_out_of_sight};

@@ -13,7 +13,7 @@ pub fn rows_stay_sound()
 {}
 
 /// What the statements keep of the tables, and the order of each list, every event of every session
-/// keeps: in the committed database, and in that of the session that holds the write slot.
+/// keeps: in the committed database, and in that of the session that holds the writer lock.
 pub fn databases_stay_sound()
     ensures tables { sound_for_ever }
     ensures lists { in_order_for_ever }

@@ -31,7 +31,7 @@ pub fn rows_keep_databases_whole()
 {}
 
 /// Each statement that a text may be read as, executed for roles of a whole database, leaves a
-/// whole database; and each event does, of the committed database and of the write slot's holder.
+/// whole database; and each event does, of the committed database and of the writer lock's holder.
 pub fn databases_stay_whole()
     ensures statements { each_statement_keeps_whole }
     ensures events { whole_for_ever }

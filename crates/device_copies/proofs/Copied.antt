@@ -70,11 +70,11 @@ module _ {D : Type 0} {g : Ghosts D} (d : DeviceState) (s t : PageStore D g) (be
 
   -- a copy into the marked store, in the current spelling
   spelled : (result : Result (Unit {0}) RecordsFault) (records : Records) → d.faithful
-      → ((store_state s).sound → (store_state s).has_failed ≡ false → (store_state s).map ≡ mark ∷ [] → Copies result (whole (store_state s).spelling records) (store_state s) (store_state t))
+      → ((store_state s).sound → (store_state s).has_failed ≡ false → (store_state s).map ≡ mark ∷ [] → Copies result (whole (store_state s).record_format records) (store_state s) (store_state t))
       → Copies result (whole current records) (store_state s) (store_state t)
   spelled result records faithful copies =
       let is = begun.contents faithful in
-      subst (λ (c : Contents). Copies result (whole c.spelling records) (store_state s) (store_state t)) is
+      subst (λ (c : Contents). Copies result (whole c.record_format records) (store_state s) (store_state t)) is
       (copies (begun.sound faithful) begun.works (ap (λ (c : Contents). c.records) is))
 
   tries : (result : Result (Unit {0}) RecordsFault) (contents : Contents) → (d.faithful → Copies result contents (store_state s) (store_state t)) → Tries contents d e
@@ -192,7 +192,7 @@ cause_of (Err given) P is fault same = subst P (given_is same) is
 pub copies_to : {D : Type 0} (g : Ghosts D) (old new : D) (s t : PageStore D g) (records : Records) (source kept : StoreState) (no_room : DeviceCopyFault) (result : Result (Unit {0}) RecordsFault) (told : Result (Unit {0}) DeviceCopyFault)
     → TellsWanted ((g.state old).sectors / 8) (whole current records).records no_room → IsBegun (g.state old) s → KeepsHistory (store_state s) (store_state t)
     → ((store_state t).sound → (store_state t).has_failed ≡ false → (image : Image) → IsLeft (device_below (pages_of t)) image → HasContents ((device_below (pages_of t)).sectors / 8) (stored (store_state t)) image)
-    → ((store_state s).sound → (store_state s).has_failed ≡ false → (store_state s).map ≡ mark ∷ [] → Copies result (whole (store_state s).spelling records) (store_state s) (store_state t))
+    → ((store_state s).sound → (store_state s).has_failed ≡ false → (store_state s).map ≡ mark ∷ [] → Copies result (whole (store_state s).record_format records) (store_state s) (store_state t))
     → IfErr result (λ fault. HasCopyCause fault source kept (store_state s) (store_state t)) → told ≡ told_of no_room result → new ≡ device_of (pages_of t) → CopiesTo g.state records told old new
 copies_to g old new s t records source kept no_room result told tells begun history images copies cause told_is new_is =
     let all : CopiesTo g.state records (told_of no_room result) old (device_of (pages_of t)) =

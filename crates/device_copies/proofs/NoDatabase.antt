@@ -2,16 +2,16 @@
 use Rattle.std.proofs.Common.{◌≡◌, inl, inr, ℕ, Bool, true, false, if◌then◌else◌, not, List, [], ◌∷◌, Option, Some, None, refl, sym, ap, subst, ◌∙◌}
 use Rattle.std.specs.List.{list_any}
 use Rattle.std.proofs.lemmas.Bool.{false≢true}
-use Rattle.storage_sizes.specs.declared.spelling.Spelling.{Spelling}
-use Rattle.storage_sizes.specs.declared.spelling.Spelling.TheVariants.{First, Second}
+use Rattle.storage_sizes.specs.declared.record_format.RecordFormat.{RecordFormat}
+use Rattle.storage_sizes.specs.declared.record_format.RecordFormat.TheVariants.{V1, V2}
 use Rattle.store.specs.Records.{Record, Records, entries_where, is_from}
 use Rattle.store.specs.Store.{Contents}
 use Rattle.abstract_database.specs.Lists.{Among}
 use Rattle.abstract_database.specs.Database.{Database}
 use Rattle.stored_database.specs.Definitions.{Definitions, ids_of}
 use Rattle.stored_database.specs.Entries.{IsRecordSize}
-use Rattle.stored_database.specs.Records.{Shows, StandsFor, is_key_of, is_stray}
-use Rattle.stored_database.specs.Spelling.{descriptor_prefix, policy_prefix}
+use Rattle.stored_database.specs.Records.{Shows, StandsFor, is_key_of, is_orphan}
+use Rattle.stored_database.specs.RecordFormat.{descriptor_prefix, policy_prefix}
 use Rattle.stored_database.specs.Spellings.{Means, Stands, spelled_in_second, with_places}
 use Rattle.stored_database.proofs.AllRecords.{KindOf, of_role, of_membership, of_table, of_row, of_descriptor, of_policy, kind_of, none_there}
 use Rattle.stored_database.proofs.Lists.{into_right}
@@ -25,23 +25,23 @@ no_own [] = refl
 no_own (id ∷ ids) = no_own ids
 
 -- nor of any other kind
-stray_mark : (ids : List ℕ) → is_stray ids (0 ∷ []) ≡ true
-stray_mark ids = ap (λ (b : Bool). not b) (no_own ids)
+orphan_mark : (ids : List ℕ) → is_orphan ids (0 ∷ []) ≡ true
+orphan_mark ids = ap (λ (b : Bool). not b) (no_own ids)
 
 marked_none : (records others : Records) (db : Database) → records ≡ mark ∷ others → StandsFor records db → ⊥
 marked_none records others db is stands =
     let ids = ids_of stands.0.tables in
-    false≢true (sym (none_there (is_stray ids) records stands.1.defined.no_other mark (subst (λ (es : Records). Among mark es) (sym is) (inl refl))) ∙ stray_mark ids)
+    false≢true (sym (none_there (is_orphan ids) records stands.1.defined.no_other mark (subst (λ (es : Records). Among mark es) (sym is) (inl refl))) ∙ orphan_mark ids)
 
 -- the mark is spelled alike in both spellings
-marked_in_second : (spelling : Spelling) (records others : Records) → records ≡ mark ∷ others → (more : Records) × (spelled_in_second spelling records ≡ mark ∷ more)
-marked_in_second First records others is = (with_places others, ap with_places is)
-marked_in_second Second records others is = (others, is)
+marked_in_second : (record_format : RecordFormat) (records others : Records) → records ≡ mark ∷ others → (more : Records) × (spelled_in_second record_format records ≡ mark ∷ more)
+marked_in_second V1 records others is = (with_places others, ap with_places is)
+marked_in_second V2 records others is = (others, is)
 
 pub marked_stands : (contents : Contents) (others : Records) (db : Database) → contents.records ≡ mark ∷ others → Stands contents db → ⊥
 marked_stands contents others db is stands =
-    let there = marked_in_second contents.spelling contents.records others is in
-    marked_none (spelled_in_second contents.spelling contents.records) there.0 db there.1 stands
+    let there = marked_in_second contents.record_format contents.records others is in
+    marked_none (spelled_in_second contents.record_format contents.records) there.0 db there.1 stands
 
 pub left_stands : (x : Option Contents) (db : Database) → HasNoneOrMark x → Means x db → ⊥
 left_stands x db (inl none) means = let bad : None ≡ Some means.0 = sym none ∙ means.1 in cc
@@ -73,7 +73,7 @@ all_there q (e ∷ es) each =
 pub all_behind : (records : Records) (db : Database) → StandsFor records db → behind_mark records ≡ records
 all_behind records db stands =
     let ids = ids_of stands.0.tables in
-    all_there (is_from (0 ∷ 0 ∷ [])) records (λ e among. behind_kind ids e.0 (kind_of ids e.0 (none_there (is_stray ids) records stands.1.defined.no_other e among)))
+    all_there (is_from (0 ∷ 0 ∷ [])) records (λ e among. behind_kind ids e.0 (kind_of ids e.0 (none_there (is_orphan ids) records stands.1.defined.no_other e among)))
 
 pub none_outsized : ((records : Records) (d : Definitions) (db : Database) → Shows records d db → (e : Record) → Among e records → IsRecordSize e)
     → (records : Records) (db : Database) → StandsFor records db → HasOutsized records → ⊥

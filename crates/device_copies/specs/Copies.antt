@@ -91,7 +91,7 @@ told_of no_room (Err (Write write.Number)) = Err no_room
 -- ---- the store of the mark alone
 
 abbrev pub marked : Contents
-marked = record { spelling = current; records = mark ∷ [] }
+marked = record { record_format = current; records = mark ∷ [] }
 
 -- a store of the mark alone is made, or the device has another size, or memory is refused, before anything is written; or the device fails
 abbrev pub Marks : {D : Type 0} (g : Ghosts D) → Result (Unit {0}) DeviceCopyFault → D → D → Type 0

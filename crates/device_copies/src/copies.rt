@@ -8,7 +8,7 @@ ghost use Rattle.device_copies.specs.Copies.{CopiesTo, HasSourceCause, told_of};
 use crate::fault::DeviceCopyFault;
 use crate::marked::marked_store;
 use crate::wanted::no_room_fault;
-use copying::{Watch, copy_records};
+use copying::{CopyProgress, copy_records};
 use kv_store::{Fault, Map, StoreFault, sound_images};
 use sector_device::Device;
 use std::alloc::Global;
@@ -27,7 +27,7 @@ use storage_sizes::SECTORS_PER_PAGE;
 /// the device has. The records are read once more for it. `Device`: the device failed. `Memory`: an allocation failed.
 ///
 /// The watch is told how far a large copy is, as `copy_records` does.
-pub fn copy_to_device<M: Map, D: Device, W: Watch>(
+pub fn copy_to_device<M: Map, D: Device, W: CopyProgress>(
     alloc: Global,
     source: &mut M,
     target: D,

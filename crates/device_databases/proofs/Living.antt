@@ -1,7 +1,7 @@
 -- A run over a database that was opened on a device is a life of it.
 use Rattle.std.proofs.Common.{◌∙◌, ◌≡◌, ◌⊎◌, ◌≤◌, ℕ, ⊎_elim, false, List, Option, Some, refl, sym, subst, arith}
-use Rattle.storage_sizes.specs.declared.spelling.Spelling.{Spelling}
-use Rattle.storage_sizes.specs.declared.spelling.Spelling.TheVariants.{First, Second}
+use Rattle.storage_sizes.specs.declared.record_format.RecordFormat.{RecordFormat}
+use Rattle.storage_sizes.specs.declared.record_format.RecordFormat.TheVariants.{V1, V2}
 use Rattle.sector_device.specs.Timeline.{LeavesOnly, IsPresent, read_by, weakened}
 use Rattle.sector_device.specs.Device.{DeviceState, IsLeft, timeline}
 use Rattle.sector_device.specs.declared.device.Device.{Ghosts}
@@ -57,22 +57,22 @@ found_same d e last found db held leaves =
     weakened (λ x. (records_on d).left x ⊎ Means x db) (IsFoundLeft last) (records_on d) (records_on e) (λ x is. ⊎_elim (found x) (λ means. (db, means, held)) is) leaves.during
 
 module _ {D : Type 0} {g : Ghosts D} {X : Type 0} where
-  found_opened : (sp : Spelling) (d : DeviceState) (db : Database) (holds : HoldsDatabase d db) (server : Server (DeviceStore D g) X) (last : Standing) → LeavesFound last (records_on d) → IsFoundAt last db
+  found_opened : (sp : RecordFormat) (d : DeviceState) (db : Database) (holds : HoldsDatabase d db) (server : Server (DeviceStore D g) X) (last : Standing) → LeavesFound last (records_on d) → IsFoundAt last db
       → OpensAs sp d holds server → LeavesOnly (IsFoundLeft last) (records_on d) (records_on (state_under server))
-  found_opened Second d db holds server last found held only = found_before d (state_under server) last found only.leaves
-  found_opened First d db holds server last found held migrated = found_same d (state_under server) last found db held migrated.leaves
+  found_opened V2 d db holds server last found held only = found_before d (state_under server) last found only.leaves
+  found_opened V1 d db holds server last found held migrated = found_same d (state_under server) last found db held migrated.leaves
 
   -- ---- what is counted
 
-  first_number : (sp : Spelling) (d : DeviceState) (db : Database) (holds : HoldsDatabase d db) (server : Server (DeviceStore D g) X) → OpensAs sp d holds server
+  first_number : (sp : RecordFormat) (d : DeviceState) (db : Database) (holds : HoldsDatabase d db) (server : Server (DeviceStore D g) X) → OpensAs sp d holds server
       → IsNumberAfter sp holds.has.number (store_state server.store).number
-  first_number Second d db holds server only = only.keeps.number
-  first_number First d db holds server migrated = (migrated.not_back, migrated.by_one)
+  first_number V2 d db holds server only = only.keeps.number
+  first_number V1 d db holds server migrated = (migrated.not_back, migrated.by_one)
 
-  first_faults : (sp : Spelling) (d : DeviceState) (db : Database) (holds : HoldsDatabase d db) (server : Server (DeviceStore D g) X) → OpensAs sp d holds server
+  first_faults : (sp : RecordFormat) (d : DeviceState) (db : Database) (holds : HoldsDatabase d db) (server : Server (DeviceStore D g) X) → OpensAs sp d holds server
       → d.failures ≤ (store_state server.store).faults
-  first_faults Second d db holds server only = only.unwritten.history.failures
-  first_faults First d db holds server migrated = migrated.failures
+  first_faults V2 d db holds server only = only.unwritten.history.failures
+  first_faults V1 d db holds server migrated = migrated.failures
 
 -- the number of a store that works is that of what its device holds
 last_number : {D : Type 0} {g : Ghosts D} (s : DeviceStore D g) (number : ℕ) → (store_state s).sound → (store_state s).has_failed ≡ false
@@ -94,8 +94,8 @@ module _ {D : Type 0} {g : Ghosts D} (present : (device : D) → (g.state device
 
   counted : (end : Server (DeviceStore D g) X) (at : At) → (store_state end.store).sound → EndsAt (store_state end.store) at → AreCountedOn was (state_under end) begin at
   counted end at sound ends = record {
-    first_number = (is.holds.contents, is.holds.has, first_number is.holds.contents.spelling was is.database is.holds opened.server is.how);
-    first_faults = first_faults is.holds.contents.spelling was is.database is.holds opened.server is.how;
+    first_number = (is.holds.contents, is.holds.has, first_number is.holds.contents.record_format was is.database is.holds opened.server is.how);
+    first_faults = first_faults is.holds.contents.record_format was is.database is.holds opened.server is.how;
     last_number = λ works. last_number end.store at.counts.number sound (ends.works works) (content_left (device_of end.store) (faithful_under end.store sound)) (ends.counts.number works);
     last_faults = ends.counts.faults;
   }
@@ -105,7 +105,7 @@ module _ {D : Type 0} {g : Ghosts D} (present : (device : D) → (g.state device
   lived last found it end sound ran =
       let first = opened.server in
       let held = found_held one was (content_left device faithful) last found is.database is.holds in
-      let opening = found_opened is.holds.contents.spelling was is.database is.holds first last found held is.how in
+      let opening = found_opened is.holds.contents.record_format was is.database is.holds first last found held is.how in
       let leaves : LeavesOnly (IsFoundLeft last) (records_on was) (store_state first.store).time = opening in
       let now : IsPresent (store_state first.store).time = present_on first.store (present (device_of first.store) (faithful_under first.store is.sound)) in
       let life : IsLife Reads last it.events it.answers it.moments (records_on was) (store_state end.store).time = record {

@@ -26,12 +26,12 @@ module _ (admin : TheName) (stands : StandsFor (new_records admin) (new_database
   unfolding current
   has_new sectors image first =
       let plain = first.0 in
-      let under : HasContentsUnder false (sectors / 8) plain.number (record { spelling = current; records = new_records admin }) image
+      let under : HasContentsUnder false (sectors / 8) plain.number (record { record_format = current; records = new_records admin }) image
       = record { format = plain.format; array = plain.array; means = plain.means; kind = plain.kind; spelled = plain.spelled; represents = plain.represents } in
       record {
-        means = record { contents = record { spelling = current; records = new_records admin }; has = record { number = plain.number; is = inl under }; stands = stands };
+        means = record { contents = record { record_format = current; records = new_records admin }; has = record { number = plain.number; is = inl under }; stands = stands };
         first = first.1;
-        kind = subst (λ (n : ℕ). HasContentsUnder false (sectors / 8) n (record { spelling = current; records = new_records admin }) image) first.1 under;
+        kind = subst (λ (n : ℕ). HasContentsUnder false (sectors / 8) n (record { record_format = current; records = new_records admin }) image) first.1 under;
       }
 
   none_or_new : (sectors : ℕ) (image : Image) → (first_fault sectors image ≡ Some NotADatabase) ⊎ HasFirst (sectors / 8) current (admin_record admin) image → IsNoneOrNew false sectors admin image

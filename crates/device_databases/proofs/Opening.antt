@@ -1,8 +1,8 @@
 -- What opening a database on a device comes to, by what opening its store and its server come to.
 use Rattle.std.proofs.Common.{◌≡◌, ◌≢◌, ◌⊎◌, ◌≤◌, ◌+◌, ◌/◌, ◌^◌, ◌-◌, ℕ, inl, inr, false, Option, Some, Ok, Err, refl, ap, sym, subst, ◌∙◌, arith}
 use Rattle.std.proofs.lemmas.Bool.{cases_lt, false≢true}
-use Rattle.storage_sizes.specs.declared.spelling.Spelling.{Spelling}
-use Rattle.storage_sizes.specs.declared.spelling.Spelling.TheVariants.{First, Second}
+use Rattle.storage_sizes.specs.declared.record_format.RecordFormat.{RecordFormat}
+use Rattle.storage_sizes.specs.declared.record_format.RecordFormat.TheVariants.{V1, V2}
 use Rattle.sector_device.specs.Timeline.{LeavesOnly, IsPresent, read_by, joined, weakened}
 use Rattle.sector_device.specs.Device.{DeviceState, IsLeft, HasFailed, timeline}
 use Rattle.sector_device.specs.declared.device.Device.{Ghosts}
@@ -73,7 +73,7 @@ module _ {D : Type 0} {g : Ghosts D} (present : (device : D) → (g.state device
 
 module _ {D : Type 0} {g : Ghosts D} (present : (device : D) → (g.state device).faithful → IsPresent (timeline (g.state device))) (d : DeviceState) (s t : DeviceStore D g) (opened : IsStoreOpened d s) (faithful : d.faithful)
     (history : KeepsHistory (store_state s) (store_state t)) where
-  abbrev holds_first : (store_state s).spelling ≡ First → HoldsFirstSpelling d
+  abbrev holds_first : (store_state s).record_format ≡ V1 → HoldsFirstSpelling d
   holds_first first = record { contents = stored (store_state s); has = (opened.holds faithful).contents; first = first }
 
   stands_records : (f : OpeningFault) → HasOpeningCause f (store_state s) (store_state t) → StandsIn (Records f) d
@@ -103,14 +103,14 @@ module _ {D : Type 0} {g : Ghosts D} (present : (device : D) → (g.state device
       → (x : Option Contents) → (records_on (state_under t)).left x → x ≡ Some (stored (store_state s))
   left_unchanged f other works same x left =
       settled_on t x (history.sound (opened.holds faithful).sound) (works_after f other works) (left_of_store present d s t opened faithful x left)
-      ∙ ap (λ (c : Contents). Some c) (same_parts (stored (store_state t)) (stored (store_state s)) same.spelling same.map)
+      ∙ ap (λ (c : Contents). Some c) (same_parts (stored (store_state t)) (stored (store_state s)) same.record_format same.map)
 
   -- a database that the device held is that of the store
   stands_for_store : (db : Database) → HoldsDatabase d db → Stands (stored (store_state s)) db
   stands_for_store db held =
       subst (λ (c : Contents). Stands c db) (one_contents d.content (d.sectors / 8) (d.sectors / 8) held.contents (stored (store_state s)) held.has (opened.holds faithful).contents) held.stands
 
-  tried : (f : OpeningFault) → IsOfMigration (Records f) → (store_state s).spelling ≡ First → (store_state t).has_failed ≡ failed_after_opening (Err f) (store_state s).has_failed
+  tried : (f : OpeningFault) → IsOfMigration (Records f) → (store_state s).record_format ≡ V1 → (store_state t).has_failed ≡ failed_after_opening (Err f) (store_state s).has_failed
       → (f ≢ Commit commit.Device → IsUnchanged (store_state s) (store_state t)) → ((db : Database) → Stands (stored (store_state s)) db → KeepsDatabase db (Err f) (store_state s) (store_state t))
       → IsTriedOn (Records f) d (state_under t)
   tried f of_migration first works unchanged same = record {
@@ -122,36 +122,36 @@ module _ {D : Type 0} {g : Ghosts D} (present : (device : D) → (g.state device
   }
 
 -- either the store was only looked at, or it was of the first spelling, and the fault is one of a migration
-looked_or_tried : {P Q : Type 0} (sp : Spelling) (f : OpeningFault) → (OnlyLooks sp (Err f) → P) → (sp ≡ First → IsOfMigration (Records f) → Q) → P ⊎ Q
-looked_or_tried Second f looked tried = inl (looked tt)
-looked_or_tried First (Read read.Memory) looked tried = inr (tried refl tt)
-looked_or_tried First (Read read.Device) looked tried = inr (tried refl tt)
-looked_or_tried First (Read read.Damaged) looked tried = inl (looked tt)
-looked_or_tried First (Commit fault) looked tried = inr (tried refl tt)
+looked_or_tried : {P Q : Type 0} (sp : RecordFormat) (f : OpeningFault) → (OnlyLooks sp (Err f) → P) → (sp ≡ V1 → IsOfMigration (Records f) → Q) → P ⊎ Q
+looked_or_tried V2 f looked tried = inl (looked tt)
+looked_or_tried V1 (Read read.Memory) looked tried = inr (tried refl tt)
+looked_or_tried V1 (Read read.Device) looked tried = inr (tried refl tt)
+looked_or_tried V1 (Read read.Damaged) looked tried = inl (looked tt)
+looked_or_tried V1 (Commit fault) looked tried = inr (tried refl tt)
 
 pub refused_records : {D : Type 0} {g : Ghosts D} (present : (device : D) → (g.state device).faithful → IsPresent (timeline (g.state device))) (d : DeviceState) (s t : DeviceStore D g) (f : OpeningFault) → IsStoreOpened d s → d.faithful
     → KeepsHistory (store_state s) (store_state t) → HasOpeningCause f (store_state s) (store_state t)
     → (store_state t).has_failed ≡ failed_after_opening (Err f) (store_state s).has_failed → (f ≢ Commit commit.Device → IsUnchanged (store_state s) (store_state t))
-    → (OnlyLooks (store_state s).spelling (Err f) → OnlyLooksInto s t) → ((db : Database) → Stands (stored (store_state s)) db → KeepsDatabase db (Err f) (store_state s) (store_state t))
+    → (OnlyLooks (store_state s).record_format (Err f) → OnlyLooksInto s t) → ((db : Database) → Stands (stored (store_state s)) db → KeepsDatabase db (Err f) (store_state s) (store_state t))
     → IsRefused d (Records f) (state_under t)
 refused_records {D} {g} present d s t f opened faithful history cause works unchanged nothing same = record {
   faithful = faithful_under t (history.sound (opened.holds faithful).sound);
   stands = stands_records present d s t opened faithful history f cause;
   failed = failed_for d s t f opened faithful history cause;
-  outcome = looked_or_tried (store_state s).spelling f (λ looks. untried present d s t opened faithful (nothing looks))
+  outcome = looked_or_tried (store_state s).record_format f (λ looks. untried present d s t opened faithful (nothing looks))
       (λ first of_migration. tried present d s t opened faithful history f of_migration first works unchanged same);
 }
 
 -- ---- opened
 
-opens_as : {D : Type 0} {g : Ghosts D} {X : Type 0} (sp : Spelling) (d : DeviceState) {db : Database} (holds : HoldsDatabase d db) (server : Server (DeviceStore D g) X) → (sp ≡ Second → IsOnlyRead d holds server) → (sp ≡ First → IsMigrated d holds server) → OpensAs sp d holds server
-opens_as First d holds server second first = first refl
-opens_as Second d holds server second first = second refl
+opens_as : {D : Type 0} {g : Ghosts D} {X : Type 0} (sp : RecordFormat) (d : DeviceState) {db : Database} (holds : HoldsDatabase d db) (server : Server (DeviceStore D g) X) → (sp ≡ V2 → IsOnlyRead d holds server) → (sp ≡ V1 → IsMigrated d holds server) → OpensAs sp d holds server
+opens_as V1 d holds server second first = first refl
+opens_as V2 d holds server second first = second refl
 
 pub opened_on : {D : Type 0} {g : Ghosts D} {X : Type 0} (present : (device : D) → (g.state device).faithful → IsPresent (timeline (g.state device))) (d : DeviceState) (s : DeviceStore D g) (o : Opened D X g) → IsStoreOpened d s → d.faithful
-    → KeepsHistory (store_state s) (store_state o.server.store) → o.was_migrated ≡ is_first (store_state s).spelling → IsServerOpened store_state (stored (store_state s)) o.server
-    → IsNumberAfter (store_state s).spelling (store_state s).number (store_state o.server.store).number
-    → ((store_state s).spelling ≡ Second → OnlyReads (store_state s) (store_state o.server.store) × OnlyLooksInto s o.server.store)
+    → KeepsHistory (store_state s) (store_state o.server.store) → o.was_migrated ≡ is_first (store_state s).record_format → IsServerOpened store_state (stored (store_state s)) o.server
+    → IsNumberAfter (store_state s).record_format (store_state s).number (store_state o.server.store).number
+    → ((store_state s).record_format ≡ V2 → OnlyReads (store_state s) (store_state o.server.store) × OnlyLooksInto s o.server.store)
     → ((db : Database) → Stands (stored (store_state s)) db → KeepsDatabase db (Ok tt) (store_state s) (store_state o.server.store)) → IsOpenedOn d o
 opened_on {D} {g} {X} present d s o opened faithful history was_migrated is number reads same =
     let t = o.server.store in
@@ -164,18 +164,18 @@ opened_on {D} {g} {X} present d s o opened faithful history was_migrated is numb
       sound = history.sound image.sound;
       second = is.second;
       represents = is.represents;
-      how = opens_as (store_state s).spelling d holds o.server
+      how = opens_as (store_state s).record_format d holds o.server
           (λ second.
           let read = reads second in
           let unchanged = read.0.unchanged image.sound in
           let unwritten = untried present d s t opened faithful read.1 in
           record {
-            keeps = record { contents = same_parts (stored (store_state t)) (stored (store_state s)) unchanged.spelling unchanged.map; number = unchanged.number ∙ sym image.number_is };
+            keeps = record { contents = same_parts (stored (store_state t)) (stored (store_state s)) unchanged.record_format unchanged.map; number = unchanged.number ∙ sym image.number_is };
             unwritten = unwritten.0;
             leaves = unwritten.1;
           })
           (λ first.
-          let rises = subst (λ (sp : Spelling). IsNumberAfter sp (store_state s).number (store_state t).number) first number in
+          let rises = subst (λ (sp : RecordFormat). IsNumberAfter sp (store_state s).number (store_state t).number) first number in
           record {
             by_one = subst (λ (n : ℕ). (store_state t).number ≤ n + 1) (sym image.number_is) rises.1;
             not_back = subst (λ (n : ℕ). n ≤ (store_state t).number) (sym image.number_is) rises.0;

@@ -1,6 +1,6 @@
 -- Which database a device holds, and what a stop leaves of it.
 use Rattle.std.specs.Prelude.{◌≡◌, ◌/◌, ℕ}
-use Rattle.storage_sizes.specs.declared.spelling.Spelling.TheVariants.{First}
+use Rattle.storage_sizes.specs.declared.record_format.RecordFormat.TheVariants.{V1}
 use Rattle.sector_device.specs.Timeline.{LeavesOnly}
 use Rattle.sector_device.specs.Device.{DeviceState, Image, KeepsHistory}
 use Rattle.cow_pages.specs.Held.{KeepsContent}
@@ -35,7 +35,7 @@ HoldsDatabase d db = MeansDatabase (d.sectors / 8) d.content db
 pub record HoldsFirstSpelling (d : DeviceState) : Type 0 where
   pub contents : Contents
   pub has : HasContents (d.sectors / 8) contents d.content
-  pub first : contents.spelling ≡ First
+  pub first : contents.record_format ≡ V1
 
 -- not one sector was written: each has the content that it had, and a stop leaves no more than before
 pub record IsUnwritten (old new : DeviceState) : Type 0 where

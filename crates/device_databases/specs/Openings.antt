@@ -1,7 +1,7 @@
 -- What opening a database on a device comes to.
 use Rattle.std.specs.Prelude.{◌≡◌, ◌⊎◌, ◌≤◌, ◌+◌, ◌-◌, ◌^◌, ◌/◌, Bool, true, false, Option, Some, Result, MatchResult}
-use Rattle.storage_sizes.specs.declared.spelling.Spelling.{Spelling}
-use Rattle.storage_sizes.specs.declared.spelling.Spelling.TheVariants.{First, Second}
+use Rattle.storage_sizes.specs.declared.record_format.RecordFormat.{RecordFormat}
+use Rattle.storage_sizes.specs.declared.record_format.RecordFormat.TheVariants.{V1, V2}
 use Rattle.sector_device.specs.Device.{DeviceState, HasFailed}
 use Rattle.sector_device.specs.declared.device.Device.{Ghosts}
 use Rattle.cow_pages.specs.declared.open.OpenFault.TheVariants as pages
@@ -32,9 +32,9 @@ state_under server = state_below server.store
 -- ---- what was opened
 
 -- records of the first spelling are migrated
-abbrev pub is_first : Spelling → Bool
-is_first First = true
-is_first Second = false
+abbrev pub is_first : RecordFormat → Bool
+is_first V1 = true
+is_first V2 = false
 
 -- the store has the records of the device under their number, and no sector was written: so a stop leaves records that it might
 -- have left before
@@ -51,19 +51,19 @@ pub record IsMigrated {D : Type 0} {g : Ghosts D} {X : Type 0} (d : DeviceState)
   pub failures : d.failures ≤ (state_under server).failures
 
 -- records of the second spelling were only read, and those of the first were migrated
-abbrev pub OpensAs : {D : Type 0} {g : Ghosts D} {X : Type 0} → Spelling → (d : DeviceState) {db : Database} → HoldsDatabase d db → Server (DeviceStore D g) X → Type 0
-OpensAs Second d holds server = IsOnlyRead d holds server
-OpensAs First d holds server = IsMigrated d holds server
+abbrev pub OpensAs : {D : Type 0} {g : Ghosts D} {X : Type 0} → RecordFormat → (d : DeviceState) {db : Database} → HoldsDatabase d db → Server (DeviceStore D g) X → Type 0
+OpensAs V2 d holds server = IsOnlyRead d holds server
+OpensAs V1 d holds server = IsMigrated d holds server
 
 -- a server has just been opened over the database that the device holds, and its store is of the second spelling
 pub record IsOpenedOn {D : Type 0} {g : Ghosts D} {X : Type 0} (d : DeviceState) (opened : Opened D X g) : Type 0 where
   pub database : Database
   pub holds : HoldsDatabase d database
-  pub was_migrated : opened.was_migrated ≡ is_first holds.contents.spelling
+  pub was_migrated : opened.was_migrated ≡ is_first holds.contents.record_format
   pub sound : (store_state opened.server.store).sound
-  pub second : (store_state opened.server.store).spelling ≡ Second
+  pub second : (store_state opened.server.store).record_format ≡ V2
   pub represents : Represents store_state opened.server (at_start (store_state opened.server.store) database)
-  pub how : OpensAs holds.contents.spelling d holds opened.server
+  pub how : OpensAs holds.contents.record_format d holds opened.server
 
 -- ---- what was refused
 

@@ -9,10 +9,10 @@ use journal_store::JournalDevice;
 use lives::DatabaseFault;
 use opening::open;
 use sector_device::Device;
-use server::decide::Decide;
+use server::decide::EventHandler;
 use server::server::Server;
 use std::alloc::Global;
-use store::{Spelling, Store};
+use store::{RecordFormat, Store};
 
 /// A database that was opened on a device: the server over it, and whether it was migrated, which it
 /// was exactly where the records on the device were of the first spelling.
@@ -22,7 +22,7 @@ pub struct Opened<D: Device, X> {
     pub was_migrated: bool,
 }
 
-/// Opens the database that a device holds: a server over it, whose events `decider` decides, with
+/// Opens the database that a device holds: a server over it, whose events `handler` decides, with
 /// no session open, and a cache of so many pages. Its store, with a journal or without, as the root
 /// on the device says, has not failed. The device is synced and read; all definitions and all rows
 /// are read and checked. A refusal hands the device back.
@@ -39,10 +39,10 @@ pub struct Opened<D: Device, X> {
 /// these nothing is written. `Full`: no room is left for the records of the first spelling in the
 /// second. `Number`: no commit number is left for them. Of both, `Device`: the device failed, and
 /// `Memory`: an allocation failed, once the size and the magic were tested.
-pub fn open_database<D: JournalDevice, X: Decide + Drop>(
+pub fn open_database<D: JournalDevice, X: EventHandler + Drop>(
     alloc: Global,
     device: D,
-    decider: X,
+    handler: X,
     cache_pages: usize,
 ) -> Result<Opened<D, X>, (D, DatabaseFault)>
     requires some { 1 ≤ cache_pages }
@@ -55,8 +55,8 @@ pub fn open_database<D: JournalDevice, X: Decide + Drop>(
         Ok(store) => store,
         Err((device, fault)) => return Err((device, DatabaseFault::Pages(fault))),
     };
-    let was_migrated = is_first_spelling(store.spelling());
-    match open(alloc, store, decider) {
+    let was_migrated = is_first_spelling(store.record_format());
+    match open(alloc, store, handler) {
         Ok(server) => Ok(Opened {
             server,
             was_migrated,
@@ -69,11 +69,11 @@ pub fn open_database<D: JournalDevice, X: Decide + Drop>(
 }
 
 // Whether records spelled so are migrated.
-fn is_first_spelling(spelling: Spelling) -> bool
-    ensures { result ≡ is_first spelling }
+fn is_first_spelling(record_format: RecordFormat) -> bool
+    ensures { result ≡ is_first record_format }
 {
-    match spelling {
-        Spelling::First => true,
-        Spelling::Second => false,
+    match record_format {
+        RecordFormat::V1 => true,
+        RecordFormat::V2 => false,
     }
 }

@@ -17,7 +17,7 @@ ghost use Rattle.device_databases.specs.Told.{IsTold};
 use connections::listen::Listen;
 use script_runs::text_sink::TakesText;
 use sector_device::{Device, HistoryDevice};
-use server::decide::Decide;
+use server::decide::EventHandler;
 
 /// Scripts that are run and connections that are served over the databases of devices are lives that
 /// follow each other without end, in any order, and so are openings that migrate or are refused. A
@@ -25,7 +25,7 @@ use server::decide::Decide;
 /// some server may leave, and each later one what the stop of the run before it may have left, each
 /// run is over the database after the events that were done then, or over the one that the event
 /// under way would bring, and over no other.
-pub fn runs_follow_stops<D: Device, X: Decide, K: TakesText, L: Listen>(first: &D)
+pub fn runs_follow_stops<D: Device, X: EventHandler, K: TakesText, L: Listen>(first: &D)
     ensures { (runs : List (Run D.Device X K.Sink L.Sink.Sink X.Reads)) (s : Standing)
         → LeavesFound s (records_on (D.state first.now))
         → AreStopped (records_on (D.state first.now)).left runs → GoOn s runs }
@@ -34,7 +34,7 @@ pub fn runs_follow_stops<D: Device, X: Decide, K: TakesText, L: Listen>(first: &
 /// What was told is there afterwards: an answer that a script or a connection was told at a moment up
 /// to the stop of the run is of an event that was done then, so that the next run goes on from what
 /// the event led to.
-pub fn told_answers_stay<D: Device, X: Decide, K: TakesText, L: Listen>()
+pub fn told_answers_stay<D: Device, X: EventHandler, K: TakesText, L: Listen>()
     ensures { (run : Run D.Device X K.Sink L.Sink.Sink X.Reads) (last : Standing) (it : Answered)
         (answered : IsAnsweredIn run.did it)
         (life : IsLived X.Reads last it (D.state run.begin) (D.state run.end))

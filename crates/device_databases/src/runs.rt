@@ -9,7 +9,7 @@ use journal_store::JournalDevice;
 use script_runs::run::{ScriptEnd, run_script};
 use script_runs::text_sink::TakesText;
 use sector_device::Device;
-use server::decide::Decide;
+use server::decide::EventHandler;
 use server::server::Server;
 use std::alloc::Global;
 use stored_database::one_database;
@@ -17,7 +17,7 @@ use stored_database::one_database;
 /// Runs a script over a database that was opened on a device: each answer is told once its event is
 /// carried out, before the next line is read. However the script ends, the sessions that are still open are then closed,
 /// unless the server has stopped, and the device is handed back.
-pub fn run_script_on<D: JournalDevice, X: Decide + Drop, K: TakesText>(
+pub fn run_script_on<D: JournalDevice, X: EventHandler + Drop, K: TakesText>(
     alloc: Global,
     server: Server<DeviceStore<D>, X>,
     script: &str,
@@ -37,7 +37,7 @@ pub fn run_script_on<D: JournalDevice, X: Decide + Drop, K: TakesText>(
 /// back: each event that is run is one that the bytes of a connection spell, or closes a session
 /// that a connection has left open. Between two connections no session is open. Once the server has
 /// stopped, no further connection is taken, and where it had stopped before, none at all.
-pub fn serve_database<D: JournalDevice, X: Decide + Drop, L: Listen>(
+pub fn serve_database<D: JournalDevice, X: EventHandler + Drop, L: Listen>(
     alloc: Global,
     server: Server<DeviceStore<D>, X>,
     listener: &mut L,

@@ -71,13 +71,13 @@ module _ {D : Type 0} {g : Ghosts D} (present : (device : D) → (g.state device
   sectors_same same = omega (arith, (pages_of s).sized, (pages_of t).sized, same)
 
   unchanged_on : IsUnchanged (pages_state s) (pages_state t) → IsUnchanged (store_state (Pages s)) (store_state (Pages t))
-  unchanged_on same = record { map = same.map; spelling = same.spelling; number = same.number }
+  unchanged_on same = record { map = same.map; record_format = same.record_format; number = same.number }
 
   -- a store that works leaves its contents alone
-  left_now : (contents : Contents) → (pages_state t).sound → (pages_state t).has_failed ≡ false → (pages_state t).spelling ≡ contents.spelling → (pages_state t).map ≡ contents.records
+  left_now : (contents : Contents) → (pages_state t).sound → (pages_state t).has_failed ≡ false → (pages_state t).record_format ≡ contents.record_format → (pages_state t).map ≡ contents.records
       → (x : Option Contents) → (records_on e).left x → x ≡ Some contents
-  left_now contents sound works spelling map x left =
-      settled_on (Pages t) x sound works left ∙ ap (λ (c : Contents). Some c) (same_parts (stored (pages_state t)) contents spelling map)
+  left_now contents sound works record_format map x left =
+      settled_on (Pages t) x sound works left ∙ ap (λ (c : Contents). Some c) (same_parts (stored (pages_state t)) contents record_format map)
 
   module _ (reserve : Reserve) (changes : Changes) (after : Contents) (sound : (pages_state s).sound) (works : (pages_state s).has_failed ≡ false) where
     pub at_once_on : (result : Result (Unit {0}) StoreFault) → Commits result after (pages_state s) (pages_state t) → CommitsBatch reserve changes result before after (pages_of s) (pages_of t)
@@ -85,9 +85,9 @@ module _ {D : Type 0} {g : Ghosts D} (present : (device : D) → (g.state device
     at_once_on (Ok x) commits batch =
         let done = (commits.at_once sound works).committed in
         record {
-          committed = record { map = done.map; spelling = done.spelling; not_back = done.not_back; by_one = done.by_one };
+          committed = record { map = done.map; record_format = done.record_format; not_back = done.not_back; by_one = done.by_one };
           leaves = leaves_either before after batch.leaves (sectors_same batch.outcome.pages);
-          left = left_now after (commits.history.sound sound) (commits.failed ∙ works) done.spelling done.map;
+          left = left_now after (commits.history.sound sound) (commits.failed ∙ works) done.record_format done.map;
         }
     at_once_on (Err Full) commits batch =
         let same = (commits.at_once sound works).committed in
@@ -95,7 +95,7 @@ module _ {D : Type 0} {g : Ghosts D} (present : (device : D) → (g.state device
         record {
           committed = unchanged_on same;
           leaves = leaves_before back (sectors_same (ap (λ (r : RootFields). r.pages) back.root));
-          left = left_now before (commits.history.sound sound) (commits.failed ∙ works) same.spelling same.map;
+          left = left_now before (commits.history.sound sound) (commits.failed ∙ works) same.record_format same.map;
         }
     at_once_on (Err Memory) commits batch =
         let same = (commits.at_once sound works).committed in
@@ -103,7 +103,7 @@ module _ {D : Type 0} {g : Ghosts D} (present : (device : D) → (g.state device
         record {
           committed = unchanged_on same;
           leaves = leaves_before back (sectors_same (ap (λ (r : RootFields). r.pages) back.root));
-          left = left_now before (commits.history.sound sound) (commits.failed ∙ works) same.spelling same.map;
+          left = left_now before (commits.history.sound sound) (commits.failed ∙ works) same.record_format same.map;
         }
     at_once_on (Err Device) commits batch =
         let leaves = leaves_either before after batch.leaves (sectors_same (ap (λ (r : RootFields). r.pages) batch.outcome.keeps.root)) in
@@ -114,7 +114,7 @@ module _ {D : Type 0} {g : Ghosts D} (present : (device : D) → (g.state device
         record {
           committed = unchanged_on same;
           leaves = leaves_before back (sectors_same (ap (λ (r : RootFields). r.pages) back.root));
-          left = left_now before (commits.history.sound sound) (commits.failed ∙ works) same.spelling same.map;
+          left = left_now before (commits.history.sound sound) (commits.failed ∙ works) same.record_format same.map;
         }
 
   -- a store that has failed is as it was

@@ -102,7 +102,7 @@ module _ (d m : DeviceState) (fault : OpenFault) (is : is_damaged fault ≡ true
     holds_before : d.faithful → HoldsImage d (store_state s)
     holds_before faithful =
         let holds = opened.holds (pages.history.faithful faithful) in
-        let there : (n : ℕ) → (image : Image) → Type 0 = λ n image. (contents : HasContents (n / 8) (record { spelling = (store_state s).spelling; records = (store_state s).map }) image) × (contents.number ≡ (store_state s).number) in
+        let there : (n : ℕ) → (image : Image) → Type 0 = λ n image. (contents : HasContents (n / 8) (record { record_format = (store_state s).record_format; records = (store_state s).map }) image) × (contents.number ≡ (store_state s).number) in
         let has = moved faithful there (holds.contents, holds.number_is) in
         record { sound = holds.sound; contents = has.0; number_is = has.1; no_fault = moved faithful (λ n image. first_fault n image ≡ None) holds.no_fault }
 

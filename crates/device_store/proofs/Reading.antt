@@ -36,7 +36,7 @@ module _ {D : Type 0} {g : Ghosts D} (present : (device : D) → (g.state device
   pages_only_reads : OnlyReads (pages_state s) (pages_state t) → OnlyReads (store_state (Pages s)) (store_state (Pages t))
   pages_only_reads reads = record {
     history = record { sound = reads.history.sound; fulls = reads.history.fulls; failures = reads.history.failures; faults = reads.history.faults };
-    unchanged = λ sound. let same = reads.unchanged sound in record { map = same.map; spelling = same.spelling; number = same.number };
+    unchanged = λ sound. let same = reads.unchanged sound in record { map = same.map; record_format = same.record_format; number = same.number };
     leaves = λ sound. content_leaves (device_below (pages_of s)) (device_below (pages_of t))
         (nothing.content (record { faithful = sound.faithful; present = present (device_of_pages (pages_of s)) sound.faithful })) nothing.preserved.preserved.history.sectors;
   }

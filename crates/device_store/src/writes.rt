@@ -4,7 +4,7 @@ ghost use Rattle.device_store.specs.StoreLaws.{settled_on};
 use crate::stores::DeviceStore;
 use journal_store::JournalDevice;
 use sector_device::Device;
-use store::{Batch, Spelling, Store, StoreFault};
+use store::{Batch, RecordFormat, Store, StoreFault};
 
 impl<D: JournalDevice> Store for DeviceStore<D> {
     ghost closes = { λ s. tt };
@@ -32,10 +32,10 @@ impl<D: JournalDevice> Store for DeviceStore<D> {
         }
     }
 
-    fn spelling(&self) -> Spelling {
+    fn record_format(&self) -> RecordFormat {
         match self {
-            DeviceStore::Pages(store) => store.spelling(),
-            DeviceStore::Journaled(store) => store.spelling(),
+            DeviceStore::Pages(store) => store.record_format(),
+            DeviceStore::Journaled(store) => store.record_format(),
         }
     }
 

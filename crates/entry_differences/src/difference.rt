@@ -21,19 +21,19 @@ pub fn push_differences(old: &[Entry], new: &[Entry], out: &mut Batch) -> Result
 {
     let mut old = old;
     let mut new = new;
-    while let Some((gone, later)) = old.split_first() {
+    while let Some((removed, later)) = old.split_first() {
         let Some((came, rest)) = new.split_first() else {
-            push_removal(gone, out)?;
+            push_removal(removed, out)?;
             old = later;
             continue;
         };
-        match gone.key().cmp(came.key()) {
+        match removed.key().cmp(came.key()) {
             Ordering::Less => {
-                push_removal(gone, out)?;
+                push_removal(removed, out)?;
                 old = later;
             }
             Ordering::Equal => {
-                if gone.value() != came.value() {
+                if removed.value() != came.value() {
                     push_put(came, out)?;
                 }
                 old = later;

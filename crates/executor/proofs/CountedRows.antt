@@ -27,8 +27,8 @@ use Rattle.row_codec.specs.Rows.{row_prefix}
 use Rattle.store.specs.Records.{Records, entries_where, has_prefix}
 use Rattle.store.specs.Walks.{count_of}
 use Rattle.store.specs.declared.fault.Fault.TheVariants.{Memory, Device, Damaged}
-use Rattle.store.specs.declared.stop.Stop.{Stop}
-use Rattle.store.specs.declared.stop.Stop.TheVariants.{Refused, Failed}
+use Rattle.store.specs.declared.stop.StatementError.{StatementError}
+use Rattle.store.specs.declared.stop.StatementError.TheVariants.{Refused, Failed}
 use Rattle.table_rows.specs.declared.target.Target.{Target}
 use Rattle.table_rows.specs.Failures.{Answers}
 use Rattle.table_rows.specs.Ranged.{records_found, records_of, FindsRows}
@@ -71,14 +71,14 @@ counted_whole records = elim (cases_lt (length records) (2 ^ 64 - 1)) [
 records_are : (table : Target) (q : Query) (records : Records) → CountsAll table q → entries_where (has_prefix (row_prefix table.id)) records ≡ records_of table records
 records_are table q records all = ap (λ (r : Option (Bor KeyRange)). records_found table.id r records) (sym all.whole)
 
-pub count_answers : (table : Target) (records : Records) (users : UserNames) (q : Query) (rows : List Row) (r : Result (List Row) Stop) → CountsAll table q → FindsRows table records rows
+pub count_answers : (table : Target) (records : Records) (users : UserNames) (q : Query) (rows : List Row) (r : Result (List Row) StatementError) → CountsAll table q → FindsRows table records rows
     → Answers r (counted (length (entries_where (has_prefix (row_prefix table.id)) records))) → Answers r (query (source_of table rows ∷ []) users (bound_of q))
 count_answers table records users q rows r all found answers =
     let long : length (entries_where (has_prefix (row_prefix table.id)) records) ≡ length rows =
     ap (λ (es : Records). length es) (records_are table q records all ∙ found.are) ∙ length-map rows _ in
     subst (λ (m : Result (List Row) SqlState). Answers r m) (ap counted long ∙ sym (counts_rows table users q rows all)) answers
 
-pub count_read : (table : Target) (records : Records) (users : UserNames) (q : Query) (r : Result (List Row) Stop) → CountsAll table q
+pub count_read : (table : Target) (records : Records) (users : UserNames) (q : Query) (r : Result (List Row) StatementError) → CountsAll table q
     → Answers r (counted (length (entries_where (has_prefix (row_prefix table.id)) records))) → ReadsAs (AnswersOne table records users q) table records r
 count_read table records users q r all answers = go r answers
   where
@@ -86,14 +86,14 @@ count_read table records users q r all answers = go r answers
     of_count answer is =
         inr (record { counts = λ rows many. counts_rows table users q rows all ∙ ap counted (many ∙ ap (λ (es : Records). length es) (sym (records_are table q records all))) ∙ is })
 
-    go : (r : Result (List Row) Stop) → Answers r (counted (length (entries_where (has_prefix (row_prefix table.id)) records))) → ReadsAs (AnswersOne table records users q) table records r
+    go : (r : Result (List Row) StatementError) → Answers r (counted (length (entries_where (has_prefix (row_prefix table.id)) records))) → ReadsAs (AnswersOne table records users q) table records r
     go (Ok rows) is = of_count (Ok rows) is
     go (Err (Refused code)) is = of_count (Err code) is
     go (Err (Failed Memory)) is = tt
     go (Err (Failed Device)) is = tt
     go (Err (Failed Damaged)) is = absurd is
 
-pub walk_read : (table : Target) (records : Records) (users : UserNames) (q : Query) (r : Result (List Row) Stop) → ReadsAs (AnswersFront table records users q) table records r → ReadsAs (AnswersOne table records users q) table records r
+pub walk_read : (table : Target) (records : Records) (users : UserNames) (q : Query) (r : Result (List Row) StatementError) → ReadsAs (AnswersFront table records users q) table records r → ReadsAs (AnswersOne table records users q) table records r
 walk_read table records users q (Ok rows) front = inl front
 walk_read table records users q (Err (Refused code)) front = inl front
 walk_read table records users q (Err (Failed Memory)) front = tt

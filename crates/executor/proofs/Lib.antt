@@ -11,7 +11,7 @@ pub mod NullColumns
 pub mod OneTables
 pub mod OuterWalk
 pub mod PartCalls
-pub mod QuietStages
+pub mod InfallibleStages
 pub mod Seen
-pub mod SoughtKeys
+pub mod LookupKeys
 pub mod Together

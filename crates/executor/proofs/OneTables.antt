@@ -15,7 +15,7 @@ use Rattle.guards.specs.Truths.{is_met}
 use Rattle.table_rows.specs.declared.target.Target.{Target}
 use Rattle.table_rows.specs.Targets.{sees}
 use Rattle.gathering.specs.declared.query.Query.{Query}
-use Rattle.gathering.specs.declared.gather.Gathered.{Gathered}
+use Rattle.gathering.specs.declared.collector.ResultCollector.{ResultCollector}
 use Rattle.gathering.specs.Fits.{FitsQuery}
 use Rattle.gathering.specs.Found.{answer_after}
 use Rattle.gathering.specs.Passed.{alone}
@@ -26,14 +26,14 @@ use Rattle.gathering.specs.KeyOrder.{are_first_of, first_row_cmp, unsorted, Neve
 use Rattle.gathering.proofs.KeyOrder.{key_order_is_sorted, pairs_passed, rising_never_falls}
 use Rattle.gathering.specs.Done.{IsKnown}
 use Rattle.gathering.proofs.Done.{all_pass}
-use Rattle.key_ranges.specs.Quiet.{GuardNeverFails}
+use Rattle.key_ranges.specs.Infallible.{GuardNeverFails}
 use Rattle.sql_ast.specs.Layout.{Layout}
 use Rattle.sql_ast.specs.Rows.{row_cmp}
 use Rattle.abstract_database.specs.Lists.{Among, Rising}
 use Rattle.std.specs.Ordering.{is_gt}
 use Rattle.store.specs.declared.fault.Fault.TheVariants.{Memory, Device, Damaged}
-use Rattle.store.specs.declared.stop.Stop.{Stop}
-use Rattle.store.specs.declared.stop.Stop.TheVariants.{Refused, Failed}
+use Rattle.store.specs.declared.stop.StatementError.{StatementError}
+use Rattle.store.specs.declared.stop.StatementError.TheVariants.{Refused, Failed}
 use Rattle.store.specs.Records.{Records}
 use Rattle.table_rows.specs.Ranged.{records_of}
 use Rattle.table_rows.specs.Visits.{AnswerAfter}
@@ -43,7 +43,7 @@ use Rattle.executor.specs.Selected.{FitQuery, source_of, AnswersFront, CountsNoR
 
 -- ---- a row
 
-pub row_taken : (p : Guard) (row : Row) (g h : Gathered) → is_met (p row) ≡ Ok true → ((more : List Combination) → answer_after g (alone row ∷ more) ≡ answer_after h more) → (rest : List Row)
+pub row_taken : (p : Guard) (row : Row) (g h : ResultCollector) → is_met (p row) ≡ Ok true → ((more : List Combination) → answer_after g (alone row ∷ more) ≡ answer_after h more) → (rest : List Row)
     → (passing p (row ∷ rest) >>= λ seen. answer_after g (map alone seen)) ≡ (passing p rest >>= λ seen. answer_after h (map alone seen))
 row_taken p row g h e taken rest = takes p row rest (λ seen. answer_after g (map alone seen)) e ∙ bind_same (passing p rest) _ _ (λ seen. taken (map alone seen))
 
@@ -71,7 +71,7 @@ all_alone P (row ∷ rows) all = (all.0, all_alone P rows all.1)
 -- ---- the whole
 
 -- the query of the definition is what is answered where all rows still come
-pub whole_is : (table : Target) (users : UserNames) (q : Query) (rows : List Row) (g : Gathered) → FitQuery users q rows → Rising (row_cmp table.columns.now.key) rows → GathersRows table.columns.now.key users q g
+pub whole_is : (table : Target) (users : UserNames) (q : Query) (rows : List Row) (g : ResultCollector) → FitQuery users q rows → Rising (row_cmp table.columns.now.key) rows → GathersRows table.columns.now.key users q g
     → query (source_of table rows ∷ []) users (bound_of q) ≡ (passing (sees table) rows >>= λ seen. answer_after g (map alone seen))
 whole_is table users q rows g fit rising gathers = go (passing (sees table) rows) refl
   where
@@ -100,36 +100,36 @@ fits_unsorted users q [] fit = tt
 fits_unsorted users q (row ∷ rows) fit = ((fit.0.0, tt), fits_unsorted users q rows fit.1)
 
 -- what is gathered without the sort keys
-gathers_unsorted : (key : List ℕ) (users : UserNames) (q : Query) (g : Gathered) → are_first_of key q.keys ≡ true
+gathers_unsorted : (key : List ℕ) (users : UserNames) (q : Query) (g : ResultCollector) → are_first_of key q.keys ≡ true
     → ((combinations : List Combination) → AllByRecursion (FitsQuery users (unsorted q)) combinations → answer_after g combinations ≡ answered users (bound_of (unsorted q)) combinations)
     → GathersRows key users q g
 gathers_unsorted key users q g first same rows never fit =
     same (map alone rows) (fits_unsorted users q rows fit) ∙ sym (key_order_is_sorted key users q (map alone rows) first (never_falls_alone key rows never))
 
 -- what is gathered with them
-gathers_sorted : (key : List ℕ) (users : UserNames) (q : Query) (g : Gathered)
+gathers_sorted : (key : List ℕ) (users : UserNames) (q : Query) (g : ResultCollector)
     → ((combinations : List Combination) → AllByRecursion (FitsQuery users q) combinations → answer_after g combinations ≡ answered users (bound_of q) combinations)
     → GathersRows key users q g
 gathers_sorted key users q g same rows never fit = same (map alone rows) (all_alone (FitsQuery users q) rows fit)
 
 -- what is gathered in the order of the key, if that is the order of the query
-pub gathers_rows : (key : List ℕ) (users : UserNames) (q : Query) (g : Gathered) → GathersInOrder key users q g → GathersRows key users q g
+pub gathers_rows : (key : List ℕ) (users : UserNames) (q : Query) (g : ResultCollector) → GathersInOrder key users q g → GathersRows key users q g
 gathers_rows key users q g (inl same) = gathers_sorted key users q g same
 gathers_rows key users q g (inr so) = gathers_unsorted key users q g so.0 so.1
 
 -- ---- rows that do not count
 
-pub counts_no_rows : (s : OneTable) → GuardNeverFails (sees s.table.now) → IsKnown s.gathered → CountsNoRows s
-counts_no_rows s quiet known rows =
-    let passed = all_pass (sees s.table.now) quiet rows in
-    ap (λ (r : Result (List Row) SqlState). r >>= λ seen. answer_after s.gathered (map alone seen)) passed.1 ∙ known (map alone passed.0)
+pub counts_no_rows : (s : OneTable) → GuardNeverFails (sees s.table.now) → IsKnown s.collector → CountsNoRows s
+counts_no_rows s infallible known rows =
+    let passed = all_pass (sees s.table.now) infallible rows in
+    ap (λ (r : Result (List Row) SqlState). r >>= λ seen. answer_after s.collector (map alone seen)) passed.1 ∙ known (map alone passed.0)
 
 -- no record is found
 pub none_walked : {A : Type 0} (id : ℕ) (layout : Layout) (records : Records) (old : AnswerAfter A) → ((rows : List Row) → old rows ≡ old []) → WalksFront id layout records old old
 none_walked id layout records old same = record { front = []; behind = records; parts = refl; spelled = tt; decides = λ rows rest h none. same (rows ++ rest) }
 
 -- the front that was walked is what the query was answered of
-module _ (table : Target) (records : Records) (users : UserNames) (q : Query) (g : Gathered) (same : GathersRows table.columns.now.key users q g) where
+module _ (table : Target) (records : Records) (users : UserNames) (q : Query) (g : ResultCollector) (same : GathersRows table.columns.now.key users q g) where
   abbrev asked : AnswerAfter (List Row)
   asked rows = passing (sees table) rows >>= λ seen. answer_after g (map alone seen)
 
@@ -143,8 +143,8 @@ module _ (table : Target) (records : Records) (users : UserNames) (q : Query) (g
   }
 
   -- so is the refusal of a walk
-  pub front_failed : (last : AnswerAfter (List Row)) (failure : Stop) → (let r : Result (Unit {0}) Stop = Err failure in Walks table.id table.columns.now (records_of table records) asked last r)
-      → (let r : Result (List Row) Stop = Err failure in ReadsAs (AnswersFront table records users q) table records r)
+  pub front_failed : (last : AnswerAfter (List Row)) (failure : StatementError) → (let r : Result (Unit {0}) StatementError = Err failure in Walks table.id table.columns.now (records_of table records) asked last r)
+      → (let r : Result (List Row) StatementError = Err failure in ReadsAs (AnswersFront table records users q) table records r)
   front_failed last (Refused code) w = front_answers (λ rest. Err code) (Err code) refl w
   front_failed last (Failed Memory) w = tt
   front_failed last (Failed Device) w = tt

@@ -5,13 +5,13 @@ mod by_look_ups;
 mod counted;
 mod in_place;
 mod in_ranges;
+mod inner_lookup;
 mod joined_rows;
 mod looked_up;
 mod one_table;
 mod outer_walk;
 mod selection;
 mod several_tables;
-mod sought;
 mod visible;
 
 pub use one_table::select_from_one;

@@ -4,4 +4,4 @@ pub mod OrderLaws
 pub mod PartLemmas
 pub mod Results
 pub mod Sizes
-pub mod Quietness
+pub mod Infallibility

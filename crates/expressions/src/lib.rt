@@ -2,9 +2,9 @@
 #![tactic(auto)]
 
 pub mod eval;
+pub mod infallible;
 pub mod laws;
 pub mod names;
 pub mod operators;
 pub mod parts;
-pub mod quiet;
 pub mod types;

@@ -30,19 +30,19 @@ use Rattle.file_commands.specs.Reading.{AreDefinitionsOf, HasDefinitions, HasFau
 -- ---- what was read of a store
 
 -- there are no lists where the contents stand for no database
-pub no_lists : (fault : Fault) (contents : Contents) → RespellsFrom contents.spelling (Err fault) contents.records → AreDefinitionsOf contents (Err fault)
+pub no_lists : (fault : Fault) (contents : Contents) → RespellsFrom contents.record_format (Err fault) contents.records → AreDefinitionsOf contents (Err fault)
 no_lists Memory contents none = tt
 no_lists Device contents none = tt
 no_lists Damaged contents none = none
 
 -- what is found under the lists are the definitions of the contents
-pub found_under : (result : Result Definitions Fault) (contents : Contents) (lists : List Changes) → AreRespelling contents.spelling contents.records lists
+pub found_under : (result : Result Definitions Fault) (contents : Contents) (lists : List Changes) → AreRespelling contents.record_format contents.records lists
     → Finds (AreOfDatabase (applied_all lists contents.records)) result → AreDefinitionsOf contents result
-found_under (Ok d) contents lists are finds = subst (λ (es : Records). AreOfDatabase es d) (under_lists contents.spelling contents.records lists are) finds
+found_under (Ok d) contents lists are finds = subst (λ (es : Records). AreOfDatabase es d) (under_lists contents.record_format contents.records lists are) finds
 found_under (Err Memory) contents lists are finds = tt
 found_under (Err Device) contents lists are finds = tt
 found_under (Err Damaged) contents lists are finds = λ db stands.
-    finds stands.0 (subst (λ (es : Records). AreOfDatabase es stands.0) (sym (under_lists contents.spelling contents.records lists are)) (db, stands.1))
+    finds stands.0 (subst (λ (es : Records). AreOfDatabase es stands.0) (sym (under_lists contents.record_format contents.records lists are)) (db, stands.1))
 
 -- ---- a device that was refused for its pages
 

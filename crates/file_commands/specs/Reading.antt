@@ -25,7 +25,7 @@ use Rattle.file_commands.specs.Files.{IsNotOpened, ReadsDevice}
 
 -- contents stand for this database with these definitions
 abbrev pub ShowsAs : Contents → Definitions → Database → Type 0
-ShowsAs contents definitions db = Shows (spelled_in_second contents.spelling contents.records) definitions db
+ShowsAs contents definitions db = Shows (spelled_in_second contents.record_format contents.records) definitions db
 
 -- the definitions of the database that contents stand for, or Damaged where they stand for none
 abbrev pub AreDefinitionsOf : Contents → Result Definitions Fault → Type 0

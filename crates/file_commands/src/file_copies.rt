@@ -10,7 +10,7 @@ ghost use Rattle.file_commands.specs.Copying.{CopiesBeside, CopiesFile, Renames,
 use crate::copy_fault::FileCopyFault;
 use crate::fault::CommandFault;
 use cow_pages::page_count;
-use database_copies::{DatabaseCopyFault, Watch, copy_database};
+use database_copies::{CopyProgress, DatabaseCopyFault, copy_database};
 use journal_store::JournalDevice;
 use sector_device::{Device, FileFault};
 use std::alloc::{AllocError, Global};
@@ -125,7 +125,7 @@ fn copy_as<Y: System>(
 }
 
 // Copies the database on a device to another device, while a watch is told how far that is.
-fn copy_watched<D: JournalDevice, W: Watch + Drop>(
+fn copy_watched<D: JournalDevice, W: CopyProgress + Drop>(
     alloc: Global,
     device: D,
     blank: D,

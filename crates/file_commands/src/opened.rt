@@ -9,7 +9,7 @@ use crate::fault::CommandFault;
 use device_databases::{Opened, open_database};
 use device_store::{DeviceStore, MAX_CACHE_PAGES};
 use sector_device::Device;
-use server::decide::Decide;
+use server::decide::EventHandler;
 use server::server::Server;
 use std::alloc::Global;
 use std::io;
@@ -37,14 +37,14 @@ impl<T> CommandEnd<T> {
     }
 }
 
-/// Opens the database in the file at `path`, whose events `decider` decides, with the largest cache.
+/// Opens the database in the file at `path`, whose events `handler` decides, with the largest cache.
 /// Where it is refused the file is closed again.
 ///
 /// The faults are those of `System::open`, and then those of `open_database`.
-pub(crate) fn open_database_in<Y: System, X: Decide + Drop>(
+pub(crate) fn open_database_in<Y: System, X: EventHandler + Drop>(
     system: &mut Y,
     alloc: Global,
-    decider: X,
+    handler: X,
     path: &str,
 ) -> Result<Opened<Y::Device, X>, CommandFault>
     ensures { OpensAt Y.Device.Device (Y.state system.old) path.now result (Y.state system.new) }
@@ -53,7 +53,7 @@ pub(crate) fn open_database_in<Y: System, X: Decide + Drop>(
         Ok(device) => device,
         Err(fault) => return Err(CommandFault::from(fault)),
     };
-    match open_database(alloc, device, decider, MAX_CACHE_PAGES) {
+    match open_database(alloc, device, handler, MAX_CACHE_PAGES) {
         Ok(opened) => Ok(opened),
         Err((left, fault)) => {
             system.close(path, left);

@@ -6,7 +6,7 @@ use crate::opened::{CommandEnd, open_database_in, tell_migration};
 use device_databases::run_script_on;
 use script_runs::run::ScriptEnd;
 use script_runs::text_sink::TakesText;
-use server::decide::Decide;
+use server::decide::EventHandler;
 use std::alloc::Global;
 use std::io::Write;
 use systems::System;
@@ -22,17 +22,17 @@ use systems::System;
 /// first fault that stands in the file; and `Full` and `Number`, where a file of format 1 has no
 /// room for its records in format 2, or no commit number. Nothing is told on `err` then, and the
 /// file is there as opening it has left it.
-pub fn check_file<Y: System, X: Decide + Drop, E: Write>(
+pub fn check_file<Y: System, X: EventHandler + Drop, E: Write>(
     system: &mut Y,
     alloc: Global,
-    decider: X,
+    handler: X,
     path: &str,
     err: &mut E,
 ) -> CommandEnd<()>
     ensures { ChecksFile X Y.Device.Device (Y.state system.old) path.now (E.contents err.old) result
         (Y.state system.new) (E.contents err.new) }
 {
-    let opened = match open_database_in(system, alloc, decider, path) {
+    let opened = match open_database_in(system, alloc, handler, path) {
         Ok(opened) => opened,
         Err(fault) => return CommandEnd::unopened(fault),
     };
@@ -44,17 +44,17 @@ pub fn check_file<Y: System, X: Decide + Drop, E: Write>(
     }
 }
 
-/// Runs a script over the database in the file at `path`, whose events `decider` decides: each
+/// Runs a script over the database in the file at `path`, whose events `handler` decides: each
 /// answer is told to `out` once its event is carried out, before the next line is read. However the
 /// script ends, the sessions that are still open are then closed, unless the server has stopped, and
 /// so is the file. Before the first line `err` is told that the file was migrated, where it was, as
 /// at `check_file`.
 ///
 /// The faults are those of `check_file`: then no line is run and nothing is told to `out`.
-pub fn run_file<Y: System, X: Decide + Drop, K: TakesText, E: Write>(
+pub fn run_file<Y: System, X: EventHandler + Drop, K: TakesText, E: Write>(
     system: &mut Y,
     alloc: Global,
-    decider: X,
+    handler: X,
     path: &str,
     script: &str,
     out: &mut K,
@@ -63,7 +63,7 @@ pub fn run_file<Y: System, X: Decide + Drop, K: TakesText, E: Write>(
     ensures { RunsFile X Y.Device.Device K.Sink X.Reads (Y.state system.old) path.now script.now
         out.old (E.contents err.old) result (Y.state system.new) out.new (E.contents err.new) }
 {
-    let opened = match open_database_in(system, alloc, decider, path) {
+    let opened = match open_database_in(system, alloc, handler, path) {
         Ok(opened) => opened,
         Err(fault) => return CommandEnd::unopened(fault),
     };

@@ -13,7 +13,7 @@ use device_store::DeviceStore;
 use journal_store::JournalDevice;
 use script_runs::sink::Sink;
 use sector_device::Device;
-use server::decide::Decide;
+use server::decide::EventHandler;
 use server::server::Server;
 use std::alloc::Global;
 use std::io;
@@ -31,7 +31,7 @@ pub struct Limits {
 }
 
 /// Serves connections at a place of the system over the database in the file at `path`, whose
-/// events `decider` decides: so many at most, one after the other. `err` is told first that the file
+/// events `handler` decides: so many at most, one after the other. `err` is told first that the file
 /// was migrated, where it was, as at `check_file`, and then, before the first connection, where the
 /// server listens, as `guarddb: listening on 127.0.0.1:P`, which names the port that was
 /// bound, or `guarddb: listening on PATH`. Connections come as the system's listener takes them,
@@ -40,10 +40,10 @@ pub struct Limits {
 /// The faults are first those of `check_file`, and then `Net`, where the place is not bound, and
 /// `Output`, where `err` fails; no connection was taken then. That a connection could not be taken
 /// later is none of them, but an end that `Served` names.
-pub fn serve_file<Y: System, X: Decide + Drop, E: Write>(
+pub fn serve_file<Y: System, X: EventHandler + Drop, E: Write>(
     system: &mut Y,
     alloc: Global,
-    decider: X,
+    handler: X,
     path: &str,
     place: ListenPlace<'_>,
     limits: Limits,
@@ -53,7 +53,7 @@ pub fn serve_file<Y: System, X: Decide + Drop, E: Write>(
         (Y.state system.old) path.entry.now place.entry limits.connections (E.contents err.old)
         result (Y.state system.new) (E.contents err.new) }
 {
-    let opened = match open_database_in(system, alloc, decider, path) {
+    let opened = match open_database_in(system, alloc, handler, path) {
         Ok(opened) => opened,
         Err(fault) => return CommandEnd::unopened(fault),
     };
@@ -64,7 +64,7 @@ pub fn serve_file<Y: System, X: Decide + Drop, E: Write>(
 }
 
 // Serves connections at a place, and hands the device back.
-fn serve_at<Y: System, X: Decide + Drop, E: Write>(
+fn serve_at<Y: System, X: EventHandler + Drop, E: Write>(
     system: &mut Y,
     alloc: Global,
     server: Server<DeviceStore<Y::Device>, X>,
@@ -93,7 +93,7 @@ fn serve_at<Y: System, X: Decide + Drop, E: Write>(
 /// server listens.
 ///
 /// The fault is `Output`, where `err` fails; no connection was taken then.
-pub fn serve_on<D: JournalDevice + Drop, X: Decide + Drop, L: Listen, E: Write>(
+pub fn serve_on<D: JournalDevice + Drop, X: EventHandler + Drop, L: Listen, E: Write>(
     alloc: Global,
     server: Server<DeviceStore<D>, X>,
     listener: &mut L,

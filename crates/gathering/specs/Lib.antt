@@ -1,7 +1,7 @@
 pub mod Queries
 pub mod Answers
 pub mod Chains
-pub mod Codes
+pub mod Hashes
 pub mod SortValues
 pub mod Entries
 pub mod RowOrder

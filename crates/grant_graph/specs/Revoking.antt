@@ -1,15 +1,15 @@
 -- Marks of what stays after a REVOKE, and what is lost.
 use Rattle.std.specs.Prelude.{◌≡◌, ◌<◌, ◌&&◌, ◌||◌, ℕ, Bool, true, false, not, List, map, filter, length, get_or, Option, Ok}
 use Rattle.sql_ast.specs.declared.privilege.Descriptor.{Descriptor}
-use Rattle.grant_graph.specs.declared.revoking.Revoked.{Revoked}
-use Rattle.grant_graph.specs.declared.revoking.Revoked.TheVariants as revoked
+use Rattle.grant_graph.specs.declared.revoking.RevokeMode.{RevokeMode}
+use Rattle.grant_graph.specs.declared.revoking.RevokeMode.TheVariants as revoked
 use Rattle.abstract_database.specs.Lists.{change_where}
 use Rattle.sql_ast.specs.declared.statement.DropBehavior.{DropBehavior}
-use Rattle.grant_graph.specs.declared.revoking.Taking.{Taking}
+use Rattle.grant_graph.specs.declared.revoking.RevocationMarks.{RevocationMarks}
 use Rattle.abstract_database.specs.Privileges.{without_option, is_taken_by, revoked as revoked_of}
 
 -- whether the grant option alone is taken
-abbrev pub is_grant_option_for : Revoked → Bool
+abbrev pub is_grant_option_for : RevokeMode → Bool
 is_grant_option_for revoked.Privilege = false
 is_grant_option_for revoked.GrantOption = true
 
@@ -28,7 +28,7 @@ in_place false test ds = ds
 in_place true test ds = change_where test without_option ds
 
 -- the marks of what a REVOKE takes of descriptors: those that what it names takes, and those that stay, by a test of what is left of each
-pub record Takes (option : Bool) (behavior : Option DropBehavior) (those ds : List Descriptor) (t : Taking) : Type 0 where
+pub record Takes (option : Bool) (behavior : Option DropBehavior) (those ds : List Descriptor) (t : RevocationMarks) : Type 0 where
   pub named : t.named.items ≡ map (is_taken_by those) ds
   pub count : (length t.named.items ≡ length ds) × (length t.staying.items ≡ length ds)
   pub stays : Descriptor → Bool

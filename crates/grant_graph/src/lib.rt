@@ -13,5 +13,5 @@ pub use acting::{Grants, acting_grantor, acting_grantor_among, covers};
 pub use granting::grant;
 pub use keys::action_number;
 pub use marking::without;
-pub use revoking::{Revoked, Taking, revocation, revoke};
+pub use revoking::{RevocationMarks, RevokeMode, revocation, revoke};
 pub use supports::all_supported;

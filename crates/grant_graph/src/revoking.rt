@@ -14,7 +14,7 @@ use std::alloc::{AllocError, Global};
 
 /// What a REVOKE takes (SQL:2016 Foundation, 12.7, `<revoke option extension>`).
 #[derive(Clone, Copy, PartialEq, Eq)]
-pub enum Revoked {
+pub enum RevokeMode {
     /// The privilege with its grant option.
     Privilege,
     /// The grant option alone, as GRANT OPTION FOR says.
@@ -22,12 +22,12 @@ pub enum Revoked {
 }
 
 /// Whether the grant option alone is taken.
-fn is_grant_option_for(taken: Revoked) -> bool
+fn is_grant_option_for(taken: RevokeMode) -> bool
     ensures { result ≡ is_grant_option_for taken }
 {
     match taken {
-        Revoked::Privilege => false,
-        Revoked::GrantOption => true,
+        RevokeMode::Privilege => false,
+        RevokeMode::GrantOption => true,
     }
 }
 
@@ -120,7 +120,7 @@ fn take_away(
 
 /// What a REVOKE takes of descriptors: marks of those that the named ones take, and of those that stay.
 #[derive(Drop)]
-pub struct Taking {
+pub struct RevocationMarks {
     /// For each descriptor, whether a named one takes it, or its option.
     pub named: Vec<bool>,
     /// For each descriptor, whether it is there afterwards.
@@ -132,9 +132,9 @@ pub fn revocation(
     alloc: Global,
     descriptors: &[Descriptor],
     named: &[Descriptor],
-    taken: Revoked,
+    taken: RevokeMode,
     behavior: Option<DropBehavior>,
-) -> Result<Taking, Refusal>
+) -> Result<RevocationMarks, Refusal>
     ensures taking { IfOk result (Takes (is_grant_option_for taken) behavior named.now descriptors.now) }
     ensures refused { IfErr result (λ e. (e.0 ≡ OutOfMemory)
         ⊎ (revoked (is_grant_option_for taken) behavior named.now descriptors.now ≡ Err e.0)) }
@@ -156,7 +156,7 @@ pub fn revocation(
     ) {
         return Err(Refusal(SqlState::DependentPrivileges));
     }
-    Ok(Taking { named, staying })
+    Ok(RevocationMarks { named, staying })
 }
 
 /// Takes the named descriptors away, or their grant options alone, and then, with CASCADE, each descriptor that
@@ -169,7 +169,7 @@ pub fn revoke(
     alloc: Global,
     descriptors: &mut Vec<Descriptor>,
     named: &[Descriptor],
-    taken: Revoked,
+    taken: RevokeMode,
     behavior: Option<DropBehavior>,
 ) -> Result<(), Refusal>
     ensures revoked { OnOk result (revoked (is_grant_option_for taken) behavior named.now descriptors.old.items

@@ -1,14 +1,14 @@
 //! The program `guarddb`.
 #![tactic(auto)]
 
-use commands::command::{Order, UsageFault, read_command};
+use commands::command::{Invocation, UsageFault, read_command};
 use real_system::{NULL_DEVICE, RealSystem};
 use script_runs::text_sink::TextSink;
 use session_server::ending::Subject;
 use session_server::program::perform;
 use session_server::runs::run_for;
 use session_server::usage::{report_fault, report_usage, words_fault};
-use sessions::Decider;
+use sessions::SessionHandler;
 use statements::Statements;
 use std::alloc::Global;
 use std::io::{BufWriter, LineWriter, Read};
@@ -70,8 +70,8 @@ fn run_standard_input(rt: &HostRuntime, alloc: Global) -> Result<u8, UsageFault<
         read_to_end(alloc, rt.stdin()),
         Subject::Named("standard input"),
     );
-    let (decider, mut err) = (Decider::new(Statements), rt.stderr());
-    Ok(run_for(alloc, decider, ADMIN, script, about, &mut out, &mut err).status)
+    let (handler, mut err) = (SessionHandler::new(Statements), rt.stderr());
+    Ok(run_for(alloc, handler, ADMIN, script, about, &mut out, &mut err).status)
 }
 
 /// All that a reader gives.
@@ -87,22 +87,22 @@ fn carry_out(
     rt: &HostRuntime,
     alloc: Global,
     system: &mut RealSystem<'_, HostRuntime>,
-    order: &Order<'_>,
+    order: &Invocation<'_>,
 ) -> Result<u8, UsageFault<'static>> {
-    let decider = Decider::new(Statements);
+    let handler = SessionHandler::new(Statements);
     let mut err = rt.stderr();
-    if let Order::Run { file: _, script: _ } = order {
+    if let Invocation::Run { file: _, script: _ } = order {
         let Ok(out) = LineWriter::new(alloc, rt.stdout()) else {
             return Err(UsageFault::Memory);
         };
         let mut out = TextSink::new(out);
-        return Ok(perform(system, alloc, decider, order, &mut out, &mut err).status);
+        return Ok(perform(system, alloc, handler, order, &mut out, &mut err).status);
     }
     let Ok(out) = BufWriter::new(alloc, rt.stdout()) else {
         return Err(UsageFault::Memory);
     };
     let mut out = TextSink::new(out);
-    Ok(perform(system, alloc, decider, order, &mut out, &mut err).status)
+    Ok(perform(system, alloc, handler, order, &mut out, &mut err).status)
 }
 
 /// The words after the program's name.

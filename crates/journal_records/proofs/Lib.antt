@@ -1,6 +1,6 @@
 pub mod Numbers
 pub mod Written
 pub mod Reading
-pub mod Spelling
+pub mod RecordFormat
 pub mod Rising
 pub mod Parts

@@ -11,7 +11,7 @@ use Rattle.store.specs.Batch.{IsBatch}
 use Rattle.store.proofs.Changes.{key_trans, after}
 use Rattle.store.proofs.Places.{less_key}
 use Rattle.journal_records.specs.Changes.{change_then, changes_then, Spells, EndsBatch, IsFront}
-use Rattle.journal_records.proofs.Spelling.{changes_then-append, both_hold, zeros_are, zero_at, no_change_in_zeros}
+use Rattle.journal_records.proofs.RecordFormat.{changes_then-append, both_hold, zeros_are, zero_at, no_change_in_zeros}
 
 -- ---- bytes begin with one change at most
 

@@ -190,7 +190,7 @@ module _ {D : Type 0} {g : Ghosts D} (present : (device : D) → (g.state device
       works = λ is.
           let k = kept sound in
           record {
-            second = ap (λ (c : Contents). c.spelling) (base_after sound) ∙ (sound.works works).second;
+            second = ap (λ (c : Contents). c.record_format) (base_after sound) ∙ (sound.works works).second;
             es = [];
             holds = record {
               inside = k.inside;
@@ -208,7 +208,7 @@ module _ {D : Type 0} {g : Ghosts D} (present : (device : D) → (g.state device
 
     stored_after : (sound : IsSoundJournal s) → stored (journal_state t) ≡ after
     stored_after sound =
-        ap (λ (w : List Changes). let c : Contents = record { spelling = (base_of t).spelling; records = applied_all w (base_of t).records } in c) waiting ∙ (base_after sound ∙ made_is sound)
+        ap (λ (w : List Changes). let c : Contents = record { record_format = (base_of t).record_format; records = applied_all w (base_of t).records } in c) waiting ∙ (base_after sound ∙ made_is sound)
 
     pub checkpointed : Commits (Ok tt) after (journal_state s) (journal_state t)
     checkpointed = record {
@@ -218,7 +218,7 @@ module _ {D : Type 0} {g : Ghosts D} (present : (device : D) → (g.state device
           record {
             committed = record {
               map = ap (λ (c : Contents). c.records) (stored_after sound);
-              spelling = ap (λ (c : Contents). c.spelling) (stored_after sound);
+              record_format = ap (λ (c : Contents). c.record_format) (stored_after sound);
               not_back = omega (arith, anew, top);
               by_one = omega (arith, anew, top);
             };
@@ -246,7 +246,7 @@ module _ {D : Type 0} {g : Ghosts D} (present : (device : D) → (g.state device
         works = λ is.
             let r = sound.works works in
             record {
-              second = ap (λ (c : Contents). c.spelling) base_back ∙ r.second;
+              second = ap (λ (c : Contents). c.record_format) base_back ∙ r.second;
               es = r.es;
               holds = subst (λ (n : ℕ). HoldsJournal journal_start journal_room n t.top r.es (device_under t)) (sym same_number)
                   (subst (λ (n : ℕ). HoldsJournal journal_start journal_room (root_number s) n r.es (device_under t)) (sym top) (kept sound));
@@ -262,11 +262,11 @@ module _ {D : Type 0} {g : Ghosts D} (present : (device : D) → (g.state device
 
       stored_back : stored (journal_state t) ≡ stored (journal_state s)
       stored_back =
-          ap (λ (w : List Changes). let c : Contents = record { spelling = (base_of t).spelling; records = applied_all w (base_of t).records } in c) waiting
-          ∙ ap (λ (b : Contents). let c : Contents = record { spelling = b.spelling; records = applied_all s.waiting b.records } in c) base_back
+          ap (λ (w : List Changes). let c : Contents = record { record_format = (base_of t).record_format; records = applied_all w (base_of t).records } in c) waiting
+          ∙ ap (λ (b : Contents). let c : Contents = record { record_format = b.record_format; records = applied_all s.waiting b.records } in c) base_back
 
       unchanged : IsUnchanged (journal_state s) (journal_state t)
-      unchanged = record { map = ap (λ (c : Contents). c.records) stored_back; spelling = ap (λ (c : Contents). c.spelling) stored_back; number = omega (arith, same_number, top) }
+      unchanged = record { map = ap (λ (c : Contents). c.records) stored_back; record_format = ap (λ (c : Contents). c.record_format) stored_back; number = omega (arith, same_number, top) }
 
       leaves_back : LeavesBefore (base_of s) (pages_of s.store) (pages_of t.store) → LeavesOnly (λ x. x ≡ Some (stored (journal_state s))) (journal_state s).time (journal_state t).time
       leaves_back leaves = leaves_before sound (ap (λ (r : RootFields). r.pages) back.root) leaves

@@ -1,9 +1,9 @@
--- A store with a journal over a guarded device, as the device below that one sees it.
+-- A store with a journal over a write-protected device, as the device below that one sees it.
 use Rattle.sector_device.specs.Device.{DeviceState}
 use Rattle.sector_device.specs.Beside.{guarded_state}
 use Rattle.cow_pages.specs.declared.open.OpenFault.{OpenFault}
 use Rattle.cow_pages.specs.declared.open.OpenFault.TheVariants.{WrongSize, NotADatabase, Damaged, Device, Memory}
-use Rattle.journal_store.specs.Guarded.{IsPlain, inner_history}
+use Rattle.journal_store.specs.WriteProtected.{IsPlain, inner_history}
 use Rattle.journal_store.specs.Opening.{IsNamedFor, CannotOpen}
 
 -- a fault says nothing of the sectors that are kept beside

@@ -34,7 +34,7 @@ nothing_keeps old new number commits = record {
   history = commits.history;
   unchanged = λ sound worked.
       let is = (commits.at_once sound worked).committed in
-      record { map = is.map; spelling = is.spelling; number = number };
+      record { map = is.map; record_format = is.record_format; number = number };
   leaves = λ sound worked. weakened _ (λ x. x ≡ Some (stored old)) old.time new.time (λ x either. elim either [
     | inl is ↦ is
     | inr is ↦ is
@@ -52,12 +52,12 @@ before_may (Err Device) before after x is = inl is
 before_may (Err Number) before after x is = is
 
 unchanged_joined : (old mid new : StoreState) → IsUnchanged old mid → IsUnchanged mid new → IsUnchanged old new
-unchanged_joined old mid new first second = record { map = second.map ∙ first.map; spelling = second.spelling ∙ first.spelling; number = second.number ∙ first.number }
+unchanged_joined old mid new first second = record { map = second.map ∙ first.map; record_format = second.record_format ∙ first.record_format; number = second.number ∙ first.number }
 
 committed_later : (result : Result (Unit {0}) StoreFault) (after : Contents) (old mid new : StoreState) → IsUnchanged old mid → AfterCommit result after mid new → AfterCommit result after old new
 committed_later (Ok y) after old mid new still is = record {
   map = is.map;
-  spelling = is.spelling;
+  record_format = is.record_format;
   not_back = omega (arith, is.not_back, still.number);
   by_one = omega (arith, is.by_one, still.number);
 }
@@ -79,7 +79,7 @@ commits_later result batch old mid new works still commits = record {
   history = history_joined old mid new still.history commits.history;
   at_once = λ sound worked.
       let unchanged = still.unchanged sound worked in
-      let same : stored mid ≡ stored old = same_parts (stored mid) (stored old) unchanged.spelling unchanged.map in
+      let same : stored mid ≡ stored old = same_parts (stored mid) (stored old) unchanged.record_format unchanged.map in
       let at_once = commits.at_once (still.history.sound sound) (still.failed ∙ worked) in
       record {
         committed = committed_later result (changed_by_batch batch (stored old)) old mid new unchanged

@@ -2,7 +2,7 @@
 use Rattle.std.proofs.Common.{◌≡◌, ◌⊎◌, ◌+◌, ◌*◌, ◌/◌, ◌%◌, ◌++◌, inl, inr, ℕ, zero, suc, true, List, [], ◌∷◌, length, take, drop, refl, sym, ap, ◌∙◌, arith}
 use Rattle.std.proofs.lemmas.List.{take_all}
 use Rattle.std.proofs.Math.Seq.{take-add}
-use Rattle.storage_sizes.specs.declared.spelling.Spelling.TheVariants.{Second}
+use Rattle.storage_sizes.specs.declared.record_format.RecordFormat.TheVariants.{V2}
 use Rattle.sector_device.specs.Device.{Image}
 use Rattle.journal_chain.specs.Chain.{Entry}
 use Rattle.journal_chain.proofs.Journals.{none_of_later}
@@ -28,10 +28,10 @@ applied_more [] b records = refl
 applied_more (c ∷ cs) b records = applied_more cs b (applied c records)
 
 pub with_more : (bs : List Changes) (b : Changes) (base : Contents) → changed_by_batch b (with_batches bs base) ≡ with_batches (bs ++ b ∷ []) base
-with_more bs b base = ap (λ (records : Records). let c : Contents = record { spelling = base.spelling; records = records } in c) (sym (applied_more bs b base.records))
+with_more bs b base = ap (λ (records : Records). let c : Contents = record { record_format = base.record_format; records = records } in c) (sym (applied_more bs b base.records))
 
 pub record_leaves : (image : Image) (pages root : ℕ) (base : Contents) (es : List Entry) (batches : List Changes) (new : Entry) (batch : Changes)
-    → HasContentsUnder true pages root base image → base.spelling ≡ Second → SpellBatches es batches → Spells (joined_parts new.parts) batch
+    → HasContentsUnder true pages root base image → base.record_format ≡ V2 → SpellBatches es batches → Spells (joined_parts new.parts) batch
     → HasEither journal_start journal_room root es new image
     → HasJournaledContents pages (with_batches batches base) image ⊎ HasJournaledContents pages (changed_by_batch batch (with_batches batches base)) image
 record_leaves image pages root base es batches new batch under second spelled one either = elim either [
@@ -50,7 +50,7 @@ record_leaves image pages root base es batches new batch under second spelled on
 ]
 
 pub checkpoint_leaves : (image : Image) (pages root : ℕ) (base after : Contents) (es : List Entry) (batches : List Changes)
-    → base.spelling ≡ Second → after.spelling ≡ Second → SpellBatches es batches → HasJournal journal_start journal_room root es image
+    → base.record_format ≡ V2 → after.record_format ≡ V2 → SpellBatches es batches → HasJournal journal_start journal_room root es image
     → HasContentsUnder true pages root base image ⊎ HasContentsUnder true pages (root + 1) after image
     → HasJournaledContents pages (with_batches batches base) image ⊎ HasJournaledContents pages after image
 checkpoint_leaves image pages root base after es batches second second_after spelled journal either = elim either [

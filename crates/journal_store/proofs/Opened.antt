@@ -2,7 +2,7 @@
 use Rattle.std.proofs.Common.{◌≡◌, ◌<◌, ◌+◌, ◌/◌, inl, inr, ℕ, true, false, List, [], None, Some, get_or, refl, sym, ap, subst, ◌∙◌, arith}
 use Rattle.std.specs.Prelude.{Result, Ok, Err, IsErrAnd}
 use Rattle.std.proofs.Math.Path.{fun_ext}
-use Rattle.storage_sizes.specs.declared.spelling.Spelling.TheVariants.{Second}
+use Rattle.storage_sizes.specs.declared.record_format.RecordFormat.TheVariants.{V2}
 use Rattle.sector_device.specs.Device.{DeviceState, Image, IsSynced, KeepsHistory, history_joined}
 use Rattle.sector_device.specs.declared.device.Device.{Ghosts}
 use Rattle.kv_store.proofs.SameKind.{journaled_is_second}
@@ -148,7 +148,7 @@ module _ (d m : DeviceState) (history : KeepsHistory d m) (keeps : d.faithful �
   module _ {D : Type 0} {g : Ghosts D} (s : JournalStore D g) (opened : IsOpenedWith true m (device_under s) (store_state s.store)) (sectors : List (List ℕ))
       (read : d.faithful → (q : ℕ) → q < journal_room → get_or sectors q [] ≡ d.content (journal_start + q)) (synced : d.faithful → IsSynced m)
       (is : IsReplayed (root_number s) sectors (record { waiting = s.waiting; top = s.top; end = s.end })) where
-    second : (base_of s).spelling ≡ Second
+    second : (base_of s).record_format ≡ V2
     second = journaled_is_second (root_of (pages_of s.store)).format s.journaled
 
     region_now : d.faithful → region_of journal_room sectors ≡ region_in journal_start journal_room (device_under s).content
@@ -195,7 +195,7 @@ module _ (d m : DeviceState) (history : KeepsHistory d m) (keeps : d.faithful �
         journal = subst (λ (region : Region). IsJournal region (root_number s) journal_room is.es) (region_is s.store opened sectors read faithful) is.is;
         batches = is.batches;
         spelled = is.spelled;
-        is = ap (λ (es : Records). let c : Contents = record { spelling = (base_of s).spelling; records = es } in c)
+        is = ap (λ (es : Records). let c : Contents = record { record_format = (base_of s).record_format; records = es } in c)
             (is.waits (base_of s).records (keys_rise s.store (opened.holds (history.faithful faithful)).sound));
       };
       number_is = greater (root_number s) s.top (region_in journal_start journal_room d.content)

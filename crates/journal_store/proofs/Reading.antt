@@ -59,7 +59,7 @@ module _ {D : Type 0} {g : Ghosts D} (present : (device : D) → (g.state device
       still_holds =
           let r = sound.works works in
           record {
-            second = (reads.unchanged sound.pages).spelling ∙ r.second;
+            second = (reads.unchanged sound.pages).record_format ∙ r.second;
             es = r.es;
             holds = subst (λ (f : RootFields). HoldsJournal journal_start journal_room f.number t.top r.es (device_under t)) (sym same_root)
                 (subst (λ (n : ℕ). HoldsJournal journal_start journal_room (root_number s) n r.es (device_under t)) (sym keeps.top)
@@ -90,7 +90,7 @@ module _ {D : Type 0} {g : Ghosts D} (present : (device : D) → (g.state device
       history = record { sound = still_sound; fulls = reads.history.fulls; failures = reads.history.failures; faults = reads.history.faults };
       unchanged = λ sound. record {
         map = map_is sound;
-        spelling = (reads.unchanged sound.pages).spelling;
+        record_format = (reads.unchanged sound.pages).record_format;
         number = omega (arith, ap (λ (f : RootFields). f.number) same_root, keeps.top);
       };
       leaves = leaves_read;

@@ -7,7 +7,7 @@ use Rattle.page_roots.specs.Root.{RootFields, home, root_bytes}
 use Rattle.page_roots.specs.Sector.{root_at, fields_in, may_stand, maps_named, zeros as root_zeros}
 use Rattle.page_roots.specs.declared.sector.RootSector.TheVariants.{Found}
 use Rattle.page_roots.proofs.Reading.{past_tests, both as both_true}
-use Rattle.storage_sizes.specs.declared.spelling.Spelling.TheVariants.{Second}
+use Rattle.storage_sizes.specs.declared.record_format.RecordFormat.TheVariants.{V2}
 use Rattle.sector_device.specs.Timeline.{Timeline, LeavesOnly, IsPresent, read_by, weakened}
 use Rattle.sector_device.proofs.Runs.{started, lifted, present_lifted}
 use Rattle.sector_device.specs.Device.{Image, IsSynced, KeepsSize, timeline}
@@ -80,7 +80,7 @@ module _ {D : Type 0} {g : Ghosts D} (present : (device : D) → (g.state device
     works = λ is.
         let r = sound.works works in
         record {
-          second = subst (λ (x : TreeStore D g). (contents_of (pages_of x)).spelling ≡ Second) (sym store) r.second;
+          second = subst (λ (x : TreeStore D g). (contents_of (pages_of x)).record_format ≡ V2) (sym store) r.second;
           es = r.es;
           holds = subst (λ (x : TreeStore D g). HoldsJournal journal_start journal_room (root_of (pages_of x)).number t.top r.es (device_below (pages_of x))) (sym store)
               (subst (λ (n : ℕ). HoldsJournal journal_start journal_room (root_number s) n r.es (device_under s)) (sym top) r.holds);
@@ -99,7 +99,7 @@ module _ {D : Type 0} {g : Ghosts D} (present : (device : D) → (g.state device
     at_once = λ sound worked.
         let now : IsPresent (journal_state s).time = present_lifted (IsReadAs (root_of (pages_of s.store)).pages) (timeline (device_under s)) (present (pages_of s.store).device sound.pages.faithful) in
         record {
-          committed = record { map = refl; spelling = refl; number = refl };
+          committed = record { map = refl; record_format = refl; number = refl };
           leaves = started (MayLeaveDuring (Err Memory) (stored (journal_state s)) after) (journal_state s).time now (λ x left. settled s sound works x left);
           left = λ x left. settled s sound works x left;
         };
@@ -236,7 +236,7 @@ module _ {D : Type 0} {g : Ghosts D} (present : (device : D) → (g.state device
 
     holds_more : (sound : IsSoundJournal s) → HoldsRecords t
     holds_more sound = record {
-      second = ap (λ (c : Contents). c.spelling) (same_base sound) ∙ (sound.works works).second;
+      second = ap (λ (c : Contents). c.record_format) (same_base sound) ∙ (sound.works works).second;
       es = (sound.works works).es ++ entry ∷ [];
       holds = subst (λ (n : ℕ). HoldsJournal journal_start journal_room n t.top ((sound.works works).es ++ entry ∷ []) (device_under t)) (sym same_root)
           (subst (λ (n : ℕ). HoldsJournal journal_start journal_room (root_number s) n ((sound.works works).es ++ entry ∷ []) (device_under t)) (sym top) (appended sound).holds);
@@ -256,9 +256,9 @@ module _ {D : Type 0} {g : Ghosts D} (present : (device : D) → (g.state device
         record {
           history = record { sound = sound_after; fulls = omega (arith, keeps.fulls); failures = omega (arith, done.counts.failures); faults = size.failures };
           at_once = λ sound worked.
-              let now : stored (journal_state t) ≡ after = same_parts (stored (journal_state t)) after (ap (λ (c : Contents). c.spelling) (same_base sound)) (map_after sound) in
+              let now : stored (journal_state t) ≡ after = same_parts (stored (journal_state t)) after (ap (λ (c : Contents). c.record_format) (same_base sound)) (map_after sound) in
               record {
-                committed = record { map = map_after sound; spelling = ap (λ (c : Contents). c.spelling) (same_base sound); not_back = omega (arith, top, next, same_root); by_one = omega (arith, top, next, same_root) };
+                committed = record { map = map_after sound; record_format = ap (λ (c : Contents). c.record_format) (same_base sound); not_back = omega (arith, top, next, same_root); by_one = omega (arith, top, next, same_root) };
                 leaves = leaves_store sound;
                 left = λ x left. settled t (sound_after sound) still x left ∙ ap (λ (c : Contents). Some c) now;
               };
@@ -276,7 +276,7 @@ module _ {D : Type 0} {g : Ghosts D} (present : (device : D) → (g.state device
     at_once = λ sound worked.
         let now : IsPresent (journal_state s).time = present_lifted (IsReadAs (root_of (pages_of s.store)).pages) (timeline (device_under s)) (present (pages_of s.store).device sound.pages.faithful) in
         record {
-          committed = record { map = refl; spelling = refl; number = refl };
+          committed = record { map = refl; record_format = refl; number = refl };
           leaves = started (MayLeaveDuring (Err Number) (stored (journal_state s)) after) (journal_state s).time now (λ x left. settled s sound works x left);
           left = λ x left. settled s sound works x left;
         };
@@ -304,7 +304,7 @@ module _ {D : Type 0} {g : Ghosts D} (present : (device : D) → (g.state device
     at_once = λ sound worked.
         let now : IsPresent (journal_state s).time = present_lifted (IsReadAs (root_of (pages_of s.store)).pages) (timeline (device_under s)) (present (pages_of s.store).device sound.pages.faithful) in
         record {
-          committed = record { map = refl; spelling = refl; not_back = omega arith; by_one = omega arith };
+          committed = record { map = refl; record_format = refl; not_back = omega arith; by_one = omega arith };
           leaves = started (MayLeaveDuring (Ok tt) (stored (journal_state s)) (stored (journal_state s))) (journal_state s).time now (λ x left. inl (settled s sound works x left));
           left = λ x left. settled s sound works x left;
         };

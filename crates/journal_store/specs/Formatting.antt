@@ -1,6 +1,6 @@
 -- What making a new store with a journal does, by its answer.
 use Rattle.std.specs.Prelude.{◌≡◌, ◌≤◌, ◌⊎◌, ◌/◌, ℕ, [], ◌∷◌, Some, Result, Ok, Err}
-use Rattle.storage_sizes.specs.declared.spelling.Spelling.TheVariants.{Second}
+use Rattle.storage_sizes.specs.declared.record_format.RecordFormat.TheVariants.{V2}
 use Rattle.sector_device.specs.Timeline.{LeavesOnly, Passes}
 use Rattle.sector_device.specs.Device.{DeviceState, Image, KeepsSize, HasFailed, IsLeft, IsSynced, IsBehindRoots, timeline}
 use Rattle.sector_device.specs.Page.{IsAlone, IsOutside}
@@ -17,7 +17,7 @@ use Rattle.journal_store.specs.Meaning.{HasJournaledContents}
 
 -- the contents of a new store
 abbrev pub first_contents : Record → Contents
-first_contents entry = record { spelling = Second; records = entry ∷ [] }
+first_contents entry = record { record_format = V2; records = entry ∷ [] }
 
 -- an image has this record and no other, under a root of number 1 that says that there is a journal
 abbrev pub HasFirst : ℕ → Record → Image → Type 0

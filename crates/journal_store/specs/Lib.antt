@@ -6,7 +6,7 @@ pub mod ImageLaws
 pub mod StoreLaws
 pub mod Reads
 pub mod Opening
-pub mod Guarded
+pub mod WriteProtected
 pub mod Room
 pub mod Formatting
 pub mod Clearing

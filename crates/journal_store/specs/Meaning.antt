@@ -1,6 +1,6 @@
 -- What an image of pages with a journal contains: the contents of its pages, with the batches of the records behind their root made.
 use Rattle.std.specs.Prelude.{◌≡◌, ◌⊎◌, ◌≤◌, ◌++◌, ℕ, true, List, [], ◌∷◌, Option, Some, None}
-use Rattle.storage_sizes.specs.declared.spelling.Spelling.TheVariants.{Second}
+use Rattle.storage_sizes.specs.declared.record_format.RecordFormat.TheVariants.{V2}
 use Rattle.sector_device.specs.Device.{Image}
 use Rattle.journal_chain.specs.Chain.{Part, Region, Entry, Holds}
 use Rattle.journal_chain.specs.Journal.{NumbersUpTo}
@@ -32,7 +32,7 @@ SpellBatches (e ∷ es) (b ∷ bs) = Spells (joined_parts e.parts) b × SpellBat
 
 -- the contents after these batches, the first of them first
 abbrev pub with_batches : List Changes → Contents → Contents
-with_batches batches base = record { spelling = base.spelling; records = applied_all batches base.records }
+with_batches batches base = record { record_format = base.record_format; records = applied_all batches base.records }
 
 -- The image of a device of so many pages has these contents: its pages have others, of the second spelling, under a root that says
 -- that there is a journal, and its sectors behind the root sectors are a journal of that root, each record of which spells a batch. Where a sector is none that a
@@ -41,7 +41,7 @@ pub record HasJournaledContents (pages : ℕ) (contents : Contents) (image : Ima
   pub root : ℕ
   pub base : Contents
   pub under : HasContentsUnder true pages root base image
-  pub second : base.spelling ≡ Second
+  pub second : base.record_format ≡ V2
   pub es : List Entry
   pub journal : HasJournal journal_start journal_room root es image
   pub batches : List Changes

@@ -42,7 +42,7 @@ module _ {D : Type 0} {g : Ghosts D} (s : JournalStore D g) (sound : IsSoundJour
   ordered = keys_rise s.store sound.pages
 
   pub stored_is : stored (journal_state s) ≡ with_batches (sound.works works).batches (base_of s)
-  stored_is = ap (λ (es : Records). let c : Contents = record { spelling = (base_of s).spelling; records = es } in c) ((sound.works works).waits (base_of s).records ordered)
+  stored_is = ap (λ (es : Records). let c : Contents = record { record_format = (base_of s).record_format; records = es } in c) ((sound.works works).waits (base_of s).records ordered)
 
   -- each image that a stop may leave
   left_has : (image : Image) → IsLeft (device_under s) image → HasJournaledContents (root_of (pages_of s.store)).pages (with_batches (sound.works works).batches (base_of s)) image

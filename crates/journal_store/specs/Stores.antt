@@ -1,6 +1,6 @@
 -- What a store with a journal is to the code above it.
 use Rattle.std.specs.Prelude.{◌≡◌, ℕ, List, false, max}
-use Rattle.storage_sizes.specs.declared.spelling.Spelling.TheVariants.{Second}
+use Rattle.storage_sizes.specs.declared.record_format.RecordFormat.TheVariants.{V2}
 use Rattle.sector_device.specs.Timeline.{read_by}
 use Rattle.sector_device.specs.Device.{DeviceState, timeline}
 use Rattle.sector_device.specs.declared.device.Device.{Ghosts}
@@ -41,7 +41,7 @@ end_of_records s = s.end
 -- where the next one begins. No number in the journal, of whatever root, is above the top, and the greater of it and the root's is one
 -- that stands there or the root's.
 pub record HoldsRecords {D : Type 0} {g : Ghosts D} (s : JournalStore D g) : Type 0 where
-  pub second : (base_of s).spelling ≡ Second
+  pub second : (base_of s).record_format ≡ V2
   pub es : List Entry
   pub holds : HoldsJournal journal_start journal_room (root_number s) s.top es (device_under s)
   pub batches : List Changes
@@ -62,7 +62,7 @@ state_with sound store waiting top = record {
   has_failed = store.has_failed;
   closes = Unit {0};
   map = applied_all waiting (contents_of (pages_of store)).records;
-  spelling = (contents_of (pages_of store)).spelling;
+  record_format = (contents_of (pages_of store)).record_format;
   number = max (root_of (pages_of store)).number top;
   fulls = store.fulls;
   failures = store.failures;

@@ -1,6 +1,6 @@
 //! Commits of a store with a journal: a record, where there is room for one, or else the pages.
 ghost use Rattle.std.specs.Prelude.{◌≡◌, ◌≢◌, ◌<◌, ◌≤◌, ◌+◌, ◌↔◌, [], false, IsTrue, Ok, length};
-ghost use Rattle.storage_sizes.specs.declared.spelling.Spelling.TheVariants.{Second};
+ghost use Rattle.storage_sizes.specs.declared.record_format.RecordFormat.TheVariants.{V2};
 ghost use Rattle.store.specs.Contents.{changed_by_batch, changed_in};
 ghost use Rattle.store.specs.Store.{Commits, stored};
 ghost use Rattle.journal_store.specs.Reads.{IsStill};
@@ -12,7 +12,7 @@ use crate::devices::JournalDevice;
 use crate::stores::JournalStore;
 use journal_records::{PART_SIZE, batch_bytes};
 use sql_types::try_copy::TryCopy;
-use store::{Batch, Spelling, Store, StoreFault};
+use store::{Batch, RecordFormat, Store, StoreFault};
 
 // How many sectors the journal has.
 const JOURNAL_ROOM: usize = 6;
@@ -116,8 +116,8 @@ impl<D: JournalDevice> Store for JournalStore<D> {
         self.store.failures()
     }
 
-    fn spelling(&self) -> Spelling {
-        self.store.spelling()
+    fn record_format(&self) -> RecordFormat {
+        self.store.record_format()
     }
 
     /// Commits all changes of a batch, or none of them, as `Store` says. Where the batch fits behind the records that
@@ -142,7 +142,7 @@ impl<D: JournalDevice> Store for JournalStore<D> {
 
     /// Commits all changes of a batch, as `commit` does: the records are of the second spelling already.
     fn commit_migration(&mut self, batch: &Batch) -> Result<(), StoreFault>
-        ensures commits { Commits result (changed_in Second batch.now (stored (journal_state self.old)))
+        ensures commits { Commits result (changed_in V2 batch.now (stored (journal_state self.old)))
             (journal_state self.old) (journal_state self.new) }
         ensures still { IsStill result self.old self.new }
     {

@@ -25,7 +25,7 @@ pub(crate) fn clear_journal<D: JournalDevice>(device: &mut D) -> Result<(), Devi
     ensures cause { OnErr result (HasFailed (D.state device.old) (D.state device.new)) }
 {
     let sectors = [[0; SECTOR_SIZE]; JOURNAL_ROOM as usize];
-    device.write_beside(JOURNAL_START, &sectors)
+    device.write_protected(JOURNAL_START, &sectors)
 }
 
 impl<D: JournalDevice> JournalStore<D> {

@@ -1,6 +1,6 @@
 //! Laws of images with a journal, whatever the program does.
 ghost use Rattle.std.specs.Prelude.{◌≡◌, ◌⊎◌, ◌+◌, ◌++◌, ◌∷◌, [], ℕ, true, List};
-ghost use Rattle.storage_sizes.specs.declared.spelling.Spelling.TheVariants.{Second};
+ghost use Rattle.storage_sizes.specs.declared.record_format.RecordFormat.TheVariants.{V2};
 ghost use Rattle.sector_device.specs.Device.{Image};
 ghost use Rattle.journal_chain.specs.Chain.{Entry};
 ghost use Rattle.journal_records.specs.Changes.{Spells};
@@ -23,7 +23,7 @@ pub fn one_contents()
 pub fn record_leaves()
     ensures { (image : Image) (pages root : ℕ) (base : Contents) (es : List Entry)
         (batches : List Changes) (new : Entry) (batch : Changes)
-        → HasContentsUnder true pages root base image → base.spelling ≡ Second
+        → HasContentsUnder true pages root base image → base.record_format ≡ V2
         → SpellBatches es batches → Spells (joined_parts new.parts) batch
         → HasEither journal_start journal_room root es new image
         → HasJournaledContents pages (with_batches batches base) image
@@ -36,7 +36,7 @@ pub fn record_leaves()
 pub fn checkpoint_leaves()
     ensures { (image : Image) (pages root : ℕ) (base after : Contents) (es : List Entry)
         (batches : List Changes)
-        → base.spelling ≡ Second → after.spelling ≡ Second → SpellBatches es batches
+        → base.record_format ≡ V2 → after.record_format ≡ V2 → SpellBatches es batches
         → HasJournal journal_start journal_room root es image
         → HasContentsUnder true pages root base image ⊎ HasContentsUnder true pages (root + 1) after image
         → HasJournaledContents pages (with_batches batches base) image

@@ -5,13 +5,13 @@
 mod commits;
 mod devices;
 mod formatting;
-mod guarded;
 mod laws;
 mod opening;
 mod reads;
 mod room;
 mod stores;
 mod under;
+mod write_protected;
 
 pub use devices::JournalDevice;
 pub use laws::{checkpoint_leaves, one_contents, record_leaves};

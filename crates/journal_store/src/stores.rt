@@ -120,7 +120,7 @@ impl<D: JournalDevice> JournalStore<D> {
             return Err(StoreFault::Memory);
         };
         let first = JOURNAL_START + self.end as u32;
-        let Ok(()) = self.store.write_beside(first, &sectors) else {
+        let Ok(()) = self.store.write_protected(first, &sectors) else {
             return Err(StoreFault::Device);
         };
         self.top = number;

@@ -4,7 +4,7 @@ use Rattle.std.proofs.Common.{◌≡◌, ◌<◌, ◌≤◌, ◌⊎◌, ◌+◌,
 use Rattle.sector_device.specs.Timeline.{LeavesOnly, IsPresent, weakened, joined}
 use Rattle.sector_device.specs.Device.{DeviceState, Image, HasFailed, IsLeft, IsBehindRoots, KeepsHistory, KeepsSize, timeline}
 use Rattle.sector_device.specs.declared.device.Device.{Ghosts}
-use Rattle.storage_sizes.specs.declared.spelling.Spelling.TheVariants.{Second}
+use Rattle.storage_sizes.specs.declared.record_format.RecordFormat.TheVariants.{V2}
 use Rattle.page_roots.specs.Formats.{has_journal}
 use Rattle.page_roots.specs.Root.{RootFields}
 use Rattle.sector_journal.specs.Journals.{region_in, HasJournal, HoldsJournal}
@@ -45,7 +45,7 @@ pub has_plain : (pages number : ℕ) (contents : Contents) (image : Image) → H
 has_plain pages number contents image has = record { number = number; is = inl has }
 
 -- and one whose root says that there is one, in whose journal nothing stands
-pub has_blank : (pages number : ℕ) (contents : Contents) (image : Image) → contents.spelling ≡ Second → HasContentsUnder true pages number contents image
+pub has_blank : (pages number : ℕ) (contents : Contents) (image : Image) → contents.record_format ≡ V2 → HasContentsUnder true pages number contents image
     → HasJournal journal_start journal_room number [] image → HasJournaledContents pages contents image
 has_blank pages number contents image second under journal = record {
   root = number;
@@ -59,7 +59,7 @@ has_blank pages number contents image second under journal = record {
   is = refl;
 }
 
-pub blank_under : (pages number : ℕ) (contents : Contents) (image : Image) → contents.spelling ≡ Second → HasContentsUnder true pages number contents image
+pub blank_under : (pages number : ℕ) (contents : Contents) (image : Image) → contents.record_format ≡ V2 → HasContentsUnder true pages number contents image
     → HasJournal journal_start journal_room number [] image → HasNoParts image → IsJournaledUnder pages number contents image
 unfolding has_blank
 blank_under pages number contents image second under journal none =
@@ -75,7 +75,7 @@ blank_under pages number contents image second under journal none =
 
 module _ {D : Type 0} {g : Ghosts D} (present : (device : D) → (g.state device).faithful → IsPresent (timeline (g.state device))) (all_beside : (device : D) (s : ℕ) → IsBehindRoots s → (g.state device).beside s)
     (d : DeviceState) (q r : CowPages D g) (c : Contents) (room : 8 ≤ d.sectors) (size : KeepsSize d (device_below q)) (clears : ClearsSome d (device_below q)) (cleared : IsCleared (device_below q))
-    (holds : HoldsContents c q) (second : c.spelling ≡ Second) (kind : is_journaled q ≡ false)
+    (holds : HoldsContents c q) (second : c.record_format ≡ V2) (kind : is_journaled q ≡ false)
     (first : LeavesOnly (HasContents (root_of q).pages c) (timeline d) (timeline (device_below q))) (history : KeepsHistory (device_below q) (device_below r)) where
   abbrev HasBlank : Image → Type 0
   HasBlank image = HasJournal journal_start journal_room ((root_of q).number + 1) [] image
@@ -164,7 +164,7 @@ before_leaves p q c kind leaves = weakened _ (HasContents (root_of p).pages c) (
     (λ image has. has_plain (root_of p).pages (root_of p).number c image (subst (λ (journal : Bool). HasContentsUnder journal (root_of p).pages (root_of p).number c image) kind has)) leaves
 
 -- the number of the next root
-pub number_risen : {D : Type 0} {g : Ghosts D} (p q r : CowPages D g) (c : Contents) → root_of q ≡ root_of p → HoldsContents c q → c.spelling ≡ Second → (result : Result (Unit {0}) StoreFault) → SwitchesKind true result q r
+pub number_risen : {D : Type 0} {g : Ghosts D} (p q r : CowPages D g) (c : Contents) → root_of q ≡ root_of p → HoldsContents c q → c.record_format ≡ V2 → (result : Result (Unit {0}) StoreFault) → SwitchesKind true result q r
     → OnOk result ((root_of r).number ≡ (root_of p).number + 1)
 number_risen p q r c same holds second (Ok x) switches = (switches c holds second).number_is ∙ ap (λ (root : RootFields). root.number + 1) same
 number_risen p q r c same holds second (Err fault) switches = tt

@@ -2,7 +2,7 @@
 use Rattle.std.specs.Prelude.{MatchResult}
 use Rattle.std.proofs.Common.{max, ◌≡◌, ◌<◌, ◌≤◌, ◌⊎◌, ◌+◌, ◌-◌, ◌^◌, ◌/◌, inl, inr, ⊎_elim, ℕ, Bool, true, false, List, [], Option, Some, Result, Ok, Err, refl, sym, ap, subst, ◌∙◌, arith}
 use Rattle.std.proofs.lemmas.Bool.{false≢true}
-use Rattle.storage_sizes.specs.declared.spelling.Spelling.TheVariants.{Second}
+use Rattle.storage_sizes.specs.declared.record_format.RecordFormat.TheVariants.{V2}
 use Rattle.sector_device.specs.Timeline.{LeavesOnly, IsPresent, weakened, joined}
 use Rattle.sector_device.specs.Device.{DeviceState, Image, IsLeft, IsBehindRoots, KeepsHistory, timeline, history_joined}
 use Rattle.sector_device.specs.declared.device.Device.{Ghosts}
@@ -104,7 +104,7 @@ module _ {D : Type 0} {g : Ghosts D} (present : (device : D) → (g.state device
     number_now = (journal_state t).number;
     left = λ image left.
         subst (λ (n : ℕ). IsJournaledUnder n (journal_state t).number c image) (pages_are d (pages_of t.store) history_then.sectors)
-        (subst (λ (x : Contents). IsJournaledUnder (root_of (pages_of t.store)).pages (journal_state t).number x image) (same_parts (stored (journal_state t)) c same.spelling same.map)
+        (subst (λ (x : Contents). IsJournaledUnder (root_of (pages_of t.store)).pages (journal_state t).number x image) (same_parts (stored (journal_state t)) c same.record_format same.map)
         (left_stored t (commits.history.sound sound) works_then image left).0);
     not_back = omega (arith, same.number);
     by_one = omega (arith, same.number);
@@ -118,7 +118,7 @@ module _ {D : Type 0} {g : Ghosts D} (present : (device : D) → (g.state device
     base = base_of s;
     holds = held s sound works;
     waiting = lacks.changes;
-    made = ap (λ (es : Records). let x : Contents = record { spelling = (base_of s).spelling; records = es } in x) (sym (lacks.all (base_of s).records (ordered s sound works)));
+    made = ap (λ (es : Records). let x : Contents = record { record_format = (base_of s).record_format; records = es } in x) (sym (lacks.all (base_of s).records (ordered s sound works)));
     none = lacks.none;
   }
 
@@ -149,16 +149,16 @@ module _ {D : Type 0} {g : Ghosts D} (present : (device : D) → (g.state device
     records = sound_now.works works_now
 
     stored_same : stored (journal_state t) ≡ c
-    stored_same = let is = (commits.at_once sound works).committed in same_parts (stored (journal_state t)) c is.spelling is.map
+    stored_same = let is = (commits.at_once sound works).committed in same_parts (stored (journal_state t)) c is.record_format is.map
 
     base_same : base_of t ≡ c
-    base_same = ap (λ (ws : List Changes). let x : Contents = record { spelling = (base_of t).spelling; records = applied_all ws (base_of t).records } in x) (sym cleared) ∙ stored_same
+    base_same = ap (λ (ws : List Changes). let x : Contents = record { record_format = (base_of t).record_format; records = applied_all ws (base_of t).records } in x) (sym cleared) ∙ stored_same
 
     pub holds_all : HoldsContents c p
     holds_all = subst (λ (x : Contents). HoldsContents x p) base_same (held t sound_now works_now)
 
-    pub second_still : c.spelling ≡ Second
-    second_still = ap (λ (x : Contents). x.spelling) (sym base_same) ∙ records.second
+    pub second_still : c.record_format ≡ V2
+    second_still = ap (λ (x : Contents). x.record_format) (sym base_same) ∙ records.second
 
     faithful_then : (device_under t).faithful
     faithful_then = history_then.faithful faithful

@@ -1,6 +1,6 @@
 -- The journal of a store that was opened without one is turned on.
 use Rattle.std.proofs.Common.{◌≡◌, ◌<◌, ◌+◌, ◌-◌, ◌^◌, ◌/◌, inl, inr, ⊎_elim, ℕ, Bool, false, Ok, Err, sym, subst, ◌∙◌}
-use Rattle.storage_sizes.specs.declared.spelling.Spelling.TheVariants.{First}
+use Rattle.storage_sizes.specs.declared.record_format.RecordFormat.TheVariants.{V1}
 use Rattle.sector_device.specs.Timeline.{LeavesOnly}
 use Rattle.sector_device.specs.Device.{DeviceState, KeepsSize, timeline}
 use Rattle.sector_device.specs.declared.device.Device.{Ghosts}
@@ -43,7 +43,7 @@ module _ {D : Type 0} {g : Ghosts D} (content_left : (device : D) (s : ℕ) → 
   had_plain = subst (λ (journal : Bool). HasContentsUnder journal (d.sectors / 8) (root_of p).number c d.content) kind
       (had_under d p opened.history.sectors c held (opened.content faithful) (λ q inside. content_left p.device q (opened.history.faithful faithful) inside))
 
-  pub not_migrated : c.spelling ≡ First → IsNotMigrated d m
+  pub not_migrated : c.record_format ≡ V1 → IsNotMigrated d m
   not_migrated first = record { content = opened.content faithful; number = (root_of p).number; contents = c; had = had_plain; first = first }
 
   module _ (e : DeviceState) (size : KeepsSize m e) where

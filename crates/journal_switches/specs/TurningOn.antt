@@ -1,6 +1,6 @@
 -- What turning the journal of a store on does, by its answer.
 use Rattle.std.specs.Prelude.{◌≡◌, ◌⊎◌, ◌+◌, ◌-◌, ◌^◌, ◌/◌, ℕ, false, Result, MatchResult}
-use Rattle.storage_sizes.specs.declared.spelling.Spelling.TheVariants.{First}
+use Rattle.storage_sizes.specs.declared.record_format.RecordFormat.TheVariants.{V1}
 use Rattle.sector_device.specs.Device.{DeviceState, Image, IsLeft, KeepsSize}
 use Rattle.sector_device.specs.declared.device.Device.{Ghosts}
 use Rattle.cow_pages.specs.Held.{KeepsContent}
@@ -50,7 +50,7 @@ pub record IsNotMigrated (d e : DeviceState) : Type 0 where
   pub number : ℕ
   pub contents : Contents
   pub had : HasContentsUnder false (d.sectors / 8) number contents d.content
-  pub first : contents.spelling ≡ First
+  pub first : contents.record_format ≡ V1
 
 abbrev pub CannotTurnOn : {D : Type 0} (g : Ghosts D) → SwitchFault → DeviceState → DeviceState → Type 0
 CannotTurnOn g (Unopened fault) d e = CannotOpen d fault e

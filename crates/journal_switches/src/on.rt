@@ -1,6 +1,6 @@
 //! How a journal is made behind the roots of a store in pages.
 ghost use Rattle.std.specs.Prelude.{◌≡◌, ◌≤◌, ◌+◌, false, OnOk};
-ghost use Rattle.storage_sizes.specs.declared.spelling.Spelling.TheVariants.{Second};
+ghost use Rattle.storage_sizes.specs.declared.record_format.RecordFormat.TheVariants.{V2};
 ghost use Rattle.sector_device.specs.Device.{KeepsSize};
 ghost use Rattle.cow_pages.specs.Cow.{device_below, root_of};
 ghost use Rattle.kv_store.specs.Contents.{contents_of, is_journaled};
@@ -25,15 +25,15 @@ pub fn begin_journal<D: JournalDevice>(store: &mut TreeStore<D>) -> Result<(), S
     ensures size { KeepsSize
         (device_below (pages_of store.old)) (device_below (pages_of store.new)) }
     ensures begins { IsSoundStore store.old → is_journaled (pages_of store.old) ≡ false
-        → (contents_of (pages_of store.old)).spelling ≡ Second
+        → (contents_of (pages_of store.old)).record_format ≡ V2
         → Begins D.Device (contents_of (pages_of store.old)) result (root_of (pages_of store.old))
         (device_below (pages_of store.old)) (device_below (pages_of store.new)) }
-    ensures number { IsSoundStore store.old → (contents_of (pages_of store.old)).spelling ≡ Second
+    ensures number { IsSoundStore store.old → (contents_of (pages_of store.old)).record_format ≡ V2
         → OnOk result ((root_of (pages_of store.new)).number
         ≡ (root_of (pages_of store.old)).number + 1) }
 {
     let sectors = [[0; SECTOR_SIZE]; 6];
-    let Ok(()) = store.write_beside(2, &sectors) else {
+    let Ok(()) = store.write_protected(2, &sectors) else {
         return Err(StoreFault::Device);
     };
     store.commit_kind(true)

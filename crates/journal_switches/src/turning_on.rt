@@ -12,7 +12,7 @@ use crate::on::begin_journal;
 use journal_store::{JournalDevice, JournalStore};
 use kv_store::{DEFAULT_CACHE_PAGES, OpenFault, TreeStore};
 use std::alloc::Global;
-use store::{Spelling, Store};
+use store::{RecordFormat, Store};
 
 // Makes a journal in a store that was opened from a device and has none, and hands the device back.
 fn make_journal<D: JournalDevice>(store: TreeStore<D>) -> (D, Result<u64, SwitchFault>)
@@ -22,9 +22,9 @@ fn make_journal<D: JournalDevice>(store: TreeStore<D>) -> (D, Result<u64, Switch
         → IsOpenedWith false (D.state device) (device_below (pages_of store)) (store_state store)
         → TurnsOn D.Device (D.state device) result.1 (D.state result.0) }
 {
-    match store.spelling() {
-        Spelling::First => (store.into_device(), Err(SwitchFault::NotMigrated)),
-        Spelling::Second => {
+    match store.record_format() {
+        RecordFormat::V1 => (store.into_device(), Err(SwitchFault::NotMigrated)),
+        RecordFormat::V2 => {
             let mut store = store;
             match begin_journal(&mut store) {
                 Ok(()) => {

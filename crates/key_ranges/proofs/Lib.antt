@@ -1,7 +1,7 @@
 pub mod Conditions
 pub mod Cells
-pub mod Quietness
-pub mod QuietGuards
+pub mod Infallibility
+pub mod InfallibleGuards
 pub mod Within
 pub mod Records
 pub mod Products

@@ -12,7 +12,7 @@ use Rattle.sql_types.specs.Row.{Row}
 use Rattle.sql_ast.specs.Layout.{Layout}
 use Rattle.row_codec.specs.Rows.{row_prefix}
 use Rattle.row_codec.proofs.Layouts.{and_parts}
-use Rattle.stored_database.specs.Spelling.{row_record}
+use Rattle.stored_database.specs.RecordFormat.{row_record}
 use Rattle.key_ranges.specs.declared.range.KeyRange.{KeyRange}
 use Rattle.key_ranges.specs.declared.range.KeyRange.TheVariants.{Point, Span}
 use Rattle.key_ranges.specs.Ranges.{is_in, is_in_any, is_inside, is_inside_any, records_in, IsRangeOf}

@@ -23,11 +23,11 @@ use Rattle.abstract_database.specs.Queries.{BoundQuery, Combination, Source, pro
 use Rattle.abstract_database.specs.Changes.{Chosen}
 use Rattle.guards.specs.Truths.{is_met}
 use Rattle.key_ranges.specs.declared.range.KeyRange.{KeyRange}
-use Rattle.key_ranges.specs.Quiet.{AreQuiet, GuardNeverFails}
-use Rattle.stored_database.specs.Spelling.{row_record}
+use Rattle.key_ranges.specs.Infallible.{AreInfallible, GuardNeverFails}
+use Rattle.stored_database.specs.RecordFormat.{row_record}
 use Rattle.key_ranges.specs.Ranges.{is_in, is_in_any, is_inside, is_inside_any, HasKeysBehind, IsBehind}
-use Rattle.key_ranges.specs.Laws.{IsHarmless, AreGuardsQuiet, HaveKeysBehind, RangesLoseNothing, LookUpsLoseNothing, OutsideRowsAreNotChosen, OutsideRowsAreNotMet}
-use Rattle.expressions.proofs.Quietness.{HasValue, and_value_of}
+use Rattle.key_ranges.specs.Laws.{IsHarmless, AreGuardsInfallible, HaveKeysBehind, RangesLoseNothing, LookUpsLoseNothing, OutsideRowsAreNotChosen, OutsideRowsAreNotMet}
+use Rattle.expressions.proofs.Infallibility.{HasValue, and_value_of}
 use Rattle.key_ranges.proofs.Products.{RefusesBehind, RefusesOutside, same_kept, same_kept_behind}
 
 -- ---- stages in which nothing fails
@@ -54,7 +54,7 @@ passes {A} p h (x ∷ xs) =
     ∙ ap (λ l. Ok l) (passed_by x (filter (λ x. is_true (p x)) xs) value.0)
     ∙ ap (λ b. Ok (if b then x ∷ filter (λ x. is_true (p x)) xs else filter (λ x. is_true (p x)) xs)) (sym (ap is_true value.1))
 
--- ---- quiet conditions joined by AND
+-- ---- infallible conditions joined by AND
 
 ok_value : (o : Outcome) → IsOk o → HasValue o
 ok_value (Ok v) h = (v, refl)
@@ -72,9 +72,9 @@ all_value (o ∷ os) all = all_value_from o os all.0 all.1
 abbrev pub outcomes : UserNames → Combination → List TypedTerm → List Outcome
 outcomes users c ts = map (λ t. value_of (cell_in c) users t.term) ts
 
-pub each_value : (users : UserNames) (c : Combination) (ts : List TypedTerm) → AreQuiet ts → AllByRecursion HasValue (outcomes users c ts)
-each_value users c [] quiet = tt
-each_value users c (t ∷ ts) quiet = (ok_value (value_of (cell_in c) users t.term) (quiet.0 (cell_in c) users), each_value users c ts quiet.1)
+pub each_value : (users : UserNames) (c : Combination) (ts : List TypedTerm) → AreInfallible ts → AllByRecursion HasValue (outcomes users c ts)
+each_value users c [] infallible = tt
+each_value users c (t ∷ ts) infallible = (ok_value (value_of (cell_in c) users t.term) (infallible.0 (cell_in c) users), each_value users c ts infallible.1)
 
 pub same_outcomes : (users : UserNames) (c : Combination) (ts : List TypedTerm) → map (bound_value users c) (map (λ t. t.term) ts) ≡ outcomes users c ts
 same_outcomes users c [] = refl
@@ -116,15 +116,15 @@ module _ (id : ℕ) (layout : Layout) (table : ℕ) (users : UserNames) (guard :
 abbrev seen : Source → List Row
 seen s = filter (λ row. is_true (s.guard row)) s.rows
 
-all_seen : (sources : List Source) → AreGuardsQuiet sources → each (λ s. passing s.guard s.rows) sources ≡ Ok (map seen sources)
-all_seen [] quiet = refl
-all_seen (s ∷ sources) quiet =
-    ap (λ r. r >>= λ y. each (λ s. passing s.guard s.rows) sources >>= λ ys. Ok (y ∷ ys)) (passes s.guard quiet.0 s.rows)
-    ∙ ap (λ r. r >>= λ ys. Ok (seen s ∷ ys)) (all_seen sources quiet.1)
+all_seen : (sources : List Source) → AreGuardsInfallible sources → each (λ s. passing s.guard s.rows) sources ≡ Ok (map seen sources)
+all_seen [] infallible = refl
+all_seen (s ∷ sources) infallible =
+    ap (λ r. r >>= λ y. each (λ s. passing s.guard s.rows) sources >>= λ ys. Ok (y ∷ ys)) (passes s.guard infallible.0 s.rows)
+    ∙ ap (λ r. r >>= λ ys. Ok (seen s ∷ ys)) (all_seen sources infallible.1)
 
-quiet_between : (before after : List Source) (s : Source) → AreGuardsQuiet before → AreGuardsQuiet after → GuardNeverFails s.guard → AreGuardsQuiet (before ++ s ∷ after)
-quiet_between [] after s b a h = (h, a)
-quiet_between (t ∷ before) after s b a h = (b.0, quiet_between before after s b.1 a h)
+infallible_between : (before after : List Source) (s : Source) → AreGuardsInfallible before → AreGuardsInfallible after → GuardNeverFails s.guard → AreGuardsInfallible (before ++ s ∷ after)
+infallible_between [] after s b a h = (h, a)
+infallible_between (t ∷ before) after s b a h = (b.0, infallible_between before after s b.1 a h)
 
 same_length : (sources : List Source) → length (map seen sources) ≡ length sources
 same_length [] = refl
@@ -140,20 +140,20 @@ cell_there front row rest table index long =
     rw there refl
 
 -- the answer over tables in which nothing fails
-answer_is : (sources : List Source) (users : UserNames) (q : BoundQuery) → AreGuardsQuiet sources → ((c : Combination) → HasValue (condition_value users q.conditions c))
+answer_is : (sources : List Source) (users : UserNames) (q : BoundQuery) → AreGuardsInfallible sources → ((c : Combination) → HasValue (condition_value users q.conditions c))
     → query sources users q ≡ listed users q.list q.keys q.limit (filter (λ c. is_true (condition_value users q.conditions c)) (product (map seen sources)))
-answer_is sources users q quiet there =
-    ap (λ r. r >>= λ visible. passing (condition_value users q.conditions) (product visible) >>= λ chosen. listed users q.list q.keys q.limit chosen) (all_seen sources quiet)
+answer_is sources users q infallible there =
+    ap (λ r. r >>= λ visible. passing (condition_value users q.conditions) (product visible) >>= λ chosen. listed users q.list q.keys q.limit chosen) (all_seen sources infallible)
     ∙ ap (λ r. r >>= λ chosen. listed users q.list q.keys q.limit chosen) (passes (condition_value users q.conditions) there (product (map seen sources)))
 
 pub ranges_lose_nothing : RangesLoseNothing
-ranges_lose_nothing id layout users before after guard conditions range q rows harmless quiet_before quiet_after same fit =
-    answer_is (before ++ narrow ∷ after) users q (quiet_between before after narrow quiet_before quiet_after harmless.guard_quiet) there
+ranges_lose_nothing id layout users before after guard conditions range q rows harmless infallible_before infallible_after same fit =
+    answer_is (before ++ narrow ∷ after) users q (infallible_between before after narrow infallible_before infallible_after harmless.guard_infallible) there
     ∙ ap (listed users q.list q.keys q.limit)
     (ap (λ tables. filter meets (product tables)) (map-append seen before (narrow ∷ after))
     ∙ same_kept (FitsTable layout) inside_range sees (map seen before) (map seen after) meets refuses rows fit
     ∙ ap (λ tables. filter meets (product tables)) (sym (map-append seen before (all ∷ after))))
-    ∙ sym (answer_is (before ++ all ∷ after) users q (quiet_between before after all quiet_before quiet_after harmless.guard_quiet) there)
+    ∙ sym (answer_is (before ++ all ∷ after) users q (infallible_between before after all infallible_before infallible_after harmless.guard_infallible) there)
   where
     inside_range : Row → Bool
     inside_range row = is_inside id layout range row
@@ -171,7 +171,7 @@ ranges_lose_nothing id layout users before after guard conditions range q rows h
     meets c = is_true (condition_value users q.conditions c)
 
     there : (c : Combination) → HasValue (condition_value users q.conditions c)
-    there c = value_there (condition_value users q.conditions c) (all_of (outcomes users c conditions)) (condition_is users q.conditions conditions same c) (all_value (outcomes users c conditions) (each_value users c conditions harmless.quiet))
+    there c = value_there (condition_value users q.conditions c) (all_of (outcomes users c conditions)) (condition_is users q.conditions conditions same c) (all_value (outcomes users c conditions) (each_value users c conditions harmless.infallible))
 
     refuses : RefusesOutside (FitsTable layout) inside_range sees (length (map seen before)) meets
     refuses front row rest long fits out =
@@ -205,15 +205,15 @@ same_seen : (x y : List (List Row)) → (let o : Result (List (List Row)) SqlSta
 same_seen x y e = cc
 
 pub look_ups_lose_nothing : LookUpsLoseNothing
-look_ups_lose_nothing id layout users before after front guard conditions ranges q rows harmless quiet_before quiet_after are same fit =
-    answer_is (before ++ narrow ∷ after) users q (quiet_between before after narrow quiet_before quiet_after harmless.guard_quiet) there
+look_ups_lose_nothing id layout users before after front guard conditions ranges q rows harmless infallible_before infallible_after are same fit =
+    answer_is (before ++ narrow ∷ after) users q (infallible_between before after narrow infallible_before infallible_after harmless.guard_infallible) there
     ∙ ap (listed users q.list q.keys q.limit)
     (ap (λ tables. filter meets (product tables)) (map-append seen before (narrow ∷ after))
     ∙ ap (λ tables. filter meets (product (tables ++ seen narrow ∷ map seen after))) seen_before
     ∙ same_kept_behind (FitsTable layout) inside_any sees front (map seen after) meets (refuses_all (product front) harmless.keys) rows fit
     ∙ ap (λ tables. filter meets (product (tables ++ seen all ∷ map seen after))) (sym seen_before)
     ∙ ap (λ tables. filter meets (product tables)) (sym (map-append seen before (all ∷ after))))
-    ∙ sym (answer_is (before ++ all ∷ after) users q (quiet_between before after all quiet_before quiet_after harmless.guard_quiet) there)
+    ∙ sym (answer_is (before ++ all ∷ after) users q (infallible_between before after all infallible_before infallible_after harmless.guard_infallible) there)
   where
     inside_any : Row → Bool
     inside_any row = is_inside_any id layout ranges row
@@ -228,13 +228,13 @@ look_ups_lose_nothing id layout users before after front guard conditions ranges
     all = record { guard = guard; rows = rows }
 
     seen_before : map seen before ≡ front
-    seen_before = same_seen (map seen before) front (sym (all_seen before quiet_before) ∙ are)
+    seen_before = same_seen (map seen before) front (sym (all_seen before infallible_before) ∙ are)
 
     meets : Combination → Bool
     meets c = is_true (condition_value users q.conditions c)
 
     there : (c : Combination) → HasValue (condition_value users q.conditions c)
-    there c = value_there (condition_value users q.conditions c) (all_of (outcomes users c conditions)) (condition_is users q.conditions conditions same c) (all_value (outcomes users c conditions) (each_value users c conditions harmless.quiet))
+    there c = value_there (condition_value users q.conditions c) (all_of (outcomes users c conditions)) (condition_is users q.conditions conditions same c) (all_value (outcomes users c conditions) (each_value users c conditions harmless.infallible))
 
     refuses : (c : Combination) → HaveKeysBehind id layout users conditions ranges c → RefusesBehind (FitsTable layout) inside_any sees meets c
     refuses c keys row rest fits out = ap is_true (condition_is users q.conditions conditions same (c ++ row ∷ rest)) ∙ go (is_true (all_of (outcomes users (c ++ row ∷ rest) conditions))) refl
@@ -277,10 +277,10 @@ by_guard becomes row (Boolean true) o h k =
 
 pub outside_rows_are_not_chosen : OutsideRowsAreNotChosen
 outside_rows_are_not_chosen id layout users guard condition range becomes row harmless fits out =
-    let value = harmless.guard_quiet row in
+    let value = harmless.guard_infallible row in
     let o : Outcome = value_of (cell_in (row ∷ [])) users condition.term in
     ap (λ r. r >>= λ visible. when_true visible o (Ok (Boolean false)) >>= λ chosen. then_becomes becomes row chosen) value.1
-    ∙ by_guard becomes row value.0 o (ok_value o (harmless.quiet.0 (cell_in (row ∷ [])) users)) (not_true id layout 0 users guard (condition ∷ []) range harmless (row ∷ []) row (λ index. refl) fits out)
+    ∙ by_guard becomes row value.0 o (ok_value o (harmless.infallible.0 (cell_in (row ∷ [])) users)) (not_true id layout 0 users guard (condition ∷ []) range harmless (row ∷ []) row (λ index. refl) fits out)
 
 met_by_guard : (v : Value) (o : Outcome) → HasValue o → is_true o ≡ false → (is_met (Ok v) >>= λ visible. if visible then is_met o else Ok false) ≡ Ok false
 met_by_guard Null o h k = refl
@@ -291,7 +291,7 @@ met_by_guard (Boolean true) o h k = ap is_met h.1 ∙ ap (λ b. Ok b) (sym (ap i
 
 pub outside_rows_are_not_met : OutsideRowsAreNotMet
 outside_rows_are_not_met id layout users guard condition range row harmless fits out =
-    let value = harmless.guard_quiet row in
+    let value = harmless.guard_infallible row in
     let o : Outcome = value_of (cell_in (row ∷ [])) users condition.term in
     ap (λ r. is_met r >>= λ visible. if visible then is_met o else Ok false) value.1
-    ∙ met_by_guard value.0 o (ok_value o (harmless.quiet.0 (cell_in (row ∷ [])) users)) (not_true id layout 0 users guard (condition ∷ []) range harmless (row ∷ []) row (λ index. refl) fits out)
+    ∙ met_by_guard value.0 o (ok_value o (harmless.infallible.0 (cell_in (row ∷ [])) users)) (not_true id layout 0 users guard (condition ∷ []) range harmless (row ∷ []) row (λ index. refl) fits out)

@@ -18,9 +18,9 @@ use Rattle.abstract_database.specs.Changes.{choose, condition_on_row}
 use Rattle.abstract_database.specs.Whole.{Each}
 use Rattle.guards.specs.Truths.{is_met}
 use Rattle.row_codec.specs.Rows.{row_prefix}
-use Rattle.stored_database.specs.Spelling.{row_record}
+use Rattle.stored_database.specs.RecordFormat.{row_record}
 use Rattle.key_ranges.specs.declared.range.KeyRange.{KeyRange}
-use Rattle.key_ranges.specs.Quiet.{AreQuiet, GuardNeverFails}
+use Rattle.key_ranges.specs.Infallible.{AreInfallible, GuardNeverFails}
 use Rattle.key_ranges.specs.Ranges.{records_in, is_inside, is_inside_any, IsRangeOf, HasKeysOf}
 
 -- where the records of a table are those of rows, what is found of a range is the records of the rows inside it, in the same order
@@ -31,18 +31,18 @@ RangesHoldTheirRows = (id : ℕ) (layout : Layout) (range : KeyRange) (records :
 
 -- a range of the keys of a table of this index in FROM, which has those of all rows on which the conditions are true, where neither these nor the guard fail on any row
 pub record IsHarmless (id : ℕ) (layout : Layout) (table : ℕ) (users : UserNames) (guard : Guard) (conditions : List TypedTerm) (range : KeyRange) : Type 0 where
-  pub guard_quiet : GuardNeverFails guard
-  pub quiet : AreQuiet conditions
+  pub guard_infallible : GuardNeverFails guard
+  pub infallible : AreInfallible conditions
   pub keys : HasKeysOf id layout table users conditions range
 
 -- no guard of these tables fails on any row
-abbrev pub AreGuardsQuiet : List Source → Type 0
-AreGuardsQuiet sources = AllByRecursion (λ s. GuardNeverFails s.guard) sources
+abbrev pub AreGuardsInfallible : List Source → Type 0
+AreGuardsInfallible sources = AllByRecursion (λ s. GuardNeverFails s.guard) sources
 
 -- a SELECT answers of the rows inside the range, beside any rows of the tables before and after it, what it answers of all rows
 abbrev pub RangesLoseNothing : Type 0
 RangesLoseNothing = (id : ℕ) (layout : Layout) (users : UserNames) (before after : List Source) (guard : Guard) (conditions : List TypedTerm) (range : KeyRange) (q : BoundQuery) (rows : List Row)
-    → IsHarmless id layout (length before) users guard conditions range → AreGuardsQuiet before → AreGuardsQuiet after
+    → IsHarmless id layout (length before) users guard conditions range → AreGuardsInfallible before → AreGuardsInfallible after
     → q.conditions ≡ map (λ c. c.term) conditions → Each (FitsTable layout) rows
     → query (before ++ record { guard = guard; rows = filter (is_inside id layout range) rows } ∷ after) users q ≡ query (before ++ record { guard = guard; rows = rows } ∷ after) users q
 
@@ -53,14 +53,14 @@ HaveKeysBehind id layout users conditions ranges front = (row : Row) (rest : Com
 
 -- ranges of the keys of a table that have those of all rows on which the conditions are true behind each combination of these rows of the tables before it
 pub record AreHarmlessBehind (id : ℕ) (layout : Layout) (seen : List (List Row)) (users : UserNames) (guard : Guard) (conditions : List TypedTerm) (ranges : List KeyRange) : Type 0 where
-  pub guard_quiet : GuardNeverFails guard
-  pub quiet : AreQuiet conditions
+  pub guard_infallible : GuardNeverFails guard
+  pub infallible : AreInfallible conditions
   pub keys : AllByRecursion (HaveKeysBehind id layout users conditions ranges) (product seen)
 
 -- behind tables of which these rows are seen, a SELECT answers of the rows inside the ranges that are made with these rows what it answers of all rows
 abbrev pub LookUpsLoseNothing : Type 0
 LookUpsLoseNothing = (id : ℕ) (layout : Layout) (users : UserNames) (before after : List Source) (seen : List (List Row)) (guard : Guard) (conditions : List TypedTerm) (ranges : List KeyRange) (q : BoundQuery) (rows : List Row)
-    → AreHarmlessBehind id layout seen users guard conditions ranges → AreGuardsQuiet before → AreGuardsQuiet after → each (λ s. passing s.guard s.rows) before ≡ Ok seen
+    → AreHarmlessBehind id layout seen users guard conditions ranges → AreGuardsInfallible before → AreGuardsInfallible after → each (λ s. passing s.guard s.rows) before ≡ Ok seen
     → q.conditions ≡ map (λ c. c.term) conditions → Each (FitsTable layout) rows
     → query (before ++ record { guard = guard; rows = filter (is_inside_any id layout ranges) rows } ∷ after) users q ≡ query (before ++ record { guard = guard; rows = rows } ∷ after) users q
 

@@ -1,5 +1,5 @@
 pub mod Bounds
-pub mod Quiet
+pub mod Infallible
 pub mod Ranges
 pub mod Laws
 pub mod Examples

@@ -17,12 +17,12 @@ use Rattle.store.specs.Records.{Records, key_cmp, entry_at, is_from, has_prefix}
 use Rattle.store.specs.Walks.{is_within, span}
 use Rattle.row_codec.specs.Cells.{key_cell}
 use Rattle.row_codec.specs.Rows.{row_prefix}
-use Rattle.stored_database.specs.Spelling.{row_record}
+use Rattle.stored_database.specs.RecordFormat.{row_record}
 use Rattle.key_ranges.specs.declared.bounds.BoundKind.TheVariants as kind
 use Rattle.key_ranges.specs.declared.range.KeyRange.{KeyRange}
 use Rattle.key_ranges.specs.declared.range.KeyRange.TheVariants.{Point, Span}
 use Rattle.key_ranges.specs.Bounds.{Bounds, bounds_of}
-use Rattle.key_ranges.specs.Quiet.{are_quiet}
+use Rattle.key_ranges.specs.Infallible.{are_infallible}
 
 -- ---- what a range is
 
@@ -109,7 +109,7 @@ is_first_bounded bounds (index ∷ indices) = is_bounded bounds index
 -- the range of a table, the one of this index in FROM, beside these rows of the first tables: where no condition can fail, and the first column of the key has a bound
 abbrev pub range_behind : ℕ → Layout → ℕ → List (Bor Row) → UserNames → List TypedTerm → Option KeyRange
 range_behind id layout table front users conditions =
-    if are_quiet conditions && is_first_bounded (bounds_of table users front conditions) layout.key
+    if are_infallible conditions && is_first_bounded (bounds_of table users front conditions) layout.key
     then Some (range_after (bounds_of table users front conditions) layout.key (row_prefix id)) else None
 
 -- the range of a table beside any rows

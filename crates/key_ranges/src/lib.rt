@@ -4,13 +4,13 @@
 
 mod bounds;
 mod examples;
+mod infallible;
 mod laws;
-mod quiet;
 mod range;
 
 pub use examples::{ranges_of_one_column, ranges_of_two_columns};
+pub use infallible::{are_infallible, is_guard_infallible};
 pub use laws::{
     look_ups_lose_nothing, outside_rows_are_not_chosen, ranges_hold_their_rows, ranges_lose_nothing,
 };
-pub use quiet::{are_quiet, is_guard_quiet};
 pub use range::{KeyRange, key_range, key_range_behind};

@@ -4,11 +4,11 @@ ghost use Rattle.std.specs.Option.{option_map};
 ghost use Rattle.sql_types.specs.Value.{owned};
 ghost use Rattle.expressions.specs.Rows.{names_of};
 ghost use Rattle.key_ranges.specs.Bounds.{bounds_of};
-ghost use Rattle.key_ranges.specs.Quiet.{AreQuiet};
+ghost use Rattle.key_ranges.specs.Infallible.{AreInfallible};
 ghost use Rattle.key_ranges.specs.Ranges.{range_of, range_behind, range_after, span_after, is_bounded, is_first_bounded, cell_of, HasKeysOf, HasKeysBehind, IsRangeOf};
 
 use crate::bounds::{BoundKind, BoundSearch};
-use crate::quiet::are_quiet;
+use crate::infallible::are_infallible;
 use expressions::eval::Users;
 use expressions::types::Typed;
 use row_codec::{push_key_cell, push_row_prefix};
@@ -60,7 +60,7 @@ pub fn key_range(
     ensures keys { IfOk result (λ range. IfSome range
         (HasKeysOf id columns.now table (names_of users.now) conditions.now)) }
     ensures prefix { IfOk result (λ range. IfSome range (IsRangeOf id)) }
-    ensures quiet { IfOk result (λ range. IfSome range (λ r. AreQuiet conditions.now)) }
+    ensures infallible { IfOk result (λ range. IfSome range (λ r. AreInfallible conditions.now)) }
 {
     key_range_behind(alloc, id, columns, table, &[], conditions, users)
 }
@@ -83,7 +83,7 @@ pub fn key_range_behind(
     ensures keys { IfOk result (λ range. IfSome range
         (HasKeysBehind id columns.now table front.now (names_of users.now) conditions.now)) }
     ensures prefix { IfOk result (λ range. IfSome range (IsRangeOf id)) }
-    ensures quiet { IfOk result (λ range. IfSome range (λ r. AreQuiet conditions.now)) }
+    ensures infallible { IfOk result (λ range. IfSome range (λ r. AreInfallible conditions.now)) }
 {
     let conditions = Conditions {
         table,
@@ -92,7 +92,7 @@ pub fn key_range_behind(
         front,
     };
     let key = columns.key();
-    if !are_quiet(conditions.list) || !conditions.is_first_bounded(key) {
+    if !are_infallible(conditions.list) || !conditions.is_first_bounded(key) {
         return Ok(None);
     }
     let mut prefix = Vec::new(alloc);

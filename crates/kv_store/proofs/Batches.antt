@@ -6,7 +6,7 @@ use Rattle.sector_device.specs.Timeline.{LeavesOnly, weakened, joined}
 use Rattle.sector_device.specs.Device.{Image, HasFailed, KeepsHistory, timeline}
 use Rattle.sector_device.specs.declared.device.Device.{Ghosts}
 use Rattle.store.specs.Records.{Records, Changes}
-use Rattle.page_roots.specs.Formats.{spelling_of, has_journal}
+use Rattle.page_roots.specs.Formats.{record_format_of, has_journal}
 use Rattle.page_roots.specs.declared.format.Format.{Format}
 use Rattle.page_roots.specs.Root.{RootFields}
 use Rattle.cow_pages.specs.declared.cow.CowPages.{CowPages}
@@ -54,7 +54,7 @@ module _ {D : Type 0} {g : Ghosts D} (before after : Contents) (old mid : CowPag
       subst (λ (d : D). LeavesOnly Either (timeline (device_below old)) (timeline (g.state d))) (sym device) leaves
 
   -- either array of a commit
-  either_contents : (next : Format) → spelling_of next ≡ after.spelling → has_journal next ≡ is_journaled old → HoldsContents before old → root_of mid ≡ root_of old
+  either_contents : (next : Format) → record_format_of next ≡ after.record_format → has_journal next ≡ is_journaled old → HoldsContents before old → root_of mid ≡ root_of old
       → Represents before.records (durable_array mid) → Represents after.records (working_array mid)
       → (image : Image) → IsEither (root_of mid).pages (root_of mid).format (root_of mid).number next (durable_array mid) (working_array mid) image → Either image
   either_contents next spelled kind holds root was is image either = elim either [
@@ -64,7 +64,7 @@ module _ {D : Type 0} {g : Ghosts D} (before after : Contents) (old mid : CowPag
       array = durable_array mid;
       means = subst (λ (r : RootFields). Means r.pages (root_of mid).format (root_of mid).number (durable_array mid) image) root means;
       kind = ap (λ (r : RootFields). has_journal r.format) root;
-      spelled = ap (λ (r : RootFields). spelling_of r.format) root ∙ holds.spelled;
+      spelled = ap (λ (r : RootFields). record_format_of r.format) root ∙ holds.spelled;
       represents = was;
     })
     | inr means ↦ inr (record {
@@ -79,7 +79,7 @@ module _ {D : Type 0} {g : Ghosts D} (before after : Contents) (old mid : CowPag
   ]
 
   -- the batch with its commit
-  pub leaves_either : (new : CowPages D g) (next : Format) → spelling_of next ≡ after.spelling → has_journal next ≡ is_journaled old → root_of mid ≡ root_of old → HoldsContents before old → Represents before.records (durable_array mid)
+  pub leaves_either : (new : CowPages D g) (next : Format) → record_format_of next ≡ after.record_format → has_journal next ≡ is_journaled old → root_of mid ≡ root_of old → HoldsContents before old → Represents before.records (durable_array mid)
       → LeavesDurable old mid → Represents after.records (working_array mid) → LeavesBeforeOrAfter next mid new → LeavesContents before after old new
   leaves_either new next spelled kind root holds was leaves is both =
       joined Either (timeline (device_below old)) (timeline (device_below mid)) (timeline (device_below new)) (leaves_before holds leaves)
@@ -122,7 +122,7 @@ module _ {D : Type 0} {g : Ghosts D} (before : Contents) (old mid : CowPages D g
   taken_back new given = record {
     holds = record {
       is_open = given.is_open;
-      spelled = ap (λ (r : RootFields). spelling_of r.format) (kept_on new given.keeps).root ∙ holds.spelled;
+      spelled = ap (λ (r : RootFields). record_format_of r.format) (kept_on new given.keeps).root ∙ holds.spelled;
       durable = map_of_same (durable_array old) (durable_array new) before.records (λ l. sym ((kept_on new given.keeps).same l)) holds.durable;
       same = given.working;
     };
@@ -158,7 +158,7 @@ module _ {D : Type 0} {g : Ghosts D} (before : Contents) (old mid : CowPages D g
     abandoned_leaves after = leaves_still before after old mid new abandoned.device (leaves_before before after old mid holds leaves)
 
   -- the changes are committed
-  module _ (after : Contents) (new : CowPages D g) (next : Format) (spelled : spelling_of next ≡ after.spelling) (kind : has_journal next ≡ is_journaled old) (represents : Represents after.records (working_array mid)) (opened : IsOpen mid) where
+  module _ (after : Contents) (new : CowPages D g) (next : Format) (spelled : record_format_of next ≡ after.record_format) (kind : has_journal next ≡ is_journaled old) (represents : Represents after.records (working_array mid)) (opened : IsOpen mid) where
     same_root : (root_of mid).number ≡ (root_of old).number
     same_root = ap (λ (r : RootFields). r.number) preserved.preserved.root
 
@@ -171,7 +171,7 @@ module _ {D : Type 0} {g : Ghosts D} (before : Contents) (old mid : CowPages D g
     -- where no root was written, the working array is the one that was durable before, in the format that it was in
     unchanged : (root_of mid).format ≡ next → ((l : ℕ) → durable_array new l ≡ working_array mid l) → ((l : ℕ) → durable_array new l ≡ durable_array mid l) → before ≡ after
     unchanged format durable same =
-        same_parts before after (sym holds.spelled ∙ (ap (λ (r : RootFields). spelling_of r.format) (sym preserved.preserved.root) ∙ (ap spelling_of format ∙ spelled)))
+        same_parts before after (sym holds.spelled ∙ (ap (λ (r : RootFields). record_format_of r.format) (sym preserved.preserved.root) ∙ (ap record_format_of format ∙ spelled)))
         (one_map (working_array mid) before.records after.records (λ l some. few mid l some)
         (map_of_same (durable_array mid) (working_array mid) before.records (λ l. sym (same l) ∙ durable l) still_represents) represents)
 
@@ -187,7 +187,7 @@ module _ {D : Type 0} {g : Ghosts D} (before : Contents) (old mid : CowPages D g
         record {
           holds = record {
             is_open = durable.is_open;
-            spelled = ap spelling_of is.format ∙ spelled;
+            spelled = ap record_format_of is.format ∙ spelled;
             durable = map_of_same (working_array mid) (durable_array new) after.records (λ l. sym (durable.durable l)) represents;
             same = λ l. durable.working l ∙ sym (durable.durable l);
           };

@@ -4,7 +4,7 @@ use Rattle.std.proofs.Math.Path.{fun_ext}
 use Rattle.sector_device.specs.Timeline.{IsPresent, weakened}
 use Rattle.sector_device.specs.Device.{KeepsSize, timeline}
 use Rattle.sector_device.specs.declared.device.Device.{Ghosts}
-use Rattle.page_roots.specs.Formats.{spelling_of}
+use Rattle.page_roots.specs.Formats.{record_format_of}
 use Rattle.page_roots.specs.Root.{RootFields}
 use Rattle.pages.specs.State.{Array}
 use Rattle.cow_pages.specs.declared.cow.CowPages.{CowPages}
@@ -41,7 +41,7 @@ module _ {D : Type 0} {g : Ghosts D} (present : (device : D) → (g.state device
         has_not_failed = works;
         settled = same_settled (g.state q.device) p.map.root q.map.root p.map.durable.items q.map.durable.items (sym memory.root) (sym memory.durable) (stays durable).settled;
       };
-      spelled = ap (λ (r : RootFields). spelling_of r.format) memory.root ∙ holds.spelled;
+      spelled = ap (λ (r : RootFields). record_format_of r.format) memory.root ∙ holds.spelled;
       durable = map_of_same (durable_array p) (durable_array q) contents.records (λ l. sym ((stays durable).same l)) holds.durable;
       same = λ l. array holds.is_open.faithful l ∙ (holds.same l ∙ sym ((stays durable).same l));
     }
@@ -49,8 +49,8 @@ module _ {D : Type 0} {g : Ghosts D} (present : (device : D) → (g.state device
   -- what a walk meets
   contents_at : HoldsDurable p → contents_of q ≡ contents_of p
   contents_at holds =
-      ap (λ (r : RootFields). let c : Contents = record { spelling = spelling_of r.format; records = records_of (durable_array q) } in c) memory.root
-      ∙ ap (λ (a : Array). let c : Contents = record { spelling = spelling_of (root_of p).format; records = records_of a } in c) (fun_ext (stays holds).same)
+      ap (λ (r : RootFields). let c : Contents = record { record_format = record_format_of r.format; records = records_of (durable_array q) } in c) memory.root
+      ∙ ap (λ (a : Array). let c : Contents = record { record_format = record_format_of (root_of p).format; records = records_of a } in c) (fun_ext (stays holds).same)
 
   -- a store over them
   module _ (s t : TreeStore D g) (below : pages_of s ≡ p) (above : pages_of t ≡ q) (worked : s.has_failed ≡ false) (cursor : t.cursor ≡ s.cursor) (works : t.has_failed ≡ false → has_failed q ≡ false) (sound : IsSoundStore s) where

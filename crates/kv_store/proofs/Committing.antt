@@ -6,7 +6,7 @@ use Rattle.sector_device.proofs.Runs.{lifted}
 use Rattle.sector_device.specs.Device.{KeepsHistory as DeviceKeepsHistory, timeline}
 use Rattle.sector_device.specs.declared.device.Device.{Ghosts}
 use Rattle.store.specs.Records.{Records, Changes}
-use Rattle.page_roots.specs.Formats.{spelling_of, has_journal}
+use Rattle.page_roots.specs.Formats.{record_format_of, has_journal}
 use Rattle.page_roots.specs.Root.{RootFields}
 use Rattle.pages.specs.State.{Array}
 use Rattle.cow_pages.specs.Cow.{device_below, root_of, durable_array}
@@ -94,7 +94,7 @@ module _ {D : Type 0} {g : Ghosts D} (present : (device : D) → (g.state device
           let done = batch sound in
           let is = done.outcome in
           record {
-            committed = record { map = ap (λ (c : Contents). c.records) (contents_are after new.pages.below is.holds); spelling = ap (λ (c : Contents). c.spelling) (contents_are after new.pages.below is.holds); not_back = is.not_back; by_one = is.by_one };
+            committed = record { map = ap (λ (c : Contents). c.records) (contents_are after new.pages.below is.holds); record_format = ap (λ (c : Contents). c.record_format) (contents_are after new.pages.below is.holds); not_back = is.not_back; by_one = is.by_one };
             leaves = leaves_either before after old new (MayLeaveDuring (Ok tt) before after) is.pages is.kind (λ x either. either) done.leaves;
             left = left_held after new is.holds;
           };
@@ -106,7 +106,7 @@ module _ {D : Type 0} {g : Ghosts D} (present : (device : D) → (g.state device
 
     -- nothing is, and a stop leaves the records as they were
     unchanged : IsTakenBack before old.pages.below new.pages.below → IsUnchanged (store_state old) (store_state new)
-    unchanged back = record { map = ap (λ (c : Contents). c.records) (contents_are before new.pages.below back.holds); spelling = ap (λ (r : RootFields). spelling_of r.format) back.root; number = ap (λ (r : RootFields). r.number) back.root }
+    unchanged back = record { map = ap (λ (c : Contents). c.records) (contents_are before new.pages.below back.holds); record_format = ap (λ (r : RootFields). record_format_of r.format) back.root; number = ap (λ (r : RootFields). r.number) back.root }
 
     leaves_before : (Q : Option Contents → Type 0) → ((x : Option Contents) → x ≡ Some before → Q x) → IsTakenBack before old.pages.below new.pages.below
         → LeavesOnly Q (store_state old).time (store_state new).time
@@ -188,7 +188,7 @@ module _ {D : Type 0} {g : Ghosts D} (present : (device : D) → (g.state device
     at_once = λ sound still.
         let now : (x : Option Contents) → (store_state s).time.left x → x ≡ Some after = λ x left. settled_now s x sound worked left ∙ ap (λ (c : Contents). Some c) (sym same) in
         record {
-          committed = record { map = ap (λ (c : Contents). c.records) (sym same); spelling = ap (λ (c : Contents). c.spelling) (sym same); not_back = omega arith; by_one = omega arith };
+          committed = record { map = ap (λ (c : Contents). c.records) (sym same); record_format = ap (λ (c : Contents). c.record_format) (sym same); not_back = omega arith; by_one = omega arith };
           leaves = weakened (store_state s).time.left _ (store_state s).time (store_state s).time (λ x left. inr (now x left)) ((nothing_read present content_left s).leaves sound);
           left = now;
         };

@@ -5,9 +5,9 @@ use Rattle.std.proofs.lemmas.List.{append-nil}
 use Rattle.sector_device.specs.Timeline.{LeavesOnly, weakened}
 use Rattle.sector_device.specs.Device.{DeviceState, Image, KeepsHistory, timeline}
 use Rattle.sector_device.specs.Page.{IsAlone, IsOutside}
-use Rattle.storage_sizes.specs.declared.spelling.Spelling.{Spelling}
-use Rattle.storage_sizes.specs.declared.spelling.Spelling.TheVariants.{First, Second}
-use Rattle.page_roots.specs.Formats.{format_of, spelling_of, has_journal}
+use Rattle.storage_sizes.specs.declared.record_format.RecordFormat.{RecordFormat}
+use Rattle.storage_sizes.specs.declared.record_format.RecordFormat.TheVariants.{V1, V2}
+use Rattle.page_roots.specs.Formats.{format_of, record_format_of, has_journal}
 use Rattle.cow_pages.specs.Image.{Means, one_page}
 use Rattle.cow_pages.specs.Formatting.{IsBlank, IsNoneOrFirst as IsNoneOrFirstPage}
 use Rattle.page_nodes.specs.declared.cell.NodeKind.TheVariants.{Leaf}
@@ -33,31 +33,31 @@ only_first page zero some = refl
 only_first page (suc l) some = absurd (let bad = some in cc)
 
 -- the format of a spelling has it
-spelled_so : (spelling : Spelling) → spelling_of (format_of spelling) ≡ spelling
-spelled_so First = refl
-spelled_so Second = refl
+spelled_so : (record_format : RecordFormat) → record_format_of (format_of record_format) ≡ record_format
+spelled_so V1 = refl
+spelled_so V2 = refl
 
-plain : (spelling : Spelling) → has_journal (format_of spelling) ≡ false
-plain First = refl
-plain Second = refl
+plain : (record_format : RecordFormat) → has_journal (format_of record_format) ≡ false
+plain V1 = refl
+plain V2 = refl
 
 -- an image of the first page has the record of its leaf
-pub has_first : (pages : ℕ) (spelling : Spelling) (e : Record) (page : List ℕ) → IsNode Leaf [] (e ∷ []) page → (image : Image) → Means pages (format_of spelling) 1 (one_page page) image → HasFirst pages spelling e image
-has_first pages spelling e page node image means = (
-  record { format = format_of spelling; number = 1; array = one_page page; means = means; kind = plain spelling; spelled = spelled_so spelling; represents = leaf_is_tree (one_page page) (e ∷ []) page refl (only_first page) node (tt, tt) },
+pub has_first : (pages : ℕ) (record_format : RecordFormat) (e : Record) (page : List ℕ) → IsNode Leaf [] (e ∷ []) page → (image : Image) → Means pages (format_of record_format) 1 (one_page page) image → HasFirst pages record_format e image
+has_first pages record_format e page node image means = (
+  record { format = format_of record_format; number = 1; array = one_page page; means = means; kind = plain record_format; spelled = spelled_so record_format; represents = leaf_is_tree (one_page page) (e ∷ []) page refl (only_first page) node (tt, tt) },
   refl,
 )
 
-none_or_first : (sectors : ℕ) (spelling : Spelling) (e : Record) (page : List ℕ) → IsNode Leaf [] (e ∷ []) page → (image : Image) → IsNoneOrFirstPage sectors (format_of spelling) page image → IsNoneOrFirst sectors spelling e image
-none_or_first sectors spelling e page node image is = elim is [
+none_or_first : (sectors : ℕ) (record_format : RecordFormat) (e : Record) (page : List ℕ) → IsNode Leaf [] (e ∷ []) page → (image : Image) → IsNoneOrFirstPage sectors (format_of record_format) page image → IsNoneOrFirst sectors record_format e image
+none_or_first sectors record_format e page node image is = elim is [
   | inl none ↦ inl none
-  | inr means ↦ inr (has_first _ spelling e page node image means)
+  | inr means ↦ inr (has_first _ record_format e page node image means)
 ]
 
-pub written : (spelling : Spelling) (e : Record) (page : List ℕ) (d f : DeviceState) → IsNode Leaf [] (e ∷ []) page → KeepsHistory d f → (d.faithful → IsBlank d → LeavesOnly (IsNoneOrFirstPage d.sectors (format_of spelling) page) (timeline d) (timeline f))
-    → (d.faithful → (s : ℕ) → 2 ≤ s → IsOutside 8 16 s → IsAlone d f s) → WritesStore spelling e d f
-written spelling e page d f node history moments others = record {
+pub written : (record_format : RecordFormat) (e : Record) (page : List ℕ) (d f : DeviceState) → IsNode Leaf [] (e ∷ []) page → KeepsHistory d f → (d.faithful → IsBlank d → LeavesOnly (IsNoneOrFirstPage d.sectors (format_of record_format) page) (timeline d) (timeline f))
+    → (d.faithful → (s : ℕ) → 2 ≤ s → IsOutside 8 16 s → IsAlone d f s) → WritesStore record_format e d f
+written record_format e page d f node history moments others = record {
   history = history;
-  any_moment = λ faithful blank. weakened _ _ (timeline d) (timeline f) (none_or_first d.sectors spelling e page node) (moments faithful blank);
+  any_moment = λ faithful blank. weakened _ _ (timeline d) (timeline f) (none_or_first d.sectors record_format e page node) (moments faithful blank);
   others = others;
 }

@@ -3,7 +3,7 @@ use Rattle.std.proofs.Common.{◌≡◌, ◌⊎◌, ◌+◌, inl, inr, Result, O
 use Rattle.sector_device.specs.Timeline.{LeavesOnly, weakened, joined}
 use Rattle.sector_device.specs.Device.{Image, timeline}
 use Rattle.sector_device.specs.declared.device.Device.{Ghosts}
-use Rattle.page_roots.specs.Formats.{spelling_of, has_journal}
+use Rattle.page_roots.specs.Formats.{record_format_of, has_journal}
 use Rattle.page_roots.specs.declared.format.Format.{Format}
 use Rattle.page_roots.specs.Root.{RootFields}
 use Rattle.cow_pages.specs.declared.cow.CowPages.{CowPages}
@@ -30,7 +30,7 @@ module _ {D : Type 0} {g : Ghosts D} (before after : Contents) (old mid : CowPag
   before_still new device =
       subst (λ (d : D). LeavesOnly (HasContentsUnder (is_journaled old) (root_of old).pages (root_of old).number before) (timeline (device_below old)) (timeline (g.state d))) (sym device) before_mid
 
-  module _ (next : Format) (spelled : spelling_of next ≡ after.spelling) (kind : has_journal next ≡ is_journaled old) (root : root_of mid ≡ root_of old) (was : Represents before.records (durable_array mid)) (is : Represents after.records (working_array mid)) where
+  module _ (next : Format) (spelled : record_format_of next ≡ after.record_format) (kind : has_journal next ≡ is_journaled old) (root : root_of mid ≡ root_of old) (was : Represents before.records (durable_array mid)) (is : Represents after.records (working_array mid)) where
     abbrev Either : Image → Type 0
     Either image = HasContentsUnder (is_journaled old) (root_of old).pages (root_of old).number before image ⊎ HasContentsUnder (is_journaled old) (root_of old).pages ((root_of old).number + 1) after image
 
@@ -41,7 +41,7 @@ module _ {D : Type 0} {g : Ghosts D} (before after : Contents) (old mid : CowPag
         array = durable_array mid;
         means = subst (λ (r : RootFields). Means r.pages (root_of mid).format r.number (durable_array mid) image) root means;
         kind = ap (λ (r : RootFields). has_journal r.format) root;
-        spelled = ap (λ (r : RootFields). spelling_of r.format) root ∙ holds.spelled;
+        spelled = ap (λ (r : RootFields). record_format_of r.format) root ∙ holds.spelled;
         represents = was;
       })
       | inr means ↦ inr (record {

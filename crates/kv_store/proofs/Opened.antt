@@ -3,7 +3,7 @@ use Rattle.std.proofs.Common.{◌≡◌, ◌≢◌, ◌/◌, ◌⊎◌, ℕ, Boo
 use Rattle.std.proofs.lemmas.Bool.{false≢true}
 use Rattle.sector_device.specs.Device.{DeviceState, KeepsHistory, HasFailed, history_joined}
 use Rattle.sector_device.specs.declared.device.Device.{Ghosts}
-use Rattle.page_roots.specs.Formats.{spelling_of, has_journal}
+use Rattle.page_roots.specs.Formats.{record_format_of, has_journal}
 use Rattle.page_roots.specs.declared.format.Format.{Format}
 use Rattle.page_roots.specs.Root.{RootFields}
 use Rattle.pages.specs.declared.array.PageFault.{PageFault}
@@ -56,7 +56,7 @@ module _ {D : Type 0} {g : Ghosts D} (d : DeviceState) (p q : CowPages D g) (ope
   pages_are : d.sectors / 8 ≡ (root_of p).pages
   pages_are = omega (arith, p.sized, opened.history.sectors)
 
-  pub contents_in : (journal : Bool) → is_journaled p ≡ journal → (contents : Contents) → d.faithful → spelling_of (root_of p).format ≡ contents.spelling → Represents contents.records (working_array p) → (has : HasContentsWith journal (d.sectors / 8) contents d.content) × (has.number ≡ (root_of p).number)
+  pub contents_in : (journal : Bool) → is_journaled p ≡ journal → (contents : Contents) → d.faithful → record_format_of (root_of p).format ≡ contents.record_format → Represents contents.records (working_array p) → (has : HasContentsWith journal (d.sectors / 8) contents d.content) × (has.number ≡ (root_of p).number)
   contents_in journal kind contents faithful spelled represents = (
     record {
       format = (root_of p).format;
@@ -75,10 +75,10 @@ module _ {D : Type 0} {g : Ghosts D} (d : DeviceState) (p q : CowPages D g) (ope
       let same = one_meaning (d.sectors / 8) (root_of p).pages has.format (root_of p).format has.number (root_of p).number has.array (durable_array p) d.content has.means (opened.holds faithful).means in
       none contents.records (map_of_same has.array (working_array p) contents.records (λ l. same.2 l ∙ sym (opened.same_arrays l)) has.represents)
 
-  holds_after : (contents : Contents) → d.faithful → IsOpen q → StaysDurable p q → spelling_of (root_of p).format ≡ contents.spelling → Represents contents.records (working_array p) → HoldsContents contents q
+  holds_after : (contents : Contents) → d.faithful → IsOpen q → StaysDurable p q → record_format_of (root_of p).format ≡ contents.record_format → Represents contents.records (working_array p) → HoldsContents contents q
   holds_after contents faithful is_open stays spelled represents = record {
     is_open = is_open;
-    spelled = ap (λ (r : RootFields). spelling_of r.format) preserved.preserved.root ∙ spelled;
+    spelled = ap (λ (r : RootFields). record_format_of r.format) preserved.preserved.root ∙ spelled;
     durable = map_of_same (working_array p) (durable_array q) contents.records (λ l. opened.same_arrays l ∙ sym (stays.same l)) represents;
     same = λ l. reads.array (opened.history.faithful faithful) l ∙ (opened.same_arrays l ∙ sym (stays.same l));
   }
@@ -94,9 +94,9 @@ module _ {D : Type 0} {g : Ghosts D} (d : DeviceState) (p q : CowPages D g) (ope
     content = λ faithful. subst (λ (x : CowPages D g). KeepsContent d (device_below x)) (sym pages) (content_is faithful);
     holds = λ faithful.
         let is = checked faithful in
-        let contents : Contents = record { spelling = spelling_of (root_of p).format; records = is.2.0 } in
+        let contents : Contents = record { record_format = record_format_of (root_of p).format; records = is.2.0 } in
         let held = sound contents (holds_after contents faithful is.0 is.1 refl is.2.1) in
-        let here = contents_in journal kind (stored (store_state s)) faithful (ap (λ (c : Contents). c.spelling) (sym held.1))
+        let here = contents_in journal kind (stored (store_state s)) faithful (ap (λ (c : Contents). c.record_format) (sym held.1))
         (subst (λ (c : Contents). Represents c.records (working_array p)) (sym held.1) is.2.1) in
         record {
           sound = held.0;

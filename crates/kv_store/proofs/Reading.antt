@@ -7,7 +7,7 @@ use Rattle.sector_device.specs.Timeline.{LeavesOnly, IsPresent, read_by}
 use Rattle.sector_device.proofs.Runs.{lifted, present_lifted}
 use Rattle.sector_device.specs.Device.{Image, IsLeft, timeline}
 use Rattle.sector_device.specs.declared.device.Device.{Ghosts}
-use Rattle.page_roots.specs.Formats.{spelling_of, has_journal}
+use Rattle.page_roots.specs.Formats.{record_format_of, has_journal}
 use Rattle.page_roots.specs.Root.{RootFields}
 use Rattle.pages.specs.State.{Array}
 use Rattle.cow_pages.specs.Image.{Means}
@@ -223,7 +223,7 @@ module _ {D : Type 0} {g : Ghosts D} (present : (device : D) → (g.state device
         failures = failures;
         faults = preserved.preserved.history.failures;
       };
-      unchanged = λ sound. record { map = ap records_of (same_durable sound); spelling = ap (λ (r : RootFields). spelling_of r.format) preserved.preserved.root; number = ap (λ (r : RootFields). r.number) preserved.preserved.root };
+      unchanged = λ sound. record { map = ap records_of (same_durable sound); record_format = ap (λ (r : RootFields). record_format_of r.format) preserved.preserved.root; number = ap (λ (r : RootFields). r.number) preserved.preserved.root };
       leaves = leaves_read;
     }
 

@@ -2,9 +2,9 @@
 use Rattle.std.proofs.Common.{◌≡◌, true, Result, Ok, Err, refl, ap, ◌∙◌}
 use Rattle.sector_device.specs.declared.device.Device.{Ghosts}
 use Rattle.page_roots.specs.declared.format.Format.{Format}
-use Rattle.storage_sizes.specs.declared.spelling.Spelling.TheVariants.{Second}
+use Rattle.storage_sizes.specs.declared.record_format.RecordFormat.TheVariants.{V2}
 use Rattle.page_roots.specs.declared.format.Format.TheVariants.{One, Two, Three}
-use Rattle.page_roots.specs.Formats.{spelling_of, has_journal}
+use Rattle.page_roots.specs.Formats.{record_format_of, has_journal}
 use Rattle.page_roots.specs.Root.{RootFields}
 use Rattle.cow_pages.specs.declared.cow.CowPages.{CowPages}
 use Rattle.cow_pages.specs.declared.page_map.CommitFault.{CommitFault}
@@ -27,7 +27,7 @@ kind_committed {D} {g} next (Err NoFirstPage) old new is kind = same_kind old ne
 kind_committed {D} {g} next (Err Device) old new is kind = same_kind old new is.memory.root
 
 -- where there is a journal, records are of the second spelling
-pub journaled_is_second : (format : Format) → has_journal format ≡ true → spelling_of format ≡ Second
+pub journaled_is_second : (format : Format) → has_journal format ≡ true → record_format_of format ≡ V2
 journaled_is_second One is = absurd cc
 journaled_is_second Two is = absurd cc
 journaled_is_second Three is = refl

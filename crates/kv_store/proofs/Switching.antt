@@ -3,7 +3,7 @@ use Rattle.std.proofs.Common.{◌≡◌, ◌⊎◌, ◌+◌, inl, inr, Bool, Res
 use Rattle.sector_device.specs.Timeline.{IsPresent, weakened}
 use Rattle.sector_device.specs.Device.{Image, timeline}
 use Rattle.sector_device.specs.declared.device.Device.{Ghosts}
-use Rattle.page_roots.specs.Formats.{spelling_of, has_journal}
+use Rattle.page_roots.specs.Formats.{record_format_of, has_journal}
 use Rattle.page_roots.specs.Root.{RootFields}
 use Rattle.page_roots.specs.declared.format.Format.{Format}
 use Rattle.cow_pages.specs.declared.cow.CowPages.{CowPages}
@@ -23,7 +23,7 @@ use Rattle.kv_store.proofs.Batches.{working_holds}
 use Rattle.kv_store.proofs.Numbering.{before_still}
 
 module _ {D : Type 0} {g : Ghosts D} (present : (device : D) → (g.state device).faithful → IsPresent (timeline (g.state device)))
-    (next : Format) (journal : Bool) (contents : Contents) (old new : CowPages D g) (holds : HoldsContents contents old) (spelled : spelling_of next ≡ contents.spelling) (kind : has_journal next ≡ journal) where
+    (next : Format) (journal : Bool) (contents : Contents) (old new : CowPages D g) (holds : HoldsContents contents old) (spelled : record_format_of next ≡ contents.record_format) (kind : has_journal next ≡ journal) where
   abbrev Either : Image → Type 0
   Either image = HasContentsUnder (is_journaled old) (root_of old).pages (root_of old).number contents image ⊎ HasContentsUnder journal (root_of old).pages ((root_of old).number + 1) contents image
 
@@ -42,7 +42,7 @@ module _ {D : Type 0} {g : Ghosts D} (present : (device : D) → (g.state device
       record {
         holds = record {
           is_open = durable.is_open;
-          spelled = ap spelling_of is.format ∙ spelled;
+          spelled = ap record_format_of is.format ∙ spelled;
           durable = map_of_same (working_array old) (durable_array new) contents.records (λ l. sym (durable.durable l)) (working_holds contents old holds);
           same = λ l. durable.working l ∙ sym (durable.durable l);
         };
@@ -56,7 +56,7 @@ module _ {D : Type 0} {g : Ghosts D} (present : (device : D) → (g.state device
   not_switched is = record {
     holds = record {
       is_open = is.is_open;
-      spelled = ap (λ (r : RootFields). spelling_of r.format) is.keeps.root ∙ holds.spelled;
+      spelled = ap (λ (r : RootFields). record_format_of r.format) is.keeps.root ∙ holds.spelled;
       durable = map_of_same (durable_array old) (durable_array new) contents.records (λ l. sym (is.keeps.same l)) holds.durable;
       same = is.working;
     };

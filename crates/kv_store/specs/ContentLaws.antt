@@ -1,9 +1,9 @@
 -- Images and their contents: laws that the ghost members of a store cite.
 use Rattle.std.proofs.Common.{◌≡◌, ◌⊎◌, inl, inr, ℕ, Bool, false, Option, Some, None, sym, ap, ◌∙◌}
 use Rattle.sector_device.specs.Device.{Image}
-use Rattle.storage_sizes.specs.declared.spelling.Spelling.{Spelling}
+use Rattle.storage_sizes.specs.declared.record_format.RecordFormat.{RecordFormat}
 use Rattle.store.specs.Records.{Records}
-use Rattle.page_roots.specs.Formats.{spelling_of}
+use Rattle.page_roots.specs.Formats.{record_format_of}
 use Rattle.cow_pages.proofs.Meaning.{one_meaning}
 use Rattle.cow_pages.proofs.Faults.{means_few}
 use Rattle.page_tree.proofs.Represented.{one_map, map_of_same}
@@ -11,15 +11,15 @@ use Rattle.store.specs.Store.{Contents}
 use Rattle.kv_store.specs.Contents.{HasContents, HasContentsWith, IsReadAs, IsReadWith}
 
 -- contents with the same records, spelled alike
-pub same_parts : (c d : Contents) → c.spelling ≡ d.spelling → c.records ≡ d.records → c ≡ d
-same_parts c d spelling records =
-    ap (λ (s : Spelling). let x : Contents = record { spelling = s; records = c.records } in x) spelling
-    ∙ ap (λ (es : Records). let x : Contents = record { spelling = d.spelling; records = es } in x) records
+pub same_parts : (c d : Contents) → c.record_format ≡ d.record_format → c.records ≡ d.records → c ≡ d
+same_parts c d record_format records =
+    ap (λ (s : RecordFormat). let x : Contents = record { record_format = s; records = c.records } in x) record_format
+    ∙ ap (λ (es : Records). let x : Contents = record { record_format = d.record_format; records = es } in x) records
 
 pub same_contents_with : (journal : Bool) (image : Image) (pages others : ℕ) (contents other : Contents) → HasContentsWith journal pages contents image → HasContentsWith journal others other image → contents ≡ other
 same_contents_with journal image pages others contents other has also =
     let same = one_meaning pages others has.format also.format has.number also.number has.array also.array image has.means also.means in
-    same_parts contents other (sym has.spelled ∙ (ap spelling_of same.0 ∙ also.spelled))
+    same_parts contents other (sym has.spelled ∙ (ap record_format_of same.0 ∙ also.spelled))
     (one_map also.array contents.records other.records (λ l some. means_few image others also.format also.number also.array l also.means some)
     (map_of_same has.array also.array contents.records same.2 has.represents) also.represents)
 

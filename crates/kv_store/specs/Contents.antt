@@ -3,7 +3,7 @@ use Rattle.std.specs.Prelude.{◌≡◌, ◌⊎◌, ℕ, Bool, false, Option, So
 use Rattle.sector_device.specs.Timeline.{LeavesOnly}
 use Rattle.sector_device.specs.Device.{Image, timeline}
 use Rattle.sector_device.specs.declared.device.Device.{Ghosts}
-use Rattle.page_roots.specs.Formats.{spelling_of, has_journal}
+use Rattle.page_roots.specs.Formats.{record_format_of, has_journal}
 use Rattle.page_roots.specs.declared.format.Format.{Format}
 use Rattle.pages.specs.State.{Array}
 use Rattle.cow_pages.specs.declared.cow.CowPages.{CowPages}
@@ -21,7 +21,7 @@ pub record HasContentsWith (journal : Bool) (pages : ℕ) (contents : Contents) 
   pub array : Array
   pub means : Means pages format number array image
   pub kind : has_journal format ≡ journal
-  pub spelled : spelling_of format ≡ contents.spelling
+  pub spelled : record_format_of format ≡ contents.record_format
   pub represents : Represents contents.records array
 
 -- what is read of the pages of an image: their contents, or None where they have none
@@ -44,12 +44,12 @@ is_journaled p = has_journal (root_of p).format
 
 -- the records that a walk of the durable array meets, and how they are spelled
 abbrev pub contents_of : {D : Type 0} {g : Ghosts D} → CowPages D g → Contents
-contents_of p = record { spelling = spelling_of (root_of p).format; records = records_of (durable_array p) }
+contents_of p = record { record_format = record_format_of (root_of p).format; records = records_of (durable_array p) }
 
 -- pages that are open hold these contents, and nothing has changed since the last commit
 pub record HoldsContents {D : Type 0} {g : Ghosts D} (contents : Contents) (p : CowPages D g) : Type 0 where
   pub is_open : IsOpen p
-  pub spelled : spelling_of (root_of p).format ≡ contents.spelling
+  pub spelled : record_format_of (root_of p).format ≡ contents.record_format
   pub durable : Represents contents.records (durable_array p)
   pub same : (l : ℕ) → working_array p l ≡ durable_array p l
 

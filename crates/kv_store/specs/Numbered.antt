@@ -3,7 +3,7 @@ use Rattle.std.specs.Prelude.{◌≡◌, ◌⊎◌, ◌+◌, ℕ, Bool, Result, 
 use Rattle.sector_device.specs.Timeline.{LeavesOnly}
 use Rattle.sector_device.specs.Device.{Image, timeline}
 use Rattle.sector_device.specs.declared.device.Device.{Ghosts}
-use Rattle.page_roots.specs.Formats.{spelling_of, has_journal}
+use Rattle.page_roots.specs.Formats.{record_format_of, has_journal}
 use Rattle.page_roots.specs.declared.format.Format.{Format}
 use Rattle.pages.specs.State.{Array}
 use Rattle.cow_pages.specs.declared.cow.CowPages.{CowPages}
@@ -21,7 +21,7 @@ pub record HasContentsUnder (journal : Bool) (pages number : ℕ) (contents : Co
   pub array : Array
   pub means : Means pages format number array image
   pub kind : has_journal format ≡ journal
-  pub spelled : spelling_of format ≡ contents.spelling
+  pub spelled : record_format_of format ≡ contents.record_format
   pub represents : Represents contents.records array
 
 -- a stop leaves the contents before, under the old root

@@ -6,12 +6,12 @@ use Rattle.cow_pages.specs.Cow.{root_of}
 use Rattle.page_roots.specs.declared.format.Format.{Format}
 use Rattle.page_roots.specs.Formats.{has_journal}
 use Rattle.kv_store.specs.Contents.{is_journaled}
-use Rattle.kv_store.specs.declared.commit.Switch.{Switch}
-use Rattle.kv_store.specs.declared.commit.Switch.TheVariants.{Anew}
+use Rattle.kv_store.specs.declared.commit.RootWrite.{RootWrite}
+use Rattle.kv_store.specs.declared.commit.RootWrite.TheVariants.{Always}
 
 -- a commit that always writes one has the next number
-abbrev pub IsAnew : {D : Type 0} {g : Ghosts D} {E : Type 0} → Switch → Result (Unit {0}) E → CowPages D g → CowPages D g → Type 0
-IsAnew switch result old new = switch ≡ Anew → OnOk result ((root_of new).number ≡ (root_of old).number + 1)
+abbrev pub IsAnew : {D : Type 0} {g : Ghosts D} {E : Type 0} → RootWrite → Result (Unit {0}) E → CowPages D g → CowPages D g → Type 0
+IsAnew switch result old new = switch ≡ Always → OnOk result ((root_of new).number ≡ (root_of old).number + 1)
 
 -- in a format that says of a journal what the root says, the next root says it, too
 abbrev pub KeepsKind : {D : Type 0} {g : Ghosts D} → Format → CowPages D g → CowPages D g → Type 0

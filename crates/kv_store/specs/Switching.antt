@@ -1,6 +1,6 @@
 -- What a commit does that changes what the root says of a journal, and nothing else.
 use Rattle.std.specs.Prelude.{◌≡◌, ◌⊎◌, ◌+◌, ◌-◌, ◌^◌, Bool, Result, MatchResult}
-use Rattle.storage_sizes.specs.declared.spelling.Spelling.TheVariants.{Second}
+use Rattle.storage_sizes.specs.declared.record_format.RecordFormat.TheVariants.{V2}
 use Rattle.sector_device.specs.Timeline.{LeavesOnly}
 use Rattle.sector_device.specs.Device.{HasFailed, timeline}
 use Rattle.sector_device.specs.declared.device.Device.{Ghosts}
@@ -39,5 +39,5 @@ CannotSwitch Device journal contents old new = HasFailed (device_below old) (dev
 CannotSwitch Number journal contents old new = ((root_of old).number ≡ 2 ^ 64 - 1) × IsNotSwitched contents old new
 
 abbrev pub SwitchesKind : {D : Type 0} {g : Ghosts D} → Bool → Result (Unit {0}) StoreFault → CowPages D g → CowPages D g → Type 0
-SwitchesKind journal result old new = (contents : Contents) → HoldsContents contents old → contents.spelling ≡ Second
+SwitchesKind journal result old new = (contents : Contents) → HoldsContents contents old → contents.record_format ≡ V2
     → MatchResult result (λ _. IsSwitched journal contents old new) (λ fault. CannotSwitch fault journal contents old new)

@@ -6,10 +6,10 @@ ghost use Rattle.kv_store.specs.Contents.{HoldsContents};
 ghost use Rattle.kv_store.specs.TreeStore.{pages_of, IsStill};
 
 use crate::tree_store::TreeStore;
-use sector_device::{BesideDevice, SECTOR_SIZE};
+use sector_device::{ProtectedSectors, SECTOR_SIZE};
 use store::StoreFault;
 
-impl<D: BesideDevice> TreeStore<D> {
+impl<D: ProtectedSectors> TreeStore<D> {
     ghost use Rattle.std.specs.Prelude.{◌<◌, ℕ, length};
     ghost use Rattle.sector_device.specs.Device.{KeepsSize, IsSynced};
     ghost use Rattle.sector_device.specs.Sectors.{WritesSectors, HoldsSectors};
@@ -20,7 +20,7 @@ impl<D: BesideDevice> TreeStore<D> {
     /// with one sync. A stop during the call or after it leaves in each of them, by itself, what it might have left before
     /// or the bytes written to it; after `Ok` these alone. The contents stay, and a stop leaves them. Device: the device
     /// failed in this call or an earlier one.
-    pub fn write_beside(
+    pub fn write_protected(
         &mut self,
         first: u32,
         sectors: &[[u8; SECTOR_SIZE]],
@@ -44,7 +44,7 @@ impl<D: BesideDevice> TreeStore<D> {
         if self.has_failed {
             return Err(StoreFault::Device);
         }
-        match self.pages.below.write_beside(first, sectors) {
+        match self.pages.below.write_protected(first, sectors) {
             Ok(()) => Ok(()),
             Err(_) => {
                 self.count(StoreFault::Device);

@@ -5,7 +5,7 @@ ghost use Rattle.sector_device.specs.Device.{KeepsHistory};
 ghost use Rattle.cow_pages.specs.Cow.{device_below, root_of, has_failed, working_array, IsOpen, LeavesBeforeOrAfter};
 ghost use Rattle.cow_pages.specs.Calls.{Commits};
 ghost use Rattle.cow_pages.specs.Preserved.{IsPreserved};
-ghost use Rattle.page_roots.specs.Formats.{spelling_of, has_journal};
+ghost use Rattle.page_roots.specs.Formats.{record_format_of, has_journal};
 ghost use Rattle.store.specs.Records.{IsChangeSize};
 ghost use Rattle.store.specs.Contents.{changed_in};
 ghost use Rattle.store.specs.Batch.{all_changes};
@@ -62,18 +62,18 @@ fn make_pieces<D: Device>(
 
 // When a root is written.
 #[derive(Clone, Copy, PartialEq, Eq)]
-pub(crate) enum Switch {
+pub(crate) enum RootWrite {
     // Where the map or the format is not the durable one.
     IfChanged,
     // Always.
-    Anew,
+    Always,
 }
 
 // Makes the working array the durable one, in this format.
 fn commit_pages<D: Device>(
     pages: &mut CowPages<D>,
     format: Format,
-    switch: Switch,
+    switch: RootWrite,
 ) -> Result<(), CommitFault>
     ensures history { KeepsHistory (device_below pages.old) (device_below pages.new) }
     ensures any_moment { IsOpen pages.old → LeavesBeforeOrAfter format pages.old pages.new }
@@ -82,8 +82,8 @@ fn commit_pages<D: Device>(
     ensures kind { KeepsKind format pages.old pages.new }
 {
     match switch {
-        Switch::IfChanged => pages.commit(format),
-        Switch::Anew => pages.commit_anew(format),
+        RootWrite::IfChanged => pages.commit(format),
+        RootWrite::Always => pages.commit_anew(format),
     }
 }
 
@@ -91,7 +91,7 @@ fn commit_pages<D: Device>(
 pub(crate) fn finish<D: Device>(
     pages: &mut CowPages<D>,
     format: Format,
-    switch: Switch,
+    switch: RootWrite,
 ) -> Result<(), StoreFault>
     ensures history { KeepsHistory (device_below pages.old) (device_below pages.new) }
     ensures number { result ≡ Err StoreFault.Number → (root_of pages.old).number ≡ 2 ^ 64 - 1 }
@@ -120,7 +120,7 @@ pub(crate) fn commit_batch<D: Device>(
     pages: &mut CowPages<D>,
     scratch: &mut Scratch,
     format: Format,
-    switch: Switch,
+    switch: RootWrite,
     reserve: Reserve,
     batch: &Batch,
 ) -> Result<(), StoreFault>
@@ -130,11 +130,11 @@ pub(crate) fn commit_batch<D: Device>(
     ensures number { result ≡ Err StoreFault.Number → (root_of pages.old).number ≡ 2 ^ 64 - 1 }
     ensures anew { IsAnew switch result pages.old pages.new }
     ensures numbered { (contents : Contents) → HoldsContents contents pages.old
-        → LeavesNumbered result contents (changed_in (spelling_of format) batch.now contents)
+        → LeavesNumbered result contents (changed_in (record_format_of format) batch.now contents)
         pages.old pages.new }
     ensures batch { (contents : Contents) → HoldsContents contents pages.old
         → CommitsBatch reserve batch.now result contents
-        (changed_in (spelling_of format) batch.now contents) pages.old pages.new }
+        (changed_in (record_format_of format) batch.now contents) pages.old pages.new }
 {
     let free = pages.free_pages();
     let made = make_pieces(pages, scratch, batch.pieces());

@@ -13,7 +13,7 @@ use cow_pages::{Format, PAGE_SIZE, format};
 use page_nodes::{NodeKind, push_cell, write_node};
 use sector_device::Device;
 use std::alloc::{AllocError, Global};
-use store::{Entry, Spelling};
+use store::{Entry, RecordFormat};
 
 /// Why a new store was not made.
 #[derive(Clone, Copy, Drop, PartialEq, Eq)]
@@ -58,7 +58,7 @@ impl<D: Device> PageStore<D> {
         requires value { length first.now.1 ≤ max_value_length }
         ensures { Formats D.Device current first.now result device.old device.new }
     {
-        PageStore::format_as(alloc, device, Spelling::current(), first)
+        PageStore::format_as(alloc, device, RecordFormat::current(), first)
     }
 
     /// Makes a new store of a device of 64 to 65,536 whole pages, whose records are of this spelling and which has one
@@ -70,17 +70,17 @@ impl<D: Device> PageStore<D> {
     pub fn format_as(
         alloc: Global,
         device: &mut D,
-        spelling: Spelling,
+        record_format: RecordFormat,
         first: &Entry,
     ) -> Result<(), FormatFault>
         requires size { is_size (D.state device.old).sectors ≡ true }
         requires key { IsKeySize first.now.0 }
         requires value { length first.now.1 ≤ max_value_length }
-        ensures { Formats D.Device spelling first.now result device.old device.new }
+        ensures { Formats D.Device record_format first.now result device.old device.new }
     {
         let mut page = [0; PAGE_SIZE];
         write_leaf_of(alloc, first, &mut page)?;
-        match format(device, Format::of_spelling(spelling), &page) {
+        match format(device, Format::of_spelling(record_format), &page) {
             Ok(()) => Ok(()),
             Err(_) => Err(FormatFault::Device),
         }

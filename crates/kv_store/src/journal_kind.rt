@@ -1,14 +1,14 @@
 //! How a root comes to say that there is a journal, or that there is none.
 ghost use Rattle.std.specs.Prelude.{◌≡◌, false};
-ghost use Rattle.storage_sizes.specs.declared.spelling.Spelling.TheVariants.{Second};
+ghost use Rattle.storage_sizes.specs.declared.record_format.RecordFormat.TheVariants.{V2};
 ghost use Rattle.sector_device.specs.Device.{KeepsHistory};
-ghost use Rattle.page_roots.specs.Formats.{spelling_of, has_journal};
+ghost use Rattle.page_roots.specs.Formats.{record_format_of, has_journal};
 ghost use Rattle.cow_pages.specs.Cow.{device_below};
 ghost use Rattle.store.specs.Store.{failed_after};
 ghost use Rattle.kv_store.specs.Switching.{SwitchesKind};
 ghost use Rattle.kv_store.specs.TreeStore.{pages_of, store_state};
 
-use crate::commit::{Switch, finish};
+use crate::commit::{RootWrite, finish};
 use crate::tree_store::TreeStore;
 use cow_pages::Format;
 use sector_device::Device;
@@ -17,7 +17,7 @@ use store::StoreFault;
 // The format of the second spelling with a journal, or without.
 fn format_with(journal: bool) -> Format
     ensures kind { has_journal result ≡ journal }
-    ensures second { spelling_of result ≡ Second }
+    ensures second { record_format_of result ≡ V2 }
 {
     if journal { Format::Three } else { Format::Two }
 }
@@ -36,7 +36,7 @@ impl<D: Device> TreeStore<D> {
         ensures failed { (store_state self.new).has_failed ≡ failed_after result false }
     {
         let format = format_with(journal);
-        match finish(&mut self.pages.below, format, Switch::Anew) {
+        match finish(&mut self.pages.below, format, RootWrite::Always) {
             Ok(()) => Ok(()),
             Err(fault) => {
                 self.count(fault);

@@ -18,5 +18,5 @@ pub use formatting::{FormatFault, write_leaf_of};
 pub use laws::{one_contents, sound_images, tree_and_records};
 pub use page_store::PageStore;
 pub use reserve::Reserve;
-pub use store::{Batch, Change, Entry, Fault, Map, MemStore, Spelling, Store, StoreFault};
+pub use store::{Batch, Change, Entry, Fault, Map, MemStore, RecordFormat, Store, StoreFault};
 pub use tree_store::TreeStore;

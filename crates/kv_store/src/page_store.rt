@@ -8,7 +8,7 @@ use cow_pages::{DEFAULT_CACHE_PAGES, MAX_CACHE_PAGES, OpenFault};
 use page_tree::TreeWalk;
 use sector_device::Device;
 use std::alloc::Global;
-use store::{Batch, Entry, EntryRef, Map, Spelling, Store, StoreFault};
+use store::{Batch, Entry, EntryRef, Map, RecordFormat, Store, StoreFault};
 
 /// A store in pages on a device whose root says that there is no journal: the records of the pages are those of the device. No
 /// call makes a root that says otherwise.
@@ -196,7 +196,7 @@ impl<D: Device> Map for PageStore<D> {
 
 impl<D: Device> Store for PageStore<D> {
     ghost use Rattle.std.specs.Prelude.{◌≢◌, ◌+◌, [], Ok, OnOk};
-    ghost use Rattle.storage_sizes.specs.declared.spelling.Spelling.TheVariants.{First, Second};
+    ghost use Rattle.storage_sizes.specs.declared.record_format.RecordFormat.TheVariants.{V1, V2};
     ghost use Rattle.store.specs.Contents.{changed_by_batch, changed_in};
     ghost use Rattle.store.specs.Records.{applied};
     ghost use Rattle.store.specs.Store.{Commits, stored};
@@ -221,8 +221,8 @@ impl<D: Device> Store for PageStore<D> {
         self.tree.failures()
     }
 
-    fn spelling(&self) -> Spelling {
-        self.tree.spelling()
+    fn record_format(&self) -> RecordFormat {
+        self.tree.record_format()
     }
 
     /// Commits all changes of a batch, or none of them, as `Store` says. With `Ok` a batch that changes the records of a
@@ -250,13 +250,13 @@ impl<D: Device> Store for PageStore<D> {
     /// `Ok` a sound store whose records were of the first spelling has the next number, whatever the batch. It may take the
     /// reserve. All else is as at `commit`.
     fn commit_migration(&mut self, batch: &Batch) -> Result<(), StoreFault>
-        ensures commits { Commits result (changed_in Second batch.now (stored (store_state self.old)))
+        ensures commits { Commits result (changed_in V2 batch.now (stored (store_state self.old)))
             (store_state self.old) (store_state self.new) }
-        ensures batch { CommitsWhole Open batch.now (changed_in Second batch.now) result
+        ensures batch { CommitsWhole Open batch.now (changed_in V2 batch.now) result
             self.old.tree self.new.tree }
         ensures still { IsStill result self.old.tree self.new.tree }
         ensures counts { CountsCommit result self.old.tree self.new.tree }
-        ensures rises { (store_state self.old).sound → (store_state self.old).spelling ≡ First
+        ensures rises { (store_state self.old).sound → (store_state self.old).record_format ≡ V1
             → OnOk result ((store_state self.new).number ≡ (store_state self.old).number + 1) }
     {
         self.tree.commit_migration(batch)

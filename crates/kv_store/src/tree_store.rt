@@ -1,7 +1,7 @@
 //! A store in pages on a device, whose root says whether there is a journal.
 ghost use Rattle.std.specs.Prelude.{◌≡◌, ◌≢◌, ◌≤◌, ◌+◌, [], true, false, Ok, Err, IfOk, OnOk, OnErr, is_some};
-ghost use Rattle.storage_sizes.specs.declared.spelling.Spelling.TheVariants.{First, Second};
-ghost use Rattle.page_roots.specs.Formats.{spelling_of, has_journal};
+ghost use Rattle.storage_sizes.specs.declared.record_format.RecordFormat.TheVariants.{V1, V2};
+ghost use Rattle.page_roots.specs.Formats.{record_format_of, has_journal};
 ghost use Rattle.store.specs.Store.{Contents, Reads, Commits, stored};
 ghost use Rattle.store.specs.Contents.{changed_by_batch, changed_in};
 ghost use Rattle.store.specs.Records.{Records, entry_at, entries_where, is_from, lookup, applied};
@@ -23,17 +23,17 @@ ghost use Rattle.kv_store.specs.Unwritten.{WritesNothing};
 ghost use Rattle.kv_store.specs.UnwrittenLaws.{nothing_written, nothing_written_joined};
 ghost use Rattle.kv_store.specs.TreeLaws.{keys_rise, present_now, settled_now};
 
-use crate::commit::{Switch, commit_batch};
+use crate::commit::{RootWrite, commit_batch};
 use crate::read_only::ReadOnlyPages;
 use crate::reserve::Reserve;
 use cow_pages::{CowPages, Format, MAX_CACHE_PAGES, OpenFault, PageFault, preserved_stays};
 use page_tree::{Scratch, TreeCursor, TreeWalk, check_tree, contains, count, first_on, get, step};
 use sector_device::Device;
 use std::alloc::Global;
-use store::{Batch, Entry, EntryRef, Map, Spelling, Store, StoreFault};
+use store::{Batch, Entry, EntryRef, Map, RecordFormat, Store, StoreFault};
 
 /// A store in pages on a device: its records are the entries of the tree from logical page 0 of the durable array. Where its
-/// root says that there is a journal, these are the records of the pages alone, and no call but `write_beside` touches the
+/// root says that there is a journal, these are the records of the pages alone, and no call but `write_protected` touches the
 /// journal. No commit but `commit_kind` changes what the root says of it. Once it has answered Device it answers nothing else. Its cursor keeps the leaf of the last scan until a commit, so that a scan
 /// that goes on in that leaf reads no page.
 pub struct TreeStore<D: Device> {
@@ -350,7 +350,7 @@ impl<D: Device> TreeStore<D> {
     fn change(
         &mut self,
         format: Format,
-        switch: Switch,
+        switch: RootWrite,
         reserve: Reserve,
         batch: &Batch,
     ) -> Result<(), StoreFault>
@@ -358,22 +358,22 @@ impl<D: Device> TreeStore<D> {
         requires kind { has_journal format ≡ is_journaled (pages_of self.old) }
         ensures kind { is_journaled (pages_of self.new) ≡ is_journaled (pages_of self.old) }
         ensures commits { Commits result
-            (changed_in (spelling_of format) batch.now (stored (store_state self.old)))
+            (changed_in (record_format_of format) batch.now (stored (store_state self.old)))
             (store_state self.old) (store_state self.new) }
-        ensures batch { CommitsWhole reserve batch.now (changed_in (spelling_of format) batch.now)
+        ensures batch { CommitsWhole reserve batch.now (changed_in (record_format_of format) batch.now)
             result self.old self.new }
         ensures counts { CountsCommit result self.old self.new }
         ensures rises { (store_state self.old).sound → stored (store_state self.old)
-            ≢ changed_in (spelling_of format) batch.now (stored (store_state self.old))
+            ≢ changed_in (record_format_of format) batch.now (stored (store_state self.old))
             → OnOk result ((store_state self.new).number ≡ (store_state self.old).number + 1) }
         ensures history { KeepsHistory
             (device_below (pages_of self.old)) (device_below (pages_of self.new)) }
         ensures anew { IsAnew switch result (pages_of self.old) (pages_of self.new) }
         ensures numbered { (contents : Contents) → HoldsContents contents (pages_of self.old)
-            → LeavesNumbered result contents (changed_in (spelling_of format) batch.now contents)
+            → LeavesNumbered result contents (changed_in (record_format_of format) batch.now contents)
             (pages_of self.old) (pages_of self.new) }
     {
-        self.cursor.forget();
+        self.cursor.reset();
         let pages = &mut self.pages.below;
         match commit_batch(pages, &mut self.scratch, format, switch, reserve, batch) {
             Ok(()) => Ok(()),
@@ -402,8 +402,8 @@ impl<D: Device> Store for TreeStore<D> {
         self.failures
     }
 
-    fn spelling(&self) -> Spelling {
-        self.pages.below.format().spelling()
+    fn record_format(&self) -> RecordFormat {
+        self.pages.below.format().record_format()
     }
 
     /// Commits all changes of a batch, or none of them, as `Store` says. With `Ok` a batch that changes the records of a
@@ -432,20 +432,20 @@ impl<D: Device> Store for TreeStore<D> {
             return Ok(());
         }
         let format = self.pages.below.format();
-        self.change(format, Switch::IfChanged, Reserve::Kept, batch)
+        self.change(format, RootWrite::IfChanged, Reserve::Kept, batch)
     }
 
     /// Commits all changes of a batch and that the records are of the second spelling, or nothing, as `Store` says. With
     /// `Ok` a sound store whose records were of the first spelling has the next number, whatever the batch. It may take the
     /// reserve. All else is as at `commit`.
     fn commit_migration(&mut self, batch: &Batch) -> Result<(), StoreFault>
-        ensures commits { Commits result (changed_in Second batch.now (stored (store_state self.old)))
+        ensures commits { Commits result (changed_in V2 batch.now (stored (store_state self.old)))
             (store_state self.old) (store_state self.new) }
-        ensures batch { CommitsWhole Open batch.now (changed_in Second batch.now) result
+        ensures batch { CommitsWhole Open batch.now (changed_in V2 batch.now) result
             self.old self.new }
         ensures still { IsStill result self.old self.new }
         ensures counts { CountsCommit result self.old self.new }
-        ensures rises { (store_state self.old).sound → (store_state self.old).spelling ≡ First
+        ensures rises { (store_state self.old).sound → (store_state self.old).record_format ≡ V1
             → OnOk result ((store_state self.new).number ≡ (store_state self.old).number + 1) }
         ensures kind { is_journaled (pages_of self.new) ≡ is_journaled (pages_of self.old) }
     {
@@ -453,7 +453,7 @@ impl<D: Device> Store for TreeStore<D> {
             return Err(StoreFault::Device);
         }
         let format = self.pages.below.format().respelled();
-        self.change(format, Switch::IfChanged, Reserve::Open, batch)
+        self.change(format, RootWrite::IfChanged, Reserve::Open, batch)
     }
 }
 
@@ -481,6 +481,6 @@ impl<D: Device> TreeStore<D> {
             return Err(StoreFault::Device);
         }
         let durable = self.pages.below.format();
-        self.change(durable, Switch::Anew, reserve, batch)
+        self.change(durable, RootWrite::Always, reserve, batch)
     }
 }

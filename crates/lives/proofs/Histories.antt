@@ -26,7 +26,7 @@ use Rattle.lives.specs.Stopping.{IsLeftAt, Changes, LeavesOneAtEach}
 pub one_meaning : ((records : Records) (a b : Database) → StandsFor records a → StandsFor records b → a ≡ b) → (x : Option Contents) (a b : Database) → Means x a → Means x b → a ≡ b
 one_meaning one x a b first second =
     let same : second.0 ≡ first.0 = (let p = first.1 in let q = second.1 in let at : Some second.0 ≡ Some first.0 = sym q ∙ p in cc) in
-    one (spelled_in_second first.0.spelling first.0.records) a b first.2 (subst (λ (c : Contents). Stands c b) same second.2)
+    one (spelled_in_second first.0.record_format first.0.records) a b first.2 (subst (λ (c : Contents). Stands c b) same second.2)
 
 -- an event that ended with nothing under way brought what is committed then
 brought_is : {Reads : ReadingRelation} {old new : Counts} {m : Machine} {event : MachineEvent TheText} {answer : Answer} {after : Machine}

@@ -14,13 +14,13 @@ ghost use Rattle.lives.specs.Stopping.{StopsAt, StopsIn, IsDoneAt, Changes, Leav
 ghost use Rattle.lives.specs.Following.{Life};
 
 use sector_device::{Device, HistoryDevice};
-use server::decide::Decide;
+use server::decide::EventHandler;
 use store::Store;
 use stored_database::one_database;
 
 /// Steps of a server from where it stands are a run of the session machine, and the moment of each
 /// answer is the one at which the store's clock stood after the step.
-pub fn steps_run_at_moments<S: Store, X: Decide>()
+pub fn steps_run_at_moments<S: Store, X: EventHandler>()
     ensures { (first last : Server S X) (events : List Event) (told : List Answer)
         (moments : List ℕ) (w : At) → StepsAt X.Reads S.state first events told moments last
         → (S.state first.store).sound → Represents S.state first w
@@ -29,7 +29,7 @@ pub fn steps_run_at_moments<S: Store, X: Decide>()
 
 /// An answer that was told at a moment up to the stop is of an event that was done then: the next
 /// life goes on from what the event led to. An answer that was told after it is of one that was not.
-pub fn told_answers_are_done<D: Device, X: Decide>()
+pub fn told_answers_are_done<D: Device, X: EventHandler>()
     ensures done { (last : Standing) (life : Life D) (told : List Answer) (moments : List ℕ)
         (is : IsLifeOn X.Reads last life.events told moments
         (D.state life.begin) (D.state life.end)) (stop : ℕ) (next : Standing)
@@ -48,7 +48,7 @@ pub fn told_answers_are_done<D: Device, X: Decide>()
 /// On a device that keeps its history, a stop within an event may leave either: where another
 /// database is committed after the event than before it, it cannot be that a stop leaves but one of
 /// them at each moment between. So a life that such a stop ends has two next lives that may be.
-pub fn either_may_be_left<X: Decide>(device: &HistoryDevice)
+pub fn either_may_be_left<X: EventHandler>(device: &HistoryDevice)
     ensures { (w next : At) (event : MachineEvent TheText) (answer : Answer)
         → Changes X.Reads (records_on (history_device_state device.now)) w event answer next
         → LeavesOneAtEach (records_on (history_device_state device.now)) w next → ⊥ }

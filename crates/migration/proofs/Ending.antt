@@ -1,7 +1,7 @@
 -- How a migration ends: with the commit of its one list, or with none.
 use Rattle.std.proofs.Common.{◌≡◌, Bool, false, List, [], ◌∷◌, Result, Ok, Err, refl, ap, sym, ◌∙◌, subst, arith}
-use Rattle.storage_sizes.specs.declared.spelling.Spelling.{Spelling}
-use Rattle.storage_sizes.specs.declared.spelling.Spelling.TheVariants.{First, Second}
+use Rattle.storage_sizes.specs.declared.record_format.RecordFormat.{RecordFormat}
+use Rattle.storage_sizes.specs.declared.record_format.RecordFormat.TheVariants.{V1, V2}
 use Rattle.store.specs.Records.{Records, Changes, applied}
 use Rattle.store.specs.Contents.{changed_in}
 use Rattle.store.specs.Store.{StoreState, stored, KeepsHistory, OnlyReads, Commits, failed_after}
@@ -24,23 +24,23 @@ one_list h = cc
 
 -- where there is a list, the records are of the first spelling, and its changes spell them in the second
 pub record IsFirst (old : StoreState) (changes : Changes) : Type 0 where
-  pub first : old.spelling ≡ First
+  pub first : old.record_format ≡ V1
   pub respells : applied changes old.map ≡ with_places old.map
 
-first_by : (s : Spelling) (records : Records) (lists : List Changes) (c : Changes) (cs : List Changes) → lists ≡ c ∷ cs → AreRespelling s records lists → (s ≡ First) × (applied c records ≡ with_places records)
-first_by First records lists c cs is are = (refl, ap (λ (ds : Changes). applied ds records) (sym (one_list (sym are.1 ∙ is))) ∙ are.2)
-first_by Second records lists c cs is are = absurd (no_list (sym are ∙ is))
+first_by : (s : RecordFormat) (records : Records) (lists : List Changes) (c : Changes) (cs : List Changes) → lists ≡ c ∷ cs → AreRespelling s records lists → (s ≡ V1) × (applied c records ≡ with_places records)
+first_by V1 records lists c cs is are = (refl, ap (λ (ds : Changes). applied ds records) (sym (one_list (sym are.1 ∙ is))) ∙ are.2)
+first_by V2 records lists c cs is are = absurd (no_list (sym are ∙ is))
 
-pub is_first : (old : StoreState) (lists : List Changes) (c : Changes) (cs : List Changes) → lists ≡ c ∷ cs → AreRespelling old.spelling old.map lists → IsFirst old c
-is_first old lists c cs is are = let both = first_by old.spelling old.map lists c cs is are in record { first = both.0; respells = both.1 }
+pub is_first : (old : StoreState) (lists : List Changes) (c : Changes) (cs : List Changes) → lists ≡ c ∷ cs → AreRespelling old.record_format old.map lists → IsFirst old c
+is_first old lists c cs is are = let both = first_by old.record_format old.map lists c cs is are in record { first = both.0; respells = both.1 }
 
-second_by : (s : Spelling) (records : Records) (lists : List Changes) → lists ≡ [] → AreRespelling s records lists → s ≡ Second
-second_by First records lists is are = absurd (no_list (sym is ∙ are.1))
-second_by Second records lists is are = refl
+second_by : (s : RecordFormat) (records : Records) (lists : List Changes) → lists ≡ [] → AreRespelling s records lists → s ≡ V2
+second_by V1 records lists is are = absurd (no_list (sym is ∙ are.1))
+second_by V2 records lists is are = refl
 
 -- where there is none, they are of the second
-pub is_second : (old : StoreState) (lists : List Changes) → lists ≡ [] → AreRespelling old.spelling old.map lists → old.spelling ≡ Second
-is_second old lists is are = second_by old.spelling old.map lists is are
+pub is_second : (old : StoreState) (lists : List Changes) → lists ≡ [] → AreRespelling old.record_format old.map lists → old.record_format ≡ V2
+is_second old lists is are = second_by old.record_format old.map lists is are
 
 -- by whether there is a list
 pub by_lists : {P : Type 0} (lists : List Changes) → (lists ≡ [] → P) → ((c : Changes) (cs : List Changes) → lists ≡ c ∷ cs → P) → P
@@ -59,7 +59,7 @@ abbrev pub CommitsNone : {S : Type 0} → Result (Unit {0}) StoreFault → S →
 CommitsNone result mid new lists = lists ≡ [] → (result ≡ Ok tt) × (new ≡ mid)
 
 abbrev pub CommitsOne : Result (Unit {0}) StoreFault → StoreState → StoreState → List Changes → Type 0
-CommitsOne result mid new lists = (changes : Changes) (others : List Changes) → lists ≡ changes ∷ others → Commits result (changed_in Second changes (stored mid)) mid new
+CommitsOne result mid new lists = (changes : Changes) (others : List Changes) → lists ≡ changes ∷ others → Commits result (changed_in V2 changes (stored mid)) mid new
 
 module _ {S : Type 0} (state : S → StoreState) (old mid new : S) (lists : List Changes) (reads : OnlyReads (state old) (state mid)) (unfailed : (state mid).has_failed ≡ (state old).has_failed) where
   pub ends_history : (result : Result (Unit {0}) StoreFault) → CommitsNone result mid new lists → CommitsOne result (state mid) (state new) lists → KeepsHistory (state old) (state new)
@@ -74,7 +74,7 @@ module _ {S : Type 0} (state : S → StoreState) (old mid new : S) (lists : List
   failed_err fault none some = by_lists lists (λ is. absurd (no_fault (none is).0))
       (λ c cs is. (some c cs is).failed ∙ ap (λ (had : Bool). failed_after {T = Unit {0}} (Err fault) had) unfailed)
 
-  module _ (sound : (state old).sound) (are : AreRespelling (state old).spelling (state old).map lists) where
+  module _ (sound : (state old).sound) (are : AreRespelling (state old).record_format (state old).map lists) where
     pub cause_err : (fault : StoreFault) → CommitsNone (Err fault) mid new lists → CommitsOne (Err fault) (state mid) (state new) lists → HasOpeningCause (Commit fault) (state old) (state new)
     cause_err fault none some = by_lists lists (λ is. absurd (no_fault (none is).0))
         (λ c cs is. commit_cause fault (state old) (state mid) (state new) (is_first (state old) lists c cs is are).first reads (reads.unchanged sound) unfailed (some c cs is).history (some c cs is).cause)

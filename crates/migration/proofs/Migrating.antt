@@ -1,8 +1,8 @@
 -- What a migration does to what a stop leaves.
 use Rattle.std.proofs.Common.{◌≡◌, ◌⊎◌, ◌≤◌, ◌+◌, inl, inr, ⊎_elim, Option, Some, Result, Ok, Err, refl, ap, sym, ◌∙◌, subst, arith}
 use Rattle.sector_device.specs.Timeline.{LeavesOnly, joined, weakened}
-use Rattle.storage_sizes.specs.declared.spelling.Spelling.{Spelling}
-use Rattle.storage_sizes.specs.declared.spelling.Spelling.TheVariants.{First, Second}
+use Rattle.storage_sizes.specs.declared.record_format.RecordFormat.{RecordFormat}
+use Rattle.storage_sizes.specs.declared.record_format.RecordFormat.TheVariants.{V1, V2}
 use Rattle.store.specs.Records.{Records, Changes, applied}
 use Rattle.store.specs.Contents.{changed_in}
 use Rattle.store.specs.Store.{StoreState, Contents, stored, KeepsHistory, IsUnchanged, OnlyReads, HasCause, MayLeaveDuring, MayLeaveNow, CommitsAtOnce}
@@ -24,31 +24,31 @@ use Rattle.migration.specs.Respelled.{RespellsFrom}
 means : (contents : Contents) (db : Database) → Stands contents db → (x : Option Contents) → x ≡ Some contents → Means x db
 means contents db stands x is = (contents, is, stands)
 
-abbrev contents_with : Spelling → Records → Contents
-contents_with s records = record { spelling = s; records = records }
+abbrev contents_with : RecordFormat → Records → Contents
+contents_with s records = record { record_format = s; records = records }
 
-pub same_contents : {s t : Spelling} {a b : Records} → s ≡ t → a ≡ b → contents_with s a ≡ contents_with t b
+pub same_contents : {s t : RecordFormat} {a b : Records} → s ≡ t → a ≡ b → contents_with s a ≡ contents_with t b
 same_contents p q = cc
 
 -- contents of the second spelling are what they are in it
-pub already : (contents : Contents) → contents.spelling ≡ Second → contents ≡ in_second contents
+pub already : (contents : Contents) → contents.record_format ≡ V2 → contents ≡ in_second contents
 already contents second = same second where
-  same : {s : Spelling} → s ≡ Second → contents_with s contents.records ≡ in_second (contents_with s contents.records)
-  same p = subst (λ (s : Spelling). contents_with s contents.records ≡ in_second (contents_with s contents.records)) (sym p) refl
+  same : {s : RecordFormat} → s ≡ V2 → contents_with s contents.records ≡ in_second (contents_with s contents.records)
+  same p = subst (λ (s : RecordFormat). contents_with s contents.records ≡ in_second (contents_with s contents.records)) (sym p) refl
 
 -- what the commit leads to
-pub respelled_contents : (changes : Changes) (old mid : StoreState) → old.spelling ≡ First → IsUnchanged old mid → applied changes old.map ≡ with_places old.map
-    → changed_in Second changes (stored mid) ≡ in_second (stored old)
-respelled_contents changes old mid first same is = same_contents refl (ap (applied changes) same.map ∙ is ∙ ap (λ (s : Spelling). spelled_in_second s old.map) (sym first))
+pub respelled_contents : (changes : Changes) (old mid : StoreState) → old.record_format ≡ V1 → IsUnchanged old mid → applied changes old.map ≡ with_places old.map
+    → changed_in V2 changes (stored mid) ≡ in_second (stored old)
+respelled_contents changes old mid first same is = same_contents refl (ap (applied changes) same.map ∙ is ∙ ap (λ (s : RecordFormat). spelled_in_second s old.map) (sym first))
 
 -- ---- causes
 
-pub read_cause : (fault : Fault) (old new : StoreState) → HasFaultCause fault old new → RespellsFrom old.spelling (Err fault) old.map → HasOpeningCause (Read fault) old new
+pub read_cause : (fault : Fault) (old new : StoreState) → HasFaultCause fault old new → RespellsFrom old.record_format (Err fault) old.map → HasOpeningCause (Read fault) old new
 read_cause read.Memory old new cause none = tt
 read_cause read.Device old new cause none = cause
 read_cause read.Damaged old new cause none = none
 
-pub commit_cause : (fault : StoreFault) (old mid new : StoreState) → old.spelling ≡ First → OnlyReads old mid → IsUnchanged old mid → mid.has_failed ≡ old.has_failed → KeepsHistory mid new
+pub commit_cause : (fault : StoreFault) (old mid new : StoreState) → old.record_format ≡ V1 → OnlyReads old mid → IsUnchanged old mid → mid.has_failed ≡ old.has_failed → KeepsHistory mid new
     → HasCause fault mid new → HasOpeningCause (Commit fault) old new
 commit_cause commit.Full old mid new first reads same unfailed later cause = (first, rose_later old.fulls mid.fulls new.fulls reads.history.fulls later.fulls cause)
 commit_cause commit.Memory old mid new first reads same unfailed later cause = (first, tt)
@@ -71,27 +71,27 @@ module _ (old new : StoreState) (db : Database) (sound : old.sound) (settled : I
   pub read_fails : (fault : Fault) → Migrates (Err (Read fault)) db old new
   read_fails fault = record { keeps = read_keeps _; outcome = reads.unchanged sound }
 
-  pub nothing_done : old.spelling ≡ Second → (u : Unit {0}) → Migrates (Ok u) db old new
+  pub nothing_done : old.record_format ≡ V2 → (u : Unit {0}) → Migrates (Ok u) db old new
   nothing_done second u = record {
     keeps = read_keeps (Ok u);
-    outcome = same_contents (reads.unchanged sound).spelling (reads.unchanged sound).map ∙ already (stored old) second;
+    outcome = same_contents (reads.unchanged sound).record_format (reads.unchanged sound).map ∙ already (stored old) second;
   }
 
 -- a migration that ends with its commit
-module _ (changes : Changes) (old mid new : StoreState) (sound : old.sound) (reads : OnlyReads old mid) (first : old.spelling ≡ First) (respells : applied changes old.map ≡ with_places old.map) where
+module _ (changes : Changes) (old mid new : StoreState) (sound : old.sound) (reads : OnlyReads old mid) (first : old.record_format ≡ V1) (respells : applied changes old.map ≡ with_places old.map) where
   abbrev after : Contents
-  after = changed_in Second changes (stored mid)
+  after = changed_in V2 changes (stored mid)
 
   pub leads : after ≡ in_second (stored old)
   leads = respelled_contents changes old mid first (reads.unchanged sound) respells
 
   same_before : stored mid ≡ stored old
-  same_before = same_contents (reads.unchanged sound).spelling (reads.unchanged sound).map
+  same_before = same_contents (reads.unchanged sound).record_format (reads.unchanged sound).map
 
   unchanged : IsUnchanged mid new → IsUnchanged old new
   unchanged then =
       let same = reads.unchanged sound in
-      record { map = then.map ∙ same.map; spelling = then.spelling ∙ same.spelling; number = then.number ∙ same.number }
+      record { map = then.map ∙ same.map; record_format = then.record_format ∙ same.record_format; number = then.number ∙ same.number }
 
   stays : IsUnchanged mid new → new.number ≤ old.number + 1
   stays then = let is = (unchanged then).number in omega (arith, is)
@@ -143,5 +143,5 @@ module _ (changes : Changes) (old mid new : StoreState) (sound : old.sound) (rea
     pub commit_done : (u : Unit {0}) → CommitsAtOnce (Ok u) after mid new → Migrates (Ok u) db old new
     commit_done u c = record {
       keeps = commit_keeps (Ok u) _ c (inr (let is = (reads.unchanged sound).number in let by_one = c.committed.by_one in omega (arith, is, by_one)));
-      outcome = same_contents c.committed.spelling c.committed.map ∙ leads;
+      outcome = same_contents c.committed.record_format c.committed.map ∙ leads;
     }

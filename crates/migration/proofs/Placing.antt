@@ -1,8 +1,8 @@
 -- What records become whose privilege descriptors get places.
 use Rattle.std.proofs.Common.{◌≡◌, ◌≢◌, ◌≤◌, inl, inr, ℕ, zero, suc, Bool, true, false, not, cond, if◌then◌else◌, List, [], ◌∷◌, ◌++◌, map, take, drop, length, Result, Ok, Err, IfOk, refl, ap, sym, ◌∙◌, subst, arith}
 use Rattle.std.specs.List.{AllByRecursion}
-use Rattle.storage_sizes.specs.declared.spelling.Spelling.{Spelling}
-use Rattle.storage_sizes.specs.declared.spelling.Spelling.TheVariants.{First}
+use Rattle.storage_sizes.specs.declared.record_format.RecordFormat.{RecordFormat}
+use Rattle.storage_sizes.specs.declared.record_format.RecordFormat.TheVariants.{V1}
 use Rattle.store.specs.Records.{Record, Records, Changes, IsOrdered, entries_where, has_prefix, applied}
 use Rattle.store.specs.declared.fault.Fault.{Fault}
 use Rattle.store.specs.declared.fault.Fault.TheVariants.{Memory, Device, Damaged}
@@ -159,7 +159,7 @@ places_respell (Err Device) records items o held places undamaged = tt
 places_respell (Err Damaged) records items o held places undamaged = λ db stands. undamaged (subst (AllByRecursion HasRoom) (read_all records items held) (have_room records db stands)) refl
 
 -- the fault of what spells records of the first spelling
-pub fault_of_first : (spelling : Spelling) → spelling ≡ First → (fault : Fault) (records : Records) → Respells (Err fault) records → RespellsFrom spelling (Err fault) records
-fault_of_first spelling first Memory records none = tt
-fault_of_first spelling first Device records none = tt
-fault_of_first spelling first Damaged records none = λ db stands. none db (subst (λ (s : Spelling). StandsFor (spelled_in_second s records) db) first stands)
+pub fault_of_first : (record_format : RecordFormat) → record_format ≡ V1 → (fault : Fault) (records : Records) → Respells (Err fault) records → RespellsFrom record_format (Err fault) records
+fault_of_first record_format first Memory records none = tt
+fault_of_first record_format first Device records none = tt
+fault_of_first record_format first Damaged records none = λ db stands. none db (subst (λ (s : RecordFormat). StandsFor (spelled_in_second s records) db) first stands)

@@ -1,7 +1,7 @@
 -- What a migration comes to: the store is of the second spelling, or as it was.
 use Rattle.std.specs.Prelude.{◌≡◌, ◌⊎◌, ◌≤◌, ◌+◌, Bool, Option, Result, Ok, Err}
 use Rattle.sector_device.specs.Timeline.{LeavesOnly}
-use Rattle.storage_sizes.specs.declared.spelling.Spelling.TheVariants.{First, Second}
+use Rattle.storage_sizes.specs.declared.record_format.RecordFormat.TheVariants.{V1, V2}
 use Rattle.store.specs.declared.fault.Fault.TheVariants as read
 use Rattle.store.specs.declared.fault.StoreFault.TheVariants as commit
 use Rattle.store.specs.Readers.{failed_after_reads}
@@ -13,7 +13,7 @@ use Rattle.migration.specs.declared.fault.OpeningFault.TheVariants.{Read, Commit
 
 -- the same records, all of the second spelling
 abbrev pub in_second : Contents → Contents
-in_second contents = record { spelling = Second; records = spelled_in_second contents.spelling contents.records }
+in_second contents = record { record_format = V2; records = spelled_in_second contents.record_format contents.records }
 
 -- ---- faults
 
@@ -28,7 +28,7 @@ abbrev pub HasOpeningCause : OpeningFault → StoreState → StoreState → Type
 HasOpeningCause (Read read.Memory) old new = Unit {0}
 HasOpeningCause (Read read.Device) old new = HasDeviceCause old new
 HasOpeningCause (Read read.Damaged) old new = (db : Database) → Stands (stored old) db → ⊥
-HasOpeningCause (Commit fault) old new = (old.spelling ≡ First) × HasCause fault old new
+HasOpeningCause (Commit fault) old new = (old.record_format ≡ V1) × HasCause fault old new
 
 -- ---- what is left
 

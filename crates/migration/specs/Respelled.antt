@@ -1,8 +1,8 @@
 -- Changes that spell records of the first spelling in the second.
 use Rattle.std.specs.Prelude.{◌≡◌, ◌≤◌, ◌<◌, List, [], ◌∷◌, length, Result, Ok, Err}
 use Rattle.storage_sizes.specs.Sizes.{max_key_length, max_value_length}
-use Rattle.storage_sizes.specs.declared.spelling.Spelling.{Spelling}
-use Rattle.storage_sizes.specs.declared.spelling.Spelling.TheVariants.{First, Second}
+use Rattle.storage_sizes.specs.declared.record_format.RecordFormat.{RecordFormat}
+use Rattle.storage_sizes.specs.declared.record_format.RecordFormat.TheVariants.{V1, V2}
 use Rattle.store.specs.Records.{Record, Records, Changes, applied}
 use Rattle.store.specs.declared.fault.Fault.{Fault}
 use Rattle.store.specs.declared.fault.Fault.TheVariants.{Memory, Device, Damaged}
@@ -36,13 +36,13 @@ Respells (Err Device) records = Unit {0}
 Respells (Err Damaged) records = (db : Database) → StandsFor (with_places records) db → ⊥
 
 -- no list where the records are of the second spelling; else one list, whose changes spell them in it
-abbrev pub AreRespelling : Spelling → Records → List Changes → Type 0
-AreRespelling First records lists = (changes : Changes) × (lists ≡ changes ∷ []) × (applied changes records ≡ with_places records)
-AreRespelling Second records lists = lists ≡ []
+abbrev pub AreRespelling : RecordFormat → Records → List Changes → Type 0
+AreRespelling V1 records lists = (changes : Changes) × (lists ≡ changes ∷ []) × (applied changes records ≡ with_places records)
+AreRespelling V2 records lists = lists ≡ []
 
 -- those lists, or the records stand for no database
-abbrev pub RespellsFrom : Spelling → Result (List Changes) Fault → Records → Type 0
-RespellsFrom spelling (Ok lists) records = AreRespelling spelling records lists
-RespellsFrom spelling (Err Memory) records = Unit {0}
-RespellsFrom spelling (Err Device) records = Unit {0}
-RespellsFrom spelling (Err Damaged) records = (db : Database) → StandsFor (spelled_in_second spelling records) db → ⊥
+abbrev pub RespellsFrom : RecordFormat → Result (List Changes) Fault → Records → Type 0
+RespellsFrom record_format (Ok lists) records = AreRespelling record_format records lists
+RespellsFrom record_format (Err Memory) records = Unit {0}
+RespellsFrom record_format (Err Device) records = Unit {0}
+RespellsFrom record_format (Err Damaged) records = (db : Database) → StandsFor (spelled_in_second record_format records) db → ⊥

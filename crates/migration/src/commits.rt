@@ -1,7 +1,7 @@
 //! Migrations: a store's records are spelled in the second spelling, at once.
 
 ghost use Rattle.std.specs.Prelude.{◌≡◌, false, List, [], ◌∷◌, Ok, IfErr};
-ghost use Rattle.storage_sizes.specs.declared.spelling.Spelling.TheVariants.{Second};
+ghost use Rattle.storage_sizes.specs.declared.record_format.RecordFormat.TheVariants.{V2};
 ghost use Rattle.store.specs.Records.{Changes};
 ghost use Rattle.store.specs.Store.{StoreState, KeepsHistory, Commits, stored};
 ghost use Rattle.store.specs.Contents.{changed_in};
@@ -19,7 +19,7 @@ use store::{Batch, Store, StoreFault};
 pub fn commit_respelled<S: Store>(store: &mut S, lists: &[Batch]) -> Result<(), StoreFault>
     ensures none { lists.now ≡ [] → (result ≡ Ok tt) × (store.new ≡ store.old) }
     ensures some { (changes : Changes) (others : List Changes) → lists.now ≡ changes ∷ others
-        → Commits result (changed_in Second changes (stored (S.state store.old)))
+        → Commits result (changed_in V2 changes (stored (S.state store.old)))
         (S.state store.old) (S.state store.new) }
 {
     match lists.first() {
@@ -42,7 +42,7 @@ pub fn migrate<S: Store>(alloc: Global, store: &mut S) -> Result<(), OpeningFaul
     ensures cause { (S.state store.old).sound
         → IfErr result (λ fault. HasOpeningCause fault (S.state store.old)
         (S.state store.new)) }
-    ensures nothing { (S.state store.old).spelling ≡ Second
+    ensures nothing { (S.state store.old).record_format ≡ V2
         → (result ≡ Ok tt) × (store.new ≡ store.old) }
     ensures migrates { (S.state store.old).sound → (S.state store.old).has_failed ≡ false
         → (db : Database) → Stands (stored (S.state store.old)) db

@@ -2,7 +2,7 @@
 
 ghost use Rattle.std.specs.Prelude.{◌≡◌, ◌≢◌, [], Ok, Err, IfOk, map};
 ghost use Rattle.std.specs.List.{AllByRecursion};
-ghost use Rattle.storage_sizes.specs.declared.spelling.Spelling.TheVariants.{Second};
+ghost use Rattle.storage_sizes.specs.declared.record_format.RecordFormat.TheVariants.{V2};
 ghost use Rattle.store.specs.Records.{Records, IsOrdered, applied};
 ghost use Rattle.store.specs.Readers.{HasRead};
 ghost use Rattle.store.specs.Store.{StoreState};
@@ -14,7 +14,7 @@ use catalogue_records::load_items;
 use entry_differences::push_differences;
 use sql_types::items::Items;
 use std::alloc::Global;
-use storage_sizes::Spelling;
+use storage_sizes::RecordFormat;
 use store::{Batch, Entry, Fault, Map, Store};
 
 /// The byte with which the key of a privilege descriptor's record begins.
@@ -30,25 +30,25 @@ pub fn respelling<M: Map>(alloc: Global, map: &mut M) -> Result<Batch, Fault>
     ensures read { HasRead result (M.state map.old) (M.state map.new) }
     ensures spelled { (M.state map.old).sound → Respells result (M.state map.old).map }
 {
-    let gone = match load_items(alloc, map, &[DESCRIPTOR], &RecordReader) {
-        Ok(gone) => gone,
+    let removed = match load_items(alloc, map, &[DESCRIPTOR], &RecordReader) {
+        Ok(removed) => removed,
         Err(fault) => return Err(fault),
     };
-    place_changes(alloc, gone.as_slice())
+    place_changes(alloc, removed.as_slice())
 }
 
 // The changes that take records to the same with a place in each key. Memory: an allocation failed.
 // Damaged: one of them has no room for it.
-fn place_changes(alloc: Global, gone: &[Entry]) -> Result<Batch, Fault>
+fn place_changes(alloc: Global, removed: &[Entry]) -> Result<Batch, Fault>
     ensures placed { IfOk result (λ batch. (records : Records) → IsOrdered records
         → applied batch records
-        ≡ applied_in_turn (differences gone.now (map with_its_place gone.now)) records) }
-    ensures undamaged { AllByRecursion HasRoom gone.now → result ≢ Err Fault.Damaged }
+        ≡ applied_in_turn (differences removed.now (map with_its_place removed.now)) records) }
+    ensures undamaged { AllByRecursion HasRoom removed.now → result ≢ Err Fault.Damaged }
     ensures no_device { result ≢ Err Fault.Device }
 {
-    let came = placed_entries(alloc, gone)?;
+    let came = placed_entries(alloc, removed)?;
     let mut batch = Batch::new(alloc);
-    push_differences(gone, came.as_slice(), &mut batch)?;
+    push_differences(removed, came.as_slice(), &mut batch)?;
     Ok(batch)
 }
 
@@ -62,17 +62,17 @@ pub fn respelled_lists<S: Store>(alloc: Global, store: &mut S) -> Result<Items<B
     ensures preserved { S.preserved store.old store.new }
     ensures read { HasRead result (S.state store.old) (S.state store.new) }
     ensures spelled { (S.state store.old).sound
-        → RespellsFrom (S.state store.old).spelling result (S.state store.old).map }
-    ensures none { (S.state store.old).spelling ≡ Second
+        → RespellsFrom (S.state store.old).record_format result (S.state store.old).map }
+    ensures none { (S.state store.old).record_format ≡ V2
         → (result ≡ Ok []) × (store.new ≡ store.old) }
 {
     let mut lists = Items::new(alloc);
-    match store.spelling() {
-        Spelling::First => match respelling(alloc, store) {
+    match store.record_format() {
+        RecordFormat::V1 => match respelling(alloc, store) {
             Ok(batch) => lists.push(batch)?,
             Err(fault) => return Err(fault),
         },
-        Spelling::Second => {}
+        RecordFormat::V2 => {}
     }
     Ok(lists)
 }

@@ -1,7 +1,7 @@
 -- What an opening comes to: its reads, and then its commit, if there is one.
 use Rattle.std.proofs.Common.{◌≡◌, ◌≢◌, ◌⊎◌, ◌≤◌, ◌+◌, inl, inr, ⊎_elim, ℕ, Bool, false, List, [], Result, Ok, Err, refl, ap, sym, ◌∙◌, subst, arith}
-use Rattle.storage_sizes.specs.declared.spelling.Spelling.{Spelling}
-use Rattle.storage_sizes.specs.declared.spelling.Spelling.TheVariants.{First, Second}
+use Rattle.storage_sizes.specs.declared.record_format.RecordFormat.{RecordFormat}
+use Rattle.storage_sizes.specs.declared.record_format.RecordFormat.TheVariants.{V1, V2}
 use Rattle.store.specs.declared.fault.Fault.{Fault}
 use Rattle.store.specs.declared.fault.Fault.TheVariants as read
 use Rattle.store.specs.declared.fault.StoreFault.{StoreFault}
@@ -45,21 +45,21 @@ not_damaged fault old new cause db stands is = subst (λ (f : OpeningFault). Has
 
 -- ---- an opening that only looks makes no commit
 
-pub opened_looking : (s : Spelling) (u : Unit {0}) → OnlyLooks s (Ok u) → s ≡ Second
-opened_looking First u h = absurd h
-opened_looking Second u h = refl
+pub opened_looking : (s : RecordFormat) (u : Unit {0}) → OnlyLooks s (Ok u) → s ≡ V2
+opened_looking V1 u h = absurd h
+opened_looking V2 u h = refl
 
-refused_looking : (s : Spelling) (fault : StoreFault) → OnlyLooks s (Err (Commit fault)) → s ≡ Second
-refused_looking First fault h = absurd h
-refused_looking Second fault h = refl
+refused_looking : (s : RecordFormat) (fault : StoreFault) → OnlyLooks s (Err (Commit fault)) → s ≡ V2
+refused_looking V1 fault h = absurd h
+refused_looking V2 fault h = refl
 
 -- an opening that only looks at what it opens only looks where memory then runs out
-pub looking_without_memory : (s : Spelling) → OnlyLooks s (Err (Read read.Memory)) → OnlyLooks s (Ok tt)
-looking_without_memory First h = absurd h
-looking_without_memory Second h = tt
+pub looking_without_memory : (s : RecordFormat) → OnlyLooks s (Err (Read read.Memory)) → OnlyLooks s (Ok tt)
+looking_without_memory V1 h = absurd h
+looking_without_memory V2 h = tt
 
 -- a fault of a commit comes only where there is a list, so not in the second spelling
-pub no_look_refused : {P S : Type 0} (s : Spelling) (fault : StoreFault) (mid new : S) (lists : List Changes) → (s ≡ Second → lists ≡ []) → CommitsNone (Err fault) mid new lists
+pub no_look_refused : {P S : Type 0} (s : RecordFormat) (fault : StoreFault) (mid new : S) (lists : List Changes) → (s ≡ V2 → lists ≡ []) → CommitsNone (Err fault) mid new lists
     → OnlyLooks s (Err (Commit fault)) → P
 no_look_refused s fault mid new lists unlisted none looks = absurd (no_fault (none (unlisted (refused_looking s fault looks))).0)
 
@@ -72,12 +72,12 @@ unchanged_by commit.Memory after old new is = inr is
 unchanged_by commit.Device after old new is = inl refl
 unchanged_by commit.Number after old new is = inr is
 
-number_by : (s : Spelling) (before number : ℕ) → before ≤ number → number ≤ before + 1 → (s ≡ Second → number ≡ before) → IsNumberAfter s before number
-number_by First before number not_back by_one same = (not_back, by_one)
-number_by Second before number not_back by_one same = same refl
+number_by : (s : RecordFormat) (before number : ℕ) → before ≤ number → number ≤ before + 1 → (s ≡ V2 → number ≡ before) → IsNumberAfter s before number
+number_by V1 before number not_back by_one same = (not_back, by_one)
+number_by V2 before number not_back by_one same = same refl
 
 unchanged_since : (old mid new : StoreState) → IsUnchanged old mid → IsUnchanged mid new → IsUnchanged old new
-unchanged_since old mid new first second = record { map = second.map ∙ first.map; spelling = second.spelling ∙ first.spelling; number = second.number ∙ first.number }
+unchanged_since old mid new first second = record { map = second.map ∙ first.map; record_format = second.record_format ∙ first.record_format; number = second.number ∙ first.number }
 
 module _ {S : Type 0} (state : S → StoreState) (old mid new : S) (lists : List Changes) (reads : OnlyReads (state old) (state mid)) (unfailed : (state mid).has_failed ≡ (state old).has_failed) where
   -- a store of the second spelling was only read
@@ -92,15 +92,15 @@ module _ {S : Type 0} (state : S → StoreState) (old mid new : S) (lists : List
         ⊎_elim (λ device. inl device) (λ same. inr (unchanged_since (state old) (state mid) (state new) (reads.unchanged sound) same)) (unchanged_by fault _ (state mid) (state new) done.committed))
 
     -- the number rises by the one commit, if there is one
-    pub number_then : (u : Unit {0}) → CommitsNone (Ok u) mid new lists → CommitsOne (Ok u) (state mid) (state new) lists → ((state old).spelling ≡ Second → lists ≡ [])
-        → IsNumberAfter (state old).spelling (state old).number (state new).number
+    pub number_then : (u : Unit {0}) → CommitsNone (Ok u) mid new lists → CommitsOne (Ok u) (state mid) (state new) lists → ((state old).record_format ≡ V2 → lists ≡ [])
+        → IsNumberAfter (state old).record_format (state old).number (state new).number
     number_then u none some unlisted =
         let read = (reads.unchanged sound).number in
         let still : lists ≡ [] → (state new).number ≡ (state old).number = λ is. ap (λ (x : S). (state x).number) (none is).1 ∙ read in
         by_lists lists
-        (λ is. let same = still is in number_by (state old).spelling (state old).number (state new).number (omega (arith, same)) (omega (arith, same)) (λ second. same))
+        (λ is. let same = still is in number_by (state old).record_format (state old).number (state new).number (omega (arith, same)) (omega (arith, same)) (λ second. same))
         (λ c cs is.
         let done = (some c cs is).at_once (reads.history.sound sound) (unfailed ∙ works) in
         let up = done.committed.not_back in
         let most = done.committed.by_one in
-        number_by (state old).spelling (state old).number (state new).number (omega (arith, read, up)) (omega (arith, read, most)) (λ second. still (unlisted second)))
+        number_by (state old).record_format (state old).number (state new).number (omega (arith, read, up)) (omega (arith, read, most)) (λ second. still (unlisted second)))

@@ -1,8 +1,8 @@
 -- What opening a server over a store comes to.
 use Rattle.std.specs.Prelude.{◌≡◌, ◌⊎◌, ◌≤◌, ◌+◌, ◌^◌, ◌-◌, ℕ, Bool, true, Option, Result, Ok, Err}
 use Rattle.sector_device.specs.Timeline.{LeavesOnly}
-use Rattle.storage_sizes.specs.declared.spelling.Spelling.{Spelling}
-use Rattle.storage_sizes.specs.declared.spelling.Spelling.TheVariants.{First, Second}
+use Rattle.storage_sizes.specs.declared.record_format.RecordFormat.{RecordFormat}
+use Rattle.storage_sizes.specs.declared.record_format.RecordFormat.TheVariants.{V1, V2}
 use Rattle.store.specs.declared.fault.Fault.TheVariants as read
 use Rattle.store.specs.Readers.{HasRead}
 use Rattle.store.specs.Records.{Records}
@@ -36,22 +36,22 @@ outcome_of (Err refused) = Err refused.fault
 
 -- contents of the first spelling
 abbrev pub AreOfFirst : Contents → Type 0
-AreOfFirst contents = contents.spelling ≡ First
+AreOfFirst contents = contents.record_format ≡ V1
 
 -- the number of a store that was opened, by what it contained before: no commit was made, or, of contents of the first spelling,
 -- one at most
-abbrev pub IsNumberAfter : Spelling → ℕ → ℕ → Type 0
-IsNumberAfter First before number = (before ≤ number) × (number ≤ before + 1)
-IsNumberAfter Second before number = number ≡ before
+abbrev pub IsNumberAfter : RecordFormat → ℕ → ℕ → Type 0
+IsNumberAfter V1 before number = (before ≤ number) × (number ≤ before + 1)
+IsNumberAfter V2 before number = number ≡ before
 
 -- records of the second spelling are only read, and so are those of the first that stand for no database
-abbrev pub OnlyLooks : Spelling → Result (Unit {0}) OpeningFault → Type 0
-OnlyLooks Second outcome = Unit {0}
-OnlyLooks First (Ok x) = ⊥
-OnlyLooks First (Err (Read read.Memory)) = ⊥
-OnlyLooks First (Err (Read read.Device)) = ⊥
-OnlyLooks First (Err (Read read.Damaged)) = Unit {0}
-OnlyLooks First (Err (Commit fault)) = ⊥
+abbrev pub OnlyLooks : RecordFormat → Result (Unit {0}) OpeningFault → Type 0
+OnlyLooks V2 outcome = Unit {0}
+OnlyLooks V1 (Ok x) = ⊥
+OnlyLooks V1 (Err (Read read.Memory)) = ⊥
+OnlyLooks V1 (Err (Read read.Device)) = ⊥
+OnlyLooks V1 (Err (Read read.Damaged)) = Unit {0}
+OnlyLooks V1 (Err (Commit fault)) = ⊥
 
 -- reads, with this outcome, which is none of a commit
 abbrev pub HasLooked : Result (Unit {0}) OpeningFault → StoreState → StoreState → Type 0
@@ -63,5 +63,5 @@ HasLooked (Err (Commit fault)) old new = ⊥
 pub record IsOpened {S X : Type 0} (state : S → StoreState) (contents : Contents) (server : Server S X) : Type 0 where
   pub database : Database
   pub stands : Stands contents database
-  pub second : (state server.store).spelling ≡ Second
+  pub second : (state server.store).record_format ≡ V2
   pub represents : Represents state server (at_start (state server.store) database)

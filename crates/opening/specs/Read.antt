@@ -14,7 +14,7 @@ use Rattle.opening.specs.Openings.{AreOfDatabase}
 -- where they stand for none
 abbrev pub AreRead : Contents → Result (List Changes × Definitions) Fault → Type 0
 AreRead contents (Ok read) =
-    AreRespelling contents.spelling contents.records read.0 × AreOfDatabase (spelled_in_second contents.spelling contents.records) read.1
+    AreRespelling contents.record_format contents.records read.0 × AreOfDatabase (spelled_in_second contents.record_format contents.records) read.1
 AreRead contents (Err Memory) = Unit {0}
 AreRead contents (Err Device) = Unit {0}
 AreRead contents (Err Damaged) = (db : Database) → Stands contents db → ⊥

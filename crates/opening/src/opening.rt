@@ -1,7 +1,7 @@
 //! Opening a server over a store.
 
 ghost use Rattle.std.specs.Prelude.{◌≡◌, ◌≢◌, [], Err, IfOk, IfErr, OnOk, true, false};
-ghost use Rattle.storage_sizes.specs.declared.spelling.Spelling.TheVariants.{Second};
+ghost use Rattle.storage_sizes.specs.declared.record_format.RecordFormat.TheVariants.{V2};
 ghost use Rattle.store.specs.declared.fault.StoreFault.TheVariants as commit;
 ghost use Rattle.store.specs.Readers.{HasRead};
 ghost use Rattle.store.specs.Store.{StoreState, KeepsHistory, IsUnchanged, stored};
@@ -15,7 +15,7 @@ ghost use Rattle.opening.specs.Read.{AreRead};
 use crate::checks::{check_store, read_under};
 use catalogue::definitions::Catalogue;
 use migration::{OpeningFault, commit_respelled, respelled_lists};
-use server::decide::Decide;
+use server::decide::EventHandler;
 use server::server::Server;
 use sql_types::items::Items;
 use std::alloc::Global;
@@ -41,15 +41,15 @@ pub struct Refused<S> {
 /// allocation failed. `Device`: the device failed, and in which spelling they then are is known when it
 /// is opened again. After each other fault the store that is handed back has the contents and the
 /// number that it had, and after each but the two of the device it works as before.
-pub fn open<S: Store, X: Decide + Drop>(
+pub fn open<S: Store, X: EventHandler + Drop>(
     alloc: Global,
     store: S,
-    decider: X,
+    handler: X,
 ) -> Result<Server<S, X>, Refused<S>>
     ensures history { KeepsHistory (S.state store) (S.state (store_of result)) }
-    ensures read { OnlyLooks (S.state store).spelling (outcome_of result)
+    ensures read { OnlyLooks (S.state store).record_format (outcome_of result)
         → HasLooked (outcome_of result) (S.state store) (S.state (store_of result)) }
-    ensures preserved { OnlyLooks (S.state store).spelling (outcome_of result)
+    ensures preserved { OnlyLooks (S.state store).record_format (outcome_of result)
         → (S.state store).has_failed ≡ false → S.preserved store (store_of result) }
     ensures same { (S.state store).sound → (S.state store).has_failed ≡ false → (db : Database)
         → Stands (stored (S.state store)) db
@@ -57,7 +57,7 @@ pub fn open<S: Store, X: Decide + Drop>(
     ensures opened { (S.state store).sound
         → IfOk result (IsOpened S.state (stored (S.state store))) }
     ensures number { (S.state store).sound
-        → IfOk result (λ server. IsNumberAfter (S.state store).spelling (S.state store).number
+        → IfOk result (λ server. IsNumberAfter (S.state store).record_format (S.state store).number
         (S.state server.store).number) }
     ensures damaged { (S.state store).sound → (db : Database)
         → Stands (stored (S.state store)) db
@@ -82,7 +82,7 @@ pub fn open<S: Store, X: Decide + Drop>(
         }
     };
     match commit_respelled(&mut store, lists.as_slice()) {
-        Ok(()) => Ok(Server::over(alloc, store, decider, catalogue)),
+        Ok(()) => Ok(Server::over(alloc, store, handler, catalogue)),
         Err(fault) => {
             let fault = OpeningFault::Commit(fault);
             Err(Refused { store, fault })
@@ -101,7 +101,7 @@ fn read_store<S: Store>(alloc: Global, store: &mut S) -> Result<(Items<Batch>, C
     ensures works { OnOk result ((S.state store.old).has_failed ≡ false) }
     ensures failed { (S.state store.old).has_failed ≡ true → result ≡ Err Fault.Device }
     ensures found { (S.state store.old).sound → AreRead (stored (S.state store.old)) result }
-    ensures none { (S.state store.old).spelling ≡ Second → IfOk result (λ read. read.0 ≡ []) }
+    ensures none { (S.state store.old).record_format ≡ V2 → IfOk result (λ read. read.0 ≡ []) }
 {
     match check_store(alloc, store) {
         Ok(()) => {}

@@ -148,7 +148,7 @@ impl PageCache {
     }
 
     /// Holds a page no more.
-    pub fn forget(&mut self, page: u32)
+    pub fn invalidate(&mut self, page: u32)
         ensures here { held_bytes self.new page ≡ None }
         ensures others { (other : ℕ) → HoldsNoMore self.old self.new other }
     {

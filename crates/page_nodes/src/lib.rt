@@ -18,7 +18,7 @@ pub use scratch::{
     skip_key,
 };
 pub use search::{
-    Branch, Pair, Position, Turn, child_for, child_of, entry_from, pair_for, seek, seek_on,
+    Branch, CellPosition, Pair, Turn, child_for, child_of, entry_from, pair_for, seek, seek_on,
     turn_for, value_in,
 };
 pub use storage_sizes::PAGE_SIZE;

@@ -15,7 +15,7 @@ use storage_sizes::PAGE_SIZE;
 /// A position among the cells of a node: the byte at which the cells from a key on begin, how many cells come before it,
 /// and how many from there on.
 #[derive(Clone, Copy, Drop)]
-pub struct Position {
+pub struct CellPosition {
     pub at: usize,
     pub index: usize,
     pub left: usize,
@@ -44,7 +44,7 @@ pub struct Pair<'a> {
 }
 
 /// The position of the first cell at or after a key. None: these bytes are no node of that kind.
-pub fn seek(bytes: &[u8; PAGE_SIZE], kind: NodeKind, key: &[u8]) -> Option<Position>
+pub fn seek(bytes: &[u8; PAGE_SIZE], kind: NodeKind, key: &[u8]) -> Option<CellPosition>
     ensures sought { (first : List ℕ) (cells : List Entry) → IsNode kind first cells bytes.now
         → MatchOption result ⊥ (λ s. IsPosition kind bytes.now key.now cells
         (zeros_after kind first cells) s.at s.index s.left) }
@@ -65,7 +65,7 @@ pub fn seek_on(
     key: &[u8],
     begin: usize,
     count: usize,
-) -> Option<Position>
+) -> Option<CellPosition>
     requires { begin ≤ page_size }
     ensures sought { (cells : List Entry) (after : List ℕ) → AreCellsAt kind bytes.now begin cells after
         → count ≡ length cells → MatchOption result ⊥ (λ s. IsPosition kind bytes.now key.now cells
@@ -78,7 +78,7 @@ pub fn seek_on(
     for i in 0..count {
         let cell = cell_at(bytes, kind, at)?;
         if !is_less(cell.key, key) {
-            return Some(Position {
+            return Some(CellPosition {
                 at,
                 index: i,
                 left: count - i,
@@ -86,7 +86,7 @@ pub fn seek_on(
         }
         at = cell.end;
     }
-    Some(Position {
+    Some(CellPosition {
         at,
         index: count,
         left: 0,

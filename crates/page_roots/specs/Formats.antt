@@ -1,7 +1,7 @@
 -- The table of formats: the number that stands in a root, and what it says.
 use Rattle.std.specs.Prelude.{ℕ, Bool, true, false, ◌==◌, if◌then◌else◌}
-use Rattle.storage_sizes.specs.declared.spelling.Spelling.{Spelling}
-use Rattle.storage_sizes.specs.declared.spelling.Spelling.TheVariants.{First, Second}
+use Rattle.storage_sizes.specs.declared.record_format.RecordFormat.{RecordFormat}
+use Rattle.storage_sizes.specs.declared.record_format.RecordFormat.TheVariants.{V1, V2}
 use Rattle.page_roots.specs.declared.format.Format.{Format}
 use Rattle.page_roots.specs.declared.format.Format.TheVariants.{One, Two, Three}
 
@@ -12,10 +12,10 @@ number_of Two = 2
 number_of Three = 3
 
 -- how the records are spelled
-abbrev pub spelling_of : Format → Spelling
-spelling_of One = First
-spelling_of Two = Second
-spelling_of Three = Second
+abbrev pub record_format_of : Format → RecordFormat
+record_format_of One = V1
+record_format_of Two = V2
+record_format_of Three = V2
 
 -- whether the six sectors behind the root sectors are a journal
 abbrev pub has_journal : Format → Bool
@@ -28,9 +28,9 @@ abbrev pub format_in : ℕ → Format
 format_in number = if number == 1 then One else (if number == 2 then Two else Three)
 
 -- the format of records of this spelling, with no journal
-abbrev pub format_of : Spelling → Format
-format_of First = One
-format_of Second = Two
+abbrev pub format_of : RecordFormat → Format
+format_of V1 = One
+format_of V2 = Two
 
 -- the format that differs from this one in the spelling alone, which is the second
 abbrev pub respelled : Format → Format

@@ -1,9 +1,9 @@
 //! The formats of a device.
 ghost use Rattle.std.specs.Prelude.{◌≡◌, false};
-ghost use Rattle.storage_sizes.specs.declared.spelling.Spelling.TheVariants.{Second};
-ghost use Rattle.page_roots.specs.Formats.{number_of, spelling_of, has_journal, format_in, format_of, respelled};
+ghost use Rattle.storage_sizes.specs.declared.record_format.RecordFormat.TheVariants.{V2};
+ghost use Rattle.page_roots.specs.Formats.{number_of, record_format_of, has_journal, format_in, format_of, respelled};
 
-use storage_sizes::Spelling;
+use storage_sizes::RecordFormat;
 
 /// The format of a device, by the number that stands in its root: how its records are spelled, and whether the six sectors
 /// behind its root sectors are a journal.
@@ -30,12 +30,12 @@ impl Format {
     }
 
     /// How the records are spelled.
-    pub fn spelling(self) -> Spelling
-        ensures { result ≡ spelling_of self }
+    pub fn record_format(self) -> RecordFormat
+        ensures { result ≡ record_format_of self }
     {
         match self {
-            Format::One => Spelling::First,
-            Format::Two | Format::Three => Spelling::Second,
+            Format::One => RecordFormat::V1,
+            Format::Two | Format::Three => RecordFormat::V2,
         }
     }
 
@@ -50,21 +50,21 @@ impl Format {
     }
 
     /// The format of records of this spelling, with no journal.
-    pub fn of_spelling(spelling: Spelling) -> Format
-        ensures format { result ≡ format_of spelling }
-        ensures spelled { spelling_of result ≡ spelling }
+    pub fn of_spelling(record_format: RecordFormat) -> Format
+        ensures format { result ≡ format_of record_format }
+        ensures spelled { record_format_of result ≡ record_format }
         ensures plain { has_journal result ≡ false }
     {
-        match spelling {
-            Spelling::First => Format::One,
-            Spelling::Second => Format::Two,
+        match record_format {
+            RecordFormat::V1 => Format::One,
+            RecordFormat::V2 => Format::Two,
         }
     }
 
     /// The format that differs from this one in the spelling alone, which is the second.
     pub fn respelled(self) -> Format
         ensures format { result ≡ respelled self }
-        ensures spelled { spelling_of result ≡ Second }
+        ensures spelled { record_format_of result ≡ V2 }
         ensures journal { has_journal result ≡ has_journal self }
     {
         match self {

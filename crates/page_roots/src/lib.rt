@@ -21,4 +21,4 @@ pub use map_page::{
 pub use reach::is_sound_reach;
 pub use root::Root;
 pub use sector::{RootSector, empty_sector, has_magic, read_root};
-pub use storage_sizes::{PAGE_SIZE, SECTOR_SIZE, Spelling};
+pub use storage_sizes::{PAGE_SIZE, RecordFormat, SECTOR_SIZE};

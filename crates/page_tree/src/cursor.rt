@@ -67,7 +67,7 @@ impl TreeCursor {
     }
 
     /// Gives up the leaf, as must be done before the map changes: the next entry is looked for from the root on.
-    pub fn forget(&mut self)
+    pub fn reset(&mut self)
         ensures { (map : List Entry) → KeepsPlace map self.new }
     {
         self.leaf.left = 0;
@@ -211,7 +211,7 @@ pub fn first_from<P: Pages>(
     match entry_below(pages, 0, MAX_HEIGHT, key, cursor) {
         Ok(found) => Ok(found),
         Err(fault) => {
-            cursor.forget();
+            cursor.reset();
             Err(fault)
         }
     }

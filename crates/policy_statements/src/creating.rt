@@ -4,7 +4,7 @@ ghost use Rattle.std.specs.Prelude.{◌≡◌, ◌++◌, false, option_to_list, 
 ghost use Rattle.std.specs.List.{list_any, AllByRecursion};
 ghost use Rattle.sql_ast.specs.Read.{IsReadCreatePolicy};
 ghost use Rattle.expr_parser.specs.Written.{IsAsWritten};
-ghost use Rattle.store.specs.Stop.{FailsForMemory};
+ghost use Rattle.store.specs.StatementError.{FailsForMemory};
 ghost use Rattle.abstract_database.specs.Database.{is_policy_named};
 ghost use Rattle.abstract_database.specs.Definitions.{policy_of};
 ghost use Rattle.abstract_database.specs.Statements.{create_policy as creates_policy};
@@ -30,7 +30,7 @@ use sql_types::name::Name;
 use sql_types::state::{Refusal, SqlState};
 use sql_types::tag::Tag;
 use std::alloc::Global;
-use store::{Batch, Stop};
+use store::{Batch, StatementError};
 use table_statements::acts_as_owner;
 
 /// Carries out CREATE POLICY, as the parser reads it and its conditions are written, for the current
@@ -49,7 +49,7 @@ pub fn create_policy(
     catalogue: &Catalogue,
     current: &Name,
     statement: &CreatePolicy,
-) -> Result<Effect, Stop>
+) -> Result<Effect, StatementError>
     ensures memory { IfErr result FailsForMemory }
     ensures executes { IsReadCreatePolicy statement.now
         → AllByRecursion IsAsWritten
@@ -58,7 +58,7 @@ pub fn create_policy(
         (λ db users. creates_policy db users statement.now) catalogue.now result }
 {
     let Some(old) = catalogue.table(&statement.table) else {
-        return Err(Stop::Refused(SqlState::UndefinedTable));
+        return Err(StatementError::Refused(SqlState::UndefinedTable));
     };
     let policy = checked_policy(alloc, catalogue, current, old, statement)?;
     let table = with_policy(alloc, old, policy)?;

@@ -1,7 +1,7 @@
 //! DROP POLICY (PostgreSQL manual, DROP POLICY).
 
 ghost use Rattle.std.specs.Prelude.{◌≡◌, IfErr};
-ghost use Rattle.store.specs.Stop.{FailsForMemory};
+ghost use Rattle.store.specs.StatementError.{FailsForMemory};
 ghost use Rattle.abstract_database.specs.Statements.{drop_policy as drops_policy};
 ghost use Rattle.catalogue.specs.Executed.{Defines};
 ghost use Rattle.catalogue_changes.specs.Carried.{IsCurrent};
@@ -16,7 +16,7 @@ use sql_types::name::Name;
 use sql_types::state::SqlState;
 use sql_types::tag::Tag;
 use std::alloc::Global;
-use store::{Batch, Stop};
+use store::{Batch, StatementError};
 use table_statements::acts_as_owner;
 
 /// Carries out DROP POLICY for the current role: it puts the table without the policy of this name.
@@ -29,19 +29,19 @@ pub fn drop_policy(
     catalogue: &Catalogue,
     current: &Name,
     statement: &DropPolicy,
-) -> Result<Effect, Stop>
+) -> Result<Effect, StatementError>
     ensures memory { IfErr result FailsForMemory }
     ensures executes { Defines (IsCurrent current.now)
         (λ db users. drops_policy db users statement.now) catalogue.now result }
 {
     let Some(old) = catalogue.table(&statement.table) else {
-        return Err(Stop::Refused(SqlState::UndefinedTable));
+        return Err(StatementError::Refused(SqlState::UndefinedTable));
     };
     if !old.has_policy(&statement.policy) {
-        return Err(Stop::Refused(SqlState::UndefinedObject));
+        return Err(StatementError::Refused(SqlState::UndefinedObject));
     }
     if !acts_as_owner(alloc, catalogue, current, old.owner())? {
-        return Err(Stop::Refused(SqlState::InsufficientPrivilege));
+        return Err(StatementError::Refused(SqlState::InsufficientPrivilege));
     }
     let table = without_policy(alloc, old, &statement.policy)?;
     let mut changes = Batch::new(alloc);

@@ -12,7 +12,7 @@ use Rattle.abstract_database.proofs.ElementLemmas.{of_filter}
 use Rattle.grant_graph.proofs.Merges.{turned, stays_first, none_left, new_first}
 use Rattle.privilege_statements.specs.Changes.{without_those, with_those}
 use Rattle.privilege_statements.proofs.Coming.{AreBehind, put_at, put_past, put_among_none, granted_among_none, beyond_all}
-use Rattle.privilege_statements.proofs.Taking.{none_named, first_out, kept_at}
+use Rattle.privilege_statements.proofs.RevocationMarks.{none_named, first_out, kept_at}
 use Rattle.std.proofs.Common.{subst}
 use Rattle.abstract_database.specs.Lists.{TheName}
 use Rattle.stored_database.specs.Definitions.{TableDefinition}
@@ -28,8 +28,8 @@ pub none_out : (ds : List Descriptor) → without_those [] ds ≡ ds
 none_out [] = refl
 none_out (d ∷ ds) = ap (λ (l : List Descriptor). d ∷ l) (none_out ds)
 
-left_behind : (d : Descriptor) (gone ds : List Descriptor) → AreBehind d ds → AreBehind d (without_those gone ds)
-left_behind d gone ds behind x h = behind x (of_filter (λ v. not (is_named_in gone v)) ds x h).0
+left_behind : (d : Descriptor) (removed ds : List Descriptor) → AreBehind d ds → AreBehind d (without_those removed ds)
+left_behind d removed ds behind x h = behind x (of_filter (λ v. not (is_named_in removed v)) ds x h).0
 
 -- one that stands before all others is granted first
 first_granted : (d : Descriptor) (gs ds : List Descriptor) → Rising descriptor_cmp (d ∷ gs) → AreBehind d ds → with_descriptors (d ∷ gs) ds ≡ d ∷ with_descriptors gs ds
@@ -37,11 +37,11 @@ first_granted d gs [] up behind = none_left d gs up
 first_granted d gs (y ∷ ys) up behind = new_first d gs up y ys (behind y (inl refl))
 
 abbrev IsAnew : List Descriptor → List Descriptor → Type 0
-IsAnew come ds = with_descriptors come (without_those come ds) ≡ with_those come ds
+IsAnew added ds = with_descriptors added (without_those added ds) ≡ with_those added ds
 
 -- where it holds behind the first descriptor, it holds from that on
-module _ (y : Descriptor) (ys : List Descriptor) (r : Rising descriptor_cmp (y ∷ ys)) (rest : (come : List Descriptor) → Rising descriptor_cmp come → IsAnew come ys) where
-  all_anew : (come : List Descriptor) → Rising descriptor_cmp come → IsAnew come (y ∷ ys)
+module _ (y : Descriptor) (ys : List Descriptor) (r : Rising descriptor_cmp (y ∷ ys)) (rest : (added : List Descriptor) → Rising descriptor_cmp added → IsAnew added ys) where
+  all_anew : (added : List Descriptor) → Rising descriptor_cmp added → IsAnew added (y ∷ ys)
   all_anew [] up = none_out (y ∷ ys)
   all_anew (d ∷ gs) up = go (descriptor_cmp d y) refl (all_anew gs up.1) where
     go : (o : Ordering) → descriptor_cmp d y ≡ o → IsAnew gs (y ∷ ys) → IsAnew (d ∷ gs) (y ∷ ys)
@@ -67,9 +67,9 @@ module _ (y : Descriptor) (ys : List Descriptor) (r : Rising descriptor_cmp (y �
         ∙ ap (λ (l : List Descriptor). y ∷ l) (rest (d ∷ gs) up)
         ∙ sym (put_past (d ∷ gs) y ys behind)
 
-pub is_anew : (come ds : List Descriptor) → Rising descriptor_cmp come → Rising descriptor_cmp ds → IsAnew come ds
-is_anew come [] up r = granted_among_none come up ∙ sym (put_among_none come up)
-is_anew come (y ∷ ys) up r = all_anew y ys r (λ gs rises. is_anew gs ys rises r.1) come up
+pub is_anew : (added ds : List Descriptor) → Rising descriptor_cmp added → Rising descriptor_cmp ds → IsAnew added ds
+is_anew added [] up r = granted_among_none added up ∙ sym (put_among_none added up)
+is_anew added (y ∷ ys) up r = all_anew y ys r (λ gs rises. is_anew gs ys rises r.1) added up
 
 -- ---- the parts of the table
 
@@ -78,29 +78,29 @@ module _ (c : DescriptorsChanged) (t : TableDefinition) (changes : IsChangeOf t 
   order = subst (λ (u : TableDefinition). Rising descriptor_cmp u.descriptors) is are.order.descriptor_order
 
   abbrev pub left : List Descriptor
-  left = without_those c.come (without_those c.gone t.descriptors)
+  left = without_those c.added (without_those c.removed t.descriptors)
 
-  kept_rise : (gone ds : List Descriptor) → Rising descriptor_cmp ds → Rising descriptor_cmp (without_those gone ds)
-  kept_rise gone ds r = rising_filter descriptor_cmp (λ d. not (is_named_in gone d)) ds r
+  kept_rise : (removed ds : List Descriptor) → Rising descriptor_cmp ds → Rising descriptor_cmp (without_those removed ds)
+  kept_rise removed ds r = rising_filter descriptor_cmp (λ d. not (is_named_in removed d)) ds r
 
-  pub anew_is_after : with_descriptors c.come left ≡ descriptors_after c t.descriptors
-  anew_is_after = is_anew c.come (without_those c.gone t.descriptors) changes.fits.come_rise (kept_rise c.gone t.descriptors order)
+  pub anew_is_after : with_descriptors c.added left ≡ descriptors_after c t.descriptors
+  anew_is_after = is_anew c.added (without_those c.removed t.descriptors) changes.fits.come_rise (kept_rise c.removed t.descriptors order)
 
-  rising : Rising descriptor_cmp (with_descriptors c.come left)
-  rising = all_rise c.come left (kept_rise c.come (without_those c.gone t.descriptors) (kept_rise c.gone t.descriptors order))
+  rising : Rising descriptor_cmp (with_descriptors c.added left)
+  rising = all_rise c.added left (kept_rise c.added (without_those c.removed t.descriptors) (kept_rise c.removed t.descriptors order))
 
   same_name : p.name ≡ t.definition.name
   same_name = ap (λ (u : TableDefinition). u.definition.name) is
 
-  own : AreFor p.name (with_descriptors c.come left)
-  own = each_granted (λ d. d.table ≡ p.name) (λ x y held. held) c.come left
-      (subst (λ (n : TheName). AreFor n c.come) (sym same_name) changes.fits.own)
+  own : AreFor p.name (with_descriptors c.added left)
+  own = each_granted (λ d. d.table ≡ p.name) (λ x y held. held) c.added left
+      (subst (λ (n : TheName). AreFor n c.added) (sym same_name) changes.fits.own)
       (λ d h.
-      let kept = of_filter (λ x. not (is_named_in c.come x)) (without_those c.gone t.descriptors) d h in
-      let held = of_filter (λ x. not (is_named_in c.gone x)) t.descriptors d kept.0 in
+      let kept = of_filter (λ x. not (is_named_in c.added x)) (without_those c.removed t.descriptors) d h in
+      let held = of_filter (λ x. not (is_named_in c.removed x)) t.descriptors d kept.0 in
       are.order.descriptors d (subst (λ (u : TableDefinition). Among d u.descriptors) (sym is) held.0))
 
-  pub parts_anew : AreParts (record p { descriptors = with_descriptors c.come left })
+  pub parts_anew : AreParts (record p { descriptors = with_descriptors c.added left })
   parts_anew = record {
     order = record { descriptors = own; descriptor_order = rising; policies = are.order.policies; policy_order = are.order.policy_order };
     bound = are.bound;

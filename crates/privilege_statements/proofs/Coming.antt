@@ -88,15 +88,15 @@ come_beside_none (d ∷ granted) = ap (λ (l : List Descriptor). d ∷ l) (come_
 pub put_at : (o : Ordering) (d y : Descriptor) (ys : List Descriptor) → descriptor_cmp d y ≡ o → put descriptor_cmp the_new d (y ∷ ys) ≡ cond (is_lt o) (d ∷ y ∷ ys) (cond (is_eq o) (d ∷ ys) (y ∷ put descriptor_cmp the_new d ys))
 put_at o d y ys e = ap (λ (p : Ordering). cond (is_lt p) (d ∷ y ∷ ys) (cond (is_eq p) (d ∷ ys) (y ∷ put descriptor_cmp the_new d ys))) e
 
-pub put_past : (come : List Descriptor) (y : Descriptor) (ys : List Descriptor) → AreBehind y come → with_those come (y ∷ ys) ≡ y ∷ with_those come ys
+pub put_past : (added : List Descriptor) (y : Descriptor) (ys : List Descriptor) → AreBehind y added → with_those added (y ∷ ys) ≡ y ∷ with_those added ys
 put_past [] y ys behind = refl
-put_past (d ∷ come) y ys behind =
-    ap (with_those come) (put_at Greater d y ys (turned y d Less (behind d (inl refl))))
-    ∙ put_past come y (put descriptor_cmp the_new d ys) (λ x h. behind x (inr h))
+put_past (d ∷ added) y ys behind =
+    ap (with_those added) (put_at Greater d y ys (turned y d Less (behind d (inl refl))))
+    ∙ put_past added y (put descriptor_cmp the_new d ys) (λ x h. behind x (inr h))
 
-pub put_among_none : (come : List Descriptor) → Rising descriptor_cmp come → with_those come [] ≡ come
+pub put_among_none : (added : List Descriptor) → Rising descriptor_cmp added → with_those added [] ≡ added
 put_among_none [] r = refl
-put_among_none (d ∷ come) r = put_past come d [] r.0 ∙ ap (λ (l : List Descriptor). d ∷ l) (put_among_none come r.1)
+put_among_none (d ∷ added) r = put_past added d [] r.0 ∙ ap (λ (l : List Descriptor). d ∷ l) (put_among_none added r.1)
 
 pub granted_among_none : (granted : List Descriptor) → Rising descriptor_cmp granted → with_descriptors granted [] ≡ granted
 granted_among_none [] r = refl

@@ -17,7 +17,7 @@ use Rattle.catalogue_changes.proofs.TableBridgeLemmas.{found_among}
 use Rattle.grant_graph.proofs.Merges.{turned}
 use Rattle.privilege_statements.specs.Changes.{Fits, anew_beside, granted_anew, come_of, gone_of, cleared_of}
 use Rattle.privilege_statements.proofs.Coming.{AreBehind, equal_is, found_equal, of_append, of_anew, come_behind, come_for}
-use Rattle.privilege_statements.proofs.Taking.{gone_behind, cleared_behind, none_named}
+use Rattle.privilege_statements.proofs.RevocationMarks.{gone_behind, cleared_behind, none_named}
 
 -- two in order that are equal are one
 only_one : (ds : List Descriptor) → Rising descriptor_cmp ds → (x y : Descriptor) → Among x ds → Among y ds → descriptor_cmp x y ≡ Equal → x ≡ y

@@ -5,7 +5,7 @@ pub mod Effects
 pub mod Carrying
 pub mod Finding
 pub mod Coming
-pub mod Taking
+pub mod RevocationMarks
 pub mod Anew
 pub mod Fitting
 pub mod Asking

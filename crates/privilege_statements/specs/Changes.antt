@@ -37,8 +37,8 @@ cleared_of option _ _ _ = []
 
 -- the descriptors without these
 abbrev pub without_those : List Descriptor → List Descriptor → List Descriptor
-without_those gone ds = drop_where (is_named_in gone) ds
+without_those removed ds = drop_where (is_named_in removed) ds
 
 -- the descriptors with these, each in place of the one of its key
 abbrev pub with_those : List Descriptor → List Descriptor → List Descriptor
-with_those come ds = put_each descriptor_cmp the_new come ds
+with_those added ds = put_each descriptor_cmp the_new added ds

@@ -12,7 +12,7 @@ use Rattle.abstract_database.specs.Database.{Database}
 use Rattle.abstract_database.specs.Statements.{grant, revoke}
 use Rattle.catalogue.specs.Executed.{Execution}
 use Rattle.privilege_statements.specs.Descriptors.{Around, database_in, carried_out}
-use Rattle.privilege_statements.specs.declared.asker.Asker.{Asker}
+use Rattle.privilege_statements.specs.declared.requester.Requester.{Requester}
 use Rattle.privilege_statements.specs.declared.statement.PrivilegeStatement.{PrivilegeStatement}
 use Rattle.privilege_statements.specs.declared.statement.PrivilegeStatement.TheVariants as statement
 
@@ -39,16 +39,16 @@ IsRead (statement.Revoke s) = Unit {0}
 -- ---- over the descriptors of its table
 
 -- the database with the descriptors of the table alone, and with what is around them
-abbrev pub before : (a : Asker) (s : PrivilegeStatement) → Around (table_of s) a.table.now.definition a.role.now → Database
+abbrev pub before : (a : Requester) (s : PrivilegeStatement) → Around (table_of s) a.table.now.definition a.role.now → Database
 before a s around = database_in around a.catalogue.now.roles a.catalogue.now.memberships a.table.now.descriptors
 
 -- the statement is carried out with this warning, if any, and leaves these descriptors
-abbrev pub Leaves : Asker → PrivilegeStatement → Option Warning → List Descriptor → Type 0
+abbrev pub Leaves : Requester → PrivilegeStatement → Option Warning → List Descriptor → Type 0
 Leaves a s warning left =
     (around : Around (table_of s) a.table.now.definition a.role.now) → run_of s (before a s around) around.users
     ≡ Ok (carried_out (tag_of s) warning (database_in around a.catalogue.now.roles a.catalogue.now.memberships left))
 
 -- memory was refused, or the statement is refused so
-abbrev pub IsRefusedSo : Asker → PrivilegeStatement → Refusal → Type 0
+abbrev pub IsRefusedSo : Requester → PrivilegeStatement → Refusal → Type 0
 IsRefusedSo a s refusal = (refusal.0 ≡ OutOfMemory)
     ⊎ ((around : Around (table_of s) a.table.now.definition a.role.now) → run_of s (before a s around) around.users ≡ Err refusal.0)

@@ -9,9 +9,9 @@ ghost use Rattle.privilege_statements.specs.Asking.{IsAsker};
 ghost use Rattle.privilege_statements.specs.Changes.{Fits, with_those, without_those};
 ghost use Rattle.privilege_statements.specs.Statements.{table_of, tag_of, run_of, Leaves, IsRefusedSo};
 
-use crate::asker::Asker;
-use crate::changes::{Taken, change_of};
+use crate::changes::{RevokedDescriptors, change_of};
 use crate::descriptors::{grant_privileges, revoke_privileges};
+use crate::requester::Requester;
 use crate::statement::PrivilegeStatement;
 use catalogue::definitions::Catalogue;
 use catalogue::descriptor_change::DescriptorChange;
@@ -25,24 +25,24 @@ use std::alloc::Global;
 /// The descriptors that go and come by a statement, and the warning, if something was left out.
 fn exchanged(
     alloc: Global,
-    asker: Asker<'_, '_>,
+    requester: Requester<'_, '_>,
     statement: PrivilegeStatement<'_>,
-) -> Result<(Taken, Option<Warning>), Refusal>
-    requires asker { IsAsker asker }
-    requires table { table_of statement ≡ asker.table.now.definition.name }
-    ensures left { IfOk result (λ r. Leaves asker.entry statement.entry r.1
-        (with_those r.0.come.items (without_those r.0.gone.items asker.entry.table.now.descriptors))) }
+) -> Result<(RevokedDescriptors, Option<Warning>), Refusal>
+    requires requester { IsAsker requester }
+    requires table { table_of statement ≡ requester.table.now.definition.name }
+    ensures left { IfOk result (λ r. Leaves requester.entry statement.entry r.1
+        (with_those r.0.added.items (without_those r.0.removed.items requester.entry.table.now.descriptors))) }
     ensures fits { IfOk result (λ r. Fits (table_of statement.entry)
-        r.0.gone.items r.0.come.items asker.entry.table.now.descriptors) }
-    ensures refused { IfErr result (IsRefusedSo asker.entry statement.entry) }
+        r.0.removed.items r.0.added.items requester.entry.table.now.descriptors) }
+    ensures refused { IfErr result (IsRefusedSo requester.entry statement.entry) }
 {
     match statement {
         PrivilegeStatement::Grant(grant) => {
-            let (come, warning) = grant_privileges(alloc, asker, grant)?;
-            let gone = Vec::new(alloc);
-            Ok((Taken { gone, come }, warning))
+            let (added, warning) = grant_privileges(alloc, requester, grant)?;
+            let removed = Vec::new(alloc);
+            Ok((RevokedDescriptors { removed, added }, warning))
         }
-        PrivilegeStatement::Revoke(revoke) => revoke_privileges(alloc, asker, revoke),
+        PrivilegeStatement::Revoke(revoke) => revoke_privileges(alloc, requester, revoke),
     }
 }
 
@@ -67,13 +67,13 @@ pub(crate) fn descriptors_changed(
 {
     let memberships = catalogue.memberships();
     let roles = closure(alloc, memberships, current)?;
-    let asker = Asker {
+    let requester = Requester {
         catalogue,
         table,
         role: current,
         roles: &roles,
     };
-    let (exchanged, warning) = exchanged(alloc, asker, statement)?;
+    let (exchanged, warning) = exchanged(alloc, requester, statement)?;
     let change = change_of(alloc, table, exchanged)?;
     Ok((change, warning))
 }

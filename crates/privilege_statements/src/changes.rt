@@ -7,7 +7,7 @@ ghost use Rattle.catalogue_changes.specs.DescriptorChanges.{IsChangeOf};
 
 use catalogue::descriptor_change::DescriptorChange;
 use catalogue::table::TableDefinition;
-use grant_graph::Taking;
+use grant_graph::RevocationMarks;
 use sql_ast::privilege::Descriptor;
 use sql_types::items::Items;
 use sql_types::try_copy::TryCopy;
@@ -15,26 +15,26 @@ use std::alloc::{AllocError, Global};
 
 /// What a REVOKE takes: the descriptors that go, and those that come in place of others.
 #[derive(Drop)]
-pub(crate) struct Taken {
-    pub(crate) gone: Vec<Descriptor>,
-    pub(crate) come: Vec<Descriptor>,
+pub(crate) struct RevokedDescriptors {
+    pub(crate) removed: Vec<Descriptor>,
+    pub(crate) added: Vec<Descriptor>,
 }
 
 /// The change of a table by which these go and those come.
 pub(crate) fn change_of(
     alloc: Global,
     table: &TableDefinition,
-    taken: Taken,
+    taken: RevokedDescriptors,
 ) -> Result<DescriptorChange, AllocError>
-    requires { Fits table.now.definition.name taken.gone.items taken.come.items table.now.descriptors }
+    requires { Fits table.now.definition.name taken.removed.items taken.added.items table.now.descriptors }
     ensures change { IfOk result (IsChangeOf table.now) }
     ensures after { IfOk result (λ change. descriptors_after change table.now.descriptors
-        ≡ with_those taken.come.items (without_those taken.gone.items table.now.descriptors)) }
+        ≡ with_those taken.added.items (without_those taken.removed.items table.now.descriptors)) }
 {
     let name = table.name().try_copy(alloc)?;
-    let gone = Items::from_vec(taken.gone);
-    let come = Items::from_vec(taken.come);
-    Ok(DescriptorChange::new(name, gone, come))
+    let removed = Items::from_vec(taken.removed);
+    let added = Items::from_vec(taken.added);
+    Ok(DescriptorChange::new(name, removed, added))
 }
 
 /// Of descriptors that are granted on a table those that it has not, and those that it has without the
@@ -44,15 +44,15 @@ pub(crate) fn coming(
     table: &TableDefinition,
     granted: Vec<Descriptor>,
 ) -> Result<Vec<Descriptor>, AllocError>
-    ensures { IfOk result (λ come. come.items ≡ come_of table.now.descriptors granted.items) }
+    ensures { IfOk result (λ added. added.items ≡ come_of table.now.descriptors granted.items) }
 {
-    let mut come = Vec::new(alloc);
+    let mut added = Vec::new(alloc);
     for descriptor in granted {
         if let Some(new) = anew(alloc, table, descriptor)? {
-            come.push(new)?;
+            added.push(new)?;
         }
     }
-    Ok(come)
+    Ok(added)
 }
 
 /// A descriptor that is granted on a table, unless it has it so already: with the grant option of either.
@@ -78,19 +78,19 @@ fn anew(
 pub(crate) fn what_is_taken(
     alloc: Global,
     descriptors: &[Descriptor],
-    taking: &Taking,
+    taking: &RevocationMarks,
     option_alone: bool,
-) -> Result<Taken, AllocError>
+) -> Result<RevokedDescriptors, AllocError>
     requires named { length taking.now.named.items ≡ length descriptors.now }
     requires staying { length taking.now.staying.items ≡ length descriptors.now }
-    ensures gone { IfOk result (λ taken. taken.gone.items
+    ensures removed { IfOk result (λ taken. taken.removed.items
         ≡ gone_of taking.now.staying.items descriptors.now) }
-    ensures come { IfOk result (λ taken. taken.come.items
+    ensures added { IfOk result (λ taken. taken.added.items
         ≡ cleared_of option_alone taking.now.named.items taking.now.staying.items descriptors.now) }
 {
-    let mut taken = Taken {
-        gone: Vec::new(alloc),
-        come: Vec::new(alloc),
+    let mut taken = RevokedDescriptors {
+        removed: Vec::new(alloc),
+        added: Vec::new(alloc),
     };
     for (index, descriptor) in descriptors.iter().enumerate() {
         let stays = taking.staying[index];
@@ -103,24 +103,24 @@ pub(crate) fn what_is_taken(
 /// Adds a descriptor to those that go, unless it stays, or without its grant option to those that come, if it has one to clear.
 fn take(
     alloc: Global,
-    taken: &mut Taken,
+    taken: &mut RevokedDescriptors,
     descriptor: &Descriptor,
     stays: bool,
     clears: bool,
 ) -> Result<(), AllocError>
-    ensures gone { OnOk result (taken.new.gone.items
-        ≡ taken.old.gone.items ++ where_it_holds (not stays) descriptor.now) }
-    ensures come { OnOk result (taken.new.come.items ≡ taken.old.come.items
+    ensures removed { OnOk result (taken.new.removed.items
+        ≡ taken.old.removed.items ++ where_it_holds (not stays) descriptor.now) }
+    ensures added { OnOk result (taken.new.added.items ≡ taken.old.added.items
         ++ where_it_holds (stays && (clears && descriptor.now.grantable)) (without_option descriptor.now)) }
 {
     if !stays {
         let copy = descriptor.try_copy(alloc)?;
-        taken.gone.push(copy)?;
+        taken.removed.push(copy)?;
         return Ok(());
     }
     if clears && descriptor.grantable {
         let copy = without_option(alloc, descriptor)?;
-        taken.come.push(copy)?;
+        taken.added.push(copy)?;
     }
     Ok(())
 }

@@ -7,7 +7,7 @@ ghost use Rattle.abstract_database.specs.Checks.{is_public as is_the_public};
 ghost use Rattle.privilege_statements.specs.Asking.{asked_by, IsAsker, reaches as reaches_of};
 ghost use Rattle.privilege_statements.specs.Descriptors.{checked};
 
-use crate::asker::Asker;
+use crate::requester::Requester;
 use crate::units::names_columns;
 use catalogue::definitions::Catalogue;
 use catalogue::table::TableDefinition;
@@ -44,47 +44,47 @@ fn names_any(table: &TableDefinition, roles: &[&str]) -> bool
 }
 
 /// Whether a privilege descriptor of the table is for PUBLIC or for a role that the role that asks is in.
-fn is_reached(asker: Asker<'_, '_>) -> bool
-    requires { IsAsker asker }
-    ensures { result ≡ list_any (reaches_of asker.entry) asker.entry.table.now.descriptors }
+fn is_reached(requester: Requester<'_, '_>) -> bool
+    requires { IsAsker requester }
+    ensures { result ≡ list_any (reaches_of requester.entry) requester.entry.table.now.descriptors }
 {
-    let table = asker.table;
+    let table = requester.table;
     let _own = table.descriptors();
-    let names = asker.roles.names();
+    let names = requester.roles.names();
     table.names_grantee(PUBLIC) || names_any(table, names)
 }
 
 /// Whether the role that asks has any privilege on the table, which has this name.
-fn has_some(asker: Asker<'_, '_>, table: &Name) -> bool
-    requires asker { IsAsker asker }
-    requires table { table.now ≡ asker.table.now.definition.name }
-    ensures { result ≡ has_some_privilege (asked_by asker.entry) asker.entry.role.now table.now }
+fn has_some(requester: Requester<'_, '_>, table: &Name) -> bool
+    requires requester { IsAsker requester }
+    requires table { table.now ≡ requester.table.now.definition.name }
+    ensures { result ≡ has_some_privilege (asked_by requester.entry) requester.entry.role.now table.now }
 {
-    asker.catalogue.is_superuser(asker.role) || is_reached(asker)
+    requester.catalogue.is_superuser(requester.role) || is_reached(requester)
 }
 
 /// Checks that each grantee is PUBLIC or a role, else 42704, that the table has each column that is named, else 42703,
 /// and that the role that asks has some privilege on the table, which has this name, else 42501.
 pub(crate) fn check(
-    asker: Asker<'_, '_>,
+    requester: Requester<'_, '_>,
     table: &Name,
     privileges: &Privileges,
     grantees: &[Grantee],
 ) -> Result<(), Refusal>
-    requires asker { IsAsker asker }
-    requires table { table.now ≡ asker.table.now.definition.name }
-    ensures allowed { OnOk result (checked (asked_by asker.entry) asker.entry.role.now table.now
-        asker.entry.table.now.definition.layout privileges.now grantees.now ≡ Ok tt) }
-    ensures refused { IfErr result (λ e. checked (asked_by asker.entry) asker.entry.role.now table.now
-        asker.entry.table.now.definition.layout privileges.now grantees.now ≡ Err e.0) }
+    requires requester { IsAsker requester }
+    requires table { table.now ≡ requester.table.now.definition.name }
+    ensures allowed { OnOk result (checked (asked_by requester.entry) requester.entry.role.now table.now
+        requester.entry.table.now.definition.layout privileges.now grantees.now ≡ Ok tt) }
+    ensures refused { IfErr result (λ e. checked (asked_by requester.entry) requester.entry.role.now table.now
+        requester.entry.table.now.definition.layout privileges.now grantees.now ≡ Err e.0) }
 {
-    if !asker.catalogue.knows_grantees(grantees) {
+    if !requester.catalogue.knows_grantees(grantees) {
         return Err(Refusal(SqlState::UndefinedObject));
     }
-    if !names_columns(asker.table.columns(), privileges) {
+    if !names_columns(requester.table.columns(), privileges) {
         return Err(Refusal(SqlState::UndefinedColumn));
     }
-    if !has_some(asker, table) {
+    if !has_some(requester, table) {
         return Err(Refusal(SqlState::InsufficientPrivilege));
     }
     Ok(())

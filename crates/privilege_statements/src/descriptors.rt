@@ -9,11 +9,11 @@ ghost use Rattle.grant_graph.specs.Revoking.{is_grant_option_for};
 ghost use Rattle.privilege_statements.specs.Named.{IsNamed};
 ghost use Rattle.privilege_statements.specs.Descriptors.{Around, database_in, carried_out, checked, grant_checked, warning_where};
 
-use crate::asker::Asker;
-use crate::changes::{Taken, coming, what_is_taken};
+use crate::changes::{RevokedDescriptors, coming, what_is_taken};
 use crate::checks::{check, has_public};
 use crate::named::{Named, what_is_named};
-use grant_graph::{Revoked, revocation};
+use crate::requester::Requester;
+use grant_graph::{RevokeMode, revocation};
 use sql_ast::privilege::Descriptor;
 use sql_ast::statement::{Grant, Revoke};
 use sql_types::state::{Refusal, SqlState};
@@ -28,38 +28,42 @@ fn warning_if(leaves_out: bool, warning: Warning) -> Option<Warning>
 }
 
 /// What the statement takes.
-fn taken_by(grant_option_for: bool) -> Revoked
+fn taken_by(grant_option_for: bool) -> RevokeMode
     ensures { is_grant_option_for result ≡ grant_option_for }
 {
     if grant_option_for {
-        Revoked::GrantOption
+        RevokeMode::GrantOption
     } else {
-        Revoked::Privilege
+        RevokeMode::Privilege
     }
 }
 
 /// Checks a GRANT, and answers what it names.
-fn named_by_grant(alloc: Global, asker: Asker<'_, '_>, statement: &Grant) -> Result<Named, Refusal>
-    requires asker { IsAsker asker }
-    requires table { statement.now.table ≡ asker.table.now.definition.name }
-    ensures named { IfOk result (IsNamed (asked_by asker.entry)
-        asker.entry.role.now asker.entry.table.now.definition
+fn named_by_grant(
+    alloc: Global,
+    requester: Requester<'_, '_>,
+    statement: &Grant,
+) -> Result<Named, Refusal>
+    requires requester { IsAsker requester }
+    requires table { statement.now.table ≡ requester.table.now.definition.name }
+    ensures named { IfOk result (IsNamed (asked_by requester.entry)
+        requester.entry.role.now requester.entry.table.now.definition
         statement.now.privileges statement.now.grantees statement.now.with_grant_option) }
     ensures allowed { OnOk result
-        (grant_checked (asked_by asker.entry) asker.entry.role.now asker.entry.table.now.definition.layout
+        (grant_checked (asked_by requester.entry) requester.entry.role.now requester.entry.table.now.definition.layout
         statement.now ≡ Ok tt) }
     ensures refused { IfErr result (λ e. (e.0 ≡ OutOfMemory)
-        ⊎ (grant_checked (asked_by asker.entry) asker.entry.role.now asker.entry.table.now.definition.layout
+        ⊎ (grant_checked (asked_by requester.entry) requester.entry.role.now requester.entry.table.now.definition.layout
         statement.now ≡ Err e.0)) }
 {
     let grantees = statement.grantees.as_slice();
-    check(asker, &statement.table, &statement.privileges, grantees)?;
+    check(requester, &statement.table, &statement.privileges, grantees)?;
     if statement.with_grant_option && has_public(grantees) {
         return Err(Refusal(SqlState::InvalidGrantOperation));
     }
     Ok(what_is_named(
         alloc,
-        asker,
+        requester,
         grantees,
         statement.with_grant_option,
         &statement.privileges,
@@ -69,24 +73,24 @@ fn named_by_grant(alloc: Global, asker: Asker<'_, '_>, statement: &Grant) -> Res
 /// Checks a REVOKE, and answers what it names.
 fn named_by_revoke(
     alloc: Global,
-    asker: Asker<'_, '_>,
+    requester: Requester<'_, '_>,
     statement: &Revoke,
 ) -> Result<Named, Refusal>
-    requires asker { IsAsker asker }
-    requires table { statement.now.table ≡ asker.table.now.definition.name }
-    ensures named { IfOk result (IsNamed (asked_by asker.entry)
-        asker.entry.role.now asker.entry.table.now.definition
+    requires requester { IsAsker requester }
+    requires table { statement.now.table ≡ requester.table.now.definition.name }
+    ensures named { IfOk result (IsNamed (asked_by requester.entry)
+        requester.entry.role.now requester.entry.table.now.definition
         statement.now.privileges statement.now.grantees false) }
     ensures allowed { OnOk result
-        (checked (asked_by asker.entry) asker.entry.role.now statement.now.table
-        asker.entry.table.now.definition.layout statement.now.privileges statement.now.grantees ≡ Ok tt) }
+        (checked (asked_by requester.entry) requester.entry.role.now statement.now.table
+        requester.entry.table.now.definition.layout statement.now.privileges statement.now.grantees ≡ Ok tt) }
     ensures refused { IfErr result (λ e. (e.0 ≡ OutOfMemory)
-        ⊎ (checked (asked_by asker.entry) asker.entry.role.now statement.now.table
-        asker.entry.table.now.definition.layout statement.now.privileges statement.now.grantees ≡ Err e.0)) }
+        ⊎ (checked (asked_by requester.entry) requester.entry.role.now statement.now.table
+        requester.entry.table.now.definition.layout statement.now.privileges statement.now.grantees ≡ Err e.0)) }
 {
     let grantees = statement.grantees.as_slice();
-    check(asker, &statement.table, &statement.privileges, grantees)?;
-    Ok(what_is_named(alloc, asker, grantees, false, &statement.privileges)?)
+    check(requester, &statement.table, &statement.privileges, grantees)?;
+    Ok(what_is_named(alloc, requester, grantees, false, &statement.privileges)?)
 }
 
 /// Grants the statement's privileges on the table to its grantees, each by the current role's acting grantor: the
@@ -96,29 +100,29 @@ fn named_by_revoke(
 /// table, else with 0LP01 where PUBLIC would have the grant option, and with 53200 where memory was refused.
 pub(crate) fn grant_privileges(
     alloc: Global,
-    asker: Asker<'_, '_>,
+    requester: Requester<'_, '_>,
     statement: &Grant,
 ) -> Result<(Vec<Descriptor>, Option<Warning>), Refusal>
-    requires asker { IsAsker asker }
-    requires table { statement.now.table ≡ asker.table.now.definition.name }
+    requires requester { IsAsker requester }
+    requires table { statement.now.table ≡ requester.table.now.definition.name }
     ensures granted { IfOk result (λ r.
-        (around : Around statement.now.table asker.entry.table.now.definition asker.entry.role.now)
-        → grant_of (database_in around asker.entry.catalogue.now.roles asker.entry.catalogue.now.memberships
-        asker.entry.table.now.descriptors) around.users statement.now
-        ≡ Ok (carried_out tag.Grant r.1 (database_in around asker.entry.catalogue.now.roles
-        asker.entry.catalogue.now.memberships
-        (with_those r.0.items asker.entry.table.now.descriptors)))) }
-    ensures fits { IfOk result (λ r. Fits statement.now.table [] r.0.items asker.entry.table.now.descriptors) }
+        (around : Around statement.now.table requester.entry.table.now.definition requester.entry.role.now)
+        → grant_of (database_in around requester.entry.catalogue.now.roles requester.entry.catalogue.now.memberships
+        requester.entry.table.now.descriptors) around.users statement.now
+        ≡ Ok (carried_out tag.Grant r.1 (database_in around requester.entry.catalogue.now.roles
+        requester.entry.catalogue.now.memberships
+        (with_those r.0.items requester.entry.table.now.descriptors)))) }
+    ensures fits { IfOk result (λ r. Fits statement.now.table [] r.0.items requester.entry.table.now.descriptors) }
     ensures refused { IfErr result (λ e. (e.0 ≡ OutOfMemory)
-        ⊎ ((around : Around statement.now.table asker.entry.table.now.definition asker.entry.role.now)
-        → grant_of (database_in around asker.entry.catalogue.now.roles asker.entry.catalogue.now.memberships
-        asker.entry.table.now.descriptors) around.users statement.now ≡ Err e.0)) }
+        ⊎ ((around : Around statement.now.table requester.entry.table.now.definition requester.entry.role.now)
+        → grant_of (database_in around requester.entry.catalogue.now.roles requester.entry.catalogue.now.memberships
+        requester.entry.table.now.descriptors) around.users statement.now ≡ Err e.0)) }
 {
-    let _own = asker.table.descriptors();
-    let named = named_by_grant(alloc, asker, statement)?;
-    let come = coming(alloc, asker.table, named.descriptors)?;
+    let _own = requester.table.descriptors();
+    let named = named_by_grant(alloc, requester, statement)?;
+    let added = coming(alloc, requester.table, named.descriptors)?;
     Ok((
-        come,
+        added,
         warning_if(named.leaves_out, Warning::PrivilegeNotGranted),
     ))
 }
@@ -132,27 +136,27 @@ pub(crate) fn grant_privileges(
 /// 53200 where memory was refused.
 pub(crate) fn revoke_privileges(
     alloc: Global,
-    asker: Asker<'_, '_>,
+    requester: Requester<'_, '_>,
     statement: &Revoke,
-) -> Result<(Taken, Option<Warning>), Refusal>
-    requires asker { IsAsker asker }
-    requires table { statement.now.table ≡ asker.table.now.definition.name }
+) -> Result<(RevokedDescriptors, Option<Warning>), Refusal>
+    requires requester { IsAsker requester }
+    requires table { statement.now.table ≡ requester.table.now.definition.name }
     ensures revoked { IfOk result (λ r.
-        (around : Around statement.now.table asker.entry.table.now.definition asker.entry.role.now)
-        → revoke_of (database_in around asker.entry.catalogue.now.roles asker.entry.catalogue.now.memberships
-        asker.entry.table.now.descriptors) around.users statement.now
-        ≡ Ok (carried_out tag.Revoke r.1 (database_in around asker.entry.catalogue.now.roles
-        asker.entry.catalogue.now.memberships
-        (with_those r.0.come.items (without_those r.0.gone.items asker.entry.table.now.descriptors))))) }
+        (around : Around statement.now.table requester.entry.table.now.definition requester.entry.role.now)
+        → revoke_of (database_in around requester.entry.catalogue.now.roles requester.entry.catalogue.now.memberships
+        requester.entry.table.now.descriptors) around.users statement.now
+        ≡ Ok (carried_out tag.Revoke r.1 (database_in around requester.entry.catalogue.now.roles
+        requester.entry.catalogue.now.memberships
+        (with_those r.0.added.items (without_those r.0.removed.items requester.entry.table.now.descriptors))))) }
     ensures fits { IfOk result (λ r.
-        Fits statement.now.table r.0.gone.items r.0.come.items asker.entry.table.now.descriptors) }
+        Fits statement.now.table r.0.removed.items r.0.added.items requester.entry.table.now.descriptors) }
     ensures refused { IfErr result (λ e. (e.0 ≡ OutOfMemory)
-        ⊎ ((around : Around statement.now.table asker.entry.table.now.definition asker.entry.role.now)
-        → revoke_of (database_in around asker.entry.catalogue.now.roles asker.entry.catalogue.now.memberships
-        asker.entry.table.now.descriptors) around.users statement.now ≡ Err e.0)) }
+        ⊎ ((around : Around statement.now.table requester.entry.table.now.definition requester.entry.role.now)
+        → revoke_of (database_in around requester.entry.catalogue.now.roles requester.entry.catalogue.now.memberships
+        requester.entry.table.now.descriptors) around.users statement.now ≡ Err e.0)) }
 {
-    let named = named_by_revoke(alloc, asker, statement)?;
-    let descriptors = asker.table.descriptors();
+    let named = named_by_revoke(alloc, requester, statement)?;
+    let descriptors = requester.table.descriptors();
     let taking = revocation(
         alloc,
         descriptors,

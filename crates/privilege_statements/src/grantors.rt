@@ -4,7 +4,7 @@ ghost use Rattle.std.specs.List.{list_any, list_all};
 ghost use Rattle.privilege_statements.specs.Asking.{asked_by, IsAsker};
 ghost use Rattle.privilege_statements.specs.Units.{by_role, with_grantor, has_grantor as has_grantor_of, leaves_out_by};
 
-use crate::asker::{Asker, grants};
+use crate::requester::{Requester, grants};
 use grant_graph::acting_grantor_among;
 use sql_ast::privilege::Privilege;
 use sql_ast::statement::Privileges;
@@ -19,17 +19,17 @@ pub(crate) struct NamedPrivilege<'a> {
 }
 
 /// The privilege with its acting grantor, where this role asks.
-fn with_grantor<'a>(asker: Asker<'a, '_>, privilege: Privilege) -> NamedPrivilege<'a>
-    requires { IsAsker asker }
+fn with_grantor<'a>(requester: Requester<'a, '_>, privilege: Privilege) -> NamedPrivilege<'a>
+    requires { IsAsker requester }
     ensures { by_role result
-        ≡ with_grantor (asked_by asker.entry) asker.entry.role.now asker.entry.table.now.definition privilege }
+        ≡ with_grantor (asked_by requester.entry) requester.entry.role.now requester.entry.table.now.definition privilege }
 {
     let by = acting_grantor_among(
-        grants(asker),
-        asker.roles,
-        asker.role,
-        asker.table.name(),
-        asker.table.owner(),
+        grants(requester),
+        requester.roles,
+        requester.role,
+        requester.table.name(),
+        requester.table.owner(),
         privilege,
     );
     NamedPrivilege { privilege, by }
@@ -39,17 +39,17 @@ fn with_grantor<'a>(asker: Asker<'a, '_>, privilege: Privilege) -> NamedPrivileg
 /// and to the descriptors of the table for each. `AllocError` comes only where memory was refused.
 pub(crate) fn acting_grantors<'a>(
     alloc: Global,
-    asker: Asker<'a, '_>,
+    requester: Requester<'a, '_>,
     privileges: &[Privilege],
 ) -> Result<Vec<NamedPrivilege<'a>>, AllocError>
-    requires { IsAsker asker }
+    requires { IsAsker requester }
     ensures { IfOk result (λ all. map by_role all.items
-        ≡ map (with_grantor (asked_by asker.entry) asker.entry.role.now asker.entry.table.now.definition)
+        ≡ map (with_grantor (asked_by requester.entry) requester.entry.role.now requester.entry.table.now.definition)
         privileges.now) }
 {
     let mut all = Vec::with_capacity(alloc, privileges.len())?;
     for privilege in privileges {
-        all.push(with_grantor(asker, *privilege))?;
+        all.push(with_grantor(requester, *privilege))?;
     }
     Ok(all)
 }

@@ -3,13 +3,13 @@
 #![tactic(auto)]
 
 mod alone;
-mod asker;
 mod changes;
 mod checks;
 mod descriptors;
 mod grantors;
 mod named;
 mod ordered;
+mod requester;
 mod schema_changes;
 mod statement;
 mod statements;

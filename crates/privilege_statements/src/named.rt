@@ -7,9 +7,9 @@ ghost use Rattle.privilege_statements.specs.Asking.{asked_by, IsAsker};
 ghost use Rattle.privilege_statements.specs.Units.{descriptors_for};
 ghost use Rattle.privilege_statements.specs.Named.{descriptor_of, IsNamed};
 
-use crate::asker::Asker;
 use crate::grantors::{NamedPrivilege, acting_grantors, leaves_out};
 use crate::ordered::ordered;
+use crate::requester::Requester;
 use crate::units::units;
 use sql_ast::privilege::{Descriptor, Grantee, Grantor, Privilege};
 use sql_ast::statement::Privileges;
@@ -113,19 +113,19 @@ fn by_grantors(
 /// columns that it names.
 pub(crate) fn what_is_named(
     alloc: Global,
-    asker: Asker<'_, '_>,
+    requester: Requester<'_, '_>,
     grantees: &[Grantee],
     grantable: bool,
     privileges: &Privileges,
 ) -> Result<Named, AllocError>
-    requires { IsAsker asker }
-    ensures { IfOk result (IsNamed (asked_by asker.entry) asker.entry.role.now
-        asker.entry.table.now.definition privileges.now grantees.now grantable) }
+    requires { IsAsker requester }
+    ensures { IfOk result (IsNamed (asked_by requester.entry) requester.entry.role.now
+        requester.entry.table.now.definition privileges.now grantees.now grantable) }
 {
-    let units = units(alloc, asker.table.columns(), privileges)?;
-    let all = acting_grantors(alloc, asker, units.as_slice())?;
+    let units = units(alloc, requester.table.columns(), privileges)?;
+    let all = acting_grantors(alloc, requester, units.as_slice())?;
     let target = GrantTarget {
-        table: asker.table.name(),
+        table: requester.table.name(),
         grantees,
         grantable,
     };

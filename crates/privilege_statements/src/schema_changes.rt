@@ -29,9 +29,9 @@ fn made_anew(
     ensures { IfOk result (λ made. made ≡ table_after change.now table.now) }
 {
     let mut parts = table.copy_parts(alloc)?;
-    let left = without(alloc, table.descriptors(), change.gone())?;
-    let mut descriptors = without(alloc, left.as_slice(), change.come())?;
-    grant(alloc, &mut descriptors, change.come())?;
+    let left = without(alloc, table.descriptors(), change.removed())?;
+    let mut descriptors = without(alloc, left.as_slice(), change.added())?;
+    grant(alloc, &mut descriptors, change.added())?;
     parts.descriptors = Items::from_vec(descriptors);
     TableDefinition::new(alloc, parts)
 }
@@ -50,7 +50,7 @@ pub(crate) fn schema_change(
         (λ made. changed made catalogue.now ≡ changed (SetDescriptors change) catalogue.now) }
 {
     let _in_order = catalogue.tables();
-    if change.gone().len() + change.come().len() <= MOST_IN_PLACE {
+    if change.removed().len() + change.added().len() <= MOST_IN_PLACE {
         return Ok(SchemaChange::SetDescriptors(change));
     }
     Ok(SchemaChange::PutTable(made_anew(alloc, table, &change)?))

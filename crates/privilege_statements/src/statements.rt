@@ -2,7 +2,7 @@
 //! REVOKE).
 
 ghost use Rattle.std.specs.Prelude.{IfErr};
-ghost use Rattle.store.specs.Stop.{FailsForMemory};
+ghost use Rattle.store.specs.StatementError.{FailsForMemory};
 ghost use Rattle.sql_ast.specs.Read.{IsReadGrant};
 ghost use Rattle.abstract_database.specs.Statements.{grant as grants, revoke as revokes};
 ghost use Rattle.catalogue.specs.Executed.{Defines};
@@ -19,7 +19,7 @@ use sql_ast::statement::{Grant, Revoke};
 use sql_types::name::Name;
 use sql_types::state::SqlState;
 use std::alloc::Global;
-use store::{Batch, Stop};
+use store::{Batch, StatementError};
 
 /// Carries out GRANT for the current role: it grants each of the grantees the privileges, each by the
 /// current role's acting grantor. The warning is `PrivilegeNotGranted`: an action that is named, on the
@@ -34,7 +34,7 @@ pub fn grant(
     catalogue: &Catalogue,
     current: &Name,
     statement: &Grant,
-) -> Result<Effect, Stop>
+) -> Result<Effect, StatementError>
     ensures memory { IfErr result FailsForMemory }
     ensures executes { IsReadGrant statement.now → Defines (IsCurrent current.now)
         (λ db users. grants db users statement.now) catalogue.now result }
@@ -63,7 +63,7 @@ pub fn revoke(
     catalogue: &Catalogue,
     current: &Name,
     statement: &Revoke,
-) -> Result<Effect, Stop>
+) -> Result<Effect, StatementError>
     ensures memory { IfErr result FailsForMemory }
     ensures executes { Defines (IsCurrent current.now)
         (λ db users. revokes db users statement.now) catalogue.now result }
@@ -82,13 +82,13 @@ fn carry_out(
     catalogue: &Catalogue,
     current: &Name,
     statement: PrivilegeStatement<'_>,
-) -> Result<Effect, Stop>
+) -> Result<Effect, StatementError>
     ensures memory { IfErr result FailsForMemory }
     ensures executes { IsRead statement.entry
         → Defines (IsCurrent current.now) (run_of statement.entry) catalogue.now result }
 {
     let Some(table) = catalogue.table(statement.table_name()) else {
-        return Err(Stop::Refused(SqlState::UndefinedTable));
+        return Err(StatementError::Refused(SqlState::UndefinedTable));
     };
     let (change, warning) = descriptors_changed(alloc, catalogue, table, current, statement)?;
     let mut changes = Batch::new(alloc);

@@ -13,4 +13,4 @@ mod watching;
 pub use listening::PlaceListener;
 pub use real::RealSystem;
 pub use streams::{NULL_DEVICE, SystemStream};
-pub use watching::CopyWatch;
+pub use watching::PrintedProgress;

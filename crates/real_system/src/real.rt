@@ -5,9 +5,9 @@ use crate::listening::PlaceListener;
 use crate::new_files::{is_there, make_file, rename_new};
 use crate::socket::{FileId, file_at, remove_made};
 use crate::streams::StandardStreams;
-use crate::watching::CopyWatch;
+use crate::watching::PrintedProgress;
 use connections::system_listener::SystemListener;
-use sector_device::{FileDevice, FileFault, Guarded, SystemCause, SystemFile};
+use sector_device::{FileDevice, FileFault, SystemCause, SystemFile, WriteProtected};
 use std::alloc::Global;
 use std::fs::{self, File};
 use std::io;
@@ -56,11 +56,11 @@ impl<
 > System for RealSystem<'r, R> {
     ghost use Rattle.real_system.specs.Unsaid.{unsaid};
 
-    type Device = Guarded<FileDevice<SystemFile>>;
+    type Device = WriteProtected<FileDevice<SystemFile>>;
 
     type Listener = SystemListener<'r, R, PlaceListener>;
 
-    type Watch = CopyWatch<'r, R>;
+    type CopyProgress = PrintedProgress<'r, R>;
 
     ghost state = { λ s. unsaid s.failures };
 
@@ -68,8 +68,8 @@ impl<
         self.failures
     }
 
-    fn watch_copy(&self) -> CopyWatch<'r, R> {
-        CopyWatch::begin(self.rt)
+    fn watch_copy(&self) -> PrintedProgress<'r, R> {
+        PrintedProgress::begin(self.rt)
     }
 
     fn read_text(&mut self, _alloc: Global, path: &str) -> Result<Vec<u8>, TextFault> {
@@ -100,9 +100,9 @@ impl<
         &mut self,
         path: &str,
         access: Access,
-    ) -> Result<Guarded<FileDevice<SystemFile>>, OpenPathFault> {
+    ) -> Result<WriteProtected<FileDevice<SystemFile>>, OpenPathFault> {
         match open_file(self.rt, path, access) {
-            Ok(device) => Ok(Guarded::new(device)),
+            Ok(device) => Ok(WriteProtected::new(device)),
             Err(OpenPathFault::Device(cause)) => {
                 self.failures = self.failures.saturating_add(1);
                 Err(OpenPathFault::Device(cause))
@@ -112,15 +112,15 @@ impl<
     }
 
     // With its file the device gives up the lock.
-    fn close(&mut self, _path: &str, _device: Guarded<FileDevice<SystemFile>>) {}
+    fn close(&mut self, _path: &str, _device: WriteProtected<FileDevice<SystemFile>>) {}
 
     fn make(
         &mut self,
         path: &str,
         pages: u32,
-    ) -> Result<Guarded<FileDevice<SystemFile>>, FileFault> {
+    ) -> Result<WriteProtected<FileDevice<SystemFile>>, FileFault> {
         match make_file(self.rt, path, pages) {
-            Ok(device) => Ok(Guarded::new(device)),
+            Ok(device) => Ok(WriteProtected::new(device)),
             Err(FileFault::Device(cause)) => {
                 self.failures = self.failures.saturating_add(1);
                 Err(FileFault::Device(cause))
@@ -132,7 +132,7 @@ impl<
     fn remove(
         &mut self,
         path: &str,
-        _device: Guarded<FileDevice<SystemFile>>,
+        _device: WriteProtected<FileDevice<SystemFile>>,
     ) -> Result<(), SystemCause> {
         match fs::remove_file(self.rt, path) {
             Ok(()) => Ok(()),
@@ -147,8 +147,8 @@ impl<
         &mut self,
         from: &str,
         to: &str,
-        device: Guarded<FileDevice<SystemFile>>,
-    ) -> Result<(), (Guarded<FileDevice<SystemFile>>, FileFault)> {
+        device: WriteProtected<FileDevice<SystemFile>>,
+    ) -> Result<(), (WriteProtected<FileDevice<SystemFile>>, FileFault)> {
         match rename_new(self.rt, from, to) {
             Ok(()) => Ok(()),
             Err(fault) => {

@@ -1,7 +1,7 @@
 //! CREATE ROLE (SQL:2016 Foundation, 12.4; PostgreSQL manual, CREATE ROLE).
 
 ghost use Rattle.std.specs.Prelude.{◌≡◌, IfErr};
-ghost use Rattle.store.specs.Stop.{FailsForMemory};
+ghost use Rattle.store.specs.StatementError.{FailsForMemory};
 ghost use Rattle.abstract_database.specs.Statements.{create_role as creates_role};
 ghost use Rattle.catalogue.specs.Executed.{Defines};
 ghost use Rattle.catalogue_changes.specs.Carried.{IsCurrent};
@@ -18,7 +18,7 @@ use sql_types::state::SqlState;
 use sql_types::tag::Tag;
 use sql_types::try_copy::TryCopy;
 use std::alloc::Global;
-use store::{Batch, Stop};
+use store::{Batch, StatementError};
 
 /// Carries out CREATE ROLE for the current role: it puts the new role, which has the attributes that
 /// are written and no others.
@@ -30,17 +30,17 @@ pub fn create_role(
     catalogue: &Catalogue,
     current: &Name,
     statement: &CreateRole,
-) -> Result<Effect, Stop>
+) -> Result<Effect, StatementError>
     ensures memory { IfErr result FailsForMemory }
     ensures executes { Defines (IsCurrent current.now)
         (λ db users. creates_role db users statement.now) catalogue.now result }
 {
     let _name = statement.role.as_str();
     if catalogue.has_role(&statement.role) {
-        return Err(Stop::Refused(SqlState::DuplicateObject));
+        return Err(StatementError::Refused(SqlState::DuplicateObject));
     }
     if !catalogue.is_superuser(current) {
-        return Err(Stop::Refused(SqlState::InsufficientPrivilege));
+        return Err(StatementError::Refused(SqlState::InsufficientPrivilege));
     }
     let role = Role {
         name: statement.role.try_copy(alloc)?,

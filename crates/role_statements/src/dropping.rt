@@ -1,7 +1,7 @@
 //! DROP ROLE (SQL:2016 Foundation, 12.6; PostgreSQL manual, DROP ROLE).
 
 ghost use Rattle.std.specs.Prelude.{◌≡◌, IfErr};
-ghost use Rattle.store.specs.Stop.{FailsForMemory};
+ghost use Rattle.store.specs.StatementError.{FailsForMemory};
 ghost use Rattle.abstract_database.specs.Statements.{drop_role as drops_role};
 ghost use Rattle.catalogue.specs.Executed.{Defines};
 ghost use Rattle.catalogue_changes.specs.Carried.{AreUsers};
@@ -17,7 +17,7 @@ use sql_types::state::SqlState;
 use sql_types::tag::Tag;
 use sql_types::try_copy::TryCopy;
 use std::alloc::Global;
-use store::{Batch, Stop};
+use store::{Batch, StatementError};
 
 /// Carries out DROP ROLE for the current role in a session of a login role: it drops the role, and
 /// its memberships with it.
@@ -32,20 +32,20 @@ pub fn drop_role(
     current: &Name,
     session: &Name,
     statement: &DropRole,
-) -> Result<Effect, Stop>
+) -> Result<Effect, StatementError>
     ensures memory { IfErr result FailsForMemory }
     ensures executes { Defines (AreUsers current.now session.now)
         (λ db users. drops_role db users statement.now) catalogue.now result }
 {
     let role = &statement.role;
     if !catalogue.has_role(role) {
-        return Err(Stop::Refused(SqlState::UndefinedObject));
+        return Err(StatementError::Refused(SqlState::UndefinedObject));
     }
     if !catalogue.is_superuser(current) {
-        return Err(Stop::Refused(SqlState::InsufficientPrivilege));
+        return Err(StatementError::Refused(SqlState::InsufficientPrivilege));
     }
     if must_stay(catalogue, current, session, role) {
-        return Err(Stop::Refused(SqlState::DependentObjects));
+        return Err(StatementError::Refused(SqlState::DependentObjects));
     }
     let mut changes = Batch::new(alloc);
     push_role_drop(alloc, catalogue, role, &mut changes)?;

@@ -2,7 +2,7 @@
 //! REVOKE).
 
 ghost use Rattle.std.specs.Prelude.{IfOk, IfErr};
-ghost use Rattle.store.specs.Stop.{FailsForMemory};
+ghost use Rattle.store.specs.StatementError.{FailsForMemory};
 ghost use Rattle.abstract_database.specs.Statements.{grant_role as grants_role, revoke_role as revokes_role};
 ghost use Rattle.catalogue.specs.Executed.{Defines};
 ghost use Rattle.catalogue_changes.specs.Carried.{IsCurrent};
@@ -18,7 +18,7 @@ use sql_ast::statement::{GrantRole, RevokeRole};
 use sql_types::name::Name;
 use sql_types::state::Refusal;
 use std::alloc::Global;
-use store::{Batch, Stop};
+use store::{Batch, StatementError};
 
 /// Carries out GRANT of roles for the current role: it sets the memberships, among them one of each
 /// of the members in each of the roles. Granted again, a membership keeps its admin option or is
@@ -32,7 +32,7 @@ pub fn grant_role(
     catalogue: &Catalogue,
     current: &Name,
     statement: &GrantRole,
-) -> Result<Effect, Stop>
+) -> Result<Effect, StatementError>
     ensures memory { IfErr result FailsForMemory }
     ensures executes { Defines (IsCurrent current.now)
         (λ db users. grants_role db users statement.now) catalogue.now result }
@@ -56,7 +56,7 @@ pub fn revoke_role(
     catalogue: &Catalogue,
     current: &Name,
     statement: &RevokeRole,
-) -> Result<Effect, Stop>
+) -> Result<Effect, StatementError>
     ensures memory { IfErr result FailsForMemory }
     ensures executes { Defines (IsCurrent current.now)
         (λ db users. revokes_role db users statement.now) catalogue.now result }
@@ -75,7 +75,7 @@ fn carry_out(
     catalogue: &Catalogue,
     current: &Name,
     statement: MembershipStatement<'_>,
-) -> Result<Effect, Stop>
+) -> Result<Effect, StatementError>
     ensures memory { IfErr result FailsForMemory }
     ensures executes { Defines (IsCurrent current.now) (run_of statement.entry) catalogue.now result }
 {

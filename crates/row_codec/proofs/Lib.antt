@@ -3,7 +3,7 @@ pub mod Lengths
 pub mod Order
 pub mod Plain
 pub mod Reading
-pub mod Spelling
+pub mod RecordFormat
 pub mod Unique
 pub mod Whole
 pub mod Zero

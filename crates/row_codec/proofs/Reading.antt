@@ -17,7 +17,7 @@ use Rattle.sql_types.specs.Row.{Row, value_at}
 use Rattle.row_codec.specs.Rows.{key_bytes, value_bytes}
 use Rattle.row_codec.specs.InPlace.{cell, row_of}
 use Rattle.row_codec.proofs.Layouts.{all_at, all_with, all_more}
-use Rattle.row_codec.proofs.Spelling.{key_bytes-more, value_bytes-push, map-push, append_none}
+use Rattle.row_codec.proofs.RecordFormat.{key_bytes-more, value_bytes-push, map-push, append_none}
 
 pub cell_written : (cells : List ValueRef) (p : ℕ) (v : ValueRef) → p < length cells → cell (set cells p v) p ≡ owned v
 cell_written cells p v inside = ap owned (get_or-set_same cells p v lent.Null inside)

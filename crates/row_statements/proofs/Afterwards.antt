@@ -15,8 +15,8 @@ use Rattle.abstract_database.proofs.CheckLemmas.{find_passes}
 use Rattle.abstract_database.proofs.ElementLemmas.{any_holds}
 use Rattle.abstract_database.proofs.ListLemmas.{bytes_same}
 use Rattle.stored_database.specs.Definitions.{TableDefinition, Definitions, ids_of, database_with}
-use Rattle.stored_database.specs.Spelling.{rows_prefix, role_prefix, membership_prefix, table_prefix, descriptor_prefix, policy_prefix}
-use Rattle.stored_database.specs.Records.{HoldsTable, is_key_of, is_stray, is_row_key_of, is_stray_row, Define, Shows}
+use Rattle.stored_database.specs.RecordFormat.{rows_prefix, role_prefix, membership_prefix, table_prefix, descriptor_prefix, policy_prefix}
+use Rattle.stored_database.specs.Records.{HoldsTable, is_key_of, is_orphan, is_row_key_of, is_orphan_row, Define, Shows}
 use Rattle.stored_database.proofs.Lists.{into_map}
 use Rattle.stored_database.proofs.Prefixes.{one_kind, one_id}
 use Rattle.stored_database.proofs.Spelled.{kind_alone}
@@ -62,13 +62,13 @@ module _ (id : ℕ) where
   fourth false false true e = refl
   fourth false false false e = refl
 
-  no_stray : (ids : List ℕ) (key : List ℕ) → has_prefix (row_prefix id) key ≡ true → is_stray ids key ≡ false
-  no_stray ids key h =
+  no_orphan : (ids : List ℕ) (key : List ℕ) → has_prefix (row_prefix id) key ≡ true → is_orphan ids key ≡ false
+  no_orphan ids key h =
       ap (λ (b : Bool). not (has_prefix role_prefix key || has_prefix membership_prefix key || has_prefix table_prefix key || b || list_any (is_key_of key) ids)) (kind_alone 6 (big_bytes 4 id) key h)
       ∙ fourth (has_prefix role_prefix key) (has_prefix membership_prefix key) (has_prefix table_prefix key) (list_any (is_key_of key) ids)
 
-  no_stray_row : (ids : List ℕ) → Among id ids → (key : List ℕ) → has_prefix (row_prefix id) key ≡ true → is_stray_row ids key ≡ false
-  no_stray_row ids among key h =
+  no_orphan_row : (ids : List ℕ) → Among id ids → (key : List ℕ) → has_prefix (row_prefix id) key ≡ true → is_orphan_row ids key ≡ false
+  no_orphan_row ids among key h =
       ap (λ (b : Bool). has_prefix rows_prefix key && not b) (any_holds (is_row_key_of key) ids id among h)
       ∙ none (has_prefix rows_prefix key)
     where
@@ -95,7 +95,7 @@ module _ (records : Records) (changes : Changes) (t : TableDefinition) (o : IsOr
       tables = stays (has_prefix table_prefix) (not_of_kind t.id 3 [] (λ e. omega (arith, e))) ∙ p.held.tables;
       of_tables = λ u among. table_stays u (p.held.of_tables u among);
     };
-    no_other = stays (is_stray (ids_of d.tables)) (no_stray t.id (ids_of d.tables)) ∙ p.no_other;
+    no_other = stays (is_orphan (ids_of d.tables)) (no_orphan t.id (ids_of d.tables)) ∙ p.no_other;
     valid = p.valid;
   }
 
@@ -122,7 +122,7 @@ shown_after records changes d db name t new o s named concern held =
       rows = with_list t.definition.name new d.tables s.rows;
       held = rows_changed records (applied changes records) t.definition.name new d.tables s.rows t e valid.ids
           (λ u among other. other_rows_stay records changes t o concern u (small t named.among) (small u among) other) held.held s.held;
-      no_other_row = stays records changes t o concern (is_stray_row (ids_of d.tables)) (no_stray_row t.id (ids_of d.tables) (into_map (λ (u : TableDefinition). u.id) d.tables t named.among)) ∙ s.no_other_row;
+      no_other_row = stays records changes t o concern (is_orphan_row (ids_of d.tables)) (no_orphan_row t.id (ids_of d.tables) (into_map (λ (u : TableDefinition). u.id) d.tables t named.among)) ∙ s.no_other_row;
       is = is;
       whole_rows = subst (λ (x : Database). HasWholeRows x) (sym is)
           (whole_changed t.definition.name new d.tables s.rows t e own (subst (λ (x : Database). HasWholeRows x) s.is s.whole_rows));

@@ -10,8 +10,8 @@ use Rattle.sql_ast.specs.declared.statement.RowStatement.TheVariants as over_row
 use Rattle.sql_ast.specs.Fits.{FitsTable}
 use Rattle.sql_ast.specs.Layout.{Layout, IsLayout}
 use Rattle.store.specs.declared.fault.Fault.TheVariants.{Memory, Device, Damaged}
-use Rattle.store.specs.declared.stop.Stop.{Stop}
-use Rattle.store.specs.declared.stop.Stop.TheVariants.{Refused, Failed}
+use Rattle.store.specs.declared.stop.StatementError.{StatementError}
+use Rattle.store.specs.declared.stop.StatementError.TheVariants.{Refused, Failed}
 use Rattle.store.specs.Records.{Records, IsOrdered}
 use Rattle.expressions.specs.Meaning.{UserNames}
 use Rattle.expressions.specs.Stages.{◌>>=◌}
@@ -58,7 +58,7 @@ abbrev of_rows : Tag → TheName → Database → Result Changed SqlState → Re
 of_rows t name db changed = changed >>= λ c. Ok (meant_count t c.count (with_rows_of name c.rows db))
 
 -- changes that lead to the rows that are meant, counted
-led : (t : Tag) (records : Records) (d : Definitions) (db : Database) (name : TheName) (table : TableDefinition) (made : Result RowChanges Stop) (rows : Result Changed SqlState)
+led : (t : Tag) (records : Records) (d : Definitions) (db : Database) (name : TheName) (table : TableDefinition) (made : Result RowChanges StatementError) (rows : Result Changed SqlState)
     → IsOrdered records → Shows records d db → IsTableNamed d name table → MakesChanges table.id table.definition.layout records made rows
     → Executes records d (effect_by (counted t) made) (of_rows t table.definition.name db rows)
 led t records d db name table (Ok made) rows o s named makes =
@@ -79,7 +79,7 @@ Change = Guard → Guard → UserNames → List Row → Result Changed SqlState
 
 module _ (records : Records) (ordered : IsOrdered records) (users : UserNames) where
   -- what is made of the rows of the table of a plan is what is meant of them
-  changed : {Given : Type 0} (t : Tag) (d : Definitions) (db : Database) (name : TheName) (a : Action) (reads : Bool) (s : Source) (names : List TheName) (target : Target) (made : Result RowChanges Stop) (change : Change)
+  changed : {Given : Type 0} (t : Tag) (d : Definitions) (db : Database) (name : TheName) (a : Action) (reads : Bool) (s : Source) (names : List TheName) (target : Target) (made : Result RowChanges StatementError) (change : Change)
       → Shows records d db → IsChecked Given d users.current name a reads s names → IsTargetOf users s target
       → ((rows : List Row) → Each (FitsTable s.table.now.definition.layout) rows → IsLayout target.columns.now → HoldsRows target.id target.columns.now records rows
       → MakesChanges target.id target.columns.now records made (change (sees target) (admits target) (users_of target) rows))
@@ -101,7 +101,7 @@ module _ (records : Records) (ordered : IsOrdered records) (users : UserNames) w
 
   -- ---- DELETE
 
-  pub deletes : (p : ChangePlan) (target : Target) (condition : Option (Bor TypedTerm)) (made : Result RowChanges Stop) → IsTargetWhere users p.target p.condition condition target
+  pub deletes : (p : ChangePlan) (target : Target) (condition : Option (Bor TypedTerm)) (made : Result RowChanges StatementError) → IsTargetWhere users p.target p.condition condition target
       → ((rows : List Row) (c : CheckedDelete) → IsLayout target.columns.now → HoldsRows target.id target.columns.now records rows → IsDelete target condition c
       → LosesNothing target condition → MakesChanges target.id target.columns.now records made (rows_deleted (sees target) (users_of target) c rows))
       → Performs records users (plan.Delete p) (effect_by (counted tag.Delete) made)
@@ -121,7 +121,7 @@ module _ (records : Records) (ordered : IsOrdered records) (users : UserNames) w
       (subst (λ (cs : List ℕ). GiveFittingRows p.target.table.now.definition.layout (λ row. assigned users cs (terms_in assignments.values.now) row) rows) (sym columns)
       (subst (λ (vs : List TypedTerm). GiveFittingRows p.target.table.now.definition.layout (λ row. assigned users p.columns (terms_in vs) row) rows) (sym values) fit)))
 
-  pub updates_rows : (p : ChangePlan) (target : Target) (condition : Option (Bor TypedTerm)) (assignments : Assignments) (made : Result RowChanges Stop) → IsTargetWhere users p.target p.condition condition target
+  pub updates_rows : (p : ChangePlan) (target : Target) (condition : Option (Bor TypedTerm)) (assignments : Assignments) (made : Result RowChanges StatementError) → IsTargetWhere users p.target p.condition condition target
       → assignments.columns.now ≡ p.columns → assignments.values.now ≡ p.values
       → ((rows : List Row) (c : CheckedUpdate) → IsLayout target.columns.now → HoldsRows target.id target.columns.now records rows → IsUpdate target condition assignments c
       → GiveFittingRows target.columns.now (assigned_by target assignments) rows
@@ -147,7 +147,7 @@ module _ (records : Records) (ordered : IsOrdered records) (users : UserNames) w
   new_count name db n (Ok rows) = refl
   new_count name db n (Err code) = refl
 
-  pub inserts_rows : (p : InsertPlan) (target : Target) (insertion : Insertion) (made : Result RowChanges Stop) → IsTargetOf users p.target target → insertion.columns.now ≡ p.columns → insertion.rows.now ≡ p.rows
+  pub inserts_rows : (p : InsertPlan) (target : Target) (insertion : Insertion) (made : Result RowChanges StatementError) → IsTargetOf users p.target target → insertion.columns.now ≡ p.columns → insertion.rows.now ≡ p.rows
       → ((rows : List Row) (c : CheckedInsert) → IsLayout target.columns.now → HoldsRows target.id target.columns.now records rows → IsInsert target insertion c
       → GiveFittingRows target.columns.now (inserted_by target insertion) insertion.rows.now
       → MakesChanges target.id target.columns.now records made (rows_made (admits target) (users_of target) c rows))

@@ -10,10 +10,10 @@ use Rattle.sql_ast.specs.Layout.{Layout}
 use Rattle.sql_ast.specs.declared.statement.RowStatement.{RowStatement}
 use Rattle.sql_ast.specs.declared.statement.RowStatement.TheVariants as over_rows
 use Rattle.store.specs.declared.fault.Fault.TheVariants.{Memory, Device, Damaged}
-use Rattle.store.specs.declared.stop.Stop.{Stop}
-use Rattle.store.specs.declared.stop.Stop.TheVariants.{Refused, Failed}
+use Rattle.store.specs.declared.stop.StatementError.{StatementError}
+use Rattle.store.specs.declared.stop.StatementError.TheVariants.{Refused, Failed}
 use Rattle.store.specs.Records.{Records}
-use Rattle.store.specs.Stop.{IsStopBy}
+use Rattle.store.specs.StatementError.{IsStopBy}
 use Rattle.expressions.specs.Meaning.{UserNames}
 use Rattle.expressions.specs.Types.{TypedTerm}
 use Rattle.abstract_database.specs.Queries.{query}
@@ -42,21 +42,21 @@ use Rattle.row_statements.proofs.Targeting.{AreTargetsIn}
 -- ---- causes
 
 -- what follows from a cause is one
-pub damaged_by : {A : Type 0} (r : Result A Stop) (cause more : Type 0) → (cause → more) → IfErr r (IsDamagedFor cause) → IfErr r (IsDamagedFor more)
+pub damaged_by : {A : Type 0} (r : Result A StatementError) (cause more : Type 0) → (cause → more) → IfErr r (IsDamagedFor cause) → IfErr r (IsDamagedFor more)
 damaged_by (Ok x) cause more f h = tt
 damaged_by (Err (Refused code)) cause more f h = tt
 damaged_by (Err (Failed Memory)) cause more f h = tt
 damaged_by (Err (Failed Device)) cause more f h = tt
 damaged_by (Err (Failed Damaged)) cause more f h = f h
 
-stop_undamaged : (code : SqlState) (failure : Stop) (cause : Type 0) → IsStopBy code failure → IsDamagedFor cause failure
+stop_undamaged : (code : SqlState) (failure : StatementError) (cause : Type 0) → IsStopBy code failure → IsDamagedFor cause failure
 stop_undamaged code (Refused c) cause is = tt
 stop_undamaged code (Failed Memory) cause is = tt
 stop_undamaged code (Failed Device) cause is = tt
 stop_undamaged code (Failed Damaged) cause is = absurd is
 
 -- the refusal of a plan is no damage, however it is handed on
-pub refusal_undamaged : {A : Type 0} (cause : Type 0) (refusal : Refusal) (result : Result A Stop) → IsErrAnd result (λ stop. IsStopBy refusal.0 stop) → IfErr result (IsDamagedFor cause)
+pub refusal_undamaged : {A : Type 0} (cause : Type 0) (refusal : Refusal) (result : Result A StatementError) → IsErrAnd result (λ stop. IsStopBy refusal.0 stop) → IfErr result (IsDamagedFor cause)
 refusal_undamaged cause refusal result is = handed_on refusal (λ r. IfErr r (IsDamagedFor cause)) result is (λ stop h. stop_undamaged refusal.0 stop cause h)
 
 -- ---- what a target finds
@@ -98,7 +98,7 @@ all_fit records (s ∷ sources) (range ∷ ranges) [] found = absurd found
 all_fit records (s ∷ sources) (range ∷ ranges) (rows ∷ lists) found = (found.0.fit, all_fit records sources ranges lists found.1)
 
 module _ (records : Records) (d : Definitions) (users : UserNames) (p : SelectPlan) (targets : List Target) where
-  pub damaged_among : (r : Result (List Row) Stop) (s : RowStatement) → IsPlanOf d users.current s (plan.Select p) → AreTargetsIn users p targets
+  pub damaged_among : (r : Result (List Row) StatementError) (s : RowStatement) → IsPlanOf d users.current s (plan.Select p) → AreTargetsIn users p targets
       → ((lists : List (List Row)) → FindRowsOfEach records targets lists → CombinationsFitQuery users p.query lists → Answers r (query (sources_of targets lists) users (bound_of p.query)))
       → IfErr (effect_by answered r) (IsDamagedFor (IsDamagedAmong records users p.sources p.query.conditions))
   damaged_among (Ok rows) s c are gives = tt

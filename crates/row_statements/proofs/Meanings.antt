@@ -12,10 +12,10 @@ use Rattle.sql_ast.specs.declared.statement.RowStatement.{RowStatement}
 use Rattle.sql_ast.specs.declared.statement.RowStatement.TheVariants as over_rows
 use Rattle.sql_ast.specs.Layout.{Layout}
 use Rattle.store.specs.declared.fault.Fault.TheVariants.{Memory, Device, Damaged}
-use Rattle.store.specs.declared.stop.Stop.{Stop}
-use Rattle.store.specs.declared.stop.Stop.TheVariants.{Refused, Failed}
+use Rattle.store.specs.declared.stop.StatementError.{StatementError}
+use Rattle.store.specs.declared.stop.StatementError.TheVariants.{Refused, Failed}
 use Rattle.store.specs.Records.{Records}
-use Rattle.store.specs.Stop.{IsStopBy}
+use Rattle.store.specs.StatementError.{IsStopBy}
 use Rattle.expressions.specs.Meaning.{UserNames}
 use Rattle.expressions.specs.Stages.{◌>>=◌}
 use Rattle.expressions.specs.Types.{TypedTerm}
@@ -59,7 +59,7 @@ staged db users (over_rows.Select s) = done_then (checked_select db users s) sel
 
 -- ---- refusals
 
-refused : (records : Records) (d : Definitions) (failure : Stop) (code : SqlState) (meant : Result Effect SqlState) → IsStopBy code failure → (code ≡ OutOfMemory) ⊎ (meant ≡ Err code)
+refused : (records : Records) (d : Definitions) (failure : StatementError) (code : SqlState) (meant : Result Effect SqlState) → IsStopBy code failure → (code ≡ OutOfMemory) ⊎ (meant ≡ Err code)
     → Executes records d (Err failure) meant
 refused records d (Refused c) code meant is (inl memory) = absurd (is.1 memory)
 refused records d (Refused c) code meant is (inr e) = e ∙ ap (λ (x : SqlState). let r : Result Effect SqlState = Err x in r) (sym is.0)
@@ -68,12 +68,12 @@ refused records d (Failed Device) code meant is h = absurd is
 refused records d (Failed Damaged) code meant is h = absurd is
 
 -- what is so however a refusal is handed on
-pub handed_on : {A : Type 0} (refusal : Refusal) (Q : Result A Stop → Type 0) (result : Result A Stop) → IsErrAnd result (λ stop. IsStopBy refusal.0 stop) → ((stop : Stop) → IsStopBy refusal.0 stop → Q (Err stop)) → Q result
+pub handed_on : {A : Type 0} (refusal : Refusal) (Q : Result A StatementError → Type 0) (result : Result A StatementError) → IsErrAnd result (λ stop. IsStopBy refusal.0 stop) → ((stop : StatementError) → IsStopBy refusal.0 stop → Q (Err stop)) → Q result
 handed_on refusal Q (Ok x) is q = absurd is
 handed_on refusal Q (Err stop) is q = q stop is
 
 -- checks that refuse a statement refuse it as a whole, however the refusal is handed on
-pub plan_refused : (records : Records) (d : Definitions) (db : Database) (users : UserNames) (s : RowStatement) (refusal : Refusal) (result : Result TheEffect Stop)
+pub plan_refused : (records : Records) (d : Definitions) (db : Database) (users : UserNames) (s : RowStatement) (refusal : Refusal) (result : Result TheEffect StatementError)
     → Shows records d db → IsErrAnd result (λ stop. IsStopBy refusal.0 stop) → IsRefusedBy checked_over_rows d users.current s refusal → Executes records d result (exec_over_rows db users s)
 plan_refused records d db users s refusal result shown is by_checks =
     handed_on refusal (λ r. Executes records d r (exec_over_rows db users s)) result is (λ stop h. refused records d stop refusal.0 (exec_over_rows db users s) h (as_whole by_checks))
@@ -90,7 +90,7 @@ module _ (users : UserNames) (s : Source) (target : Target) (is : IsTargetOf use
       subst (λ (layout : Layout). HoldsRows target.id layout records rows) (sym is.layout)
       (subst (λ (id : ℕ). HoldsRows id s.table.now.definition.layout records rows) (sym is.id) h)
 
-  pub makes_here : (records : Records) (r : Result RowChanges Stop) (rows : Result Changed SqlState) → MakesChanges target.id target.columns.now records r rows → MakesChanges s.table.now.id s.table.now.definition.layout records r rows
+  pub makes_here : (records : Records) (r : Result RowChanges StatementError) (rows : Result Changed SqlState) → MakesChanges target.id target.columns.now records r rows → MakesChanges s.table.now.id s.table.now.definition.layout records r rows
   makes_here records r rows m =
       subst (λ (id : ℕ). MakesChanges id s.table.now.definition.layout records r rows) is.id
       (subst (λ (layout : Layout). MakesChanges target.id layout records r rows) is.layout m)
@@ -117,5 +117,5 @@ condition_is (Some typed) own e = ap where_of (sym e)
 -- ---- a plan that is carried out
 
 -- what is so of its kind and of the effect of its call
-pub of_kind : {p kind : Plan} {result made : Result TheEffect Stop} (P : Plan → Result TheEffect Stop → Type 0) → p ≡ kind → result ≡ made → P kind made → P p result
+pub of_kind : {p kind : Plan} {result made : Result TheEffect StatementError} (P : Plan → Result TheEffect StatementError → Type 0) → p ≡ kind → result ≡ made → P kind made → P p result
 of_kind {p} {kind} {result} {made} P is by h = subst (λ (x : Plan). P x result) (sym is) (subst (P kind) (sym by) h)

@@ -5,7 +5,7 @@ use Rattle.sql_types.specs.declared.answer.Answer.{Answer}
 use Rattle.sql_ast.specs.declared.statement.RowStatement.{RowStatement}
 use Rattle.sql_ast.specs.declared.statement.RowStatement.TheVariants as over_rows
 use Rattle.store.specs.Records.{Records}
-use Rattle.store.specs.declared.stop.Stop.{Stop}
+use Rattle.store.specs.declared.stop.StatementError.{StatementError}
 use Rattle.expressions.specs.Meaning.{UserNames}
 use Rattle.expressions.specs.Stages.{◌>>=◌}
 use Rattle.abstract_database.specs.Lists.{TheName}
@@ -38,11 +38,11 @@ plans_reads d current (over_rows.Select s) (plan.Select p) planned is = tt
 plans_reads d current (over_rows.Select s) p planned is = absurd planned
 plans_reads d current s p planned is = absurd is
 
-reads_by : (r : Result Effect Stop) (P Q : Answer → Type 0) → ((a : Answer) → P a → Q a) → IfOk r (λ effect. P effect.answer) → IfOk r (λ effect. Q effect.answer)
+reads_by : (r : Result Effect StatementError) (P Q : Answer → Type 0) → ((a : Answer) → P a → Q a) → IfOk r (λ effect. P effect.answer) → IfOk r (λ effect. Q effect.answer)
 reads_by (Ok effect) P Q f h = f effect.answer h
 reads_by (Err failure) P Q f h = tt
 
-module _ (records : Records) (d : Definitions) (current session : TheName) (s : RowStatement) (p : Plan) (users : UserNames) (acts : users ≡ seen_users d.memberships current session) (planned : IsPlanOf d current s p) (result : Result Effect Stop) where
+module _ (records : Records) (d : Definitions) (current session : TheName) (s : RowStatement) (p : Plan) (users : UserNames) (acts : users ≡ seen_users d.memberships current session) (planned : IsPlanOf d current s p) (result : Result Effect StatementError) where
   pub executed : Means d current s p → Performs records users p result → (db : Database) → Shows records d db → WritesAsRead db (seen_users db.memberships current session) s
       → Executes records d result (exec_over_rows db (seen_users db.memberships current session) s)
   executed means performs db shown read =

@@ -36,8 +36,8 @@ use Rattle.planner.specs.Tables.{AreTablesOf, table_in, definitions_in}
 use Rattle.planner.specs.Selected.{tables_of_plan}
 use Rattle.planner.proofs.Checking.{found_inside}
 use Rattle.planner.proofs.Fitting.{products}
-use Rattle.store.specs.declared.stop.Stop.{Stop}
-use Rattle.store.specs.declared.stop.Stop.TheVariants.{Refused, Failed}
+use Rattle.store.specs.declared.stop.StatementError.{StatementError}
+use Rattle.store.specs.declared.stop.StatementError.TheVariants.{Refused, Failed}
 use Rattle.table_rows.specs.declared.target.Target.{Target}
 use Rattle.table_rows.specs.Failures.{Answers}
 use Rattle.table_rows.specs.Targets.{sees}
@@ -104,14 +104,14 @@ abbrev of_query : Database → Result (List Row) SqlState → Result Effect SqlS
 of_query db answered = answered >>= λ rows. Ok (effect (answer.Rows rows) db)
 
 -- the rows that are meant are the answer
-select_done : (records : Records) (d : Definitions) (db : Database) (r : Result (List Row) Stop) (rows : Result (List Row) SqlState) → Shows records d db → Answers r rows → Executes records d (effect_by answered r) (of_query db rows)
+select_done : (records : Records) (d : Definitions) (db : Database) (r : Result (List Row) StatementError) (rows : Result (List Row) SqlState) → Shows records d db → Answers r rows → Executes records d (effect_by answered r) (of_query db rows)
 select_done records d db (Ok made) rows shown e = record { after = db; answered = ap (of_query db) e; leads = shown }
 select_done records d db (Err (Refused code)) rows shown e = ap (of_query db) e
 select_done records d db (Err (Failed Memory)) rows shown e = tt
 select_done records d db (Err (Failed Device)) rows shown e = tt
 select_done records d db (Err (Failed Damaged)) rows shown e = e
 
-pub selects : (records : Records) (users : UserNames) (p : SelectPlan) (targets : List Target) (r : Result (List Row) Stop) → IsOrdered records → AreTargetsIn users p targets
+pub selects : (records : Records) (users : UserNames) (p : SelectPlan) (targets : List Target) (r : Result (List Row) StatementError) → IsOrdered records → AreTargetsIn users p targets
     → ((lists : List (List Row)) → FindRowsOfEach records targets lists → CombinationsFitQuery users p.query lists → Answers r (query (sources_of targets lists) users (bound_of p.query)))
     → Performs records users (plan.Select p) (effect_by answered r)
 selects records users p targets r o are gives d db (over_rows.Select s) shown c read =
@@ -120,7 +120,7 @@ selects records users p targets r o are gives d db (over_rows.Select s) shown c 
     let own = of_tables records d db users shown h p.sources p.query.conditions 0 p.sources targets tables c.guards (found_each d (tables_in s.source) (tables_of_plan p) c.tables) c.tables.among in
     let found = all_found targets own.lists in
     let same : query (sources_of targets found) users (bound_of p.query) ≡ query (sources_of targets own.lists) users (bound_of p.query) =
-    same_answer users p.sources p.query.conditions (bound_of p.query) refl records 0 [] p.sources targets own.lists refl (λ quiet. tt) (λ quiet. quiet) tables own.held in
+    same_answer users p.sources p.query.conditions (bound_of p.query) refl records 0 [] p.sources targets own.lists refl (λ infallible. tt) (λ infallible. infallible) tables own.held in
     subst (λ (ss : List QuerySource). Executes records d (effect_by answered r) (of_query db (query ss users (bound_of p.query)))) (sym own.are)
     (select_done records d db r (query (sources_of targets own.lists) users (bound_of p.query)) shown
     (subst (λ (m : Result (List Row) SqlState). Answers r m) same
@@ -129,7 +129,7 @@ selects records users p targets r o are gives d db (over_rows.Select s) shown c 
 selects records users p targets r o are gives d db s shown c read = absurd c
 
 -- what was read
-pub answers_planned : (records : Records) (users : UserNames) (p : SelectPlan) (targets : List Target) (r : Result (List Row) Stop) → AreTargetsIn users p targets → IfOk r (AnswersRead records targets users p.query)
+pub answers_planned : (records : Records) (users : UserNames) (p : SelectPlan) (targets : List Target) (r : Result (List Row) StatementError) → AreTargetsIn users p targets → IfOk r (AnswersRead records targets users p.query)
     → IfOk (effect_by answered r) (λ effect. AnswersPlanned records users p effect.answer)
 answers_planned records users p targets (Ok rows) are read = record { rows = rows; answered = refl; targets = targets; of_plan = are.of_plan; read = read }
 answers_planned records users p targets (Err stop) are read = tt

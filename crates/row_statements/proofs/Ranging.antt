@@ -14,10 +14,10 @@ use Rattle.abstract_database.specs.Whole.{Each}
 use Rattle.guards.specs.Guards.{row_guard}
 use Rattle.guards.specs.declared.guard.Guard.{Guard as Formulas}
 use Rattle.key_ranges.specs.declared.range.KeyRange.{KeyRange}
-use Rattle.key_ranges.specs.Quiet.{are_formulas_quiet, GuardNeverFails}
+use Rattle.key_ranges.specs.Infallible.{are_formulas_infallible, GuardNeverFails}
 use Rattle.key_ranges.specs.Ranges.{HasKeysOf}
-use Rattle.key_ranges.specs.Laws.{IsHarmless, AreGuardsQuiet}
-use Rattle.key_ranges.proofs.QuietGuards.{quiet_guard}
+use Rattle.key_ranges.specs.Laws.{IsHarmless, AreGuardsInfallible}
+use Rattle.key_ranges.proofs.InfallibleGuards.{infallible_guard}
 use Rattle.key_ranges.proofs.Unchanged.{ranges_lose_nothing}
 use Rattle.row_codec.proofs.Layouts.{and_parts}
 use Rattle.planner.specs.declared.sources.Source.{Source}
@@ -29,7 +29,7 @@ use Rattle.table_rows.specs.Ranged.{rows_found, rows_of, IsOfTable, HasAllChosen
 use Rattle.table_rows.proofs.Ranging.{finds, fit_found}
 use Rattle.executor.specs.Selected.{sources_of, source_of, FindRowsOfEach}
 use Rattle.row_statements.specs.declared.ranges.RangedSource.{RangedSource}
-use Rattle.row_statements.specs.Ranges.{are_sources_quiet, range_among, ranges_among, AreSourcesQuiet, IsRangeFor, IsRangeWhere, IsRangeAmong, AreRanged}
+use Rattle.row_statements.specs.Ranges.{are_sources_infallible, range_among, ranges_among, AreSourcesInfallible, IsRangeFor, IsRangeWhere, IsRangeAmong, AreRanged}
 use Rattle.row_statements.specs.Targeted.{IsTargetOf, AreTargetsOf}
 
 -- ---- UPDATE and DELETE
@@ -44,7 +44,7 @@ module _ (users : UserNames) (s : Source) where
       → HasAllChosen s.table.now.id s.table.now.definition.layout users (row_guard users s.guard.existing) condition lent
   where_chosen condition None h = tt
   where_chosen None (Some range) h = absurd h
-  where_chosen (Some c) (Some range) h = record { guard_quiet = h.0; quiet = h.1.quiet; keys = h.1.keys }
+  where_chosen (Some c) (Some range) h = record { guard_infallible = h.0; infallible = h.1.infallible; keys = h.1.keys }
 
 -- a range of WHERE loses nothing
 pub loses_nothing : (users : UserNames) (s : Source) (target : Target) (condition : Option (Bor TypedTerm)) (range : Option KeyRange) → IsTargetOf users s target → option_copied target.range ≡ range → IsRangeWhere users s condition range
@@ -62,16 +62,16 @@ loses_nothing users s target condition range is lent safe =
 
 -- what is found out of one condition
 pub range_is_where : (users : UserNames) (s : Source) (condition : Bor TypedTerm) (range : Option KeyRange) → GuardNeverFails (row_guard users s.guard.existing) → IfSome range (IsRangeFor 0 users s (condition.now ∷ [])) → IsRangeWhere users s (Some condition) range
-range_is_where users s condition None quiet h = tt
-range_is_where users s condition (Some range) quiet h = (quiet, h)
+range_is_where users s condition None infallible h = tt
+range_is_where users s condition (Some range) infallible h = (infallible, h)
 
 -- ---- the tables of a SELECT
 
-sources_quiet : (users : UserNames) (sources : List Source) → are_sources_quiet sources ≡ true → AreSourcesQuiet users sources
-sources_quiet users [] h = tt
-sources_quiet users (s ∷ sources) h =
-    let both = and_parts (are_formulas_quiet s.guard.existing) (are_sources_quiet sources) h in
-    (quiet_guard s.guard.existing both.0 users, sources_quiet users sources both.1)
+sources_infallible : (users : UserNames) (sources : List Source) → are_sources_infallible sources ≡ true → AreSourcesInfallible users sources
+sources_infallible users [] h = tt
+sources_infallible users (s ∷ sources) h =
+    let both = and_parts (are_formulas_infallible s.guard.existing) (are_sources_infallible sources) h in
+    (infallible_guard s.guard.existing both.0 users, sources_infallible users sources both.1)
 
 -- the records hold these rows of each table
 abbrev pub HoldTables : Records → List Target → List (List Row) → Type 0
@@ -87,9 +87,9 @@ all_found (t ∷ targets) [] = []
 all_found (t ∷ targets) (rows ∷ more) = rows_of t rows ∷ all_found targets more
 
 module _ (users : UserNames) (tables : List Source) (conditions : List TypedTerm) where
-  pub range_is_among : (index : ℕ) (s : Source) (range : Option KeyRange) → are_sources_quiet tables ≡ true → IfSome range (IsRangeFor index users s conditions) → IsRangeAmong users tables conditions index s range
-  range_is_among index s None quiet h = tt
-  range_is_among index s (Some range) quiet h = (sources_quiet users tables quiet, h)
+  pub range_is_among : (index : ℕ) (s : Source) (range : Option KeyRange) → are_sources_infallible tables ≡ true → IfSome range (IsRangeFor index users s conditions) → IsRangeAmong users tables conditions index s range
+  range_is_among index s None infallible h = tt
+  range_is_among index s (Some range) infallible h = (sources_infallible users tables infallible, h)
 
   ranges_joined : (start : ℕ) (sources : List Source) (s : Source)
       → ranges_among users tables conditions start (sources ++ s ∷ []) ≡ ranges_among users tables conditions start sources ++ range_among users tables conditions (start + length sources) s ∷ []
@@ -176,20 +176,20 @@ module _ (users : UserNames) (tables : List Source) (conditions : List TypedTerm
 
   -- ---- what is answered of them
 
-  sees_quiet : (s : Source) (t : Target) → IsTargetOf users s t → GuardNeverFails (row_guard users s.guard.existing) → GuardNeverFails (sees t)
-  sees_quiet s t is quiet =
+  sees_infallible : (s : Source) (t : Target) → IsTargetOf users s t → GuardNeverFails (row_guard users s.guard.existing) → GuardNeverFails (sees t)
+  sees_infallible s t is infallible =
       subst (λ (u : UserNames). GuardNeverFails (row_guard u t.guard.now.existing)) (sym is.who)
-      (subst (λ (g : Formulas). GuardNeverFails (row_guard users g.existing)) (sym is.guard) quiet)
+      (subst (λ (g : Formulas). GuardNeverFails (row_guard users g.existing)) (sym is.guard) infallible)
 
-  rest_quiet : (index : ℕ) (sources : List Source) (targets : List Target) (lists : List (List Row)) → AreOver index sources targets → AreSourcesQuiet users sources → AreGuardsQuiet (sources_of targets lists)
-  rest_quiet index sources [] lists a quiet = tt
-  rest_quiet index [] (t ∷ targets) lists a quiet = absurd a
-  rest_quiet index (s ∷ sources) (t ∷ targets) [] a quiet = tt
-  rest_quiet index (s ∷ sources) (t ∷ targets) (rows ∷ more) a quiet = (sees_quiet s t a.0 quiet.0, rest_quiet (index + 1) sources targets more a.2 quiet.1)
+  rest_infallible : (index : ℕ) (sources : List Source) (targets : List Target) (lists : List (List Row)) → AreOver index sources targets → AreSourcesInfallible users sources → AreGuardsInfallible (sources_of targets lists)
+  rest_infallible index sources [] lists an infallible = tt
+  rest_infallible index [] (t ∷ targets) lists an infallible = absurd a
+  rest_infallible index (s ∷ sources) (t ∷ targets) [] an infallible = tt
+  rest_infallible index (s ∷ sources) (t ∷ targets) (rows ∷ more) an infallible = (sees_infallible s t a.0 infallible.0, rest_infallible (index + 1) sources targets more a.2 infallible.1)
 
-  one_more_quiet : (before : List QuerySource) (x : QuerySource) → AreGuardsQuiet before → GuardNeverFails x.guard → AreGuardsQuiet (before ++ x ∷ [])
-  one_more_quiet [] x all quiet = (quiet, tt)
-  one_more_quiet (y ∷ before) x all quiet = (all.0, one_more_quiet before x all.1 quiet)
+  one_more_infallible : (before : List QuerySource) (x : QuerySource) → AreGuardsInfallible before → GuardNeverFails x.guard → AreGuardsInfallible (before ++ x ∷ [])
+  one_more_infallible [] x all infallible = (infallible, tt)
+  one_more_infallible (y ∷ before) x all infallible = (all.0, one_more_infallible before x all.1 infallible)
 
   one_longer : (before : List QuerySource) (x : QuerySource) → length (before ++ x ∷ []) ≡ length before + 1
   one_longer [] x = omega arith
@@ -198,9 +198,9 @@ module _ (users : UserNames) (tables : List Source) (conditions : List TypedTerm
   module _ (q : BoundQuery) (terms_are : q.conditions ≡ map (λ c. c.term) conditions) where
     harmless : (index : ℕ) (s : Source) (t : Target) (range : KeyRange) (n : ℕ) → n ≡ index → IsTargetOf users s t → GuardNeverFails (sees t) → IsRangeFor index users s conditions range
         → IsHarmless t.id t.columns.now n users (sees t) conditions range
-    harmless index s t range n same is quiet h = record {
-      guard_quiet = quiet;
-      quiet = h.quiet;
+    harmless index s t range n same is infallible h = record {
+      guard_infallible = infallible;
+      infallible = h.infallible;
       keys = subst (λ (i : ℕ). HasKeysOf t.id t.columns.now i users conditions range) (sym same)
           (subst (λ (id : ℕ). HasKeysOf id t.columns.now index users conditions range) (sym is.id)
           (subst (λ (layout : Layout). HasKeysOf s.table.now.id layout index users conditions range) (sym is.layout) h.keys));
@@ -208,16 +208,16 @@ module _ (users : UserNames) (tables : List Source) (conditions : List TypedTerm
 
     -- one table of FROM
     one_table : (index : ℕ) (s : Source) (t : Target) (rows : List Row) (before rest : List QuerySource) (lent : Option (Bor KeyRange)) → length before ≡ index → IsTargetOf users s t
-        → (AreSourcesQuiet users tables → GuardNeverFails (sees t) × AreGuardsQuiet before × AreGuardsQuiet rest) → Each (FitsTable t.columns.now) rows → IsRangeAmong users tables conditions index s (option_copied lent)
+        → (AreSourcesInfallible users tables → GuardNeverFails (sees t) × AreGuardsInfallible before × AreGuardsInfallible rest) → Each (FitsTable t.columns.now) rows → IsRangeAmong users tables conditions index s (option_copied lent)
         → query (before ++ record { guard = sees t; rows = rows_found t.id t.columns.now lent rows } ∷ rest) users q ≡ query (before ++ source_of t rows ∷ rest) users q
-    one_table index s t rows before rest None long is quiet fit h = refl
-    one_table index s t rows before rest (Some range) long is quiet fit h =
-        let all = quiet h.0 in
+    one_table index s t rows before rest None long is infallible fit h = refl
+    one_table index s t rows before rest (Some range) long is infallible fit h =
+        let all = infallible h.0 in
         ranges_lose_nothing t.id t.columns.now users before rest (sees t) conditions range.now q rows (harmless index s t range.now (length before) long is all.0 h.1) all.1 all.2 terms_are fit
 
     -- all tables of FROM from this one on
     pub same_answer : (records : Records) (index : ℕ) (before : List QuerySource) (sources : List Source) (targets : List Target) (lists : List (List Row)) → length before ≡ index
-        → (AreSourcesQuiet users tables → AreGuardsQuiet before) → (AreSourcesQuiet users tables → AreSourcesQuiet users sources) → AreOver index sources targets → HoldTables records targets lists
+        → (AreSourcesInfallible users tables → AreGuardsInfallible before) → (AreSourcesInfallible users tables → AreSourcesInfallible users sources) → AreOver index sources targets → HoldTables records targets lists
         → query (before ++ sources_of targets (all_found targets lists)) users q ≡ query (before ++ sources_of targets lists) users q
     same_answer records index before [] [] [] long first all a h = refl
     same_answer records index before [] [] (rows ∷ more) long first all a h = absurd h
@@ -229,10 +229,10 @@ module _ (users : UserNames) (tables : List Source) (conditions : List TypedTerm
         let rest = sources_of targets more in
         let rest_found = sources_of targets (all_found targets more) in
         let next = before ++ found ∷ [] in
-        let own : AreSourcesQuiet users tables → GuardNeverFails (sees t) = λ quiet. sees_quiet s t a.0 (all quiet).0 in
+        let own : AreSourcesInfallible users tables → GuardNeverFails (sees t) = λ infallible. sees_infallible s t a.0 (all infallible).0 in
         let later : query (next ++ rest_found) users q ≡ query (next ++ rest) users q =
-        same_answer records (index + 1) next sources targets more (one_longer before found ∙ ap (λ (n : ℕ). n + 1) long) (λ quiet. one_more_quiet before found (first quiet) (own quiet)) (λ quiet. (all quiet).1) a.2 h.1 in
+        same_answer records (index + 1) next sources targets more (one_longer before found ∙ ap (λ (n : ℕ). n + 1) long) (λ infallible. one_more_infallible before found (first infallible) (own infallible)) (λ infallible. (all infallible).1) a.2 h.1 in
         ap (λ (ss : List QuerySource). query ss users q) (sym (append_assoc before (found ∷ []) rest_found))
         ∙ later
         ∙ ap (λ (ss : List QuerySource). query ss users q) (append_assoc before (found ∷ []) rest)
-        ∙ one_table index s t rows before rest t.range long a.0 (λ quiet. (own quiet, first quiet, rest_quiet (index + 1) sources targets more a.2 (all quiet).1)) h.0.fit a.1
+        ∙ one_table index s t rows before rest t.range long a.0 (λ infallible. (own infallible, first infallible, rest_infallible (index + 1) sources targets more a.2 (all infallible).1)) h.0.fit a.1

@@ -12,7 +12,7 @@ use Rattle.abstract_database.specs.Database.{Table, is_table_named}
 use Rattle.abstract_database.specs.Whole.{Each, AreWholeRows}
 use Rattle.abstract_database.proofs.ElementLemmas.{any_holds}
 use Rattle.stored_database.specs.Definitions.{TableDefinition, ids_of, table_with, tables_with}
-use Rattle.stored_database.specs.Spelling.{row_record}
+use Rattle.stored_database.specs.RecordFormat.{row_record}
 use Rattle.stored_database.specs.Records.{HoldRows}
 use Rattle.stored_database.proofs.Lists.{into_map}
 use Rattle.catalogue.specs.Lookups.{is_definition_named}

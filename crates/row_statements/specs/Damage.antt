@@ -5,7 +5,7 @@ use Rattle.sql_ast.specs.declared.statement.RowStatement.{RowStatement}
 use Rattle.expressions.specs.Meaning.{UserNames}
 use Rattle.expressions.specs.Types.{TypedTerm}
 use Rattle.store.specs.Records.{Records, entries_where, has_prefix}
-use Rattle.store.specs.declared.stop.Stop.{Stop}
+use Rattle.store.specs.declared.stop.StatementError.{StatementError}
 use Rattle.row_codec.specs.Rows.{row_prefix}
 use Rattle.stored_database.specs.Definitions.{Definitions}
 use Rattle.catalogue.specs.declared.effect.Effect.{Effect}
@@ -54,7 +54,7 @@ MeetsDamage records users (plan.Update p) = IsDamagedWhere records users p.targe
 MeetsDamage records users (plan.Delete p) = IsDamagedWhere records users p.target p.condition
 
 -- whatever statement it is a plan of, it stops for damage for this alone
-abbrev pub StopsForDamage : Records → UserNames → Plan → Result Effect Stop → Type 0
+abbrev pub StopsForDamage : Records → UserNames → Plan → Result Effect StatementError → Type 0
 StopsForDamage records users p result = (d : Definitions) (s : RowStatement) → IsPlanOf d users.current s p → IfErr result (IsDamagedFor (MeetsDamage records users p))
 
 -- there is a record of no row where a plan of the statement looks

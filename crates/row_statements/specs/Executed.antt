@@ -8,7 +8,7 @@ use Rattle.sql_ast.specs.declared.statement.RowStatement.TheVariants as over_row
 use Rattle.sql_ast.specs.OverRows.{IsReadOverRows}
 use Rattle.expressions.specs.Meaning.{UserNames}
 use Rattle.store.specs.Records.{Records}
-use Rattle.store.specs.declared.stop.Stop.{Stop}
+use Rattle.store.specs.declared.stop.StatementError.{StatementError}
 use Rattle.abstract_database.specs.Database.{Database}
 use Rattle.abstract_database.specs.Statements.{performed}
 use Rattle.abstract_database.specs.Whole.{AreRolesOf}
@@ -47,14 +47,14 @@ PlansReads (plan.Select p) = Unit {0}
 PlansReads p = ⊥
 
 -- over records that show a database, it comes to what the statement does there after its checks
-abbrev pub Performs : Records → UserNames → Plan → Result Effect Stop → Type 0
+abbrev pub Performs : Records → UserNames → Plan → Result Effect StatementError → Type 0
 Performs records users p result = (d : Definitions) (db : Database) (s : RowStatement) → Shows records d db → IsPlanOf d users.current s p → WritesAsRead db users s
     → Executes records d result (performed db users (checked_of p))
 
 -- ---- effects
 
 -- what a call makes has this effect, or the call stops
-abbrev pub effect_by : {A : Type 0} → (A → Effect) → Result A Stop → Result Effect Stop
+abbrev pub effect_by : {A : Type 0} → (A → Effect) → Result A StatementError → Result Effect StatementError
 effect_by of (Ok made) = Ok (of made)
 effect_by of (Err stop) = Err stop
 

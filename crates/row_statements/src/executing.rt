@@ -6,7 +6,7 @@ ghost use Rattle.abstract_database.specs.Database.{Database};
 ghost use Rattle.abstract_database.specs.Statements.{exec_over_rows};
 ghost use Rattle.stored_database.specs.Records.{Shows};
 ghost use Rattle.catalogue.specs.Executed.{Executes};
-ghost use Rattle.store.specs.Stop.{ReadsMap};
+ghost use Rattle.store.specs.StatementError.{ReadsMap};
 ghost use Rattle.table_rows.specs.Failures.{IsDamagedFor};
 ghost use Rattle.row_statements.specs.Damage.{FindsDamage, StopsForDamage};
 ghost use Rattle.row_statements.specs.Executed.{OnlyReads, Performs, PlansReads, WritesAsRead};
@@ -24,7 +24,7 @@ use sql_ast::statement::RowStatement;
 use sql_types::name::Name;
 use sql_types::tag::Tag;
 use std::alloc::Global;
-use store::{Map, Stop};
+use store::{Map, StatementError};
 use table_rows::{Assignments, Insertion, delete, insert, update};
 
 /// A SELECT, INSERT, UPDATE or DELETE of the current role in a session: its answer, and the changes
@@ -40,7 +40,7 @@ pub fn execute<M: Map>(
     current: &Name,
     session: &Name,
     statement: &RowStatement,
-) -> Result<Effect, Stop>
+) -> Result<Effect, StatementError>
     ensures preserved { M.preserved map.old map.new }
     ensures read { ReadsMap result (M.state map.old) (M.state map.new) }
     ensures unchanged { OnlyReads statement.now → IfOk result (λ effect. effect.changes ≡ []) }
@@ -68,7 +68,7 @@ fn carry_out<M: Map>(
     map: &mut M,
     plan: &Plan<'_>,
     users: Users<'_>,
-) -> Result<Effect, Stop>
+) -> Result<Effect, StatementError>
     ensures preserved { M.preserved map.old map.new }
     ensures read { ReadsMap result (M.state map.old) (M.state map.new) }
     ensures unchanged { PlansReads plan.now → IfOk result (λ effect. effect.changes ≡ []) }

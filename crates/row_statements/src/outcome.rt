@@ -16,12 +16,15 @@ use sql_types::name::Name;
 use sql_types::tag::Tag;
 use sql_types::value::Value;
 use std::alloc::Global;
-use store::{Batch, Stop};
+use store::{Batch, StatementError};
 use table_rows::RowChanges;
 
 // What a statement comes to that changes rows: it is answered by how many there are, and the
 // definitions stay.
-pub(crate) fn counted(tag: Tag, made: Result<RowChanges, Stop>) -> Result<Effect, Stop>
+pub(crate) fn counted(
+    tag: Tag,
+    made: Result<RowChanges, StatementError>,
+) -> Result<Effect, StatementError>
     ensures { result ≡ effect_by (counted tag) made }
 {
     let made = made?;
@@ -39,8 +42,8 @@ pub(crate) fn counted(tag: Tag, made: Result<RowChanges, Stop>) -> Result<Effect
 // What a SELECT comes to: it is answered by its rows, and changes nothing.
 pub(crate) fn answered(
     alloc: Global,
-    rows: Result<Items<Items<Value>>, Stop>,
-) -> Result<Effect, Stop>
+    rows: Result<Items<Items<Value>>, StatementError>,
+) -> Result<Effect, StatementError>
     ensures { result ≡ effect_by answered rows }
 {
     let rows = rows?;

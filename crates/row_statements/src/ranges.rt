@@ -3,11 +3,11 @@ ghost use Rattle.std.specs.Prelude.{◌≡◌, IfOk, IfSome, map};
 ghost use Rattle.std.specs.Option.{option_copied};
 ghost use Rattle.expressions.specs.Rows.{names_of};
 ghost use Rattle.row_statements.specs.Targeted.{IsRangedTargetOf, AreTargetsOf};
-ghost use Rattle.row_statements.specs.Ranges.{are_sources_quiet, range_left, range_where, ranges_among, AreRanged, IsRangeFor, IsRangeWhere};
+ghost use Rattle.row_statements.specs.Ranges.{are_sources_infallible, range_left, range_where, ranges_among, AreRanged, IsRangeFor, IsRangeWhere};
 
 use expressions::eval::Users;
 use expressions::types::Typed;
-use key_ranges::{KeyRange, is_guard_quiet, key_range};
+use key_ranges::{KeyRange, is_guard_infallible, key_range};
 use planner::Source;
 use sql_types::items::Items;
 use std::alloc::{AllocError, Global};
@@ -71,7 +71,7 @@ pub fn range_where(
     ensures safe { IfOk result (IsRangeWhere (names_of users.now) source.now condition.entry) }
 {
     match condition {
-        Some(condition) if is_guard_quiet(&source.guard) => {
+        Some(condition) if is_guard_infallible(&source.guard) => {
             range_of(alloc, source, 0, from_ref(condition), users)
         }
         _ => Ok(None),
@@ -92,10 +92,10 @@ pub fn ranged<'a>(
     ensures safe { IfOk result
         (AreRanged (names_of users.now) sources.now conditions.now 0 sources.now) }
 {
-    let quiet = are_guards_quiet(sources);
+    let infallible = are_guards_infallible(sources);
     let mut ranged = Items::new(alloc);
     for (index, source) in sources.iter().enumerate() {
-        let range = if quiet {
+        let range = if infallible {
             range_of(alloc, source, index, conditions, users)?
         } else {
             None
@@ -121,11 +121,11 @@ pub(crate) fn targets<'a>(
 }
 
 // Whether no guard of these tables fails on any row.
-fn are_guards_quiet(sources: &[Source<'_>]) -> bool
-    ensures { result ≡ are_sources_quiet sources.now }
+fn are_guards_infallible(sources: &[Source<'_>]) -> bool
+    ensures { result ≡ are_sources_infallible sources.now }
 {
     for source in sources {
-        if !is_guard_quiet(&source.guard) {
+        if !is_guard_infallible(&source.guard) {
             return false;
         }
     }

@@ -37,6 +37,6 @@ pub record Closes {S X : Type 0} (Reads : ReadingRelation) (state : S → StoreS
   pub left : old.stopped ≡ false → (w : At) → Represents state old w
       → (end : At) × Represents state new end × (end.standing.machine ≡ machine_over w.standing.machine.committed)
 
--- what is left after a script: no session is open, and nobody holds the write slot, unless the server has stopped
+-- what is left after a script: no session is open, and nobody holds the writer lock, unless the server has stopped
 abbrev pub LeavesNoSession : {S X : Type 0} → (S → StoreState) → Server S X → Type 0
 LeavesNoSession state new = (end : At) × Represents state new end × (new.stopped ≡ false → end.standing.machine ≡ machine_over end.standing.machine.committed)

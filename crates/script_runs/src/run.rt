@@ -13,7 +13,7 @@ use crate::line::read_line;
 use crate::numbers::{SessionNumbers, event_of};
 use crate::telling::answer_event;
 use crate::text_sink::TakesText;
-use server::decide::Decide;
+use server::decide::EventHandler;
 use server::server::Server;
 use sql_types::event::Event;
 use std::alloc::Global;
@@ -48,7 +48,7 @@ pub enum ScriptEnd {
 /// However it ends, the sessions that are still open are then closed in the order of their opening,
 /// and these answers are not told. A server that has stopped closes none. Then all that the sink has
 /// taken goes out, unless it fails.
-pub fn run_script<S: Store, X: Decide, K: TakesText>(
+pub fn run_script<S: Store, X: EventHandler, K: TakesText>(
     alloc: Global,
     server: &mut Server<S, X>,
     script: &str,
@@ -69,7 +69,7 @@ pub fn run_script<S: Store, X: Decide, K: TakesText>(
 }
 
 /// Runs the lines of a script, which newlines separate.
-fn run_text<S: Store, X: Decide, K: TakesText>(
+fn run_text<S: Store, X: EventHandler, K: TakesText>(
     alloc: Global,
     server: &mut Server<S, X>,
     script: &str,
@@ -87,7 +87,7 @@ fn run_text<S: Store, X: Decide, K: TakesText>(
 }
 
 /// Runs the lines in their order, until one ends the script.
-fn run_lines<S: Store, X: Decide, K: TakesText>(
+fn run_lines<S: Store, X: EventHandler, K: TakesText>(
     alloc: Global,
     server: &mut Server<S, X>,
     lines: &[&str],
@@ -110,7 +110,7 @@ fn run_lines<S: Store, X: Decide, K: TakesText>(
 
 /// Runs one line, which has this number in the script, and answers why the script ends there, if it
 /// does.
-fn run_line<'a, S: Store, X: Decide, K: TakesText>(
+fn run_line<'a, S: Store, X: EventHandler, K: TakesText>(
     alloc: Global,
     server: &mut Server<S, X>,
     text: &'a str,
@@ -134,7 +134,7 @@ fn run_line<'a, S: Store, X: Decide, K: TakesText>(
 }
 
 /// Runs one event, tells its answer, and answers why the script ends there, if it does.
-fn run_event<S: Store, X: Decide, K: TakesText>(
+fn run_event<S: Store, X: EventHandler, K: TakesText>(
     server: &mut Server<S, X>,
     event: &Event,
     sink: &mut K,
@@ -153,7 +153,7 @@ fn run_event<S: Store, X: Decide, K: TakesText>(
 }
 
 /// Closes the sessions that are open, the first opened first. A server that has stopped keeps them.
-pub fn close_sessions<S: Store, X: Decide>(server: &mut Server<S, X>)
+pub fn close_sessions<S: Store, X: EventHandler>(server: &mut Server<S, X>)
     ensures history { KeepsHistory (S.state server.old.store) (S.state server.new.store) }
     ensures closes { StandsWithinLimit S.state server.old
         → Closes X.Reads S.state server.old server.new }
@@ -170,7 +170,7 @@ pub fn close_sessions<S: Store, X: Decide>(server: &mut Server<S, X>)
 }
 
 /// Closes a session, and lets the answer go.
-fn close_session<S: Store, X: Decide>(server: &mut Server<S, X>, session: u32)
+fn close_session<S: Store, X: EventHandler>(server: &mut Server<S, X>, session: u32)
     ensures history { KeepsHistory (S.state server.old.store) (S.state server.new.store) }
     ensures steps { (answer : Answer)
         × Steps X.Reads S.state server.old (Event.Close session) answer server.new }

@@ -6,7 +6,7 @@ ghost use Rattle.store.specs.Store.{KeepsHistory};
 ghost use Rattle.script_runs.specs.Telling.{session_of, Told, Tells, Breaks};
 
 use crate::sink::Sink;
-use server::decide::Decide;
+use server::decide::EventHandler;
 use server::server::Server;
 use sql_types::event::Event;
 use std::io;
@@ -14,7 +14,7 @@ use store::Store;
 
 /// Carries an event out by a step of the server, and then tells its answer. An error: the event was
 /// carried out, and its answer was not taken whole.
-pub fn answer_event<S: Store, X: Decide, K: Sink>(
+pub fn answer_event<S: Store, X: EventHandler, K: Sink>(
     server: &mut Server<S, X>,
     event: &Event,
     sink: &mut K,

@@ -14,6 +14,6 @@ pub mod FilePage
 pub mod FileDevice
 pub mod Sectors
 pub mod Beside
-pub mod Guarded
+pub mod WriteProtected
 pub mod SystemFile
 pub mod SystemCause

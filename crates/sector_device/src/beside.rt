@@ -6,12 +6,16 @@ ghost use Rattle.sector_device.specs.Sectors.{WritesSectors, HoldsSectors};
 use crate::{Device, DeviceFault, SECTOR_SIZE};
 
 /// A device that keeps sectors beside, which are written by this call alone.
-pub trait BesideDevice: Device {
+pub trait ProtectedSectors: Device {
     /// Writes sectors beside one after the other, from `first` on, and makes them last with one
     /// sync. A stop during the call or after it leaves in each of them, by itself, what it might
     /// have left before or the bytes written to it; after `Ok` these alone. Every other sector is
     /// left alone.
-    fn write_beside(&mut self, first: u32, sectors: &[[u8; SECTOR_SIZE]]) -> Result<(), DeviceFault>
+    fn write_protected(
+        &mut self,
+        first: u32,
+        sectors: &[[u8; SECTOR_SIZE]],
+    ) -> Result<(), DeviceFault>
         requires inside { first + length sectors.now ≤ (Self.state self.old).sectors }
         requires beside { (i : ℕ) → i < length sectors.now
             → (Self.state self.old).beside (first + i) }

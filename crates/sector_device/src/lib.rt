@@ -7,7 +7,6 @@ mod bytes;
 mod call;
 mod device;
 mod file_device;
-mod guarded;
 mod history;
 mod history_laws;
 mod memory;
@@ -19,13 +18,13 @@ mod sectors;
 mod system_cause;
 mod system_file;
 mod timelines;
+mod write_protected;
 mod zeros;
 
-pub use beside::BesideDevice;
+pub use beside::ProtectedSectors;
 pub use call::Call;
 pub use device::{Device, DeviceFault, calls_join, read_leaves};
 pub use file_device::FileDevice;
-pub use guarded::Guarded;
 pub use history::HistoryDevice;
 pub use history_laws::{both_contents_are_left, each_moment_is_kept};
 pub use memory::{MAX_MEMORY_PAGES, MemDevice};
@@ -41,3 +40,4 @@ pub use timelines::{
     Moments, call_lifts, present_lifts, run_goes_on, run_lifts, run_of_one, run_starts,
     run_weakens, runs_join,
 };
+pub use write_protected::WriteProtected;

@@ -3,7 +3,7 @@ use Rattle.std.proofs.Common.{◌≡◌, ℕ, Bool, true, false, nat_eq, ⊎_eli
 use Rattle.sql_types.specs.declared.answer.Answer.{Answer}
 use Rattle.indexmap.specs.IndexMap.{insert_entry}
 use Rattle.sector_device.specs.Timeline.{IsPresent}
-use Rattle.storage_sizes.specs.declared.spelling.Spelling.TheVariants.{Second}
+use Rattle.storage_sizes.specs.declared.record_format.RecordFormat.TheVariants.{V2}
 use Rattle.store.specs.Records.{Records, Changes, applied}
 use Rattle.store.specs.Store.{Contents, StoreState, OnlyReads, Commits, Rose, HasDeviceCause, stored}
 use Rattle.store.specs.Contents.{changed_by_batch}
@@ -21,12 +21,12 @@ use Rattle.stored_database.specs.Records.{Shows}
 use Rattle.transactions.specs.Views.{applied_all}
 use Rattle.catalogue.specs.declared.change.SchemaChange.{SchemaChange}
 use Rattle.catalogue.specs.Changes.{definitions_after}
-use Rattle.server.specs.declared.deed.Deed.{Deed}
-use Rattle.server.specs.declared.slot.Slot.{Slot}
+use Rattle.server.specs.declared.decision.Decision.{Decision}
+use Rattle.server.specs.declared.writer.Writer.{Writer}
 use Rattle.server.specs.declared.server.Server.{Server}
-use Rattle.server.specs.Slots.{definitions_or, records_under, definitions_under}
+use Rattle.server.specs.Writers.{definitions_or, records_under, definitions_under}
 use Rattle.server.specs.Standing.{Works, HolderShows}
-use Rattle.server.specs.Deeds.{CommitsLists, machine_at, LeadsTo, WorksAs, Passes, Performs, DecidesAt, store_fault_of}
+use Rattle.server.specs.Decisions.{CommitsLists, machine_at, LeadsTo, WorksAs, Passes, Performs, DecidesAt, store_fault_of}
 use Rattle.server.proofs.Passing.{LeavesRecords, commit_refused, commit_fails, reads_pass, none_pass, read_fails, reads_then, reads_then_fail}
 
 never_both : (b : Bool) → b ≡ false → b ≡ true → ⊥
@@ -56,63 +56,63 @@ inserted_to sessions new number s is = is ∙ inserted_is sessions number s
 -- ---- the slot
 
 -- where nobody holds the slot it is free
-pub slot_is_free : (records : Records) (d : Definitions) (slot : Option Slot) (holder : Option Holder) → holder ≡ None → HolderShows records d slot holder → slot ≡ None
+pub slot_is_free : (records : Records) (d : Definitions) (writer : Option Writer) (holder : Option Holder) → holder ≡ None → HolderShows records d writer holder → writer ≡ None
 slot_is_free records d None holder is h = refl
 slot_is_free records d (Some s) None is h = absurd h
 slot_is_free records d (Some s) (Some x) is h = cc
 
 -- the slot's changes lead to the holder's database
-pub slot_shows : (records : Records) (d : Definitions) (slot : Option Slot) (s : Slot) (holder : Option Holder) (h : Holder) → slot ≡ Some s → holder ≡ Some h
-    → HolderShows records d slot holder → Shows (applied_all s.lists records) (definitions_or s.catalogue d) h.database
-slot_shows records d slot s holder h p q shows =
+pub slot_shows : (records : Records) (d : Definitions) (writer : Option Writer) (s : Writer) (holder : Option Holder) (h : Holder) → writer ≡ Some s → holder ≡ Some h
+    → HolderShows records d writer holder → Shows (applied_all s.lists records) (definitions_or s.catalogue d) h.database
+slot_shows records d writer s holder h p q shows =
     let there : HolderShows records d (Some s) (Some h) =
-    subst (λ (z : Option Slot). HolderShows records d z (Some h)) p (subst (λ (z : Option Holder). HolderShows records d slot z) q shows) in
+    subst (λ (z : Option Writer). HolderShows records d z (Some h)) p (subst (λ (z : Option Holder). HolderShows records d writer z) q shows) in
     there.1
 
 -- where somebody holds the slot it is not free
-pub slot_is_held : (records : Records) (d : Definitions) (slot : Option Slot) (holder : Option Holder) (h : Holder) → holder ≡ Some h → HolderShows records d slot holder
-    → (s : Slot) × (slot ≡ Some s)
+pub slot_is_held : (records : Records) (d : Definitions) (writer : Option Writer) (holder : Option Holder) (h : Holder) → holder ≡ Some h → HolderShows records d writer holder
+    → (s : Writer) × (writer ≡ Some s)
 slot_is_held records d (Some s) holder h is shows = (s, refl)
 slot_is_held records d None holder h is shows = absurd (subst (λ (z : Option Holder). HolderShows records d None z) is shows)
 
 -- a slot under which there are these records and definitions, with the changes of one more statement
-pub held_with : (records under : Records) (d before : Definitions) (slot : Option Slot) (cs : Changes) (change : Option SchemaChange) (lists : List Changes) (held : Option Definitions) (after : Database)
-    → records_under slot records ≡ under → definitions_under slot d ≡ before → applied_all lists records ≡ applied cs under → definitions_or held d ≡ definitions_after change before
-    → Shows (applied cs (records_under slot records)) (definitions_after change (definitions_under slot d)) after
+pub held_with : (records under : Records) (d before : Definitions) (writer : Option Writer) (cs : Changes) (change : Option SchemaChange) (lists : List Changes) (held : Option Definitions) (after : Database)
+    → records_under writer records ≡ under → definitions_under writer d ≡ before → applied_all lists records ≡ applied cs under → definitions_or held d ≡ definitions_after change before
+    → Shows (applied cs (records_under writer records)) (definitions_after change (definitions_under writer d)) after
     → Shows (applied_all lists records) (definitions_or held d) after
-held_with records under d before slot cs change lists held after p q r s shows =
+held_with records under d before writer cs change lists held after p q r s shows =
     let there : Shows (applied cs under) (definitions_after change before) after =
     subst (λ (z : Records). Shows (applied cs z) (definitions_after change before) after) p
-    (subst (λ (z : Definitions). Shows (applied cs (records_under slot records)) (definitions_after change z) after) q shows) in
+    (subst (λ (z : Definitions). Shows (applied cs (records_under writer records)) (definitions_after change z) after) q shows) in
     subst (λ (z : Records). Shows z (definitions_or held d) after) (sym r)
     (subst (λ (z : Definitions). Shows (applied cs under) z after) (sym s) there)
 
 -- a server that works and whose slot is free
 pub works_unheld : {S X : Type 0} (state : S → StoreState) (new : Server S X) (s : S) (d : Definitions) (db : Database) (sessions : List (ℕ × Session)) → new.store ≡ s → new.catalogue ≡ d
-    → new.slot ≡ None → new.stopped ≡ false → new.sessions.entries ≡ sessions → (state s).has_failed ≡ false → (state s).spelling ≡ Second → Shows (state s).map d db → WorksAs state new (machine_at db None sessions)
-works_unheld state new s d db sessions store catalogue slot runs entries unfailed second shows = record {
+    → new.writer ≡ None → new.stopped ≡ false → new.sessions.entries ≡ sessions → (state s).has_failed ≡ false → (state s).record_format ≡ V2 → Shows (state s).map d db → WorksAs state new (machine_at db None sessions)
+works_unheld state new s d db sessions store catalogue writer runs entries unfailed second shows = record {
   sessions = sym entries;
   running = refl;
   runs = runs;
-  works = record { unfailed = rw store unfailed; second = rw store second; committed = rw (store, catalogue) shows; held = rw slot tt; in_block = tt };
+  works = record { unfailed = rw store unfailed; second = rw store second; committed = rw (store, catalogue) shows; held = rw writer tt; in_block = tt };
 }
 
 -- ---- commits
 
 -- the server's other parts stay, and the store's records
 pub works_still : {S X : Type 0} (state : S → StoreState) (old new : Server S X) (db : Database) (holder : Option Holder) → Works state old db holder
-    → (state new.store).map ≡ (state old.store).map → (state new.store).spelling ≡ (state old.store).spelling → (state new.store).has_failed ≡ (state old.store).has_failed
-    → new.catalogue ≡ old.catalogue → new.slot ≡ old.slot → new.sessions ≡ old.sessions → new.stopped ≡ old.stopped → old.stopped ≡ false
+    → (state new.store).map ≡ (state old.store).map → (state new.store).record_format ≡ (state old.store).record_format → (state new.store).has_failed ≡ (state old.store).has_failed
+    → new.catalogue ≡ old.catalogue → new.writer ≡ old.writer → new.sessions ≡ old.sessions → new.stopped ≡ old.stopped → old.stopped ≡ false
     → WorksAs state new (machine_at db holder old.sessions.entries)
-works_still state old new db holder w same spelling failed catalogue slot sessions stopped runs = record {
+works_still state old new db holder w same record_format failed catalogue writer sessions stopped runs = record {
   sessions = ap (λ z. z.entries) (sym sessions);
   running = refl;
   runs = stopped ∙ runs;
   works = record {
     unfailed = failed ∙ w.unfailed;
-    second = spelling ∙ w.second;
+    second = record_format ∙ w.second;
     committed = rw (same, catalogue) w.committed;
-    held = rw (same, catalogue, slot) w.held;
+    held = rw (same, catalogue, writer) w.held;
     in_block = rw sessions w.in_block;
   };
 }
@@ -120,29 +120,29 @@ works_still state old new db holder w same spelling failed catalogue slot sessio
 -- a commit that is not done
 pub commit_err : {S X : Type 0} (Reads : ReadingRelation) (state : S → StoreState) (old new : Server S X) (db : Database) (holder : Option Holder) (d : Definitions) (after : Contents)
     (answer : Answer) (m : Machine) (e : MachineEvent TheText) (f : StoreFault) → (state old.store).sound → Works state old db holder → old.stopped ≡ false
-    → new.catalogue ≡ old.catalogue → new.slot ≡ old.slot → new.sessions ≡ old.sessions → new.stopped ≡ old.stopped
-    → Commits (Err f) after (state old.store) (state new.store) → after.spelling ≡ Second → Shows after.records d m.committed
+    → new.catalogue ≡ old.catalogue → new.writer ≡ old.writer → new.sessions ≡ old.sessions → new.stopped ≡ old.stopped
+    → Commits (Err f) after (state old.store) (state new.store) → after.record_format ≡ V2 → Shows after.records d m.committed
     → MayCommit Reads (machine_at db holder old.sessions.entries) e → MayCallStore (machine_at db holder old.sessions.entries) e
     → LeadsTo Reads (machine_at db holder old.sessions.entries) e answer m → Performs Reads state old new db holder e (Err f)
-commit_err Reads state old new db holder d after answer m e Full sound w runs catalogue slot sessions stopped c still shown may calls next =
+commit_err Reads state old new db holder d after answer m e Full sound w runs catalogue writer sessions stopped c still shown may calls next =
     let refused = commit_refused Full after (state old.store) (state new.store) old.catalogue db tt c.history (c.at_once sound w.unfailed) w.second w.committed in
-    (may, c.cause, works_still state old new db holder w refused.1.map refused.1.spelling c.failed catalogue slot sessions stopped runs, refused.0)
-commit_err Reads state old new db holder d after answer m e Memory sound w runs catalogue slot sessions stopped c still shown may calls next =
+    (may, c.cause, works_still state old new db holder w refused.1.map refused.1.record_format c.failed catalogue writer sessions stopped runs, refused.0)
+commit_err Reads state old new db holder d after answer m e Memory sound w runs catalogue writer sessions stopped c still shown may calls next =
     let refused = commit_refused Memory after (state old.store) (state new.store) old.catalogue db tt c.history (c.at_once sound w.unfailed) w.second w.committed in
-    (may_run_out (machine_at db holder old.sessions.entries) e calls, works_still state old new db holder w refused.1.map refused.1.spelling c.failed catalogue slot sessions stopped runs, refused.0)
-commit_err Reads state old new db holder d after answer m e Number sound w runs catalogue slot sessions stopped c still shown may calls next =
+    (may_run_out (machine_at db holder old.sessions.entries) e calls, works_still state old new db holder w refused.1.map refused.1.record_format c.failed catalogue writer sessions stopped runs, refused.0)
+commit_err Reads state old new db holder d after answer m e Number sound w runs catalogue writer sessions stopped c still shown may calls next =
     let refused = commit_refused Number after (state old.store) (state new.store) old.catalogue db tt c.history (c.at_once sound w.unfailed) w.second w.committed in
-    (may, c.cause, works_still state old new db holder w refused.1.map refused.1.spelling c.failed catalogue slot sessions stopped runs, refused.0)
-commit_err Reads state old new db holder d after answer m e Device sound w runs catalogue slot sessions stopped c still shown may calls next =
+    (may, c.cause, works_still state old new db holder w refused.1.map refused.1.record_format c.failed catalogue writer sessions stopped runs, refused.0)
+commit_err Reads state old new db holder d after answer m e Device sound w runs catalogue writer sessions stopped c still shown may calls next =
     let fails = commit_fails after (state old.store) (state new.store) old.catalogue d db m.committed c.history (c.at_once sound w.unfailed) w.second w.committed still shown
     (fresh_failures (state old.store) (state new.store) w.unfailed c.cause) (fresh_faults (state old.store) (state new.store) sound w.unfailed c.cause) in
     (record { answer = answer; machine = m }, next, calls, ap (λ z. z.entries) sessions, fails)
 
 -- a commit that was done, of changes that make of the records what the slot's lists make of them
-pub slot_committed : (r : Result (Unit {0}) StoreFault) (cs : Changes) (held : Option Slot) (old new : StoreState)
-    → ((slot : Slot) → held ≡ Some slot → old.sound → applied cs old.map ≡ applied_all slot.lists old.map)
-    → Commits r (changed_by_batch cs (stored old)) old new → OnOk r ((slot : Slot) → held ≡ Some slot → CommitsLists slot.lists old new)
-slot_committed (Ok x) cs held old new same commits = λ slot is sound. (cs, same slot is sound, commits)
+pub slot_committed : (r : Result (Unit {0}) StoreFault) (cs : Changes) (held : Option Writer) (old new : StoreState)
+    → ((writer : Writer) → held ≡ Some writer → old.sound → applied cs old.map ≡ applied_all writer.lists old.map)
+    → Commits r (changed_by_batch cs (stored old)) old new → OnOk r ((writer : Writer) → held ≡ Some writer → CommitsLists writer.lists old new)
+slot_committed (Ok x) cs held old new same commits = λ writer is sound. (cs, same writer is sound, commits)
 slot_committed (Err f) cs held old new same commits = tt
 
 -- it is enough to speak of the faults that there are
@@ -154,13 +154,13 @@ each_fault (Err f) P each = each f refl
 
 pub out_of_memory : {S X : Type 0} (Reads : ReadingRelation) (state : S → StoreState) (old new : Server S X) (db : Database) (holder : Option Holder) (e : MachineEvent TheText)
     → (state old.store).sound → ((state old.store).sound → IsPresent (state old.store).time) → LeavesRecords (state old.store) → Works state old db holder → old.stopped ≡ false
-    → new.store ≡ old.store → new.catalogue ≡ old.catalogue → new.slot ≡ old.slot → new.sessions ≡ old.sessions → new.stopped ≡ old.stopped
+    → new.store ≡ old.store → new.catalogue ≡ old.catalogue → new.writer ≡ old.writer → new.sessions ≡ old.sessions → new.stopped ≡ old.stopped
     → MayCallStore (machine_at db holder old.sessions.entries) e → Performs Reads state old new db holder e (Err Memory)
-out_of_memory Reads state old new db holder e sound present settled w runs store catalogue slot sessions stopped calls =
+out_of_memory Reads state old new db holder e sound present settled w runs store catalogue writer sessions stopped calls =
     let passes : Passes db db (state old.store) (state new.store) =
     subst (λ (z : StoreState). Passes db db (state old.store) z) (ap state (sym store)) (none_pass (state old.store) old.catalogue db sound present settled w.second w.committed) in (
       may_run_out (machine_at db holder old.sessions.entries) e calls,
-      works_still state old new db holder w (ap (λ z. (state z).map) store) (ap (λ z. (state z).spelling) store) (ap (λ z. (state z).has_failed) store) catalogue slot sessions stopped runs,
+      works_still state old new db holder w (ap (λ z. (state z).map) store) (ap (λ z. (state z).record_format) store) (ap (λ z. (state z).has_failed) store) catalogue writer sessions stopped runs,
       passes,
     )
 
@@ -194,12 +194,12 @@ reads_first Reads state old new s db holder e (Err Device) sound settled w reads
 -- nothing was decided
 pub decide_err : {S X : Type 0} (Reads : ReadingRelation) (state : S → StoreState) (old : Server S X) (s : S) (db : Database) (holder : Option Holder) (e : MachineEvent TheText) (f : Fault)
     → (state old.store).sound → LeavesRecords (state old.store) → Works state old db holder → old.stopped ≡ false
-    → HasRead {T = Deed} (Err f) (state old.store) (state s)
-    → DecidesAt Reads (state old.store).map old.catalogue old.slot db holder old.sessions.entries e (Err f)
+    → HasRead {T = Decision} (Err f) (state old.store) (state s)
+    → DecidesAt Reads (state old.store).map old.catalogue old.writer db holder old.sessions.entries e (Err f)
     → Performs Reads state old (after_reads old s) db holder e (Err (store_fault_of f))
 decide_err Reads state old s db holder e fault.Memory sound settled w runs read decides = (
   decides,
-  works_still state old (after_reads old s) db holder w (read.only_reads.unchanged sound).map (read.only_reads.unchanged sound).spelling read.failed refl refl refl refl runs,
+  works_still state old (after_reads old s) db holder w (read.only_reads.unchanged sound).map (read.only_reads.unchanged sound).record_format read.failed refl refl refl refl runs,
   reads_pass (state old.store) (state s) old.catalogue db sound settled w.second w.committed read.only_reads,
 )
 decide_err Reads state old s db holder e fault.Device sound settled w runs read decides = (

@@ -1,7 +1,7 @@
 -- What calls of a store do to the databases that a stop leaves.
 use Rattle.std.proofs.Common.{◌≡◌, ◌⊎◌, inl, inr, ⊎_elim, sym, subst, Option, Some, Ok, Err, arith}
-use Rattle.storage_sizes.specs.declared.spelling.Spelling.{Spelling}
-use Rattle.storage_sizes.specs.declared.spelling.Spelling.TheVariants.{Second}
+use Rattle.storage_sizes.specs.declared.record_format.RecordFormat.{RecordFormat}
+use Rattle.storage_sizes.specs.declared.record_format.RecordFormat.TheVariants.{V2}
 use Rattle.sector_device.specs.Timeline.{LeavesOnly, IsPresent, joined, weakened}
 use Rattle.store.specs.Store.{StoreState, Contents, stored, KeepsHistory, OnlyReads, IsUnchanged, CommitsAtOnce, Rose}
 use Rattle.store.specs.declared.fault.StoreFault.{StoreFault}
@@ -12,22 +12,22 @@ use Rattle.stored_database.specs.Definitions.{Definitions}
 use Rattle.stored_database.specs.Records.{Shows, StandsFor}
 use Rattle.stored_database.specs.Spellings.{spelled_in_second}
 use Rattle.server.specs.Standing.{Means}
-use Rattle.server.specs.Deeds.{Passes, Fails}
+use Rattle.server.specs.Decisions.{Passes, Fails}
 
 -- a stop leaves what the store contains and nothing else
 abbrev pub LeavesRecords : StoreState → Type 0
 LeavesRecords st = (x : Option Contents) → st.time.left x → x ≡ Some (stored st)
 
-some_means : (contents : Contents) (d : Definitions) (db : Database) → contents.spelling ≡ Second → Shows contents.records d db → (x : Option Contents) → x ≡ Some contents → Means x db
+some_means : (contents : Contents) (d : Definitions) (db : Database) → contents.record_format ≡ V2 → Shows contents.records d db → (x : Option Contents) → x ≡ Some contents → Means x db
 some_means contents d db second shows x is =
-    (contents, is, subst (λ (s : Spelling). StandsFor (spelled_in_second s contents.records) db) (sym second) (d, shows))
+    (contents, is, subst (λ (s : RecordFormat). StandsFor (spelled_in_second s contents.records) db) (sym second) (d, shows))
 
-left_means : (st : StoreState) (d : Definitions) (db : Database) → LeavesRecords st → st.spelling ≡ Second → Shows st.map d db → (x : Option Contents) → st.time.left x → Means x db
+left_means : (st : StoreState) (d : Definitions) (db : Database) → LeavesRecords st → st.record_format ≡ V2 → Shows st.map d db → (x : Option Contents) → st.time.left x → Means x db
 left_means st d db settled second shows x left = some_means (stored st) d db second shows x (settled x left)
 
 -- ---- reads
 
-pub reads_pass : (old new : StoreState) (d : Definitions) (db : Database) → old.sound → LeavesRecords old → old.spelling ≡ Second → Shows old.map d db → OnlyReads old new → Passes db db old new
+pub reads_pass : (old new : StoreState) (d : Definitions) (db : Database) → old.sound → LeavesRecords old → old.record_format ≡ V2 → Shows old.map d db → OnlyReads old new → Passes db db old new
 reads_pass old new d db sound settled second shows reads =
     let means = left_means old d db settled second shows in
     record {
@@ -37,7 +37,7 @@ reads_pass old new d db sound settled second shows reads =
       now = λ x left. means x ((reads.leaves sound).now x left);
     }
 
-pub none_pass : (st : StoreState) (d : Definitions) (db : Database) → st.sound → (st.sound → IsPresent st.time) → LeavesRecords st → st.spelling ≡ Second → Shows st.map d db → Passes db db st st
+pub none_pass : (st : StoreState) (d : Definitions) (db : Database) → st.sound → (st.sound → IsPresent st.time) → LeavesRecords st → st.record_format ≡ V2 → Shows st.map d db → Passes db db st st
 none_pass st d db sound present settled second shows = reads_pass st st d db sound settled second shows (none_read st present)
 
 -- reads, and then more
@@ -61,7 +61,7 @@ reads_then_fail db after old mid new first second failures faults = record {
 }
 
 -- a read that fails leaves what was there
-pub read_fails : (old new : StoreState) (d : Definitions) (db after : Database) → old.sound → LeavesRecords old → old.spelling ≡ Second → Shows old.map d db → OnlyReads old new
+pub read_fails : (old new : StoreState) (d : Definitions) (db after : Database) → old.sound → LeavesRecords old → old.record_format ≡ V2 → Shows old.map d db → OnlyReads old new
     → Rose old.failures new.failures → Rose old.faults new.faults → Fails db after old new
 read_fails old new d db after sound settled second shows reads failures faults =
     let p = reads_pass old new d db sound settled second shows reads in
@@ -75,12 +75,12 @@ read_fails old new d db after sound settled second shows reads failures faults =
 
 -- ---- commits
 
-one_of : (before after : Contents) (d e : Definitions) (db db' : Database) → before.spelling ≡ Second → Shows before.records d db → after.spelling ≡ Second → Shows after.records e db' → (x : Option Contents) → (x ≡ Some before) ⊎ (x ≡ Some after) → Means x db ⊎ Means x db'
+one_of : (before after : Contents) (d e : Definitions) (db db' : Database) → before.record_format ≡ V2 → Shows before.records d db → after.record_format ≡ V2 → Shows after.records e db' → (x : Option Contents) → (x ≡ Some before) ⊎ (x ≡ Some after) → Means x db ⊎ Means x db'
 one_of before after d e db db' p a q b x m = ⊎_elim (λ is. inl (some_means before d db p a x is)) (λ is. inr (some_means after e db' q b x is)) m
 
 -- one that is done
 pub commit_done : (u : Unit {0}) (after : Contents) (old new : StoreState) (d e : Definitions) (db db' : Database) → KeepsHistory old new → CommitsAtOnce (Ok u) after old new
-    → old.spelling ≡ Second → Shows old.map d db → after.spelling ≡ Second → Shows after.records e db' → Passes db db' old new
+    → old.record_format ≡ V2 → Shows old.map d db → after.record_format ≡ V2 → Shows after.records e db' → Passes db db' old new
 commit_done u after old new d e db db' history c second shows still shown = record {
   history = history;
   number = c.committed.not_back;
@@ -96,7 +96,7 @@ IsRefusal Number = Unit {0}
 IsRefusal Device = ⊥
 
 unchanged_pass : (old new : StoreState) (d : Definitions) (db : Database) → KeepsHistory old new → IsUnchanged old new → LeavesOnly (λ x. x ≡ Some (stored old)) old.time new.time
-    → ((x : Option Contents) → new.time.left x → x ≡ Some (stored old)) → old.spelling ≡ Second → Shows old.map d db → Passes db db old new
+    → ((x : Option Contents) → new.time.left x → x ≡ Some (stored old)) → old.record_format ≡ V2 → Shows old.map d db → Passes db db old new
 unchanged_pass old new d db history same leaves left second shows = record {
   history = history;
   number = let is = same.number in omega (arith, is);
@@ -105,7 +105,7 @@ unchanged_pass old new d db history same leaves left second shows = record {
 }
 
 pub commit_refused : (f : StoreFault) (after : Contents) (old new : StoreState) (d : Definitions) (db : Database) → IsRefusal f → KeepsHistory old new → CommitsAtOnce (Err f) after old new
-    → old.spelling ≡ Second → Shows old.map d db → Passes db db old new × IsUnchanged old new
+    → old.record_format ≡ V2 → Shows old.map d db → Passes db db old new × IsUnchanged old new
 commit_refused Full after old new d db r history c second shows = (unchanged_pass old new d db history c.committed c.leaves c.left second shows, c.committed)
 commit_refused Memory after old new d db r history c second shows = (unchanged_pass old new d db history c.committed c.leaves c.left second shows, c.committed)
 commit_refused Number after old new d db r history c second shows = (unchanged_pass old new d db history c.committed c.leaves c.left second shows, c.committed)
@@ -113,7 +113,7 @@ commit_refused Device after old new d db r history c second shows = absurd r
 
 -- one in which the device failed: nobody knows
 pub commit_fails : (after : Contents) (old new : StoreState) (d e : Definitions) (db db' : Database) → KeepsHistory old new → CommitsAtOnce (Err Device) after old new
-    → old.spelling ≡ Second → Shows old.map d db → after.spelling ≡ Second → Shows after.records e db' → Rose old.failures new.failures → Rose old.faults new.faults → Fails db db' old new
+    → old.record_format ≡ V2 → Shows old.map d db → after.record_format ≡ V2 → Shows after.records e db' → Rose old.failures new.failures → Rose old.faults new.faults → Fails db db' old new
 commit_fails after old new d e db db' history c second shows still shown failures faults = record {
   history = history;
   during = weakened _ (λ x. Means x db ⊎ Means x db') old.time new.time (one_of (stored old) after d e db db' second shows still shown) c.leaves;

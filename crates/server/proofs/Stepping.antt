@@ -15,7 +15,7 @@ use Rattle.abstract_database.specs.Runs.{TheText, ReadingRelation, IsTransition,
 use Rattle.server.specs.declared.server.Server.{Server}
 use Rattle.server.specs.Standing.{event_of, stops_of, Works, Represents}
 use Rattle.server.specs.Runs.{KeepsPast, Steps}
-use Rattle.server.specs.Deeds.{machine_at, LeadsTo, WorksAs, Passes, Fails, Performs, Attempts}
+use Rattle.server.specs.Decisions.{machine_at, LeadsTo, WorksAs, Passes, Fails, Performs, Attempts}
 
 wrong : (b : Bool) → b ≡ false → b ≡ true → ⊥
 wrong b p q = let e : false ≡ true = sym p ∙ q in cc

@@ -1,6 +1,6 @@
 pub mod Session
-pub mod Slots
+pub mod Writers
 pub mod Standing
 pub mod Runs
-pub mod Deeds
+pub mod Decisions
 pub mod Executed

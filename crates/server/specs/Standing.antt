@@ -1,7 +1,7 @@
 -- Where a server over a store stands, and what a stop leaves of its database.
 use Rattle.std.specs.Prelude.{◌≡◌, ◌≢◌, ℕ, Bool, true, false, List, [], ◌∷◌, Option, Some, None}
 use Rattle.sector_device.specs.Timeline.{Timeline}
-use Rattle.storage_sizes.specs.declared.spelling.Spelling.TheVariants.{Second}
+use Rattle.storage_sizes.specs.declared.record_format.RecordFormat.TheVariants.{V2}
 use Rattle.sql_types.specs.declared.event.Event.{Event}
 use Rattle.sql_types.specs.declared.event.Event.TheVariants as event
 use Rattle.store.specs.Records.{Records}
@@ -13,9 +13,9 @@ use Rattle.stored_database.specs.Definitions.{Definitions}
 use Rattle.stored_database.specs.Records.{Shows}
 pub use Rattle.stored_database.specs.Spellings.{Stands, Means}
 use Rattle.transactions.specs.Views.{applied_all}
-use Rattle.server.specs.declared.slot.Slot.{Slot}
+use Rattle.server.specs.declared.writer.Writer.{Writer}
 use Rattle.server.specs.declared.server.Server.{Server}
-use Rattle.server.specs.Slots.{definitions_or}
+use Rattle.server.specs.Writers.{definitions_or}
 
 -- ---- events
 
@@ -38,11 +38,11 @@ stops_of time from to P = (x : Option Contents) → time.stops from to x → (db
 -- ---- where a server stands
 
 -- the holder's changes over the store's records show the holder's database
-abbrev pub HolderShows : Records → Definitions → Option Slot → Option Holder → Type 0
+abbrev pub HolderShows : Records → Definitions → Option Writer → Option Holder → Type 0
 HolderShows records d None None = Unit {0}
-HolderShows records d (Some slot) (Some h) = (h.session ≡ slot.session) × Shows (applied_all slot.lists records) (definitions_or slot.catalogue d) h.database
+HolderShows records d (Some writer) (Some h) = (h.session ≡ writer.session) × Shows (applied_all writer.lists records) (definitions_or writer.catalogue d) h.database
 HolderShows records d None (Some h) = ⊥
-HolderShows records d (Some slot) None = ⊥
+HolderShows records d (Some writer) None = ⊥
 
 -- the holder's session is open, and in a block
 abbrev pub HoldsInBlock : Option Holder → List (ℕ × Session) → Type 0
@@ -52,9 +52,9 @@ HoldsInBlock (Some h) sessions = (s : Session) × (session_of h.session sessions
 -- a server whose store works: its records, which are of the second spelling, show this database, and its slot this holder's
 pub record Works {S X : Type 0} (state : S → StoreState) (server : Server S X) (db : Database) (holder : Option Holder) : Type 0 where
   pub unfailed : (state server.store).has_failed ≡ false
-  pub second : (state server.store).spelling ≡ Second
+  pub second : (state server.store).record_format ≡ V2
   pub committed : Shows (state server.store).map server.catalogue db
-  pub held : HolderShows (state server.store).map server.catalogue server.slot holder
+  pub held : HolderShows (state server.store).map server.catalogue server.writer holder
   pub in_block : HoldsInBlock holder server.sessions.entries
 
 -- these are the store's counts; once the server has stopped, the number is the last one that it knew

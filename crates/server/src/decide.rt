@@ -7,11 +7,11 @@ ghost use Rattle.abstract_database.specs.Database.{Database};
 ghost use Rattle.abstract_database.specs.Machine.{Holder};
 ghost use Rattle.abstract_database.specs.Runs.{ReadingRelation};
 ghost use Rattle.server.specs.Standing.{HolderShows, HoldsInBlock, event_of};
-ghost use Rattle.server.specs.Deeds.{DecidesAt};
+ghost use Rattle.server.specs.Decisions.{DecidesAt};
 
-use crate::deed::Deed;
+use crate::decision::Decision;
 use crate::session::Session;
-use crate::slot::Slot;
+use crate::writer::Writer;
 use catalogue::definitions::Catalogue;
 use indexmap::IndexMap;
 use sql_types::event::Event;
@@ -19,7 +19,7 @@ use std::alloc::Global;
 use store::{Fault, Map};
 
 /// What decides events, over any map.
-pub trait Decide {
+pub trait EventHandler {
     /// What a text is read as.
     ghost Reads: { ReadingRelation };
 
@@ -31,16 +31,16 @@ pub trait Decide {
         alloc: Global,
         map: &mut M,
         catalogue: &Catalogue,
-        slot: &Option<Slot>,
+        writer: &Option<Writer>,
         sessions: &IndexMap<u32, Session>,
         event: &Event,
-    ) -> Result<Deed, Fault>
+    ) -> Result<Decision, Fault>
         ensures preserved { M.preserved map.old map.new }
         ensures read { HasRead result (M.state map.old) (M.state map.new) }
         ensures decides { (M.state map.old).sound → (db : Database) (holder : Option Holder)
             → Shows (M.state map.old).map catalogue.now db
-            → HolderShows (M.state map.old).map catalogue.now slot.now holder
+            → HolderShows (M.state map.old).map catalogue.now writer.now holder
             → HoldsInBlock holder sessions.now.entries
-            → DecidesAt Reads (M.state map.old).map catalogue.now slot.now db holder
+            → DecidesAt Reads (M.state map.old).map catalogue.now writer.now db holder
             sessions.now.entries (event_of event.now) result };
 }

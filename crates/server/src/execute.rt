@@ -1,7 +1,7 @@
 //! What carries out statements.
 
 ghost use Rattle.std.specs.Prelude.{◌≡◌};
-ghost use Rattle.store.specs.Stop.{ReadsMap};
+ghost use Rattle.store.specs.StatementError.{ReadsMap};
 ghost use Rattle.stored_database.specs.Records.{Shows};
 ghost use Rattle.abstract_database.specs.Database.{Database};
 ghost use Rattle.abstract_database.specs.Statements.{exec};
@@ -13,7 +13,7 @@ use catalogue::effect::Effect;
 use sql_ast::statement::DatabaseStatement;
 use sql_types::name::Name;
 use std::alloc::Global;
-use store::{Map, Stop};
+use store::{Map, StatementError};
 
 /// What carries out statements over the database, over any map of records.
 pub trait Execute {
@@ -31,7 +31,7 @@ pub trait Execute {
         current: &Name,
         session: &Name,
         statement: &DatabaseStatement,
-    ) -> Result<Effect, Stop>
+    ) -> Result<Effect, StatementError>
         ensures preserved { M.preserved map.old map.new }
         ensures read { ReadsMap result (M.state map.old) (M.state map.new) }
         ensures executes { (M.state map.old).sound → (db : Database)

@@ -3,8 +3,8 @@
 #![tactic(auto)]
 
 pub mod decide;
-pub mod deed;
+pub mod decision;
 pub mod execute;
 pub mod server;
 pub mod session;
-pub mod slot;
+pub mod writer;

@@ -1,26 +1,26 @@
-//! A server: a store, the write slot, and the sessions that are open over them.
+//! A server: a store, the writer lock, and the sessions that are open over them.
 
 ghost use Rattle.std.specs.Prelude.{◌≡◌, ◌++◌, ◌+◌, length, List, Option, Some, None, Err, OnOk, OnErr, IfErr, slice_get, true, false};
 ghost use Rattle.std.specs.Option.{option_map};
 ghost use Rattle.sql_types.specs.declared.answer.Answer.{Answer as TheAnswer};
-ghost use Rattle.storage_sizes.specs.declared.spelling.Spelling.TheVariants.{Second};
+ghost use Rattle.storage_sizes.specs.declared.record_format.RecordFormat.TheVariants.{V2};
 ghost use Rattle.store.specs.Store.{KeepsHistory};
 ghost use Rattle.server.specs.Session.{with_block_changed};
-ghost use Rattle.server.specs.Slots.{definitions_under};
+ghost use Rattle.server.specs.Writers.{definitions_under};
 ghost use Rattle.abstract_database.specs.Database.{Database};
 ghost use Rattle.abstract_database.specs.Runs.{At};
 ghost use Rattle.stored_database.specs.Records.{Shows};
 ghost use Rattle.server.specs.Standing.{event_of, Represents, at_start};
 ghost use Rattle.server.specs.Runs.{Steps, Runs};
-ghost use Rattle.server.specs.Deeds.{Attempts, Carries, CommitsLists, Concerns, after_change, store_fault_of};
-ghost use Rattle.server.specs.declared.deed.SessionChange.{SessionChange as TheChange};
-ghost use Rattle.server.specs.declared.slot.Slot.{Slot as TheSlot};
-ghost use Rattle.server.specs.declared.deed.Deed.TheVariants as deeds;
+ghost use Rattle.server.specs.Decisions.{Attempts, Carries, CommitsLists, Concerns, after_change, store_fault_of};
+ghost use Rattle.server.specs.declared.decision.SessionChange.{SessionChange as TheChange};
+ghost use Rattle.server.specs.declared.writer.Writer.{Writer as TheWriter};
+ghost use Rattle.server.specs.declared.decision.Decision.TheVariants as decisions;
 
-use crate::decide::Decide;
-use crate::deed::{Deed, SessionChange};
+use crate::decide::EventHandler;
+use crate::decision::{Decision, SessionChange};
 use crate::session::{BlockChange, Session};
-use crate::slot::Slot;
+use crate::writer::Writer;
 use catalogue::change::SchemaChange;
 use catalogue::definitions::Catalogue;
 use catalogue::effect::Effect;
@@ -35,14 +35,14 @@ use store::{Batch, Fault, Store, StoreFault};
 use transactions::joined_changes;
 
 /// A server over a store, whose events are decided by `X`: the definitions of the committed
-/// database, the write slot where a session holds it, and the sessions in the order of their
+/// database, the writer lock where a session holds it, and the sessions in the order of their
 /// opening.
 pub struct Server<S, X> {
     alloc: Global,
     store: S,
-    decider: X,
+    handler: X,
     catalogue: Catalogue,
-    slot: Option<Slot>,
+    writer: Option<Writer>,
     sessions: IndexMap<u32, Session>,
     stopped: bool,
 }
@@ -53,32 +53,32 @@ impl<S: Drop, X: Drop> Drop for Server<S, X> {
         let Server {
             alloc: _,
             store: _,
-            decider: _,
+            handler: _,
             catalogue: _,
-            slot: _,
+            writer: _,
             sessions: _,
             stopped: _,
         } = self;
     }
 }
 
-impl<S: Store, X: Decide> Server<S, X> {
+impl<S: Store, X: EventHandler> Server<S, X> {
     /// A server over a store that has not failed and whose records, which are of the second
     /// spelling, show a database with these definitions. No session is open.
-    pub fn over(alloc: Global, store: S, decider: X, catalogue: Catalogue) -> Server<S, X>
+    pub fn over(alloc: Global, store: S, handler: X, catalogue: Catalogue) -> Server<S, X>
         ensures store { result.store ≡ store }
         ensures represents { (db : Database) → (S.state store).sound
             → (S.state store).has_failed ≡ false
-            → (S.state store).spelling ≡ Second
+            → (S.state store).record_format ≡ V2
             → Shows (S.state store).map catalogue db
             → Represents S.state result (at_start (S.state store) db) }
     {
         Server {
             alloc,
             store,
-            decider,
+            handler,
             catalogue,
-            slot: None,
+            writer: None,
             sessions: IndexMap::new(alloc),
             stopped: false,
         }
@@ -91,7 +91,7 @@ impl<S: Store, X: Decide> Server<S, X> {
         &self.store
     }
 
-    /// The store alone. Sessions that are open are dropped, and what the holder of the write slot
+    /// The store alone. Sessions that are open are dropped, and what the holder of the writer lock
     /// has changed with them.
     pub fn into_store(self) -> S
     where
@@ -101,9 +101,9 @@ impl<S: Store, X: Decide> Server<S, X> {
         let Server {
             alloc: _,
             store,
-            decider: _,
+            handler: _,
             catalogue: _,
-            slot: _,
+            writer: _,
             sessions: _,
             stopped: _,
         } = self;
@@ -185,40 +185,40 @@ impl<S: Store, X: Decide> Server<S, X> {
         ensures running { self.new.stopped ≡ self.old.stopped }
         ensures attempts { Attempts X.Reads S.state self.old self.new (event_of event.now) result }
     {
-        let decided = self.decider.decide(
+        let decided = self.handler.decide(
             self.alloc,
             &mut self.store,
             &self.catalogue,
-            &self.slot,
+            &self.writer,
             &self.sessions,
             event,
         );
         match decided {
-            Ok(deed) => self.perform(deed),
+            Ok(decision) => self.apply(decision),
             Err(fault) => Err(store_fault(fault)),
         }
     }
 
     // Does what was decided. The store is called once at most.
-    fn perform(&mut self, deed: Deed) -> Result<Answer, StoreFault>
+    fn apply(&mut self, decision: Decision) -> Result<Answer, StoreFault>
         ensures history { KeepsHistory (S.state self.old.store) (S.state self.new.store) }
         ensures running { self.new.stopped ≡ self.old.stopped }
-        ensures carries { Carries X.Reads S.state self.old self.new deed result }
+        ensures carries { Carries X.Reads S.state self.old self.new decision result }
     {
-        match deed {
-            Deed::Answer(answer, change) => {
+        match decision {
+            Decision::Answer(answer, change) => {
                 change_sessions(&mut self.sessions, change);
                 Ok(answer)
             }
-            Deed::Open(answer, number, session) => self.open_session(answer, number, session),
-            Deed::Release(answer, change) => {
-                self.slot = None;
+            Decision::Open(answer, number, session) => self.open_session(answer, number, session),
+            Decision::Release(answer, change) => {
+                self.writer = None;
                 change_sessions(&mut self.sessions, change);
                 Ok(answer)
             }
-            Deed::Commit(effect) => self.commit(effect),
-            Deed::Hold(session, effect) => self.hold(session, effect),
-            Deed::CommitSlot(answer, change) => self.commit_slot(answer, change),
+            Decision::Commit(effect) => self.commit(effect),
+            Decision::Hold(session, effect) => self.hold(session, effect),
+            Decision::CommitWriter(answer, change) => self.commit_writer(answer, change),
         }
     }
 
@@ -232,7 +232,7 @@ impl<S: Store, X: Decide> Server<S, X> {
         ensures history { KeepsHistory (S.state self.old.store) (S.state self.new.store) }
         ensures running { self.new.stopped ≡ self.old.stopped }
         ensures carries { Carries X.Reads S.state self.old self.new
-            (deeds.Open answer number session) result }
+            (decisions.Open answer number session) result }
     {
         match self.sessions.insert(number, session) {
             Ok(_) => Ok(answer),
@@ -244,7 +244,7 @@ impl<S: Store, X: Decide> Server<S, X> {
     fn commit(&mut self, effect: Effect) -> Result<Answer, StoreFault>
         ensures history { KeepsHistory (S.state self.old.store) (S.state self.new.store) }
         ensures running { self.new.stopped ≡ self.old.stopped }
-        ensures carries { Carries X.Reads S.state self.old self.new (deeds.Commit effect) result }
+        ensures carries { Carries X.Reads S.state self.old self.new (decisions.Commit effect) result }
     {
         let Effect {
             answer,
@@ -262,7 +262,7 @@ impl<S: Store, X: Decide> Server<S, X> {
         ensures history { KeepsHistory (S.state self.old.store) (S.state self.new.store) }
         ensures running { self.new.stopped ≡ self.old.stopped }
         ensures carries { Carries X.Reads S.state self.old self.new
-            (deeds.Commit (record { answer = answer; changes = changes.now; schema = None })) result }
+            (decisions.Commit (record { answer = answer; changes = changes.now; schema = None })) result }
     {
         match self.store.commit(changes) {
             Ok(()) => Ok(answer),
@@ -280,7 +280,7 @@ impl<S: Store, X: Decide> Server<S, X> {
     ) -> Result<Answer, StoreFault>
         ensures history { KeepsHistory (S.state self.old.store) (S.state self.new.store) }
         ensures running { self.new.stopped ≡ self.old.stopped }
-        ensures carries { Carries X.Reads S.state self.old self.new (deeds.Commit
+        ensures carries { Carries X.Reads S.state self.old self.new (decisions.Commit
             (record { answer = answer; changes = changes.now; schema = Some change })) result }
     {
         let before = mem::replace(&mut self.catalogue, Catalogue::none(self.alloc));
@@ -304,7 +304,7 @@ impl<S: Store, X: Decide> Server<S, X> {
         ensures history { KeepsHistory (S.state self.old.store) (S.state self.new.store) }
         ensures running { self.new.stopped ≡ self.old.stopped }
         ensures carries { Carries X.Reads S.state (record self.old { catalogue = staged.before })
-            self.new (deeds.Commit
+            self.new (decisions.Commit
             (record { answer = answer; changes = changes.now; schema = Some staged.change })) result }
     {
         match self.store.commit(changes) {
@@ -319,76 +319,76 @@ impl<S: Store, X: Decide> Server<S, X> {
         }
     }
 
-    // Adds the changes of a statement to the write slot.
+    // Adds the changes of a statement to the writer lock.
     fn hold(&mut self, session: u32, effect: Effect) -> Result<Answer, StoreFault>
         ensures store { self.new.store ≡ self.old.store }
         ensures running { self.new.stopped ≡ self.old.stopped }
-        ensures carries { Carries X.Reads S.state self.old self.new (deeds.Hold session effect) result }
+        ensures carries { Carries X.Reads S.state self.old self.new (decisions.Hold session effect) result }
     {
-        match self.slot.take() {
+        match self.writer.take() {
             None => self.hold_first(session, effect),
-            Some(slot) => self.hold_more(session, effect, slot),
+            Some(writer) => self.hold_more(session, effect, writer),
         }
     }
 
-    // Takes the write slot with the changes of a statement.
+    // Takes the writer lock with the changes of a statement.
     fn hold_first(&mut self, session: u32, effect: Effect) -> Result<Answer, StoreFault>
         ensures store { self.new.store ≡ self.old.store }
         ensures running { self.new.stopped ≡ self.old.stopped }
-        ensures carries { self.old.slot ≡ None
-            → Carries X.Reads S.state self.old self.new (deeds.Hold session effect) result }
+        ensures carries { self.old.writer ≡ None
+            → Carries X.Reads S.state self.old self.new (decisions.Hold session effect) result }
     {
         let Effect {
             answer,
             changes,
             schema,
         } = effect;
-        let mut slot = Slot::new(self.alloc, session);
-        match slot.add(self.alloc, &self.catalogue, changes, schema) {
+        let mut writer = Writer::new(self.alloc, session);
+        match writer.add(self.alloc, &self.catalogue, changes, schema) {
             Ok(()) => {
-                self.slot = Some(slot);
+                self.writer = Some(writer);
                 Ok(answer)
             }
             Err(_) => Err(StoreFault::Memory),
         }
     }
 
-    // Puts this write slot back with the changes of one more statement.
+    // Puts this writer lock back with the changes of one more statement.
     fn hold_more(
         &mut self,
         session: u32,
         effect: Effect,
-        mut slot: Slot,
+        mut writer: Writer,
     ) -> Result<Answer, StoreFault>
         ensures store { self.new.store ≡ self.old.store }
         ensures running { self.new.stopped ≡ self.old.stopped }
-        ensures carries { Carries X.Reads S.state (record self.old { slot = Some slot }) self.new
-            (deeds.Hold session effect) result }
+        ensures carries { Carries X.Reads S.state (record self.old { writer = Some writer }) self.new
+            (decisions.Hold session effect) result }
     {
         let Effect {
             answer,
             changes,
             schema,
         } = effect;
-        match slot.add(self.alloc, &self.catalogue, changes, schema) {
+        match writer.add(self.alloc, &self.catalogue, changes, schema) {
             Ok(()) => {
-                slot.session = session;
-                self.slot = Some(slot);
+                writer.session = session;
+                self.writer = Some(writer);
                 Ok(answer)
             }
             Err(_) => {
-                self.slot = Some(slot);
+                self.writer = Some(writer);
                 Err(StoreFault::Memory)
             }
         }
     }
 
-    // Commits what the write slot holds, and gives the slot up.
-    fn commit_slot(&mut self, answer: Answer, change: SessionChange) -> Result<Answer, StoreFault>
+    // Commits what the writer lock holds, and gives the slot up.
+    fn commit_writer(&mut self, answer: Answer, change: SessionChange) -> Result<Answer, StoreFault>
         ensures history { KeepsHistory (S.state self.old.store) (S.state self.new.store) }
         ensures running { self.new.stopped ≡ self.old.stopped }
         ensures carries { Carries X.Reads S.state self.old self.new
-            (deeds.CommitSlot answer change) result }
+            (decisions.CommitWriter answer change) result }
     {
         match self.commit_held() {
             Ok(()) => {
@@ -400,21 +400,21 @@ impl<S: Store, X: Decide> Server<S, X> {
         }
     }
 
-    // Commits what the write slot holds, if there is one. The slot stays.
+    // Commits what the writer lock holds, if there is one. The slot stays.
     fn commit_held(&mut self) -> Result<(), StoreFault>
         ensures history { KeepsHistory (S.state self.old.store) (S.state self.new.store) }
         ensures kept { self.new ≡ record self.old { store = self.new.store } }
-        ensures ok { OnOk result ((slot : TheSlot) → self.old.slot ≡ Some slot
-            → CommitsLists slot.lists (S.state self.old.store) (S.state self.new.store)) }
+        ensures ok { OnOk result ((writer : TheWriter) → self.old.writer ≡ Some writer
+            → CommitsLists writer.lists (S.state self.old.store) (S.state self.new.store)) }
         ensures err { IfErr result (λ fault. (answer : TheAnswer) (change : TheChange)
             → Carries X.Reads S.state self.old self.new
-            (deeds.CommitSlot answer change) (Err fault)) }
+            (decisions.CommitWriter answer change) (Err fault)) }
     {
-        let Some(slot) = &self.slot else {
+        let Some(writer) = &self.writer else {
             return Ok(());
         };
         joined_changes();
-        match slot.lists.joined() {
+        match writer.lists.joined() {
             Ok(joined) => self.store.commit(joined.batch()),
             Err(_) => Err(StoreFault::Memory),
         }
@@ -423,12 +423,12 @@ impl<S: Store, X: Decide> Server<S, X> {
     // The slot's changes are committed: its definitions are those of the database, and it is free.
     fn end_slot(&mut self)
         ensures { self.new ≡ record self.old {
-          slot = None;
-          catalogue = definitions_under self.old.slot self.old.catalogue;
+          writer = None;
+          catalogue = definitions_under self.old.writer self.old.catalogue;
         } }
     {
-        if let Some(slot) = self.slot.take() {
-            slot.end(&mut self.catalogue);
+        if let Some(writer) = self.writer.take() {
+            writer.end(&mut self.catalogue);
         }
     }
 }

@@ -1,8 +1,8 @@
 -- The run of a script over a store, and over a new database in memory.
 use Rattle.std.proofs.Common.{◌≡◌, ◌≢◌, ◌∙◌, ℕ, List, refl, sym, ap, subst, inl, inr, arith}
 use Rattle.std.specs.Prelude.{Ok, Err}
-use Rattle.storage_sizes.specs.declared.spelling.Spelling.{Spelling}
-use Rattle.storage_sizes.specs.declared.spelling.Spelling.TheVariants.{Second}
+use Rattle.storage_sizes.specs.declared.record_format.RecordFormat.{RecordFormat}
+use Rattle.storage_sizes.specs.declared.record_format.RecordFormat.TheVariants.{V2}
 use Rattle.storage_sizes.specs.Spellings.{current}
 use Rattle.store.specs.declared.memory.MemStore.{MemStore}
 use Rattle.store.specs.Memory.{new_state, new_records}
@@ -51,7 +51,7 @@ memory_alone (Read read.Damaged) old new looked whole = absurd (whole refl)
 memory_alone (Commit fault) old new looked whole = absurd looked
 
 -- a new database is of the second spelling
-current_is : current ≡ Second
+current_is : current ≡ V2
 unfolding current
 current_is = refl
 
@@ -60,16 +60,16 @@ abbrev pub OneDatabase : Type 0
 OneDatabase = (records : Records) (a b : Database) → StandsFor records a → StandsFor records b → a ≡ b
 
 module _ (X : Type 0) {K : Type 0} (Reads : ReadingRelation) (k : SinkGhosts K) (admin : TheName) (one : OneDatabase) (stands : StandsFor (new_records admin) (new_database admin)) (store : MemStore) (holds : (memory_store_state store).map ≡ new_records admin)
-    (spelled : (memory_store_state store).spelling ≡ current) where
-  second : (memory_store_state store).spelling ≡ Second
+    (spelled : (memory_store_state store).record_format ≡ current) where
+  second : (memory_store_state store).record_format ≡ V2
   second = spelled ∙ current_is
 
   -- its records in the second spelling are those of a new database
-  records_are : spelled_in_second (memory_store_state store).spelling (memory_store_state store).map ≡ new_records admin
-  records_are = ap (λ (s : Spelling). spelled_in_second s (memory_store_state store).map) second ∙ holds
+  records_are : spelled_in_second (memory_store_state store).record_format (memory_store_state store).map ≡ new_records admin
+  records_are = ap (λ (s : RecordFormat). spelled_in_second s (memory_store_state store).map) second ∙ holds
 
-  looks : (f : OpeningFault) → OnlyLooks (memory_store_state store).spelling (Err f)
-  looks f = subst (λ (s : Spelling). OnlyLooks s (Err f)) (sym second) tt
+  looks : (f : OpeningFault) → OnlyLooks (memory_store_state store).record_format (Err f)
+  looks f = subst (λ (s : RecordFormat). OnlyLooks s (Err f)) (sym second) tt
 
   not_opened : (before : K) (e : Ending) (left : MemStore) (after : K) → IsNotOpened memory_store_state store before e left after → IsNotRun before e after
   not_opened before e left after it =

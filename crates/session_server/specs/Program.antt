@@ -10,8 +10,8 @@ use Rattle.sector_device.specs.declared.device.Device.{Ghosts}
 use Rattle.script_runs.specs.declared.run.ScriptEnd.{ScriptEnd}
 use Rattle.connections.specs.declared.listener.Served.{Served}
 use Rattle.connections.specs.Listening.{Listening}
-use Rattle.commands.specs.declared.command.Order.{Order}
-use Rattle.commands.specs.declared.command.Order.TheVariants as order
+use Rattle.commands.specs.declared.command.Invocation.{Invocation}
+use Rattle.commands.specs.declared.command.Invocation.TheVariants as order
 use Rattle.commands.specs.declared.command.UsageFault.{UsageFault}
 use Rattle.commands.specs.declared.command.UsageFault.TheVariants as usage
 use Rattle.commands.specs.declared.texts.TheConstants.{HELP, USAGE, VERSION}
@@ -197,7 +197,7 @@ pub record Serves (X : Type 0) {D L C : Type 0} (g : Ghosts D) (c : SinkGhosts C
 -- `listening` of listeners and `state` of systems. The script that was named was run over the database that was named, or why not was told; a
 -- database in a file was made, copied, checked, described or served, or its journal was turned on or off; or a text was printed
 module _ (X : Type 0) {D L K C S : Type 0} (g : Ghosts D) (k : SinkGhosts K) (c : SinkGhosts C) (Reads : ReadingRelation) (listening : L → Option Listening) (state : S → SystemState D L) (old : SystemState D L) where
-  abbrev pub IsPerformed : Order → Exit → SystemState D L → K → K → Known → Known → Type 0
+  abbrev pub IsPerformed : Invocation → Exit → SystemState D L → K → K → Known → Known → Type 0
   IsPerformed (order.Format file pages admin journal) exit new out_before out_after err_before err_after =
       DoesFormat g k old (subject.Named file) file.now pages admin.now journal exit new out_before out_after err_before err_after
   IsPerformed (order.Copy file target pages journal) exit new out_before out_after err_before err_after =

@@ -36,7 +36,7 @@ use Rattle.session_server.specs.Ending.{ending_of, fault_of}
 -- of others a stop leaves the database that was there. Contents that stand for a database are not damaged
 pub record IsNotOpened {S K : Type 0} (state : S → StoreState) (store : S) (before : K) (e : Ending) (left : S) (after : K) : Type 0 where
   pub fault : OpeningFault
-  pub looked : OnlyLooks (state store).spelling (Err fault) → HasLooked (Err fault) (state store) (state left)
+  pub looked : OnlyLooks (state store).record_format (Err fault) → HasLooked (Err fault) (state store) (state left)
   pub same : (state store).sound → (state store).has_failed ≡ false → (db : Database) → Stands (stored (state store)) db
       → KeepsDatabase db (Err fault) (state store) (state left)
   pub cause : (state store).sound → HasOpeningCause fault (state store) (state left)

@@ -5,32 +5,32 @@ ghost use Rattle.session_server.specs.Program.{IsPerformed};
 
 use crate::ending::Exit;
 use crate::program::perform;
-use commands::command::Order;
+use commands::command::Invocation;
 use connections::frame_sink::FrameSink;
 use connections::listen::Listen;
 use script_runs::sink::Sink;
 use script_runs::text_sink::TakesText;
-use sector_device::{Device, Guarded, HistoryDevice};
-use server::decide::Decide;
+use sector_device::{Device, HistoryDevice, WriteProtected};
+use server::decide::EventHandler;
 use std::alloc::Global;
 use std::io::Write;
 use systems::{MemListener, MemSystem};
 
 /// Does what an order asks for over a system in memory, as `perform` does. That system is faithful,
 /// so what `perform` promises of a faithful system is promised here with no premise.
-pub fn perform_in_memory<X: Decide + Drop, K: TakesText, E: Write>(
-    system: &mut MemSystem<Guarded<HistoryDevice>>,
+pub fn perform_in_memory<X: EventHandler + Drop, K: TakesText, E: Write>(
+    system: &mut MemSystem<WriteProtected<HistoryDevice>>,
     alloc: Global,
-    decider: X,
-    order: &Order<'_>,
+    handler: X,
+    order: &Invocation<'_>,
     out: &mut K,
     err: &mut E,
 ) -> Exit
     ensures faithful { (system_state system.old).faithful }
-    ensures performed { IsPerformed X ⟦<Guarded<HistoryDevice> as Device>⟧ K.Sink
+    ensures performed { IsPerformed X ⟦<WriteProtected<HistoryDevice> as Device>⟧ K.Sink
         ⟦<FrameSink<Vec<u8>> as Sink>⟧ X.Reads ⟦<MemListener as Listen>⟧.listening
         system_state (system_state system.old) order.now result (system_state system.new) out.old out.new
         (E.contents err.old) (E.contents err.new) }
 {
-    perform(system, alloc, decider, order, out, err)
+    perform(system, alloc, handler, order, out, err)
 }

@@ -10,7 +10,7 @@ use crate::printing::{print_for, print_text};
 use crate::runs::{run_over_file, run_read_in_memory};
 use crate::switching::switch;
 use crate::usage::report_usage;
-use commands::command::{Order, UsageFault, is_name};
+use commands::command::{Invocation, UsageFault, is_name};
 use commands::texts::{HELP, VERSION};
 use connections::listen::Listen;
 use connections::listener::Served;
@@ -18,7 +18,7 @@ use file_commands::{CommandEnd, CommandFault, Limits, check_file, format_file, s
 use script_runs::sink::Sink;
 use script_runs::text_sink::TakesText;
 use sector_device::Device;
-use server::decide::Decide;
+use server::decide::EventHandler;
 use sql_types::name::Name;
 use std::alloc::Global;
 use std::io::Write;
@@ -31,7 +31,7 @@ const FORMATTED: &str = "ok FORMAT\n";
 /// What `check` prints where a database is whole.
 const CHECKED: &str = "ok CHECK\n";
 
-/// Does what a command asks for, with a server whose events `decider` decides, and answers the exit
+/// Does what a command asks for, with a server whose events `handler` decides, and answers the exit
 /// status: 0 where it was done; 1 after a fault, which is named on `err`, and after the server
 /// stopped; 2 after an invalid line of the script, whose number is on `err`. After the name of a
 /// fault `err` is told which file or place it is about, and why it came.
@@ -58,11 +58,11 @@ const CHECKED: &str = "ok CHECK\n";
 /// connections are those that come to the place. However it ends, a file that was opened is closed
 /// and there as it was left, a place that was bound is given up, and nothing else of the system has
 /// changed.
-pub fn perform<Y: System, X: Decide + Drop, K: TakesText, E: Write>(
+pub fn perform<Y: System, X: EventHandler + Drop, K: TakesText, E: Write>(
     system: &mut Y,
     alloc: Global,
-    decider: X,
-    order: &Order<'_>,
+    handler: X,
+    order: &Invocation<'_>,
     out: &mut K,
     err: &mut E,
 ) -> Exit
@@ -71,26 +71,26 @@ pub fn perform<Y: System, X: Decide + Drop, K: TakesText, E: Write>(
         (E.contents err.old) (E.contents err.new) }
 {
     match order {
-        Order::Format {
+        Invocation::Format {
             file,
             pages,
             admin,
             journal,
         } => format_for(system, alloc, *file, *pages, *admin, *journal, out, err),
-        Order::Copy {
+        Invocation::Copy {
             file,
             new,
             pages,
             journal,
         } => copy(system, alloc, *file, *new, *pages, *journal, out, err),
-        Order::Journal { file, on } => switch(system, alloc, *file, *on, out, err),
-        Order::Run { file, script } => {
-            run_over_file(system, alloc, decider, *file, *script, out, err)
+        Invocation::Journal { file, on } => switch(system, alloc, *file, *on, out, err),
+        Invocation::Run { file, script } => {
+            run_over_file(system, alloc, handler, *file, *script, out, err)
         }
-        Order::RunMemory { admin, script } => {
-            run_read_in_memory(system, alloc, decider, *admin, *script, out, err)
+        Invocation::RunMemory { admin, script } => {
+            run_read_in_memory(system, alloc, handler, *admin, *script, out, err)
         }
-        Order::Serve {
+        Invocation::Serve {
             file,
             port,
             connections,
@@ -98,13 +98,13 @@ pub fn perform<Y: System, X: Decide + Drop, K: TakesText, E: Write>(
         } => serve(
             system,
             alloc,
-            decider,
+            handler,
             *file,
             ListenPlace::Port(*port),
             limits(*connections, *idle),
             err,
         ),
-        Order::ServeSocket {
+        Invocation::ServeSocket {
             file,
             socket,
             connections,
@@ -112,18 +112,18 @@ pub fn perform<Y: System, X: Decide + Drop, K: TakesText, E: Write>(
         } => serve(
             system,
             alloc,
-            decider,
+            handler,
             *file,
             ListenPlace::Socket(*socket),
             limits(*connections, *idle),
             err,
         ),
-        Order::Check { file } => check(system, alloc, decider, *file, out, err),
-        Order::Describe { file, role, json } => {
+        Invocation::Check { file } => check(system, alloc, handler, *file, out, err),
+        Invocation::Describe { file, role, json } => {
             describe(system, alloc, *file, *role, *json, out, err)
         }
-        Order::Help => print_for(HELP, out, err),
-        Order::Version => print_for(VERSION, out, err),
+        Invocation::Help => print_for(HELP, out, err),
+        Invocation::Version => print_for(VERSION, out, err),
     }
 }
 
@@ -175,10 +175,10 @@ fn format<Y: System, K: TakesText>(
 }
 
 // Checks the database in a file, and says that it is whole.
-fn check<Y: System, X: Decide + Drop, K: TakesText, E: Write>(
+fn check<Y: System, X: EventHandler + Drop, K: TakesText, E: Write>(
     system: &mut Y,
     alloc: Global,
-    decider: X,
+    handler: X,
     file: &str,
     out: &mut K,
     err: &mut E,
@@ -187,7 +187,7 @@ fn check<Y: System, X: Decide + Drop, K: TakesText, E: Write>(
         result (Y.state system.new) (K.held out.old) (K.held out.new) (E.contents err.old)
         (E.contents err.new) }
 {
-    let CommandEnd { outcome, told } = check_file(system, alloc, decider, file, err);
+    let CommandEnd { outcome, told } = check_file(system, alloc, handler, file, err);
     let ending = answer(outcome, CHECKED, out);
     exit_after(told, ending, Subject::Named(file), err)
 }
@@ -203,10 +203,10 @@ fn answer<K: TakesText>(outcome: Result<(), CommandFault>, text: &str, out: &mut
 }
 
 // Serves connections at a place over the database in a file, and tells how that ended.
-fn serve<Y: System, X: Decide + Drop, E: Write>(
+fn serve<Y: System, X: EventHandler + Drop, E: Write>(
     system: &mut Y,
     alloc: Global,
-    decider: X,
+    handler: X,
     file: &str,
     place: ListenPlace<'_>,
     limits: Limits,
@@ -216,7 +216,7 @@ fn serve<Y: System, X: Decide + Drop, E: Write>(
         (Y.state system.old) (Subject.Named file.entry) file.now place.entry limits.connections
         result (Y.state system.new) (E.contents err.old) (E.contents err.new) }
 {
-    let CommandEnd { outcome, told } = serve_file(system, alloc, decider, file, place, limits, err);
+    let CommandEnd { outcome, told } = serve_file(system, alloc, handler, file, place, limits, err);
     let about = subject_of_server(outcome, file, place);
     exit_after(told, end_of_server(outcome), about, err)
 }

@@ -9,7 +9,7 @@ use crate::ending::{Ending, ProgramFault};
 use opening::open;
 use script_runs::run::run_script;
 use script_runs::text_sink::TakesText;
-use server::decide::Decide;
+use server::decide::EventHandler;
 use sql_types::name::Name;
 use std::alloc::Global;
 use store::{MemStore, Store};
@@ -22,7 +22,7 @@ pub struct Run<S> {
     pub store: S,
 }
 
-/// Runs a script over a server that is opened over a store, whose events `decider` decides: each
+/// Runs a script over a server that is opened over a store, whose events `handler` decides: each
 /// answer is told to `out` before the next line is read. However it ends, the sessions that are
 /// still open are then closed, unless the server has stopped; the store is handed back.
 ///
@@ -32,10 +32,10 @@ pub struct Run<S> {
 /// number. Records of the second spelling were only read then, and so were those that are damaged;
 /// of others a stop leaves the same database. After it `Fault` is `Memory` where an allocation for
 /// the script's lines failed and `Output` where `out` did.
-pub fn run_script_over<S: Store, X: Decide + Drop, K: TakesText>(
+pub fn run_script_over<S: Store, X: EventHandler + Drop, K: TakesText>(
     alloc: Global,
     store: S,
-    decider: X,
+    handler: X,
     script: &str,
     out: &mut K,
 ) -> Run<S>
@@ -43,7 +43,7 @@ pub fn run_script_over<S: Store, X: Decide + Drop, K: TakesText>(
     ensures runs { RunsOver X X.Reads S.state K.Sink store script.now out.old result.ending
         result.store out.new }
 {
-    let mut server = match open(alloc, store, decider) {
+    let mut server = match open(alloc, store, handler) {
         Ok(server) => server,
         Err(refused) => {
             return Run {
@@ -63,9 +63,9 @@ pub fn run_script_over<S: Store, X: Decide + Drop, K: TakesText>(
 /// written are the answers of the session machine to the events that the lines request, one after
 /// the other; in place of an answer stands 53200 where an allocation failed. The machine never
 /// stops. Where memory is refused before the first line, `Fault` is `Memory` and nothing is written.
-pub fn run_in_memory<X: Decide + Drop, K: TakesText>(
+pub fn run_in_memory<X: EventHandler + Drop, K: TakesText>(
     alloc: Global,
-    decider: X,
+    handler: X,
     admin: &Name,
     script: &str,
     out: &mut K,
@@ -78,7 +78,7 @@ pub fn run_in_memory<X: Decide + Drop, K: TakesText>(
     let Ok(store) = MemStore::new(alloc, admin) else {
         return Ending::Fault(ProgramFault::Memory);
     };
-    run_script_over(alloc, store, decider, script, out).ending
+    run_script_over(alloc, store, handler, script, out).ending
 }
 
 // A name is one of UTF-8.

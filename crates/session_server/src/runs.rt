@@ -14,7 +14,7 @@ use script_runs::run::ScriptEnd;
 use script_runs::sink::Sink;
 use script_runs::text_sink::TakesText;
 use sector_device::Device;
-use server::decide::Decide;
+use server::decide::EventHandler;
 use sql_types::name::Name;
 use std::alloc::Global;
 use std::io;
@@ -23,10 +23,10 @@ use std::str::from_utf8;
 use systems::System;
 
 /// Reads a script and runs it over the database in a file.
-pub(crate) fn run_over_file<Y: System, X: Decide + Drop, K: TakesText, E: Write>(
+pub(crate) fn run_over_file<Y: System, X: EventHandler + Drop, K: TakesText, E: Write>(
     system: &mut Y,
     alloc: Global,
-    decider: X,
+    handler: X,
     file: &str,
     script: &str,
     out: &mut K,
@@ -41,7 +41,7 @@ pub(crate) fn run_over_file<Y: System, X: Decide + Drop, K: TakesText, E: Write>
             run_bytes_over_file(
                 system,
                 alloc,
-                decider,
+                handler,
                 file,
                 script,
                 read.as_slice(),
@@ -54,10 +54,10 @@ pub(crate) fn run_over_file<Y: System, X: Decide + Drop, K: TakesText, E: Write>
 }
 
 // Runs what was read of a script over the database in a file, where it is UTF-8.
-fn run_bytes_over_file<Y: System, X: Decide + Drop, K: TakesText, E: Write>(
+fn run_bytes_over_file<Y: System, X: EventHandler + Drop, K: TakesText, E: Write>(
     system: &mut Y,
     alloc: Global,
-    decider: X,
+    handler: X,
     file: &str,
     script: &str,
     read: &[u8],
@@ -69,7 +69,7 @@ fn run_bytes_over_file<Y: System, X: Decide + Drop, K: TakesText, E: Write>(
         (Y.state system.new) out.old out.new (E.contents err.old) (E.contents err.new) }
 {
     match from_utf8(read) {
-        Ok(text) => run_text_over_file(system, alloc, decider, file, text, out, err),
+        Ok(text) => run_text_over_file(system, alloc, handler, file, text, out, err),
         Err(error) => {
             let fault = not_utf8(read, error.valid_up_to());
             exit_with(Ending::Fault(fault), Subject::Named(script), err)
@@ -78,10 +78,10 @@ fn run_bytes_over_file<Y: System, X: Decide + Drop, K: TakesText, E: Write>(
 }
 
 // Runs a script over the database in a file, or tells why that is not opened.
-fn run_text_over_file<Y: System, X: Decide + Drop, K: TakesText, E: Write>(
+fn run_text_over_file<Y: System, X: EventHandler + Drop, K: TakesText, E: Write>(
     system: &mut Y,
     alloc: Global,
-    decider: X,
+    handler: X,
     file: &str,
     script: &str,
     out: &mut K,
@@ -91,7 +91,7 @@ fn run_text_over_file<Y: System, X: Decide + Drop, K: TakesText, E: Write>(
         (Subject.Named file.entry) file.now script.now result (Y.state system.new) out.old
         out.new (E.contents err.old) (E.contents err.new) }
 {
-    let CommandEnd { outcome, told } = run_file(system, alloc, decider, file, script, out, err);
+    let CommandEnd { outcome, told } = run_file(system, alloc, handler, file, script, out, err);
     exit_after(told, end_of_run(outcome), Subject::Named(file), err)
 }
 
@@ -106,10 +106,10 @@ fn end_of_run(outcome: Result<ScriptEnd, CommandFault>) -> Ending
 }
 
 /// Reads a script and runs it over a new database in memory.
-pub(crate) fn run_read_in_memory<Y: System, X: Decide + Drop, K: TakesText, E: Write>(
+pub(crate) fn run_read_in_memory<Y: System, X: EventHandler + Drop, K: TakesText, E: Write>(
     system: &mut Y,
     alloc: Global,
-    decider: X,
+    handler: X,
     admin: &str,
     script: &str,
     out: &mut K,
@@ -122,7 +122,7 @@ pub(crate) fn run_read_in_memory<Y: System, X: Decide + Drop, K: TakesText, E: W
     let read = read_script(system, alloc, script);
     run_read_for(
         alloc,
-        decider,
+        handler,
         admin,
         read,
         Subject::Named(script),
@@ -135,9 +135,9 @@ pub(crate) fn run_read_in_memory<Y: System, X: Decide + Drop, K: TakesText, E: W
 /// `admin`, and answers the exit status as `perform` does. Faults are told about `about`, which
 /// names the script. A name that no role can have is a fault of usage: the status is 2, and nothing
 /// is printed.
-pub fn run_for<X: Decide + Drop, K: TakesText, E: Write>(
+pub fn run_for<X: EventHandler + Drop, K: TakesText, E: Write>(
     alloc: Global,
-    decider: X,
+    handler: X,
     admin: &str,
     script: io::Result<Vec<u8>>,
     about: Subject<'_>,
@@ -147,13 +147,13 @@ pub fn run_for<X: Decide + Drop, K: TakesText, E: Write>(
     ensures { RunsFor about.entry X X.Reads K.Sink admin.now (source_of script) result out.old
         out.new (E.contents err.old) (E.contents err.new) }
 {
-    run_read_for(alloc, decider, admin, read_by(script), about, out, err)
+    run_read_for(alloc, handler, admin, read_by(script), about, out, err)
 }
 
 // Runs a script that was read, or tells the fault of its reading.
-fn run_read_for<X: Decide + Drop, K: TakesText, E: Write>(
+fn run_read_for<X: EventHandler + Drop, K: TakesText, E: Write>(
     alloc: Global,
-    decider: X,
+    handler: X,
     admin: &str,
     script: Result<Vec<u8>, ProgramFault>,
     about: Subject<'_>,
@@ -169,13 +169,13 @@ fn run_read_for<X: Decide + Drop, K: TakesText, E: Write>(
     let Ok(Some(name)) = Name::from_str(alloc, admin) else {
         return exit_with(Ending::Fault(ProgramFault::Memory), about, err);
     };
-    exit_with(run_source(alloc, decider, &name, script, out), about, err)
+    exit_with(run_source(alloc, handler, &name, script, out), about, err)
 }
 
 // Runs a script that was read, or answers the fault of its reading.
-fn run_source<X: Decide + Drop, K: TakesText>(
+fn run_source<X: EventHandler + Drop, K: TakesText>(
     alloc: Global,
-    decider: X,
+    handler: X,
     admin: &Name,
     script: Result<Vec<u8>, ProgramFault>,
     out: &mut K,
@@ -183,15 +183,15 @@ fn run_source<X: Decide + Drop, K: TakesText>(
     ensures { RunsSource X X.Reads K.Sink admin.now script out.old result out.new }
 {
     match script {
-        Ok(read) => run_bytes(alloc, decider, admin, read.as_slice(), out),
+        Ok(read) => run_bytes(alloc, handler, admin, read.as_slice(), out),
         Err(fault) => Ending::Fault(fault),
     }
 }
 
 // Runs what was read of a script, where it is UTF-8.
-fn run_bytes<X: Decide + Drop, K: TakesText>(
+fn run_bytes<X: EventHandler + Drop, K: TakesText>(
     alloc: Global,
-    decider: X,
+    handler: X,
     admin: &Name,
     read: &[u8],
     out: &mut K,
@@ -199,7 +199,7 @@ fn run_bytes<X: Decide + Drop, K: TakesText>(
     ensures { RunsBytes X X.Reads K.Sink admin.now read.now out.old result out.new }
 {
     match from_utf8(read) {
-        Ok(text) => run_in_memory(alloc, decider, admin, text, out),
+        Ok(text) => run_in_memory(alloc, handler, admin, text, out),
         Err(error) => Ending::Fault(not_utf8(read, error.valid_up_to())),
     }
 }

@@ -1,11 +1,11 @@
--- What the deeds of carried out and of refused statements make of the machine.
+-- What the decisions of carried out and of refused statements make of the machine.
 use Rattle.std.proofs.Common.{◌≡◌, ◌≢◌, ℕ, nat_eq, true, false, Option, Some, None, Ok, Err, refl, sym, ◌∙◌, ap, subst}
 use Rattle.std.proofs.lemmas.Bool.{eqb-true}
 use Rattle.sql_types.specs.declared.state.SqlState.{SqlState}
 use Rattle.sql_ast.specs.declared.statement.Statement.TheVariants as statement
 use Rattle.sql_ast.specs.declared.statement.DatabaseStatement.{DatabaseStatement}
 use Rattle.store.specs.Records.{Records}
-use Rattle.store.specs.declared.stop.Stop.TheVariants.{Refused}
+use Rattle.store.specs.declared.stop.StatementError.TheVariants.{Refused}
 use Rattle.abstract_database.specs.Lists.{TheName}
 use Rattle.abstract_database.specs.Database.{Database}
 use Rattle.abstract_database.specs.Machine.{Holder, Block, Outside, Inside, Session, Transition, transition_to, session_of, refused, changes_database, is_held_by_other, with_changes, execute_in}
@@ -13,15 +13,15 @@ use Rattle.abstract_database.specs.Runs.{CommitsAt}
 use Rattle.stored_database.specs.Definitions.{Definitions}
 use Rattle.catalogue.specs.declared.effect.Effect.{Effect}
 use Rattle.catalogue.specs.Changes.{definitions_after}
-use Rattle.server.specs.declared.deed.Deed.{Deed}
-use Rattle.server.specs.declared.deed.Deed.TheVariants as deed
-use Rattle.server.specs.declared.slot.Slot.{Slot}
-use Rattle.server.specs.Slots.{definitions_under}
+use Rattle.server.specs.declared.decision.Decision.{Decision}
+use Rattle.server.specs.declared.decision.Decision.TheVariants as decision
+use Rattle.server.specs.declared.writer.Writer.{Writer}
+use Rattle.server.specs.Writers.{definitions_under}
 use Rattle.server.specs.Standing.{HolderShows, HoldsInBlock}
 use Rattle.catalogue.specs.Executed.{Leads}
-use Rattle.server.specs.Deeds.{Entries, machine_at}
-use Rattle.sessions.specs.Slots.{definitions_seen}
-use Rattle.sessions.specs.Deeds.{Makes, Serves, Always, Never}
+use Rattle.server.specs.Decisions.{Entries, machine_at}
+use Rattle.sessions.specs.Writers.{definitions_seen}
+use Rattle.sessions.specs.Decisions.{Makes, Serves, Always, Never}
 use Rattle.sessions.specs.Visible.{records_seen}
 use Rattle.sessions.specs.Concluded.{Concludes}
 use Rattle.sessions.proofs.SeenRecords.{not_false, seen_under}
@@ -42,43 +42,43 @@ nobody_holds (Some h) number s sessions held found outside free =
     absurd (held.2 (ap (λ (z : Session). z.block) same ∙ outside))
 
 -- the slot of nobody
-no_slot : (records : Records) (d : Definitions) (slot : Option Slot) (holder : Option Holder) → HolderShows records d slot holder → holder ≡ None → slot ≡ None
+no_slot : (records : Records) (d : Definitions) (writer : Option Writer) (holder : Option Holder) → HolderShows records d writer holder → holder ≡ None → writer ≡ None
 no_slot records d None holder shows none = refl
-no_slot records d (Some slot) None shows none = absurd shows
-no_slot records d (Some slot) (Some h) shows none = cc
+no_slot records d (Some writer) None shows none = absurd shows
+no_slot records d (Some writer) (Some h) shows none = cc
 
 -- ---- refusals
 
--- a deed that commits nothing may be done where there may be a commit
-makes_where_never : (records : Records) (d : Definitions) (slot : Option Slot) (db : Database) (holder : Option Holder) (sessions : Entries) (MayCommit : Type 0) (t : Transition) (what : Deed)
-    → Makes records d slot db holder sessions ⊥ t what → Makes records d slot db holder sessions MayCommit t what
-makes_where_never records d slot db holder sessions MayCommit t (deed.Answer a c) makes = makes
-makes_where_never records d slot db holder sessions MayCommit t (deed.Open a n s) makes = makes
-makes_where_never records d slot db holder sessions MayCommit t (deed.Release a c) makes = makes
-makes_where_never records d slot db holder sessions MayCommit t (deed.Commit made) makes = absurd makes.3
-makes_where_never records d slot db holder sessions MayCommit t (deed.Hold n made) makes = makes
-makes_where_never records d slot db holder sessions MayCommit t (deed.CommitSlot a c) makes = absurd makes.3
+-- a decision that commits nothing may be done where there may be a commit
+makes_where_never : (records : Records) (d : Definitions) (writer : Option Writer) (db : Database) (holder : Option Holder) (sessions : Entries) (MayCommit : Type 0) (t : Transition) (what : Decision)
+    → Makes records d writer db holder sessions ⊥ t what → Makes records d writer db holder sessions MayCommit t what
+makes_where_never records d writer db holder sessions MayCommit t (decision.Answer a c) makes = makes
+makes_where_never records d writer db holder sessions MayCommit t (decision.Open a n s) makes = makes
+makes_where_never records d writer db holder sessions MayCommit t (decision.Release a c) makes = makes
+makes_where_never records d writer db holder sessions MayCommit t (decision.Commit made) makes = absurd makes.3
+makes_where_never records d writer db holder sessions MayCommit t (decision.Hold n made) makes = makes
+makes_where_never records d writer db holder sessions MayCommit t (decision.CommitWriter a c) makes = absurd makes.3
 
 module _ (number : ℕ) (s : Session) (x : DatabaseStatement) where
-  pub refused_concludes : (code : SqlState) (what : Deed) → ((slot : Option Slot) → Serves slot number s Always Never (λ m. refused m number s code) what)
+  pub refused_concludes : (code : SqlState) (what : Decision) → ((writer : Option Writer) → Serves writer number s Always Never (λ m. refused m number s code) what)
       → Concludes number s x (Err (Refused code)) what
-  refused_concludes code what serves records d slot db holder sessions shows held admitted comes =
+  refused_concludes code what serves records d writer db holder sessions shows held admitted comes =
       let is : execute_in (machine_at db holder sessions) number s (Ok (statement.OnDatabase x)) ≡ refused (machine_at db holder sessions) number s code =
       refused_as (machine_at db holder sessions) number s x admitted.may code comes in
-      makes_where_never records d slot db holder sessions _ _ what
-      (subst (λ (t : Transition). Makes records d slot db holder sessions ⊥ t what) (sym is) (serves slot records d db holder sessions shows held admitted.is_open tt))
+      makes_where_never records d writer db holder sessions _ _ what
+      (subst (λ (t : Transition). Makes records d writer db holder sessions ⊥ t what) (sym is) (serves writer records d db holder sessions shows held admitted.is_open tt))
 
   -- ---- statements that are carried out
 
   -- one outside a block
-  pub committed_concludes : changes_database x ≡ true → s.block ≡ Outside → (made : Effect) → Concludes number s x (Ok made) (deed.Commit made)
-  committed_concludes writes outside made records d slot db holder sessions shows held admitted comes =
+  pub committed_concludes : changes_database x ≡ true → s.block ≡ Outside → (made : Effect) → Concludes number s x (Ok made) (decision.Commit made)
+  committed_concludes writes outside made records d writer db holder sessions shows held admitted comes =
       let m = machine_at db holder sessions in
       let free : is_held_by_other number holder ≡ false = is_free m number s x admitted.may writes in
       let none : holder ≡ None = nobody_holds holder number s sessions held admitted.is_open outside free in
-      let unheld : slot ≡ None = no_slot records d slot holder shows none in (
+      let unheld : writer ≡ None = no_slot records d writer holder shows none in (
         comes.after,
-        subst (λ (o : Option Slot). Leads made.changes (records_seen number o records) (definitions_after made.schema (definitions_seen number o d)) comes.after) unheld comes.leads,
+        subst (λ (o : Option Writer). Leads made.changes (records_seen number o records) (definitions_after made.schema (definitions_seen number o d)) comes.after) unheld comes.leads,
         none,
         subst (λ (b : Block). CommitsAt m number b (statement.OnDatabase x)) (sym outside) writes,
         carried_as m number s x admitted.may made.answer comes.after comes.answered true writes
@@ -87,14 +87,14 @@ module _ (number : ℕ) (s : Session) (x : DatabaseStatement) where
       )
 
   -- one inside a block
-  pub held_concludes : changes_database x ≡ true → (role : TheName) → s.block ≡ Inside role → (made : Effect) → Concludes number s x (Ok made) (deed.Hold number made)
-  held_concludes writes role inside made records d slot db holder sessions shows held admitted comes =
+  pub held_concludes : changes_database x ≡ true → (role : TheName) → s.block ≡ Inside role → (made : Effect) → Concludes number s x (Ok made) (decision.Hold number made)
+  held_concludes writes role inside made records d writer db holder sessions shows held admitted comes =
       let m = machine_at db holder sessions in
       let free : is_held_by_other number holder ≡ false = is_free m number s x admitted.may writes in
-      let under = seen_under number records d slot holder shows free in (
+      let under = seen_under number records d writer holder shows free in (
         comes.after,
-        subst (λ (r : Records). Leads made.changes r (definitions_after made.schema (definitions_under slot d)) comes.after) under.0
-            (subst (λ (e : Definitions). Leads made.changes (records_seen number slot records) (definitions_after made.schema e) comes.after) under.1 comes.leads),
+        subst (λ (r : Records). Leads made.changes r (definitions_after made.schema (definitions_under writer d)) comes.after) under.0
+            (subst (λ (e : Definitions). Leads made.changes (records_seen number writer records) (definitions_after made.schema e) comes.after) under.1 comes.leads),
         (s, admitted.is_open, in_block),
         carried_as m number s x admitted.may made.answer comes.after comes.answered true writes
             ∙ ap (λ (b : Block). transition_to made.answer (with_changes m number b comes.after)) inside,

@@ -10,20 +10,20 @@ use Rattle.sql_parser.specs.Policies.{HasConditionsAsWritten}
 use Rattle.expressions.specs.Stages.{◌>>=◌, require}
 use Rattle.store.specs.Records.{Records}
 use Rattle.store.specs.Readers.{HasRead}
-use Rattle.store.specs.Stop.{ReadsMap}
+use Rattle.store.specs.StatementError.{ReadsMap}
 use Rattle.store.specs.Store.{StoreState}
 use Rattle.store.specs.declared.fault.Fault.{Fault}
 use Rattle.store.specs.declared.fault.Fault.TheVariants.{Memory, Device, Damaged}
-use Rattle.store.specs.declared.stop.Stop.{Stop}
-use Rattle.store.specs.declared.stop.Stop.TheVariants.{Refused, Failed}
+use Rattle.store.specs.declared.stop.StatementError.{StatementError}
+use Rattle.store.specs.declared.stop.StatementError.TheVariants.{Refused, Failed}
 use Rattle.catalogue.specs.declared.effect.Effect.{Effect}
 use Rattle.abstract_database.specs.Database.{Database, has_role}
 use Rattle.abstract_database.specs.Roles.{may_set_role}
 use Rattle.abstract_database.specs.Machine.{Machine, Holder, Session, seen_by, seen, users_of, has_failed, changes_database, is_held_by_other, keeps_role, may_execute}
 use Rattle.stored_database.specs.Records.{Shows}
-use Rattle.server.specs.declared.deed.Deed.{Deed}
+use Rattle.server.specs.declared.decision.Decision.{Decision}
 use Rattle.server.specs.Standing.{HolderShows}
-use Rattle.server.specs.Deeds.{machine_at}
+use Rattle.server.specs.Decisions.{machine_at}
 use Rattle.server.specs.Executed.{MayExecute}
 use Rattle.sessions.specs.Concluded.{ComesTo, Concludes}
 use Rattle.sessions.specs.Serving.{Admits, ServesOver}
@@ -48,17 +48,17 @@ admitted_may m number s x read written admitted =
 
 module _ (records : Records) (at : OpenSession) (x : DatabaseStatement) (read : IsReadOnDatabase x) (written : HasConditionsAsWritten (statement.OnDatabase x)) where
   -- the statement comes to this wherever the session may execute it
-  abbrev pub Comes : Result Effect Stop → Type 0
-  Comes result = (db : Database) (holder : Option Holder) → Shows records at.catalogue.now db → HolderShows records at.catalogue.now at.slot.now holder
-      → MayExecute (seen_by at.number holder db) (users_of at.session.now) x → ComesTo records at.catalogue.now at.slot.now db holder at.number at.session.now x result
+  abbrev pub Comes : Result Effect StatementError → Type 0
+  Comes result = (db : Database) (holder : Option Holder) → Shows records at.catalogue.now db → HolderShows records at.catalogue.now at.writer.now holder
+      → MayExecute (seen_by at.number holder db) (users_of at.session.now) x → ComesTo records at.catalogue.now at.writer.now db holder at.number at.session.now x result
 
-  -- what it comes to leads to the deed
-  pub serves_result : (result : Result Effect Stop) (what : Deed) → Comes result → Concludes at.number at.session.now x result what → ServesOver records at (statement.OnDatabase x) (Admits at (statement.OnDatabase x)) (Ok what)
+  -- what it comes to leads to the decision
+  pub serves_result : (result : Result Effect StatementError) (what : Decision) → Comes result → Concludes at.number at.session.now x result what → ServesOver records at (statement.OnDatabase x) (Admits at (statement.OnDatabase x)) (Ok what)
   serves_result result what comes concludes db holder sessions over admitted =
-      concludes records at.catalogue.now at.slot.now db holder sessions over.held over.in_block (record { is_open = over.is_open; may = admitted })
+      concludes records at.catalogue.now at.writer.now db holder sessions over.held over.in_block (record { is_open = over.is_open; may = admitted })
       (comes db holder over.committed over.held (admitted_may (machine_at db holder sessions) at.number at.session.now x read written admitted))
 
-  -- a failure is no deed
+  -- a failure is no decision
   pub serves_failure : (fault : Fault) → Comes (Err (Failed fault)) → ServesOver records at (statement.OnDatabase x) (Admits at (statement.OnDatabase x)) (Err fault)
   serves_failure Memory comes db holder sessions over admitted = tt
   serves_failure Device comes db holder sessions over admitted = tt
@@ -67,13 +67,13 @@ module _ (records : Records) (at : OpenSession) (x : DatabaseStatement) (read : 
 
 -- ---- what was read
 
-pub effect_read : (made : Effect) (what : Deed) (old new : StoreState) → ReadsMap (Ok made) old new → HasRead (Ok what) old new
+pub effect_read : (made : Effect) (what : Decision) (old new : StoreState) → ReadsMap (Ok made) old new → HasRead (Ok what) old new
 effect_read made what old new h = record { only_reads = h.only_reads; cause = tt; failed = h.failed }
 
-pub refusal_read : (code : SqlState) (what : Deed) (old new : StoreState) → ReadsMap {A = Effect} (Err (Refused code)) old new → HasRead (Ok what) old new
+pub refusal_read : (code : SqlState) (what : Decision) (old new : StoreState) → ReadsMap {A = Effect} (Err (Refused code)) old new → HasRead (Ok what) old new
 refusal_read code what old new h = record { only_reads = h.only_reads; cause = tt; failed = h.failed }
 
-pub failure_read : (fault : Fault) (old new : StoreState) → ReadsMap {A = Effect} (Err (Failed fault)) old new → HasRead {T = Deed} (Err fault) old new
+pub failure_read : (fault : Fault) (old new : StoreState) → ReadsMap {A = Effect} (Err (Failed fault)) old new → HasRead {T = Decision} (Err fault) old new
 failure_read Memory old new h = record { only_reads = h.only_reads; cause = tt; failed = h.failed }
 failure_read Device old new h = record { only_reads = h.only_reads; cause = h.cause; failed = h.failed }
 failure_read Damaged old new h = record { only_reads = h.only_reads; cause = tt; failed = h.failed }

@@ -2,7 +2,7 @@ pub mod Putting
 pub mod RoleLemmas
 pub mod OpenLemmas
 pub mod Sessions
-pub mod BlockDeeds
+pub mod BlockDecisions
 pub mod AnyReading
 pub mod SeenRecords
 pub mod Meant

@@ -12,12 +12,12 @@ use Rattle.abstract_database.specs.Machine.{opens, Holder, Outside, Session, ses
 use Rattle.abstract_database.specs.Runs.{ReadingRelation}
 use Rattle.store.specs.Records.{Records}
 use Rattle.stored_database.specs.Definitions.{Definitions}
-use Rattle.server.specs.declared.deed.Deed.{Deed}
-use Rattle.server.specs.declared.deed.Deed.TheVariants as deed
-use Rattle.server.specs.declared.deed.SessionChange.TheVariants as change
-use Rattle.server.specs.declared.slot.Slot.{Slot}
+use Rattle.server.specs.declared.decision.Decision.{Decision}
+use Rattle.server.specs.declared.decision.Decision.TheVariants as decision
+use Rattle.server.specs.declared.decision.SessionChange.TheVariants as change
+use Rattle.server.specs.declared.writer.Writer.{Writer}
 use Rattle.server.specs.Standing.{HoldsInBlock}
-use Rattle.server.specs.Deeds.{Decides, Entries}
+use Rattle.server.specs.Decisions.{Decides, Entries}
 use Rattle.sessions.specs.Opening.{Opens}
 use Rattle.sessions.proofs.Putting.{opened_in_block}
 
@@ -25,12 +25,12 @@ abbrev session_for : TheName → Session
 session_for login = record { login = login; role = login; block = Outside }
 
 module _ (db : Database) (holder : Option Holder) (sessions : Entries) (number : ℕ) (login : TheName) where
-  pub in_use : (what : Deed) → is_some (session_of number sessions) ≡ true
-      → what ≡ deed.Answer (answer.Refused ConnectionNameInUse) change.Keep → Opens db holder sessions number login what
+  pub in_use : (what : Decision) → is_some (session_of number sessions) ≡ true
+      → what ≡ decision.Answer (answer.Refused ConnectionNameInUse) change.Keep → Opens db holder sessions number login what
   in_use what used is = rw (is, used) refl
 
-  pub no_place : (what : Deed) → is_some (session_of number sessions) ≡ false → 256 ≤ length sessions
-      → what ≡ deed.Answer (answer.Refused TooManyConnections) change.Keep → Opens db holder sessions number login what
+  pub no_place : (what : Decision) → is_some (session_of number sessions) ≡ false → 256 ≤ length sessions
+      → what ≡ decision.Answer (answer.Refused TooManyConnections) change.Keep → Opens db holder sessions number login what
   no_place what unused full is =
       let many : nat_le 256 (length sessions) ≡ true = grind (arith, nat_tests) in
       rw (is, unused, many) refl
@@ -50,8 +50,8 @@ module _ (db : Database) (holder : Option Holder) (sessions : Entries) (number :
     some_is : ◌≡◌ {A = Option TheName} (Some name) None → ⊥
     some_is e = cc
 
-  pub no_login : (what : Deed) → is_some (session_of number sessions) ≡ false → length sessions < 256 → ◌≡◌ {A = Option TheName} None (cond (may_log_in db login) (Some login) None)
-      → what ≡ deed.Answer (answer.Refused InvalidAuthorization) change.Keep → Opens db holder sessions number login what
+  pub no_login : (what : Decision) → is_some (session_of number sessions) ≡ false → length sessions < 256 → ◌≡◌ {A = Option TheName} None (cond (may_log_in db login) (Some login) None)
+      → what ≡ decision.Answer (answer.Refused InvalidAuthorization) change.Keep → Opens db holder sessions number login what
   no_login what unused free unknown is =
       let fits : nat_le 256 (length sessions) ≡ false = few (length sessions) free in
       let no : may_log_in db login ≡ false = may_not (may_log_in db login) unknown in
@@ -64,7 +64,7 @@ module _ (db : Database) (holder : Option Holder) (sessions : Entries) (number :
   pub opened : (name role : TheName) (s : Session) (a : Answer) → is_some (session_of number sessions) ≡ false → length sessions < 256
       → ◌≡◌ {A = Option TheName} (Some name) (cond (may_log_in db login) (Some login) None) → role ≡ name
       → s ≡ record { login = name; role = role; block = Outside } → a ≡ answer.Done tag.Open None None → HoldsInBlock holder sessions
-      → Opens db holder sessions number login (deed.Open a number s)
+      → Opens db holder sessions number login (decision.Open a number s)
   opened name role s a unused free known same is done held =
       let fits : nat_le 256 (length sessions) ≡ false = few (length sessions) free in
       let yes = may name (may_log_in db login) known in
@@ -72,14 +72,14 @@ module _ (db : Database) (holder : Option Holder) (sessions : Entries) (number :
       ((refl, is_none_of (session_of number sessions) unused, free), opened_in_block holder number sessions s (is_none_of (session_of number sessions) unused) held, rw (done, session, unused, fits, yes.0) refl)
 
   -- what the opening asks of a server, whatever texts are read as
-  pub opens_decides : (Reads : ReadingRelation) (records : Records) (d : Definitions) (slot : Option Slot) (what : Deed) → HoldsInBlock holder sessions
-      → Opens db holder sessions number login what → Decides Reads records d slot db holder sessions (opens number login) what
-  opens_decides Reads records d slot (deed.Answer a change.Keep) held is = (tt, held, record { as_read = opens number login; read = refl; is = sym is })
-  opens_decides Reads records d slot (deed.Answer a (change.Put n s)) held is = absurd is
-  opens_decides Reads records d slot (deed.Answer a (change.Block n s)) held is = absurd is
-  opens_decides Reads records d slot (deed.Answer a (change.Close n)) held is = absurd is
-  opens_decides Reads records d slot (deed.Open a n s) held is = (is.0, is.1, record { as_read = opens number login; read = refl; is = sym is.2 })
-  opens_decides Reads records d slot (deed.Release a x) held is = absurd is
-  opens_decides Reads records d slot (deed.Commit made) held is = absurd is
-  opens_decides Reads records d slot (deed.Hold n made) held is = absurd is
-  opens_decides Reads records d slot (deed.CommitSlot a x) held is = absurd is
+  pub opens_decides : (Reads : ReadingRelation) (records : Records) (d : Definitions) (writer : Option Writer) (what : Decision) → HoldsInBlock holder sessions
+      → Opens db holder sessions number login what → Decides Reads records d writer db holder sessions (opens number login) what
+  opens_decides Reads records d writer (decision.Answer a change.Keep) held is = (tt, held, record { as_read = opens number login; read = refl; is = sym is })
+  opens_decides Reads records d writer (decision.Answer a (change.Put n s)) held is = absurd is
+  opens_decides Reads records d writer (decision.Answer a (change.Block n s)) held is = absurd is
+  opens_decides Reads records d writer (decision.Answer a (change.Close n)) held is = absurd is
+  opens_decides Reads records d writer (decision.Open a n s) held is = (is.0, is.1, record { as_read = opens number login; read = refl; is = sym is.2 })
+  opens_decides Reads records d writer (decision.Release a x) held is = absurd is
+  opens_decides Reads records d writer (decision.Commit made) held is = absurd is
+  opens_decides Reads records d writer (decision.Hold n made) held is = absurd is
+  opens_decides Reads records d writer (decision.CommitWriter a x) held is = absurd is

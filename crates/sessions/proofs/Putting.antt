@@ -6,13 +6,13 @@ use Rattle.sql_types.specs.declared.answer.Answer.TheVariants as answer
 use Rattle.sql_types.specs.declared.tag.Tag.{Tag}
 use Rattle.abstract_database.specs.Lists.{TheName}
 use Rattle.abstract_database.specs.Machine.{Holder, Block, Session, session_of, with_session, with_session_changed, succeeds, as_role}
-use Rattle.server.specs.declared.deed.Deed.TheVariants as deed
-use Rattle.server.specs.declared.deed.SessionChange.TheVariants as change
-use Rattle.server.specs.declared.slot.Slot.{Slot}
+use Rattle.server.specs.declared.decision.Decision.TheVariants as decision
+use Rattle.server.specs.declared.decision.SessionChange.TheVariants as change
+use Rattle.server.specs.declared.writer.Writer.{Writer}
 use Rattle.server.specs.declared.session.Block.{Block as TheBlock}
 use Rattle.server.specs.Session.{block_of}
 use Rattle.server.specs.Standing.{HoldsInBlock}
-use Rattle.sessions.specs.Deeds.{Serves, Always, Never}
+use Rattle.sessions.specs.Decisions.{Serves, Always, Never}
 
 -- ---- the sessions of these numbers
 
@@ -43,7 +43,7 @@ module _ (number other : ℕ) (apart : nat_eq other number ≡ false) where
   put_beside [] s = ap (λ (b : Bool). cond {A = Option Session} b (Some s) None) apart
   put_beside (e ∷ es) s = beside_at e es s (nat_eq number e.0) refl (put_beside es s)
 
--- ---- the holder of the write slot
+-- ---- the holder of the writer lock
 
 -- still in a block where this is its session
 own_at : (h : Holder) (number : ℕ) (es : List (ℕ × Session)) (old s : Session) → h.session ≡ number → session_of number es ≡ Some old → s.block ≡ old.block
@@ -79,9 +79,9 @@ opened_in_block (Some h) number es s is held = opened_at h number es s (nat_eq h
 
 -- ---- a session with another role
 
-pub put_makes : (number : ℕ) (s changed : Session) (t : Tag) (a : Answer) (role : TheName) → a ≡ answer.Done t None None → changed ≡ as_role role s → (slot : Option Slot)
-    → Serves slot number s Always Never (λ m. succeeds t (with_session_changed m number (as_role role s))) (deed.Answer a (change.Put number changed))
-put_makes number s changed t a role answered put slot records d db holder sessions shows held is given =
+pub put_makes : (number : ℕ) (s changed : Session) (t : Tag) (a : Answer) (role : TheName) → a ≡ answer.Done t None None → changed ≡ as_role role s → (writer : Option Writer)
+    → Serves writer number s Always Never (λ m. succeeds t (with_session_changed m number (as_role role s))) (decision.Answer a (change.Put number changed))
+put_makes number s changed t a role answered put writer records d db holder sessions shows held is given =
     (ap is_some is, put_in_block holder number sessions s changed is (ap (λ (z : Session). z.block) put) held, cc)
 
 abbrev session_with : TheName → TheName → Block → Session

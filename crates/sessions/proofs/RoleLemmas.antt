@@ -12,20 +12,20 @@ use Rattle.abstract_database.specs.Roles.{may_log_in, may_set_role}
 use Rattle.abstract_database.specs.Machine.{Machine, Session, Transition, seen, succeeds, refused, transition_or_refusal, with_session_changed, as_role}
 use Rattle.abstract_database.proofs.ListLemmas.{bytes_same}
 use Rattle.stored_database.specs.Definitions.{Definitions}
-use Rattle.server.specs.declared.deed.Deed.{Deed}
-use Rattle.server.specs.declared.slot.Slot.{Slot}
-use Rattle.server.specs.Deeds.{machine_at}
-use Rattle.sessions.specs.Deeds.{Serves, Makes, Always, Never}
+use Rattle.server.specs.declared.decision.Decision.{Decision}
+use Rattle.server.specs.declared.writer.Writer.{Writer}
+use Rattle.server.specs.Decisions.{machine_at}
+use Rattle.sessions.specs.Decisions.{Serves, Makes, Always, Never}
 use Rattle.sessions.specs.Admission.{HasRolesOf, SeesRolesOf}
 use Rattle.sessions.specs.Roles.{role_set}
 
 -- ---- a role that is not set
 
--- a deed serves what is the same transition where this is given
-pub serves_same : (slot : Option Slot) (number : ℕ) (s : Session) (Given : Machine → Type 0) (t u : Machine → Transition) (what : Deed)
-    → ((m : Machine) → Given m → t m ≡ u m) → Serves slot number s Always Never t what → Serves slot number s Given Never u what
-serves_same slot number s Given t u what same serves records d db holder sessions shows held is given =
-    subst (λ (z : Transition). Makes records d slot db holder sessions ⊥ z what) (same (machine_at db holder sessions) given) (serves records d db holder sessions shows held is tt)
+-- a decision serves what is the same transition where this is given
+pub serves_same : (writer : Option Writer) (number : ℕ) (s : Session) (Given : Machine → Type 0) (t u : Machine → Transition) (what : Decision)
+    → ((m : Machine) → Given m → t m ≡ u m) → Serves writer number s Always Never t what → Serves writer number s Given Never u what
+serves_same writer number s Given t u what same serves records d db holder sessions shows held is given =
+    subst (λ (z : Transition). Makes records d writer db holder sessions ⊥ z what) (same (machine_at db holder sessions) given) (serves records d db holder sessions shows held is tt)
 
 -- the setting of a role that is there, or is not, and may be set, or may not
 abbrev role_set_by : Machine → ℕ → Session → TheName → Bool → Bool → Transition
@@ -50,19 +50,19 @@ unallowed d number s o role there may m some is present allowed refused_it sees 
     ∙ ap (λ (b : Bool). role_set_by m number s role b (may_set_role (seen m number) s.login role)) (has_role_of d (seen m number) role there sees is ∙ present)
     ∙ ap (λ (b : Bool). role_set_by m number s role true b) (sym allowed ∙ refused_it))
 
-pub serves_unnamed : (slot : Option Slot) (d : Definitions) (number : ℕ) (s : Session) (o : Option TheName) (role : TheName) (there : Bool) (what : Deed) → o ≡ Some role
-    → there ≡ list_any (is_role_named role) d.roles → there ≡ false → Serves slot number s Always Never (λ m. refused m number s UndefinedObject) what
-    → Serves slot number s (SeesRolesOf d number) Never (λ m. role_set m number s o) what
-serves_unnamed slot d number s o role there what some is missing serves =
-    serves_same slot number s (SeesRolesOf d number) (λ m. refused m number s UndefinedObject) (λ m. role_set m number s o) what
+pub serves_unnamed : (writer : Option Writer) (d : Definitions) (number : ℕ) (s : Session) (o : Option TheName) (role : TheName) (there : Bool) (what : Decision) → o ≡ Some role
+    → there ≡ list_any (is_role_named role) d.roles → there ≡ false → Serves writer number s Always Never (λ m. refused m number s UndefinedObject) what
+    → Serves writer number s (SeesRolesOf d number) Never (λ m. role_set m number s o) what
+serves_unnamed writer d number s o role there what some is missing serves =
+    serves_same writer number s (SeesRolesOf d number) (λ m. refused m number s UndefinedObject) (λ m. role_set m number s o) what
     (λ m sees. unnamed d number s o role there m some is missing sees) serves
 
-pub serves_unallowed : (slot : Option Slot) (d : Definitions) (number : ℕ) (s : Session) (o : Option TheName) (role login : TheName) (there may : Bool) (what : Deed) → o ≡ Some role
+pub serves_unallowed : (writer : Option Writer) (d : Definitions) (number : ℕ) (s : Session) (o : Option TheName) (role login : TheName) (there may : Bool) (what : Decision) → o ≡ Some role
     → there ≡ list_any (is_role_named role) d.roles → there ≡ true → login ≡ s.login → ((db : Database) → HasRolesOf d db → may ≡ may_set_role db login role) → may ≡ false
-    → Serves slot number s Always Never (λ m. refused m number s InsufficientPrivilege) what
-    → Serves slot number s (SeesRolesOf d number) Never (λ m. role_set m number s o) what
-serves_unallowed slot d number s o role login there may what some is present own allowed refused_it serves =
-    serves_same slot number s (SeesRolesOf d number) (λ m. refused m number s InsufficientPrivilege) (λ m. role_set m number s o) what
+    → Serves writer number s Always Never (λ m. refused m number s InsufficientPrivilege) what
+    → Serves writer number s (SeesRolesOf d number) Never (λ m. role_set m number s o) what
+serves_unallowed writer d number s o role login there may what some is present own allowed refused_it serves =
+    serves_same writer number s (SeesRolesOf d number) (λ m. refused m number s InsufficientPrivilege) (λ m. role_set m number s o) what
     (λ m sees. unallowed d number s o role there may m some is present
     (allowed (seen m number) sees ∙ ap (λ (l : TheName). may_set_role (seen m number) l role) own) refused_it sees) serves
 

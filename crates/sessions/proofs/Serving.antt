@@ -15,29 +15,29 @@ use Rattle.abstract_database.specs.Machine.{Machine, Holder, Session, Transition
 use Rattle.abstract_database.specs.Statements.{exec}
 use Rattle.abstract_database.specs.Runs.{CommitsAt}
 use Rattle.stored_database.specs.Definitions.{Definitions}
-use Rattle.server.specs.declared.deed.Deed.{Deed}
-use Rattle.server.specs.declared.deed.Deed.TheVariants as deed
-use Rattle.server.specs.declared.slot.Slot.{Slot}
-use Rattle.server.specs.Deeds.{Entries, machine_at}
+use Rattle.server.specs.declared.decision.Decision.{Decision}
+use Rattle.server.specs.declared.decision.Decision.TheVariants as decision
+use Rattle.server.specs.declared.writer.Writer.{Writer}
+use Rattle.server.specs.Decisions.{Entries, machine_at}
 use Rattle.sessions.specs.Admission.{SeesRolesOf, admission_of}
-use Rattle.sessions.specs.Deeds.{Makes, Serves, Always, Never}
+use Rattle.sessions.specs.Decisions.{Makes, Serves, Always, Never}
 use Rattle.sessions.specs.Roles.{role_set}
-use Rattle.sessions.specs.Slots.{is_slot_of_other, definitions_seen}
+use Rattle.sessions.specs.Writers.{is_slot_of_other, definitions_seen}
 use Rattle.sessions.specs.Serving.{EndsBlock, Admits, IsExecuted, IsAdmissionBy, IsAdmission, IsOpenOver, ServesOver}
 use Rattle.sessions.specs.declared.statements.OpenSession.{OpenSession}
 use Rattle.sessions.proofs.SeenDefinitions.{sees_roles, held_by_other}
 
--- a deed that commits where it may makes the same where more may commit
-makes_more : (records : Records) (d : Definitions) (slot : Option Slot) (db : Database) (holder : Option Holder) (sessions : Entries) (May More : Type 0) (t : Transition) (what : Deed)
-    → (May → More) → Makes records d slot db holder sessions May t what → Makes records d slot db holder sessions More t what
-makes_more records d slot db holder sessions May More t (deed.Answer a c) more p = p
-makes_more records d slot db holder sessions May More t (deed.Open a n s) more p = p
-makes_more records d slot db holder sessions May More t (deed.Release a c) more p = p
-makes_more records d slot db holder sessions May More t (deed.Commit it) more p = (p.0, p.1, p.2, more p.3, p.4)
-makes_more records d slot db holder sessions May More t (deed.Hold n it) more p = p
-makes_more records d slot db holder sessions May More t (deed.CommitSlot a c) more p = (p.0, p.1, p.2, more p.3, p.4)
+-- a decision that commits where it may makes the same where more may commit
+makes_more : (records : Records) (d : Definitions) (writer : Option Writer) (db : Database) (holder : Option Holder) (sessions : Entries) (May More : Type 0) (t : Transition) (what : Decision)
+    → (May → More) → Makes records d writer db holder sessions May t what → Makes records d writer db holder sessions More t what
+makes_more records d writer db holder sessions May More t (decision.Answer a c) more p = p
+makes_more records d writer db holder sessions May More t (decision.Open a n s) more p = p
+makes_more records d writer db holder sessions May More t (decision.Release a c) more p = p
+makes_more records d writer db holder sessions May More t (decision.Commit it) more p = (p.0, p.1, p.2, more p.3, p.4)
+makes_more records d writer db holder sessions May More t (decision.Hold n it) more p = p
+makes_more records d writer db holder sessions May More t (decision.CommitWriter a c) more p = (p.0, p.1, p.2, more p.3, p.4)
 
-module _ (records : Records) (at : OpenSession) (x : Statement) (what : Deed) where
+module _ (records : Records) (at : OpenSession) (x : Statement) (what : Decision) where
   abbrev number : ℕ
   number = at.number
 
@@ -47,65 +47,65 @@ module _ (records : Records) (at : OpenSession) (x : Statement) (what : Deed) wh
   abbrev d : Definitions
   d = at.catalogue.now
 
-  abbrev slot : Option Slot
-  slot = at.slot.now
+  abbrev writer : Option Writer
+  writer = at.writer.now
 
   -- the statement's transition, in the words of what serves it
   abbrev Is : (Machine → Type 0) → (Machine → Transition) → Type 0
   Is Given leads = (m : Machine) → Given m → leads m ≡ execute_in m number s (Ok x)
 
-  serves_over : (Asked Given May : Machine → Type 0) (leads : Machine → Transition) → Serves slot number s Asked May leads what
+  serves_over : (Asked Given May : Machine → Type 0) (leads : Machine → Transition) → Serves writer number s Asked May leads what
       → ((db : Database) (holder : Option Holder) (sessions : Entries) → IsOpenOver records at db holder sessions → Asked (machine_at db holder sessions))
       → ((m : Machine) → May m → CommitsAt m number s.block x) → Is Given leads → ServesOver records at x Given (Ok what)
   serves_over Asked Given May leads serves asked may is db holder sessions over given =
       let m = machine_at db holder sessions in
-      makes_more records d slot db holder sessions (May m) (CommitsAt m number s.block x) (execute_in m number s (Ok x)) what (may m)
-      (subst (λ (t : Transition). Makes records d slot db holder sessions (May m) t what) (is m given) (serves records d db holder sessions over.held over.in_block over.is_open (asked db holder sessions over)))
+      makes_more records d writer db holder sessions (May m) (CommitsAt m number s.block x) (execute_in m number s (Ok x)) what (may m)
+      (subst (λ (t : Transition). Makes records d writer db holder sessions (May m) t what) (is m given) (serves records d db holder sessions over.held over.in_block over.is_open (asked db holder sessions over)))
 
-  pub serves_commit : x ≡ (statement.OfSession of_session.Commit) → Serves slot number s Always (λ m. CommitsAt m number s.block (statement.OfSession of_session.Commit)) (λ m. commit m number s s.block) what
+  pub serves_commit : x ≡ (statement.OfSession of_session.Commit) → Serves writer number s Always (λ m. CommitsAt m number s.block (statement.OfSession of_session.Commit)) (λ m. commit m number s s.block) what
       → ServesOver records at x Always (Ok what)
   serves_commit is serves =
       serves_over Always Always (λ m. CommitsAt m number s.block (statement.OfSession of_session.Commit)) (λ m. commit m number s s.block) serves (λ db holder sessions over. tt)
       (λ m may. rw is may) (λ m given. rw is refl)
 
-  pub serves_rollback : x ≡ (statement.OfSession of_session.Rollback) → Serves slot number s Always Never (λ m. rollback m number s s.block) what → ServesOver records at x Always (Ok what)
+  pub serves_rollback : x ≡ (statement.OfSession of_session.Rollback) → Serves writer number s Always Never (λ m. rollback m number s s.block) what → ServesOver records at x Always (Ok what)
   serves_rollback is serves =
       serves_over Always Always Never (λ m. rollback m number s s.block) serves (λ db holder sessions over. tt) (λ m may. absurd may) (λ m given. rw is refl)
 
-  pub serves_begin : x ≡ (statement.OfSession of_session.Begin) → Serves slot number s Always Never (λ m. begin m number s s.block) what → ServesOver records at x (Admits at x) (Ok what)
+  pub serves_begin : x ≡ (statement.OfSession of_session.Begin) → Serves writer number s Always Never (λ m. begin m number s s.block) what → ServesOver records at x (Admits at x) (Ok what)
   serves_begin is serves =
       serves_over Always (Admits at x) Never (λ m. begin m number s s.block) serves (λ db holder sessions over. tt) (λ m may. absurd may)
       (λ m given. let admitted : may_execute m number s (statement.OfSession of_session.Begin) ≡ Ok tt = rw is at given in rw is (rw admitted refl))
 
-  pub serves_reset : x ≡ (statement.OfSession of_session.ResetRole) → Serves slot number s Always Never (λ m. succeeds tag.Reset (with_session_changed m number (as_role s.login s))) what
+  pub serves_reset : x ≡ (statement.OfSession of_session.ResetRole) → Serves writer number s Always Never (λ m. succeeds tag.Reset (with_session_changed m number (as_role s.login s))) what
       → ServesOver records at x (Admits at x) (Ok what)
   serves_reset is serves =
       serves_over Always (Admits at x) Never (λ m. succeeds tag.Reset (with_session_changed m number (as_role s.login s))) serves (λ db holder sessions over. tt) (λ m may. absurd may)
       (λ m given. let admitted : may_execute m number s (statement.OfSession of_session.ResetRole) ≡ Ok tt = rw is at given in rw is (rw admitted refl))
 
-  pub serves_set : (set : SetRole) → x ≡ (statement.OfSession (of_session.SetRole set)) → Serves slot number s (SeesRolesOf (definitions_seen number slot d) number) Never (λ m. role_set m number s set.role) what
+  pub serves_set : (set : SetRole) → x ≡ (statement.OfSession (of_session.SetRole set)) → Serves writer number s (SeesRolesOf (definitions_seen number writer d) number) Never (λ m. role_set m number s set.role) what
       → ServesOver records at x (Admits at x) (Ok what)
   serves_set set is serves =
-      serves_over (SeesRolesOf (definitions_seen number slot d) number) (Admits at x) Never (λ m. role_set m number s set.role) serves
-      (λ db holder sessions over. sees_roles records d slot db holder number over.committed over.held) (λ m may. absurd may)
+      serves_over (SeesRolesOf (definitions_seen number writer d) number) (Admits at x) Never (λ m. role_set m number s set.role) serves
+      (λ db holder sessions over. sees_roles records d writer db holder number over.committed over.held) (λ m may. absurd may)
       (λ m given. let admitted : may_execute m number s (statement.OfSession (of_session.SetRole set)) ≡ Ok tt = rw is at given in rw is (rw admitted refl))
 
   -- ---- admission
 
   -- a statement that is refused makes the refusal's transition
-  pub serves_refusal : (code : SqlState) → IsAdmission records at x (Some code) → ((given : Option Slot) → Serves given number s Always Never (λ m. refused m number s code) what) → ServesOver records at x Always (Ok what)
+  pub serves_refusal : (code : SqlState) → IsAdmission records at x (Some code) → ((given : Option Writer) → Serves given number s Always Never (λ m. refused m number s code) what) → ServesOver records at x Always (Ok what)
   serves_refusal code refuses serves db holder sessions over given =
       let m = machine_at db holder sessions in
-      makes_more records d slot db holder sessions ⊥ (CommitsAt m number s.block x) (execute_in m number s (Ok x)) what (λ never. absurd never)
-      (subst (λ (t : Transition). Makes records d slot db holder sessions ⊥ t what) (sym (refuses db holder sessions over)) (serves slot records d db holder sessions over.held over.in_block over.is_open tt))
+      makes_more records d writer db holder sessions ⊥ (CommitsAt m number s.block x) (execute_in m number s (Ok x)) what (λ never. absurd never)
+      (subst (λ (t : Transition). Makes records d writer db holder sessions ⊥ t what) (sym (refuses db holder sessions over)) (serves writer records d db holder sessions over.held over.in_block over.is_open tt))
 
 -- a statement that ends no block is executed where it is admitted
-pub where_admitted_serves : (records : Records) (at : OpenSession) (x : Statement) (r : Result Deed Fault) → (EndsBlock x → ⊥) → ServesOver records at x (Admits at x) r → ServesOver records at x (IsExecuted at x) r
+pub where_admitted_serves : (records : Records) (at : OpenSession) (x : Statement) (r : Result Decision Fault) → (EndsBlock x → ⊥) → ServesOver records at x (Admits at x) r → ServesOver records at x (IsExecuted at x) r
 where_admitted_serves records at x r ordinary serves db holder sessions over (inl ends) = absurd (ordinary ends)
 where_admitted_serves records at x r ordinary serves db holder sessions over (inr admitted) = serves db holder sessions over admitted
 
 -- one that ends a block is executed always
-pub always_serves : (records : Records) (at : OpenSession) (x : Statement) (r : Result Deed Fault) → ServesOver records at x Always r → ServesOver records at x (IsExecuted at x) r
+pub always_serves : (records : Records) (at : OpenSession) (x : Statement) (r : Result Decision Fault) → ServesOver records at x Always r → ServesOver records at x (IsExecuted at x) r
 always_serves records at x r serves db holder sessions over given = serves db holder sessions over tt
 
 -- ---- admission
@@ -156,10 +156,10 @@ admission_by at x m ordinary (Some code) may = refused_as m at.number at.session
 
 -- as the session's definitions and the slot say
 pub is_admission : (at : OpenSession) (x : Statement) (seen_there : Definitions) (held_there : Bool) (refusal : Option SqlState) → (EndsBlock x → ⊥)
-    → seen_there ≡ definitions_seen at.number at.slot.now at.catalogue.now → held_there ≡ is_slot_of_other at.number at.slot.now
+    → seen_there ≡ definitions_seen at.number at.writer.now at.catalogue.now → held_there ≡ is_slot_of_other at.number at.writer.now
     → ((m : Machine) (n : ℕ) → SeesRolesOf seen_there n m → is_held_by_other n m.holder ≡ held_there → may_execute m n at.session.now x ≡ admission_of refusal)
     → (records : Records) → IsAdmission records at x refusal
 is_admission at x seen_there held_there refusal ordinary sees held_is admitted records db holder sessions over =
     let m = machine_at db holder sessions in
     admission_by at x m ordinary refusal
-    (admitted m at.number (rw sees (sees_roles records at.catalogue.now at.slot.now db holder at.number over.committed over.held)) (held_by_other records at.catalogue.now at.slot.now holder at.number over.held ∙ sym held_is))
+    (admitted m at.number (rw sees (sees_roles records at.catalogue.now at.writer.now db holder at.number over.committed over.held)) (held_by_other records at.catalogue.now at.writer.now holder at.number over.held ∙ sym held_is))

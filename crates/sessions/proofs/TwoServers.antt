@@ -10,13 +10,13 @@ use Rattle.abstract_database.specs.Machine.{Holder, machine_over}
 use Rattle.abstract_database.specs.Runs.{At}
 use Rattle.stored_database.specs.Definitions.{Definitions}
 use Rattle.stored_database.specs.Records.{Shows, StandsFor}
-use Rattle.database_laws.specs.HiddenRuns.{AllAlike, DifferInHiddenRows, AreSoundUnlessStopped, IsOwnText}
+use Rattle.database_laws.specs.HiddenRuns.{SameApparentRowsForLogin, DifferInHiddenRows, AreSoundUnlessStopped, IsOwnText}
 use Rattle.database_laws.specs.Invariants.{HoldsOfHolder, IsSound}
 use Rattle.database_laws.specs.Runs.{ReadsOnce}
 use Rattle.database_laws.specs.WholeDatabases.{whole_databases_are_sound}
 use Rattle.database_laws.proofs.StoresAlike.{goes_over_stores, alike_over_stores}
 use Rattle.server.specs.declared.server.Server.{Server}
-use Rattle.server.specs.declared.slot.Slot.{Slot}
+use Rattle.server.specs.declared.writer.Writer.{Writer}
 use Rattle.server.specs.Standing.{event_of, events_of, stops_of, HolderShows, Represents, at_start}
 use Rattle.sessions.specs.Readings.{ReadsText}
 use Rattle.sessions.specs.TwoServers.{IsOwnEvent, servers_are_alike, servers_step_alike, opened_servers_are_alike}
@@ -31,18 +31,18 @@ module _ (once : ReadsOnce ReadsText) (whole : (records : Records) (db : Databas
   shown_sound : (records : Records) (d : Definitions) (db : Database) → Shows records d db → IsSound db
   shown_sound records d db shows = sound db (whole records db (d, shows))
 
-  holder_sound : (records : Records) (d : Definitions) (slot : Option Slot) (h : Option Holder) → HolderShows records d slot h → HoldsOfHolder IsSound h
+  holder_sound : (records : Records) (d : Definitions) (writer : Option Writer) (h : Option Holder) → HolderShows records d writer h → HoldsOfHolder IsSound h
   holder_sound records d None None held = tt
   holder_sound records d None (Some h) held = absurd held
-  holder_sound records d (Some slot) None held = tt
-  holder_sound records d (Some slot) (Some h) held = shown_sound _ _ h.database held.1
+  holder_sound records d (Some writer) None held = tt
+  holder_sound records d (Some writer) (Some h) held = shown_sound _ _ h.database held.1
 
   -- and so is the machine at which a server stands
   machine_sound : {S X : Type 0} (state : S → StoreState) (server : Server S X) (w : At) → Represents state server w → AreSoundUnlessStopped w.standing.machine
   machine_sound state server w stands on =
       let works = (stands.works (sym stands.stopped ∙ on)).1 in record {
         committed = shown_sound _ _ w.standing.machine.committed works.committed;
-        holder = holder_sound _ _ server.slot w.standing.machine.holder works.held;
+        holder = holder_sound _ _ server.writer w.standing.machine.holder works.held;
       }
 
   pub alike : {S T X Y : Type 0} (state : S → StoreState) (other_state : T → StoreState) → servers_are_alike S T X Y state other_state
@@ -66,11 +66,11 @@ module _ (once : ReadsOnce ReadsText) (whole : (records : Records) (db : Databas
             s.differ (machine_sound state before s.here s.stands_here) (machine_sound other_state other_before s.there s.stands_there) own one.2 two.2;
       }
 
-  opened : (number : ℕ) (login : TheName) (d e : Database) → AllAlike login d e → DifferInHiddenRows number login (machine_over d) (machine_over e)
+  opened : (number : ℕ) (login : TheName) (d e : Database) → SameApparentRowsForLogin login d e → DifferInHiddenRows number login (machine_over d) (machine_over e)
   opened number login d e all = record {
     sessions = refl;
     holder = refl;
-    alike = record { session = refl; opened_for = λ s h. cc; stopped = refl; slot = refl; committed = all; seen = all };
+    alike = record { session = refl; opened_for = λ s h. cc; stopped = refl; writer = refl; committed = all; seen = all };
   }
 
   pub opened_alike : {S T X Y : Type 0} (state : S → StoreState) (other_state : T → StoreState) → opened_servers_are_alike S T X Y state other_state

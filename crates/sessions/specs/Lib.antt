@@ -1,6 +1,6 @@
 pub mod Readings
-pub mod Slots
-pub mod Deeds
+pub mod Writers
+pub mod Decisions
 pub mod Admission
 pub mod Roles
 pub mod Opening

@@ -12,11 +12,11 @@ use Rattle.abstract_database.specs.Machine.{Machine, Holder, Transition, session
 use Rattle.abstract_database.specs.Runs.{CommitsAt}
 use Rattle.stored_database.specs.Definitions.{Definitions}
 use Rattle.stored_database.specs.Records.{Shows}
-use Rattle.server.specs.declared.deed.Deed.{Deed}
-use Rattle.server.specs.declared.slot.Slot.{Slot}
+use Rattle.server.specs.declared.decision.Decision.{Decision}
+use Rattle.server.specs.declared.writer.Writer.{Writer}
 use Rattle.server.specs.Standing.{HolderShows, HoldsInBlock}
-use Rattle.server.specs.Deeds.{Entries, machine_at}
-use Rattle.sessions.specs.Deeds.{Makes}
+use Rattle.server.specs.Decisions.{Entries, machine_at}
+use Rattle.sessions.specs.Decisions.{Makes}
 use Rattle.sessions.specs.declared.statements.OpenSession.{OpenSession}
 
 -- the statement is one that ends a block
@@ -36,26 +36,26 @@ abbrev pub IsAdmissionBy : OpenSession → Statement → Option SqlState → Mac
 IsAdmissionBy at x (Some code) m = execute_in m at.number at.session.now (Ok x) ≡ refused m at.number at.session.now code
 IsAdmissionBy at x None m = IsExecuted at x m
 
--- the deed makes this transition, unless an allocation or the device failed
-abbrev pub MakesAt : Records → Definitions → Option Slot → Database → Option Holder → Entries → Type 0 → Transition → Result Deed Fault → Type 0
-MakesAt records d slot db holder sessions MayCommit t (Ok what) = Makes records d slot db holder sessions MayCommit t what
-MakesAt records d slot db holder sessions MayCommit t (Err Memory) = Unit {0}
-MakesAt records d slot db holder sessions MayCommit t (Err Device) = Unit {0}
-MakesAt records d slot db holder sessions MayCommit t (Err Damaged) = ⊥
+-- the decision makes this transition, unless an allocation or the device failed
+abbrev pub MakesAt : Records → Definitions → Option Writer → Database → Option Holder → Entries → Type 0 → Transition → Result Decision Fault → Type 0
+MakesAt records d writer db holder sessions MayCommit t (Ok what) = Makes records d writer db holder sessions MayCommit t what
+MakesAt records d writer db holder sessions MayCommit t (Err Memory) = Unit {0}
+MakesAt records d writer db holder sessions MayCommit t (Err Device) = Unit {0}
+MakesAt records d writer db holder sessions MayCommit t (Err Damaged) = ⊥
 
 -- these records and the slot show the database and the holder, which is in a block, and the session is open
 pub record IsOpenOver (records : Records) (at : OpenSession) (db : Database) (holder : Option Holder) (sessions : Entries) : Type 0 where
   pub committed : Shows records at.catalogue.now db
-  pub held : HolderShows records at.catalogue.now at.slot.now holder
+  pub held : HolderShows records at.catalogue.now at.writer.now holder
   pub in_block : HoldsInBlock holder sessions
   pub is_open : session_of at.number sessions ≡ Some at.session.now
 
--- in each machine that the records show and in which the session is open, where this is given, the deed makes the transition of the
+-- in each machine that the records show and in which the session is open, where this is given, the decision makes the transition of the
 -- statement; there is a commit only where the statement may commit
-abbrev pub ServesOver : Records → OpenSession → Statement → (Machine → Type 0) → Result Deed Fault → Type 0
+abbrev pub ServesOver : Records → OpenSession → Statement → (Machine → Type 0) → Result Decision Fault → Type 0
 ServesOver records at x Given result = (db : Database) (holder : Option Holder) (sessions : Entries)
     → IsOpenOver records at db holder sessions → Given (machine_at db holder sessions)
-    → MakesAt records at.catalogue.now at.slot.now db holder sessions (CommitsAt (machine_at db holder sessions) at.number at.session.now.block x)
+    → MakesAt records at.catalogue.now at.writer.now db holder sessions (CommitsAt (machine_at db holder sessions) at.number at.session.now.block x)
     (execute_in (machine_at db holder sessions) at.number at.session.now (Ok x)) result
 
 -- in each machine that the records show and in which the session is open, the statement is refused by this code or executed

@@ -2,10 +2,10 @@
 
 ghost use Rattle.std.specs.Prelude.{◌≡◌, Option, None, Some};
 ghost use Rattle.abstract_database.specs.Machine.{refused};
-ghost use Rattle.sessions.specs.Deeds.{Serves, Always, Never};
-ghost use Rattle.server.specs.declared.slot.Slot.{Slot as TheSlot};
+ghost use Rattle.sessions.specs.Decisions.{Serves, Always, Never};
+ghost use Rattle.server.specs.declared.writer.Writer.{Writer as TheWriter};
 
-use server::deed::{Deed, SessionChange};
+use server::decision::{Decision, SessionChange};
 use server::session::{Block, BlockChange, Session};
 use sql_types::answer::Answer;
 use sql_types::state::SqlState;
@@ -35,13 +35,16 @@ pub(crate) fn warned(tag: Tag, warning: Warning) -> Answer
 }
 
 /// A statement of a session is refused by a code, which makes an open block failed.
-pub fn refuse(number: u32, session: &Session, state: SqlState) -> Deed
-    ensures { (slot : Option TheSlot) → Serves slot number session.now Always Never
+pub fn refuse(number: u32, session: &Session, state: SqlState) -> Decision
+    ensures { (writer : Option TheWriter) → Serves writer number session.now Always Never
         (λ m. refused m number session.now state) result }
 {
     let answer = Answer::Refused(state);
     match &session.block {
-        Block::Outside | Block::Failed(_) => Deed::Answer(answer, SessionChange::Keep),
-        Block::Inside(_) => Deed::Answer(answer, SessionChange::Block(number, BlockChange::Fail)),
+        Block::Outside | Block::Failed(_) => Decision::Answer(answer, SessionChange::Keep),
+        Block::Inside(_) => Decision::Answer(
+            answer,
+            SessionChange::Block(number, BlockChange::Fail),
+        ),
     }
 }

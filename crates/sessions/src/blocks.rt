@@ -11,16 +11,16 @@ ghost use Rattle.abstract_database.specs.Lists.{TheName};
 ghost use Rattle.abstract_database.specs.Runs.{CommitsAt};
 ghost use Rattle.stored_database.specs.Definitions.{Definitions};
 ghost use Rattle.server.specs.Standing.{HolderShows, HoldsInBlock};
-ghost use Rattle.server.specs.Deeds.{Decides};
-ghost use Rattle.server.specs.declared.slot.Slot.{Slot as TheSlot};
-ghost use Rattle.sessions.specs.Deeds.{Serves, Always, Never, IsBlockOf, NoText};
+ghost use Rattle.server.specs.Decisions.{Decides};
+ghost use Rattle.server.specs.declared.writer.Writer.{Writer as TheWriter};
+ghost use Rattle.sessions.specs.Decisions.{Serves, Always, Never, IsBlockOf, NoText};
 
 use crate::answers::{done, warned};
 use crate::seeing::holds_slot;
 use indexmap::IndexMap;
-use server::deed::{Deed, SessionChange};
+use server::decision::{Decision, SessionChange};
 use server::session::{Block, BlockChange, Session};
-use server::slot::Slot;
+use server::writer::Writer;
 use sql_types::answer::Answer;
 use sql_types::state::SqlState;
 use sql_types::tag::Tag;
@@ -30,9 +30,9 @@ use std::alloc::{AllocError, Global};
 
 /// BEGIN of a session that may execute it: the session is in a block from now on; in a block it is
 /// only warned. The only error is that an allocation failed.
-pub fn begin(alloc: Global, number: u32, session: &Session) -> Result<Deed, AllocError>
-    ensures { IfOk result (λ deed. (slot : Option TheSlot) → Serves slot number session.now Always Never
-        (λ m. begin_of m number session.now session.now.block) deed) }
+pub fn begin(alloc: Global, number: u32, session: &Session) -> Result<Decision, AllocError>
+    ensures { IfOk result (λ decision. (writer : Option TheWriter) → Serves writer number session.now Always Never
+        (λ m. begin_of m number session.now session.now.block) decision) }
 {
     match &session.block {
         Block::Outside => {
@@ -44,13 +44,13 @@ pub fn begin(alloc: Global, number: u32, session: &Session) -> Result<Deed, Allo
                 role,
                 block: Block::Inside(before),
             };
-            Ok(Deed::Answer(done(Tag::Begin), SessionChange::Put(number, inside)))
+            Ok(Decision::Answer(done(Tag::Begin), SessionChange::Put(number, inside)))
         }
-        Block::Inside(_) => Ok(Deed::Answer(
+        Block::Inside(_) => Ok(Decision::Answer(
             warned(Tag::Begin, Warning::ActiveTransaction),
             SessionChange::Keep,
         )),
-        Block::Failed(_) => Ok(Deed::Answer(
+        Block::Failed(_) => Ok(Decision::Answer(
             Answer::Refused(SqlState::InFailedTransaction),
             SessionChange::Keep,
         )),
@@ -59,75 +59,75 @@ pub fn begin(alloc: Global, number: u32, session: &Session) -> Result<Deed, Allo
 
 /// COMMIT of a session: what it changed in its block is committed, and the block ends. A failed
 /// block is rolled back, and outside a block it is only warned.
-pub fn commit(slot: &Option<Slot>, number: u32, session: &Session) -> Deed
-    ensures { Serves slot.now number session.now Always
+pub fn commit(writer: &Option<Writer>, number: u32, session: &Session) -> Decision
+    ensures { Serves writer.now number session.now Always
         (λ m. CommitsAt m number session.now.block
         (TheStatement.OfSession TheSessionStatement.Commit))
         (λ m. commit_of m number session.now session.now.block) result }
 {
     match &session.block {
-        Block::Outside => Deed::Answer(
+        Block::Outside => Decision::Answer(
             warned(Tag::Commit, Warning::NoActiveTransaction),
             SessionChange::Keep,
         ),
         Block::Inside(_) => {
             let change = SessionChange::Block(number, BlockChange::Leave);
-            if holds_slot(slot, number) {
-                Deed::CommitSlot(done(Tag::Commit), change)
+            if holds_slot(writer, number) {
+                Decision::CommitWriter(done(Tag::Commit), change)
             } else {
-                Deed::Answer(done(Tag::Commit), change)
+                Decision::Answer(done(Tag::Commit), change)
             }
         }
-        Block::Failed(_) => end_rolled_back(slot, number),
+        Block::Failed(_) => end_rolled_back(writer, number),
     }
 }
 
 /// ROLLBACK of a session: what it changed in its block is given up, and the block ends with the role
 /// that was set at its BEGIN. Outside a block it is only warned.
-pub fn roll_back(slot: &Option<Slot>, number: u32, session: &Session) -> Deed
-    ensures { Serves slot.now number session.now Always Never
+pub fn roll_back(writer: &Option<Writer>, number: u32, session: &Session) -> Decision
+    ensures { Serves writer.now number session.now Always Never
         (λ m. rollback_of m number session.now session.now.block) result }
 {
     match &session.block {
-        Block::Outside => Deed::Answer(
+        Block::Outside => Decision::Answer(
             warned(Tag::Rollback, Warning::NoActiveTransaction),
             SessionChange::Keep,
         ),
-        Block::Inside(_) | Block::Failed(_) => end_rolled_back(slot, number),
+        Block::Inside(_) | Block::Failed(_) => end_rolled_back(writer, number),
     }
 }
 
 // The block of a session ends, and what it changed is given up.
-fn end_rolled_back(slot: &Option<Slot>, number: u32) -> Deed
+fn end_rolled_back(writer: &Option<Writer>, number: u32) -> Decision
     ensures { (s : TheSession) (role : TheName) → IsBlockOf role s.block
-        → Serves slot.now number s Always Never
+        → Serves writer.now number s Always Never
         (λ m. succeeds tag.Rollback (with_block_ended m number s m.committed role)) result }
 {
     let change = SessionChange::Block(number, BlockChange::RollBack);
-    if holds_slot(slot, number) {
-        Deed::Release(done(Tag::Rollback), change)
+    if holds_slot(writer, number) {
+        Decision::Release(done(Tag::Rollback), change)
     } else {
-        Deed::Answer(done(Tag::Rollback), change)
+        Decision::Answer(done(Tag::Rollback), change)
     }
 }
 
 /// The end of a session: an open block is rolled back. It takes no memory.
-pub fn close(slot: &Option<Slot>, sessions: &IndexMap<u32, Session>, number: u32) -> Deed
+pub fn close(writer: &Option<Writer>, sessions: &IndexMap<u32, Session>, number: u32) -> Decision
     ensures { (records : Records) (d : Definitions) (db : Database) (holder : Option Holder)
-        → HolderShows records d slot.now holder
+        → HolderShows records d writer.now holder
         → HoldsInBlock holder sessions.now.entries
-        → Decides NoText records d slot.now db holder sessions.now.entries (closes number) result }
+        → Decides NoText records d writer.now db holder sessions.now.entries (closes number) result }
 {
     if !sessions.contains_key(&number) {
-        return Deed::Answer(
+        return Decision::Answer(
             Answer::Refused(SqlState::ConnectionDoesNotExist),
             SessionChange::Keep,
         );
     }
     let change = SessionChange::Close(number);
-    if holds_slot(slot, number) {
-        Deed::Release(done(Tag::Close), change)
+    if holds_slot(writer, number) {
+        Decision::Release(done(Tag::Close), change)
     } else {
-        Deed::Answer(done(Tag::Close), change)
+        Decision::Answer(done(Tag::Close), change)
     }
 }

@@ -5,8 +5,8 @@
 mod admission;
 mod answers;
 mod blocks;
-mod decider;
-mod deeds;
+mod decisions;
+mod handler;
 mod laws;
 mod opening;
 mod reading;
@@ -17,6 +17,6 @@ mod texts;
 mod two_servers;
 mod visible;
 
-pub use decider::Decider;
+pub use handler::SessionHandler;
 pub use laws::one_reading;
 pub use two_servers::servers_tell_sessions_what_they_see;

@@ -5,10 +5,10 @@ ghost use Rattle.sql_types.specs.declared.answer.Answer.TheVariants as answer;
 ghost use Rattle.abstract_database.specs.Database.{Database};
 ghost use Rattle.abstract_database.specs.Machine.{Holder, opens};
 ghost use Rattle.abstract_database.specs.Runs.{MayRunOutOfMemory};
-ghost use Rattle.server.specs.declared.deed.Deed.TheVariants as deed;
-ghost use Rattle.server.specs.declared.deed.SessionChange.TheVariants as change;
+ghost use Rattle.server.specs.declared.decision.Decision.TheVariants as decision;
+ghost use Rattle.server.specs.declared.decision.SessionChange.TheVariants as change;
 ghost use Rattle.server.specs.Standing.{HoldsInBlock};
-ghost use Rattle.server.specs.Deeds.{machine_at};
+ghost use Rattle.server.specs.Decisions.{machine_at};
 ghost use Rattle.sessions.specs.Admission.{HasRolesOf};
 ghost use Rattle.sessions.specs.Opening.{Opens};
 
@@ -16,7 +16,7 @@ use crate::answers::done;
 use crate::roles::find_login;
 use catalogue::definitions::Catalogue;
 use indexmap::IndexMap;
-use server::deed::{Deed, SessionChange};
+use server::decision::{Decision, SessionChange};
 use server::session::Session;
 use sql_types::answer::Answer;
 use sql_types::state::SqlState;
@@ -37,10 +37,10 @@ pub fn open(
     sessions: &IndexMap<u32, Session>,
     number: u32,
     login: &str,
-) -> Result<Deed, AllocError>
+) -> Result<Decision, AllocError>
     ensures opens { (db : Database) (holder : Option Holder) → HasRolesOf catalogue.now db
         → HoldsInBlock holder sessions.now.entries
-        → IfOk result (λ deed. Opens db holder sessions.now.entries number login.now deed) }
+        → IfOk result (λ decision. Opens db holder sessions.now.entries number login.now decision) }
     ensures memory { (db : Database) (holder : Option Holder)
         → OnErr result (MayRunOutOfMemory (machine_at db holder sessions.now.entries) (opens number login.now)) }
 {
@@ -54,12 +54,12 @@ pub fn open(
         return Ok(refused(SqlState::InvalidAuthorization));
     };
     let role = login.try_copy(alloc)?;
-    Ok(Deed::Open(done(Tag::Open), number, Session::new(login, role)))
+    Ok(Decision::Open(done(Tag::Open), number, Session::new(login, role)))
 }
 
 // An event is refused, and changes nothing.
-fn refused(state: SqlState) -> Deed
-    ensures { result ≡ deed.Answer (answer.Refused state) change.Keep }
+fn refused(state: SqlState) -> Decision
+    ensures { result ≡ decision.Answer (answer.Refused state) change.Keep }
 {
-    Deed::Answer(Answer::Refused(state), SessionChange::Keep)
+    Decision::Answer(Answer::Refused(state), SessionChange::Keep)
 }

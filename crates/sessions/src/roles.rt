@@ -6,15 +6,15 @@ ghost use Rattle.sql_types.specs.declared.tag.Tag.TheVariants as tag;
 ghost use Rattle.abstract_database.specs.Database.{Database, is_role_named};
 ghost use Rattle.abstract_database.specs.Roles.{may_set_role as may_set, may_log_in};
 ghost use Rattle.abstract_database.specs.Machine.{succeeds, with_session_changed, as_role};
-ghost use Rattle.server.specs.declared.slot.Slot.{Slot as TheSlot};
-ghost use Rattle.sessions.specs.Deeds.{Serves, Always, Never};
+ghost use Rattle.server.specs.declared.writer.Writer.{Writer as TheWriter};
+ghost use Rattle.sessions.specs.Decisions.{Serves, Always, Never};
 ghost use Rattle.sessions.specs.Admission.{HasRolesOf, SeesRolesOf};
 ghost use Rattle.sessions.specs.Roles.{role_set};
 
 use crate::answers::{done, refuse};
 use catalogue::definitions::Catalogue;
 use role_membership::is_member;
-use server::deed::{Deed, SessionChange};
+use server::decision::{Decision, SessionChange};
 use server::session::{Block, Session};
 use sql_ast::role::Role;
 use sql_ast::statement::SetRole;
@@ -51,10 +51,10 @@ pub fn set_role(
     number: u32,
     session: &Session,
     statement: &SetRole,
-) -> Result<Deed, AllocError>
-    ensures { IfOk result (λ deed. (slot : Option TheSlot)
-        → Serves slot number session.now (SeesRolesOf catalogue.now number) Never
-        (λ m. role_set m number session.now statement.now.role) deed) }
+) -> Result<Decision, AllocError>
+    ensures { IfOk result (λ decision. (writer : Option TheWriter)
+        → Serves writer number session.now (SeesRolesOf catalogue.now number) Never
+        (λ m. role_set m number session.now statement.now.role) decision) }
 {
     let Some(role) = &statement.role else {
         return put_role(alloc, Tag::Set, number, session, &session.login);
@@ -70,11 +70,11 @@ pub fn set_role(
 
 /// RESET ROLE of a session that may execute it: its login role is set from now on. The only error is
 /// that an allocation failed.
-pub fn reset_role(alloc: Global, number: u32, session: &Session) -> Result<Deed, AllocError>
-    ensures { IfOk result (λ deed. (slot : Option TheSlot)
-        → Serves slot number session.now Always Never
+pub fn reset_role(alloc: Global, number: u32, session: &Session) -> Result<Decision, AllocError>
+    ensures { IfOk result (λ decision. (writer : Option TheWriter)
+        → Serves writer number session.now Always Never
         (λ m. succeeds tag.Reset (with_session_changed m number
-        (as_role session.now.login session.now))) deed) }
+        (as_role session.now.login session.now))) decision) }
 {
     put_role(alloc, Tag::Reset, number, session, &session.login)
 }
@@ -86,17 +86,17 @@ fn put_role(
     number: u32,
     session: &Session,
     role: &Name,
-) -> Result<Deed, AllocError>
-    ensures { IfOk result (λ deed. (slot : Option TheSlot)
-        → Serves slot number session.now Always Never
-        (λ m. succeeds tag (with_session_changed m number (as_role role.now session.now))) deed) }
+) -> Result<Decision, AllocError>
+    ensures { IfOk result (λ decision. (writer : Option TheWriter)
+        → Serves writer number session.now Always Never
+        (λ m. succeeds tag (with_session_changed m number (as_role role.now session.now))) decision) }
 {
     let changed = Session {
         login: session.login.try_copy(alloc)?,
         role: role.try_copy(alloc)?,
         block: copy_block(alloc, &session.block)?,
     };
-    Ok(Deed::Answer(done(tag), SessionChange::Put(number, changed)))
+    Ok(Decision::Answer(done(tag), SessionChange::Put(number, changed)))
 }
 
 // A copy of a block. The only error is that an allocation failed.

@@ -6,25 +6,25 @@ ghost use Rattle.sql_ast.specs.declared.statement.Statement.{Statement as TheSta
 ghost use Rattle.sql_parser.specs.Policies.{HasConditionsAsWritten};
 ghost use Rattle.store.specs.Records.{Records};
 ghost use Rattle.store.specs.Readers.{HasRead};
-ghost use Rattle.sessions.specs.Deeds.{Always};
+ghost use Rattle.sessions.specs.Decisions.{Always};
 ghost use Rattle.sessions.specs.Serving.{EndsBlock, Admits, IsExecuted, IsAdmission, ServesOver};
 
 use crate::admission::admit;
 use crate::answers::refuse;
 use crate::blocks::{begin, commit, roll_back};
-use crate::deeds::deed_for;
+use crate::decisions::decision_for;
 use crate::roles::{reset_role, set_role};
 use crate::seeing::{other_holds_slot, seen_catalogue};
 use crate::visible::execute_visible;
 use catalogue::definitions::Catalogue;
-use server::deed::Deed;
+use server::decision::Decision;
 use server::execute::Execute;
 use server::session::Session;
-use server::slot::Slot;
+use server::writer::Writer;
 use sql_ast::statement::{DatabaseStatement, SessionStatement, Statement};
 use sql_types::state::SqlState;
 use std::alloc::{AllocError, Global};
-use store::{Fault, Map, Stop};
+use store::{Fault, Map, StatementError};
 
 /// An open session of a server: its number, what it is, the committed definitions, and the write
 /// slot.
@@ -33,7 +33,7 @@ pub(crate) struct OpenSession<'a> {
     pub(crate) number: u32,
     pub(crate) session: &'a Session,
     pub(crate) catalogue: &'a Catalogue,
-    pub(crate) slot: &'a Option<Slot>,
+    pub(crate) writer: &'a Option<Writer>,
 }
 
 impl<'a> OpenSession<'a> {
@@ -49,7 +49,7 @@ impl<'a> OpenSession<'a> {
         alloc: Global,
         map: &mut M,
         statement: &Statement,
-    ) -> Result<Deed, Fault>
+    ) -> Result<Decision, Fault>
         ensures preserved { M.preserved map.old map.new }
         ensures read { HasRead result (M.state map.old) (M.state map.new) }
         ensures serves { (M.state map.old).sound → IsRead statement.now
@@ -74,8 +74,8 @@ impl<'a> OpenSession<'a> {
         if ends_block(statement) {
             return Ok(None);
         }
-        let seen = seen_catalogue(self.slot, self.catalogue, self.number);
-        let is_held = other_holds_slot(self.slot, self.number);
+        let seen = seen_catalogue(self.writer, self.catalogue, self.number);
+        let is_held = other_holds_slot(self.writer, self.number);
         Ok(admit(alloc, seen, self.session, statement, is_held)?)
     }
 
@@ -86,7 +86,7 @@ impl<'a> OpenSession<'a> {
         alloc: Global,
         map: &mut M,
         statement: &Statement,
-    ) -> Result<Deed, Fault>
+    ) -> Result<Decision, Fault>
         ensures preserved { M.preserved map.old map.new }
         ensures read { HasRead result (M.state map.old) (M.state map.new) }
         ensures serves { (M.state map.old).sound → IsRead statement.now
@@ -106,18 +106,18 @@ impl<'a> OpenSession<'a> {
         &self,
         alloc: Global,
         statement: &SessionStatement,
-    ) -> Result<Deed, AllocError>
-        ensures serves { IfOk result (λ deed. (records : Records)
+    ) -> Result<Decision, AllocError>
+        ensures serves { IfOk result (λ decision. (records : Records)
             → ServesOver records self.now (TheStatement.OfSession statement.now)
-            (IsExecuted self.now (TheStatement.OfSession statement.now)) (Ok deed)) }
+            (IsExecuted self.now (TheStatement.OfSession statement.now)) (Ok decision)) }
         ensures ends { EndsBlock (TheStatement.OfSession statement.now) → IsOk result }
     {
         match statement {
             SessionStatement::Begin => Ok(begin(alloc, self.number, self.session)?),
-            SessionStatement::Commit => Ok(commit(self.slot, self.number, self.session)),
-            SessionStatement::Rollback => Ok(roll_back(self.slot, self.number, self.session)),
+            SessionStatement::Commit => Ok(commit(self.writer, self.number, self.session)),
+            SessionStatement::Rollback => Ok(roll_back(self.writer, self.number, self.session)),
             SessionStatement::SetRole(set) => {
-                let seen = seen_catalogue(self.slot, self.catalogue, self.number);
+                let seen = seen_catalogue(self.writer, self.catalogue, self.number);
                 Ok(set_role(alloc, seen, self.number, self.session, set)?)
             }
             SessionStatement::ResetRole => Ok(reset_role(alloc, self.number, self.session)?),
@@ -132,7 +132,7 @@ impl<'a> OpenSession<'a> {
         alloc: Global,
         map: &mut M,
         statement: &DatabaseStatement,
-    ) -> Result<Deed, Fault>
+    ) -> Result<Decision, Fault>
         ensures preserved { M.preserved map.old map.new }
         ensures read { HasRead result (M.state map.old) (M.state map.new) }
         ensures serves { (M.state map.old).sound → IsReadOnDatabase statement.now
@@ -144,14 +144,14 @@ impl<'a> OpenSession<'a> {
             number,
             session,
             catalogue,
-            slot,
+            writer,
         } = *self;
         match execute_visible(
-            executor, alloc, map, catalogue, slot, number, session, statement,
+            executor, alloc, map, catalogue, writer, number, session, statement,
         ) {
-            Ok(effect) => Ok(deed_for(number, session, statement, effect)),
-            Err(Stop::Refused(code)) => Ok(refuse(number, session, code)),
-            Err(Stop::Failed(fault)) => Err(fault),
+            Ok(effect) => Ok(decision_for(number, session, statement, effect)),
+            Err(StatementError::Refused(code)) => Ok(refuse(number, session, code)),
+            Err(StatementError::Failed(fault)) => Err(fault),
         }
     }
 }

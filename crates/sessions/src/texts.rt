@@ -6,7 +6,7 @@ ghost use Rattle.stored_database.specs.Records.{Shows};
 ghost use Rattle.abstract_database.specs.Database.{Database};
 ghost use Rattle.abstract_database.specs.Machine.{Holder, executes};
 ghost use Rattle.server.specs.Standing.{HolderShows, HoldsInBlock};
-ghost use Rattle.server.specs.Deeds.{DecidesAt};
+ghost use Rattle.server.specs.Decisions.{DecidesAt};
 ghost use Rattle.sessions.specs.Readings.{ReadsText};
 
 use crate::answers::refuse;
@@ -14,10 +14,10 @@ use crate::reading::read_text;
 use crate::statements::OpenSession;
 use catalogue::definitions::Catalogue;
 use indexmap::IndexMap;
-use server::deed::{Deed, SessionChange};
+use server::decision::{Decision, SessionChange};
 use server::execute::Execute;
 use server::session::Session;
-use server::slot::Slot;
+use server::writer::Writer;
 use sql_types::answer::Answer;
 use sql_types::state::SqlState;
 use std::alloc::Global;
@@ -34,22 +34,22 @@ pub(crate) fn decide_text<M: Map, X: Execute>(
     alloc: Global,
     map: &mut M,
     catalogue: &Catalogue,
-    slot: &Option<Slot>,
+    writer: &Option<Writer>,
     sessions: &IndexMap<u32, Session>,
     number: u32,
     text: &str,
-) -> Result<Deed, Fault>
+) -> Result<Decision, Fault>
     ensures preserved { M.preserved map.old map.new }
     ensures read { HasRead result (M.state map.old) (M.state map.new) }
     ensures decides { (M.state map.old).sound → (db : Database) (holder : Option Holder)
         → Shows (M.state map.old).map catalogue.now db
-        → HolderShows (M.state map.old).map catalogue.now slot.now holder
+        → HolderShows (M.state map.old).map catalogue.now writer.now holder
         → HoldsInBlock holder sessions.now.entries
-        → DecidesAt ReadsText (M.state map.old).map catalogue.now slot.now db holder
+        → DecidesAt ReadsText (M.state map.old).map catalogue.now writer.now db holder
         sessions.now.entries (executes number text.now) result }
 {
     let Some(session) = sessions.get(&number) else {
-        return Ok(Deed::Answer(
+        return Ok(Decision::Answer(
             Answer::Refused(SqlState::ConnectionDoesNotExist),
             SessionChange::Keep,
         ));
@@ -60,7 +60,7 @@ pub(crate) fn decide_text<M: Map, X: Execute>(
                 number,
                 session,
                 catalogue,
-                slot,
+                writer,
             };
             open.decide(executor, alloc, map, &statement)
         }

@@ -2,7 +2,7 @@
 
 ghost use Rattle.std.specs.Prelude.{◌≡◌, Option};
 ghost use Rattle.std.specs.Option.{option_copied};
-ghost use Rattle.store.specs.Stop.{ReadsMap};
+ghost use Rattle.store.specs.StatementError.{ReadsMap};
 ghost use Rattle.stored_database.specs.Records.{Shows};
 ghost use Rattle.abstract_database.specs.Database.{Database};
 ghost use Rattle.abstract_database.specs.Machine.{Holder, seen_by, users_of};
@@ -11,7 +11,7 @@ ghost use Rattle.transactions.specs.Views.{applied_all};
 ghost use Rattle.server.specs.Standing.{HolderShows};
 ghost use Rattle.catalogue.specs.Executed.{Executes};
 ghost use Rattle.server.specs.Executed.{MayExecute};
-ghost use Rattle.sessions.specs.Slots.{definitions_seen};
+ghost use Rattle.sessions.specs.Writers.{definitions_seen};
 ghost use Rattle.sessions.specs.Visible.{lists_seen, records_seen};
 
 use crate::seeing::seen_catalogue;
@@ -19,14 +19,14 @@ use catalogue::definitions::Catalogue;
 use catalogue::effect::Effect;
 use server::execute::Execute;
 use server::session::Session;
-use server::slot::Slot;
+use server::writer::Writer;
 use sql_ast::statement::DatabaseStatement;
 use std::alloc::Global;
-use store::{Batch, Map, Stop};
+use store::{Batch, Map, StatementError};
 use transactions::View;
 
 /// A statement of the session of this number, which is open, over what that session sees: the holder
-/// of the write slot sees the records and the definitions under its own changes, each other session
+/// of the writer lock sees the records and the definitions under its own changes, each other session
 /// the committed ones. It answers what the statement comes to, or its refusal. The map is only read.
 ///
 /// It fails with Memory: an allocation failed. Device: the device of the map failed. Damaged: a record is one that
@@ -36,23 +36,23 @@ pub fn execute_visible<M: Map, X: Execute>(
     alloc: Global,
     map: &mut M,
     catalogue: &Catalogue,
-    slot: &Option<Slot>,
+    writer: &Option<Writer>,
     number: u32,
     session: &Session,
     statement: &DatabaseStatement,
-) -> Result<Effect, Stop>
+) -> Result<Effect, StatementError>
     ensures preserved { M.preserved map.old map.new }
     ensures read { ReadsMap result (M.state map.old) (M.state map.new) }
     ensures executes { (M.state map.old).sound → (db : Database) (holder : Option Holder)
         → Shows (M.state map.old).map catalogue.now db
-        → HolderShows (M.state map.old).map catalogue.now slot.now holder
+        → HolderShows (M.state map.old).map catalogue.now writer.now holder
         → MayExecute (seen_by number holder db) (users_of session.now) statement.now
-        → Executes (records_seen number slot.now (M.state map.old).map)
-        (definitions_seen number slot.now catalogue.now) result
+        → Executes (records_seen number writer.now (M.state map.old).map)
+        (definitions_seen number writer.now catalogue.now) result
         (exec (seen_by number holder db) (users_of session.now) statement.now) }
 {
-    let catalogue = seen_catalogue(slot, catalogue, number);
-    match lists_seen(slot, number) {
+    let catalogue = seen_catalogue(writer, catalogue, number);
+    match lists_seen(writer, number) {
         Some(lists) => execute_under(executor, alloc, map, lists, catalogue, session, statement),
         None => executor.execute(
             alloc,
@@ -67,11 +67,11 @@ pub fn execute_visible<M: Map, X: Execute>(
 
 // The changes under which a session sees the records, lent, or `None` where it sees the committed
 // ones.
-fn lists_seen<'a>(slot: &'a Option<Slot>, number: u32) -> Option<&'a [Batch]>
-    ensures { option_copied result ≡ lists_seen number slot.now }
+fn lists_seen<'a>(writer: &'a Option<Writer>, number: u32) -> Option<&'a [Batch]>
+    ensures { option_copied result ≡ lists_seen number writer.now }
 {
-    match slot {
-        Some(slot) if slot.session == number => Some(slot.lists.as_slice()),
+    match writer {
+        Some(writer) if writer.session == number => Some(writer.lists.as_slice()),
         _ => None,
     }
 }
@@ -85,7 +85,7 @@ fn execute_under<M: Map, X: Execute>(
     catalogue: &Catalogue,
     session: &Session,
     statement: &DatabaseStatement,
-) -> Result<Effect, Stop>
+) -> Result<Effect, StatementError>
     ensures preserved { M.preserved map.old map.new }
     ensures read { ReadsMap result (M.state map.old) (M.state map.new) }
     ensures executes { (M.state map.old).sound → (db : Database)

@@ -40,7 +40,7 @@ use sql_types::name::Name;
 use sql_types::state::SqlState;
 use sql_types::try_copy::TryCopy;
 use std::alloc::{AllocError, Global};
-use store::{Batch, Fault, MemStore, Stop, Store};
+use store::{Batch, Fault, MemStore, StatementError, Store};
 use stored_rows::check_rows;
 use table_statements::{alter_table, create_table, drop_table};
 
@@ -168,8 +168,8 @@ impl DefinedDatabase {
         let before = self.catalogue.try_copy(alloc)?;
         match effect_of_text(alloc, &self.catalogue, &mut self.store, issuer, text) {
             Ok(effect) => self.make(alloc, before, effect),
-            Err(Stop::Refused(code)) => Ok((code.code(), self.digest)),
-            Err(Stop::Failed(fault)) => Err(fault),
+            Err(StatementError::Refused(code)) => Ok((code.code(), self.digest)),
+            Err(StatementError::Failed(fault)) => Err(fault),
         }
     }
 
@@ -257,14 +257,14 @@ fn effect_of_text(
     store: &mut MemStore,
     issuer: &Issuer,
     text: &str,
-) -> Result<Effect, Stop> {
+) -> Result<Effect, StatementError> {
     let statement = parse(alloc, text)?;
     match &statement {
         Statement::OnDatabase(DatabaseStatement::Defining(statement)) => effect_of(
             alloc, catalogue, store, issuer, statement,
         ),
         Statement::OnDatabase(DatabaseStatement::OverRows(_)) | Statement::OfSession(_) => Err(
-            Stop::Refused(SqlState::SyntaxError),
+            StatementError::Refused(SqlState::SyntaxError),
         ),
     }
 }
@@ -276,7 +276,7 @@ fn effect_of(
     store: &mut MemStore,
     issuer: &Issuer,
     statement: &DefiningStatement,
-) -> Result<Effect, Stop> {
+) -> Result<Effect, StatementError> {
     let (current, session) = (&issuer.current, &issuer.session);
     match statement {
         DefiningStatement::Grant(s) => grant(alloc, catalogue, current, s),
@@ -288,8 +288,8 @@ fn effect_of(
         DefiningStatement::DropRole(s) => drop_role(alloc, catalogue, current, session, s),
         DefiningStatement::GrantRole(s) => grant_role(alloc, catalogue, current, s),
         DefiningStatement::RevokeRole(s) => revoke_role(alloc, catalogue, current, s),
-        DefiningStatement::CreatePolicy(_) | DefiningStatement::DropPolicy(_) => Err(Stop::Refused(
-            SqlState::SyntaxError,
-        )),
+        DefiningStatement::CreatePolicy(_) | DefiningStatement::DropPolicy(_) => Err(
+            StatementError::Refused(SqlState::SyntaxError),
+        ),
     }
 }

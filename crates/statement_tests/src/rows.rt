@@ -33,7 +33,7 @@ use sql_types::state::SqlState;
 use sql_types::tag::Tag;
 use statements::Statements;
 use std::alloc::Global;
-use store::{Fault, MemStore, Stop, Store};
+use store::{Fault, MemStore, StatementError, Store};
 use wire::answers::write_answer;
 use wire::output::CountedWriter;
 
@@ -162,9 +162,9 @@ fn carry_out(
 ) -> Result<()> {
     match Statements.execute(alloc, store, catalogue, role, role, statement) {
         Ok(effect) => commit(alloc, store, &effect, out),
-        Err(Stop::Refused(code)) => Ok(put_refused(alloc, code, Asked::Outcome, out)),
-        Err(Stop::Failed(Fault::Damaged)) => Ok(out.put("failed Damaged\n")),
-        Err(Stop::Failed(fault)) => bail!(fault),
+        Err(StatementError::Refused(code)) => Ok(put_refused(alloc, code, Asked::Outcome, out)),
+        Err(StatementError::Failed(Fault::Damaged)) => Ok(out.put("failed Damaged\n")),
+        Err(StatementError::Failed(fault)) => bail!(fault),
     }
 }
 

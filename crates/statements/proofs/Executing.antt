@@ -15,9 +15,9 @@ use Rattle.sql_ast.specs.Read.{IsReadCreateTable, IsReadCreatePolicy, IsReadGran
 use Rattle.expr_parser.specs.Written.{IsAsWritten}
 use Rattle.expressions.specs.Meaning.{UserNames}
 use Rattle.store.specs.Records.{IsOrdered}
-use Rattle.store.specs.Stop.{FailsForMemory, ReadsMap}
+use Rattle.store.specs.StatementError.{FailsForMemory, ReadsMap}
 use Rattle.store.specs.Store.{StoreState, OnlyReads}
-use Rattle.store.specs.declared.stop.Stop.{Stop}
+use Rattle.store.specs.declared.stop.StatementError.{StatementError}
 use Rattle.abstract_database.specs.Lists.{TheName}
 use Rattle.abstract_database.specs.Database.{Database}
 use Rattle.abstract_database.specs.Statements as meaning
@@ -40,12 +40,12 @@ pub record Untouched (s : StoreState) (Kept : Type 0) : Type 0 where
 
 module _ (s : StoreState) (d : Definitions) (role login : TheName) where
   -- a statement comes to this over the map's records, as is meant
-  abbrev pub IsExecuted : Result Effect Stop → DatabaseStatement → Type 0
+  abbrev pub IsExecuted : Result Effect StatementError → DatabaseStatement → Type 0
   IsExecuted result all = s.sound → (db : Database) → Shows s.map d db → MayExecute db (users_named role login) all →
       Executes s.map d result (meaning.exec db (users_named role login) all)
 
   -- what is promised of a defining statement
-  abbrev IsCarriedOut : Type 0 → Result Effect Stop → DefiningStatement → Type 0
+  abbrev IsCarriedOut : Type 0 → Result Effect StatementError → DefiningStatement → Type 0
   IsCarriedOut Kept result all = record {
     preserved : Kept;
     read : ReadsMap result s s;
@@ -56,20 +56,20 @@ module _ (s : StoreState) (d : Definitions) (role login : TheName) where
   defined_role : (db : Database) → Shows s.map d db → IsRoleOf db.roles role → IsRoleOf d.roles role
   defined_role db shown is = subst (λ (x : Database). IsRoleOf x.roles role) shown.is is
 
-  pub drop_table : (result : Result Effect Stop) {all : DefiningStatement} (x : DropTable) → all ≡ (defining.DropTable x) →
+  pub drop_table : (result : Result Effect StatementError) {all : DefiningStatement} (x : DropTable) → all ≡ (defining.DropTable x) →
       (s.sound → (db : Database) (users : UserNames) → Shows s.map d db → IsCurrent role users → Executes s.map d result (meaning.drop_table db users x)) →
       IsExecuted result (on_database.Defining all)
   drop_table result x is h = subst (λ (y : DefiningStatement). IsExecuted result (on_database.Defining y)) (sym is) (λ sound db shown may. h sound db (seen_users db.memberships role login) shown refl)
 
   -- the rows of a statement as the parser reads it, by roles that there are
-  pub over_rows : (result : Result Effect Stop) {all : DatabaseStatement} (x : RowStatement) → all ≡ (on_database.OverRows x)
+  pub over_rows : (result : Result Effect StatementError) {all : DatabaseStatement} (x : RowStatement) → all ≡ (on_database.OverRows x)
       → (s.sound → (db : Database) → Shows s.map d db → WritesAsRead db (seen_users db.memberships role login) x → Executes s.map d result (meaning.exec_over_rows db (seen_users db.memberships role login) x))
       → IsExecuted result all
   over_rows result x is h = subst (IsExecuted result) (sym is) (λ sound db shown may. h sound db shown (λ writes. (may.roles, may.read)))
 
 module _ {s : StoreState} {d : Definitions} {role login : TheName} where
   -- a statement that reads no record, and fails for memory alone
-  module _ {Kept : Type 0} (here : Untouched s Kept) {result : Result Effect Stop} (memory : IfErr result FailsForMemory) {all : DefiningStatement} where
+  module _ {Kept : Type 0} (here : Untouched s Kept) {result : Result Effect StatementError} (memory : IfErr result FailsForMemory) {all : DefiningStatement} where
     carried_out : (x : DefiningStatement) → all ≡ x → IsExecuted s d role login result (on_database.Defining x) → IsCarriedOut s d role login Kept result all
     carried_out x is executes = record {
       preserved = here.kept;

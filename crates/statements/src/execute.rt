@@ -1,7 +1,7 @@
 //! What carries out every statement over the database.
 
 ghost use Rattle.sql_ast.specs.declared.statement.DatabaseStatement.{DatabaseStatement as TheDatabaseStatement};
-ghost use Rattle.store.specs.Stop.{ReadsMap};
+ghost use Rattle.store.specs.StatementError.{ReadsMap};
 ghost use Rattle.stored_database.specs.Records.{Shows};
 ghost use Rattle.abstract_database.specs.Database.{Database};
 ghost use Rattle.abstract_database.specs.Statements.{exec};
@@ -17,7 +17,7 @@ use server::execute::Execute;
 use sql_ast::statement::{DatabaseStatement, DefiningStatement};
 use sql_types::name::Name;
 use std::alloc::Global;
-use store::{Map, Stop};
+use store::{Map, StatementError};
 use table_statements::{alter_table, create_table, drop_table};
 
 /// What carries out every statement over the database: each by what its kind says of it.
@@ -33,7 +33,7 @@ impl Execute for Statements {
         current: &Name,
         session: &Name,
         statement: &DatabaseStatement,
-    ) -> Result<Effect, Stop> {
+    ) -> Result<Effect, StatementError> {
         match statement {
             DatabaseStatement::OverRows(statement) => {
                 row_statements::execute(alloc, map, catalogue, current, session, statement)
@@ -53,7 +53,7 @@ fn define<M: Map>(
     current: &Name,
     session: &Name,
     statement: &DefiningStatement,
-) -> Result<Effect, Stop>
+) -> Result<Effect, StatementError>
     ensures preserved { M.preserved map.old map.new }
     ensures read { ReadsMap result (M.state map.old) (M.state map.new) }
     ensures executes { (M.state map.old).sound → (db : Database)

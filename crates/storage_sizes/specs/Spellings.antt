@@ -1,7 +1,7 @@
 -- How new records are spelled.
-use Rattle.storage_sizes.specs.declared.spelling.Spelling.{Spelling}
-use Rattle.storage_sizes.specs.declared.spelling.Spelling.TheVariants.{Second}
+use Rattle.storage_sizes.specs.declared.record_format.RecordFormat.{RecordFormat}
+use Rattle.storage_sizes.specs.declared.record_format.RecordFormat.TheVariants.{V2}
 
 -- the spelling in which databases are made
-unfoldable pub current : Spelling
-current = Second
+unfoldable pub current : RecordFormat
+current = V2

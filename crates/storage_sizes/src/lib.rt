@@ -3,10 +3,10 @@
 #![tactic(auto)]
 
 mod key_order;
-mod spelling;
+mod record_format;
 
 pub use key_order::{comes_before, is_same_key};
-pub use spelling::Spelling;
+pub use record_format::RecordFormat;
 
 /// The bytes of a sector, which a device writes whole or not at all.
 pub const SECTOR_SIZE: usize = 512;

@@ -14,7 +14,7 @@ use Rattle.store.specs.Store.{StoreState, Rose, HasDeviceCause, HasReadCause, Ke
 pub none_read : (s : StoreState) → (s.sound → IsPresent s.time) → OnlyReads s s
 none_read s present = record {
   history = record { sound = λ is. is; fulls = omega arith; failures = omega arith; faults = omega arith };
-  unchanged = λ is. record { map = refl; spelling = refl; number = refl };
+  unchanged = λ is. record { map = refl; record_format = refl; number = refl };
   leaves = λ is. started s.time.left s.time (present is) (λ x left. left);
 }
 
@@ -32,7 +32,7 @@ reads_joined old mid new first second = record {
   history = history_joined old mid new first.history second.history;
   unchanged = λ is.
       let then = second.unchanged (first.history.sound is) in
-      record { map = then.map ∙ (first.unchanged is).map; spelling = then.spelling ∙ (first.unchanged is).spelling; number = then.number ∙ (first.unchanged is).number };
+      record { map = then.map ∙ (first.unchanged is).map; record_format = then.record_format ∙ (first.unchanged is).record_format; number = then.number ∙ (first.unchanged is).number };
   leaves = λ is. joined old.time.left old.time mid.time new.time (first.leaves is)
       (weakened mid.time.left old.time.left mid.time new.time (first.leaves is).now (second.leaves (first.history.sound is)));
 }

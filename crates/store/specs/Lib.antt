@@ -9,7 +9,7 @@ pub mod Fault
 pub mod Store
 pub mod Contents
 pub mod Readers
-pub mod Stop
+pub mod StatementError
 pub mod Memory
 pub mod Held
 pub mod MemoryStore

@@ -2,22 +2,22 @@
 use Rattle.std.specs.Prelude.{◌≡◌, List, [], ◌∷◌, ℕ, Some, false}
 use Rattle.storage_sizes.specs.Spellings.{current}
 use Rattle.store.specs.Records.{Records}
-use Rattle.storage_sizes.specs.declared.spelling.Spelling.{Spelling}
+use Rattle.storage_sizes.specs.declared.record_format.RecordFormat.{RecordFormat}
 use Rattle.store.specs.Store.{StoreState}
 
 -- no device is below, so it counts nothing and never fails; its clock stands still, and nothing is said of past moments
-abbrev pub memory_state : Spelling → Records → StoreState
-memory_state spelling records = record {
+abbrev pub memory_state : RecordFormat → Records → StoreState
+memory_state record_format records = record {
   sound = Unit {0};
   has_failed = false;
   closes = Unit {0};
   map = records;
-  spelling = spelling;
+  record_format = record_format;
   number = 0;
   fulls = 0;
   failures = 0;
   faults = 0;
-  time = record { moment = 0; stops = λ a b x. ⊥; left = λ x. x ≡ Some (record { spelling = spelling; records = records }) };
+  time = record { moment = 0; stops = λ a b x. ⊥; left = λ x. x ≡ Some (record { record_format = record_format; records = records }) };
 }
 
 -- a role of this name, which is a superuser (1) and may log in (2)

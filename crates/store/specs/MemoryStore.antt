@@ -6,4 +6,4 @@ use Rattle.store.specs.declared.memory.MemStore.{MemStore}
 
 -- its state
 abbrev pub memory_store_state : MemStore → StoreState
-memory_store_state s = memory_state s.spelling (records_of s.entries)
+memory_store_state s = memory_state s.record_format (records_of s.entries)

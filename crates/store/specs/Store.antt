@@ -1,6 +1,6 @@
 -- What a store is to the code above it, and what its calls do.
 use Rattle.std.specs.Prelude.{◌<◌, ◌≡◌, ◌⊎◌, ℕ, ◌+◌, ◌≤◌, ◌^◌, ◌-◌, Option, Some, Bool, true, false, Result, Ok, Err, IfOk, IfErr}
-use Rattle.storage_sizes.specs.declared.spelling.Spelling.{Spelling}
+use Rattle.storage_sizes.specs.declared.record_format.RecordFormat.{RecordFormat}
 use Rattle.sector_device.specs.Timeline.{Timeline, LeavesOnly}
 use Rattle.store.specs.Records.{Record, Records, IsFound}
 use Rattle.store.specs.declared.fault.StoreFault.{StoreFault}
@@ -8,7 +8,7 @@ use Rattle.store.specs.declared.fault.StoreFault.TheVariants.{Full, Memory, Devi
 
 -- what a store contains: records, and how they are spelled
 pub record Contents : Type 0 where
-  pub spelling : Spelling
+  pub record_format : RecordFormat
   pub records : Records
 
 -- A store at one moment.
@@ -22,7 +22,7 @@ pub record StoreState : Type 1 where
   -- its records
   pub map : Records
   -- how they are spelled
-  pub spelling : Spelling
+  pub record_format : RecordFormat
   -- the number of its last commit
   pub number : ℕ
   -- how often a commit found no room, up to 2 ^ 64 - 1
@@ -36,7 +36,7 @@ pub record StoreState : Type 1 where
 
 -- what a store contains now
 abbrev pub stored : StoreState → Contents
-stored s = record { spelling = s.spelling; records = s.map }
+stored s = record { record_format = s.record_format; records = s.map }
 
 -- a count rose in the call, or stood at its end
 abbrev pub Rose : ℕ → ℕ → Type 0
@@ -71,7 +71,7 @@ pub record KeepsHistory (old new : StoreState) : Type 0 where
 -- nothing is committed
 pub record IsUnchanged (old new : StoreState) : Type 0 where
   pub map : new.map ≡ old.map
-  pub spelling : new.spelling ≡ old.spelling
+  pub record_format : new.record_format ≡ old.record_format
   pub number : new.number ≡ old.number
 
 -- any number of reads, one after the other, whatever they answer
@@ -102,7 +102,7 @@ pub record Reads (entry : Option Record) (result : Result Bool StoreFault) (out 
 -- these contents are committed, and the number rises by one at most
 pub record IsCommitted (after : Contents) (old new : StoreState) : Type 0 where
   pub map : new.map ≡ after.records
-  pub spelling : new.spelling ≡ after.spelling
+  pub record_format : new.record_format ≡ after.record_format
   pub not_back : old.number ≤ new.number
   pub by_one : new.number ≤ old.number + 1
 

@@ -37,6 +37,8 @@ pub use memory::MemStore;
 pub use piece::Piece;
 pub use pieces::Place;
 pub use prefix::begins_with;
-pub use stop::Stop;
-pub use storage_sizes::{MAX_KEY_LENGTH, MAX_VALUE_LENGTH, Spelling, comes_before, is_same_key};
+pub use stop::StatementError;
+pub use storage_sizes::{
+    MAX_KEY_LENGTH, MAX_VALUE_LENGTH, RecordFormat, comes_before, is_same_key,
+};
 pub use store::Store;

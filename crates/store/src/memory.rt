@@ -16,7 +16,7 @@ use crate::{Batch, Change, Entry, EntryRef, Map, Piece, Store, StoreFault};
 use sql_types::name::Name;
 use sql_types::try_copy::TryCopy;
 use std::alloc::{AllocError, Global};
-use storage_sizes::Spelling;
+use storage_sizes::RecordFormat;
 
 /// A store in memory: entries in the order of their keys, in pieces, in which a key is found by
 /// binary search. By definition a stop leaves its records. It never fails; an allocation may,
@@ -25,7 +25,7 @@ use storage_sizes::Spelling;
 /// An entry with no value stands for no record. A commit first makes such entries for the keys that
 /// are not there yet, which may fail; then it gives the entries their values, which may not.
 pub struct MemStore {
-    spelling: Spelling,
+    record_format: RecordFormat,
     entries: Pieces,
     // The place next to the key that was looked for last. Any will do: it is only tried first.
     next: Place,
@@ -37,7 +37,7 @@ pub struct MemStore {
 impl Drop for MemStore {
     fn drop(self) {
         let MemStore {
-            spelling: _,
+            record_format: _,
             entries: _,
             next: _,
             alloc: _,
@@ -53,13 +53,13 @@ impl MemStore {
     /// that may log in. The only error is that an allocation failed.
     pub fn new(alloc: Global, admin: &Name) -> Result<MemStore, AllocError>
         ensures records { IfOk result (λ store. (memory_store_state store).map ≡ new_records admin.now) }
-        ensures spelling { IfOk result (λ store. (memory_store_state store).spelling ≡ current) }
+        ensures record_format { IfOk result (λ store. (memory_store_state store).record_format ≡ current) }
     {
         let change = put_admin(alloc, admin)?;
         let mut entries = Pieces::new(alloc);
         entries.put(change)?;
         Ok(MemStore {
-            spelling: Spelling::current(),
+            record_format: RecordFormat::current(),
             entries,
             next: Place::start(),
             alloc,
@@ -79,7 +79,7 @@ impl MemStore {
     // Whether a key has a record. Its place is tried first from now on.
     fn has_record(&mut self, key: &[u8]) -> bool
         ensures found { result ≡ is_some (lookup key.now (records_of self.old.entries)) }
-        ensures spelling { self.new.spelling ≡ self.old.spelling }
+        ensures record_format { self.new.record_format ≡ self.old.record_format }
         ensures same { self.new.entries ≡ self.old.entries }
     {
         let place = self.entries.place_of(key, self.next);
@@ -93,7 +93,7 @@ impl MemStore {
     // Makes an entry with no value for the key of a change, if it has none. The only error is that an
     // allocation failed.
     fn hold(&mut self, change: &Change) -> Result<(), AllocError>
-        ensures spelling { self.new.spelling ≡ self.old.spelling }
+        ensures record_format { self.new.record_format ≡ self.old.record_format }
         ensures same { records_of self.new.entries ≡ records_of self.old.entries }
         ensures held { OnOk result (IsSome (lookup change.now.0 (changes_of self.new.entries))) }
         ensures kept { (k : List ℕ) → IsSome (lookup k (changes_of self.old.entries))
@@ -110,7 +110,7 @@ impl MemStore {
     // Makes an entry for the key of each of these changes. The only error is that an allocation
     // failed.
     fn hold_all(&mut self, changes: &[Change]) -> Result<(), AllocError>
-        ensures spelling { self.new.spelling ≡ self.old.spelling }
+        ensures record_format { self.new.record_format ≡ self.old.record_format }
         ensures same { records_of self.new.entries ≡ records_of self.old.entries }
         ensures held { OnOk result (AreHeld changes.now (changes_of self.new.entries)) }
     {
@@ -132,7 +132,7 @@ impl MemStore {
 
     // Removes the entry of a key if it has no value.
     fn release(&mut self, key: &[u8])
-        ensures spelling { self.new.spelling ≡ self.old.spelling }
+        ensures record_format { self.new.record_format ≡ self.old.record_format }
         ensures same { records_of self.new.entries ≡ records_of self.old.entries }
     {
         if self.has_empty_entry(key) {
@@ -142,7 +142,7 @@ impl MemStore {
 
     // Removes the entries of the keys of these changes that have no value.
     fn release_all(&mut self, changes: &[Change])
-        ensures spelling { self.new.spelling ≡ self.old.spelling }
+        ensures record_format { self.new.record_format ≡ self.old.record_format }
         ensures same { records_of self.new.entries ≡ records_of self.old.entries }
     {
         for change in changes {
@@ -153,7 +153,7 @@ impl MemStore {
     // Makes a change of a key that has an entry.
     fn make(&mut self, change: Change)
         requires { IsSome (lookup change.0 (changes_of self.old.entries)) }
-        ensures spelling { self.new.spelling ≡ self.old.spelling }
+        ensures record_format { self.new.record_format ≡ self.old.record_format }
         ensures made { records_of self.new.entries
             ≡ changed change.0 change.1 (records_of self.old.entries) }
         ensures elsewhere { (k : List ℕ) → key_cmp k change.0 ≡ Less
@@ -170,7 +170,7 @@ impl MemStore {
     fn make_all(&mut self, mut changes: Vec<Change>)
         requires ordered { IsOrdered changes.items }
         requires held { AreHeld changes.items (changes_of self.old.entries) }
-        ensures spelling { self.new.spelling ≡ self.old.spelling }
+        ensures record_format { self.new.record_format ≡ self.old.record_format }
         ensures made { records_of self.new.entries
             ≡ applied changes.items (records_of self.old.entries) }
     {
@@ -181,7 +181,7 @@ impl MemStore {
 
     // Makes one change, or none. The only error is that an allocation failed.
     fn change_one(&mut self, only: &Change) -> Result<(), StoreFault>
-        ensures spelling { self.new.spelling ≡ self.old.spelling }
+        ensures record_format { self.new.record_format ≡ self.old.record_format }
         ensures made { OnOk result (records_of self.new.entries
             ≡ changed only.now.0 only.now.1 (records_of self.old.entries)) }
         ensures refused { OnErr result (records_of self.new.entries ≡ records_of self.old.entries) }
@@ -198,7 +198,7 @@ impl MemStore {
 
     // Removes the keys that these changes remove, the last first.
     fn remove_each(&mut self, changes: &[Change])
-        ensures spelling { self.new.spelling ≡ self.old.spelling }
+        ensures record_format { self.new.record_format ≡ self.old.record_format }
         ensures made { records_of self.new.entries
             ≡ applied (removing changes.now) (records_of self.old.entries) }
     {
@@ -213,7 +213,7 @@ impl MemStore {
 
     // The same of the changes of pieces.
     fn remove_all(&mut self, pieces: &[Piece])
-        ensures spelling { self.new.spelling ≡ self.old.spelling }
+        ensures record_format { self.new.record_format ≡ self.old.record_format }
         ensures made { records_of self.new.entries
             ≡ applied (removing (all_changes pieces.now)) (records_of self.old.entries) }
     {
@@ -227,7 +227,7 @@ impl MemStore {
     // Makes all changes of a batch, or none of them: first those that put a value. The only error is
     // that an allocation failed.
     fn change_among(&mut self, batch: &Batch) -> Result<(), StoreFault>
-        ensures spelling { self.new.spelling ≡ self.old.spelling }
+        ensures record_format { self.new.record_format ≡ self.old.record_format }
         ensures made { OnOk result (records_of self.new.entries
             ≡ applied batch.now (records_of self.old.entries)) }
         ensures refused { OnErr result (records_of self.new.entries ≡ records_of self.old.entries) }
@@ -245,7 +245,7 @@ impl MemStore {
 
     // The same, where changes that come behind all entries are put there as they are.
     fn change_all(&mut self, batch: &Batch) -> Result<(), StoreFault>
-        ensures spelling { self.new.spelling ≡ self.old.spelling }
+        ensures record_format { self.new.record_format ≡ self.old.record_format }
         ensures made { OnOk result (records_of self.new.entries
             ≡ applied batch.now (records_of self.old.entries)) }
         ensures refused { OnErr result (records_of self.new.entries ≡ records_of self.old.entries) }
@@ -261,7 +261,7 @@ impl MemStore {
 
     // The same, where one change by itself takes no entry that is empty for a while.
     fn change(&mut self, batch: &Batch) -> Result<(), StoreFault>
-        ensures spelling { self.new.spelling ≡ self.old.spelling }
+        ensures record_format { self.new.record_format ≡ self.old.record_format }
         ensures made { OnOk result (records_of self.new.entries
             ≡ applied batch.now (records_of self.old.entries)) }
         ensures refused { OnErr result (records_of self.new.entries ≡ records_of self.old.entries) }
@@ -303,9 +303,9 @@ impl Map for MemStore {
 
     type Place = Place;
 
-    ghost state = { λ s. memory_state s.spelling (records_of s.entries) };
+    ghost state = { λ s. memory_state s.record_format (records_of s.entries) };
 
-    ghost preserved = { λ s later. (later.spelling ≡ s.spelling) × (later.entries ≡ s.entries) };
+    ghost preserved = { λ s later. (later.record_format ≡ s.record_format) × (later.entries ≡ s.entries) };
 
     ghost preserved_same = { λ s. (refl, refl) };
 
@@ -392,8 +392,8 @@ impl Store for MemStore {
         0
     }
 
-    fn spelling(&self) -> Spelling {
-        self.spelling
+    fn record_format(&self) -> RecordFormat {
+        self.record_format
     }
 
     fn commit(&mut self, batch: &Batch) -> Result<(), StoreFault> {
@@ -405,7 +405,7 @@ impl Store for MemStore {
 
     fn commit_migration(&mut self, batch: &Batch) -> Result<(), StoreFault> {
         self.change(batch)?;
-        self.spelling = Spelling::Second;
+        self.record_format = RecordFormat::V2;
         Ok(())
     }
 }

@@ -1,11 +1,11 @@
 //! Stores: maps of records that change by commits.
 ghost use Rattle.std.specs.Prelude.{◌≡◌, false, Option, Some, [], Ok};
-ghost use Rattle.storage_sizes.specs.declared.spelling.Spelling.TheVariants.{Second};
+ghost use Rattle.storage_sizes.specs.declared.record_format.RecordFormat.TheVariants.{V2};
 ghost use Rattle.store.specs.Contents.{changed_by_batch, changed_in};
 ghost use Rattle.store.specs.Store.{Contents, Commits, stored};
 
 use crate::{Batch, Map, StoreFault};
-use storage_sizes::Spelling;
+use storage_sizes::RecordFormat;
 
 /// A map of records that changes by batches, each at once, and that may stop at any moment.
 pub trait Store: Map {
@@ -22,8 +22,8 @@ pub trait Store: Map {
         ensures { result ≡ (Self.state self.now).failures };
 
     /// How the records are spelled.
-    fn spelling(&self) -> Spelling
-        ensures { result ≡ (Self.state self.now).spelling };
+    fn record_format(&self) -> RecordFormat
+        ensures { result ≡ (Self.state self.now).record_format };
 
     /// Commits all changes of a batch, or none of them; the spelling stays. Full: no room is left.
     /// Number: no number is. Memory: an allocation failed. Device: the device failed, and whether
@@ -39,7 +39,7 @@ pub trait Store: Map {
     /// nothing. The faults are those of `commit`. Where the records are of the first spelling an
     /// empty batch is a commit, too.
     fn commit_migration(&mut self, batch: &Batch) -> Result<(), StoreFault>
-        ensures commits { Commits result (changed_in Second batch.now (stored (Self.state self.old)))
+        ensures commits { Commits result (changed_in V2 batch.now (stored (Self.state self.old)))
             (Self.state self.old) (Self.state self.new) };
 
     /// Once it has answered Device, it answers nothing else.

@@ -10,8 +10,8 @@ use Rattle.abstract_database.specs.Lists.{Among}
 use Rattle.abstract_database.specs.Database.{Database}
 use Rattle.abstract_database.proofs.ElementLemmas.{any_found}
 use Rattle.stored_database.specs.Definitions.{TableDefinition, Definitions, ids_of}
-use Rattle.stored_database.specs.Spelling.{role_prefix, role_record, membership_prefix, membership_record, table_prefix, table_record, descriptor_prefix, descriptor_record, policy_prefix, policy_record, rows_prefix, row_record}
-use Rattle.stored_database.specs.Records.{is_key_of, is_stray, Define, HoldRows, is_row_key_of, is_stray_row, Shows}
+use Rattle.stored_database.specs.RecordFormat.{role_prefix, role_record, membership_prefix, membership_record, table_prefix, table_record, descriptor_prefix, descriptor_record, policy_prefix, policy_record, rows_prefix, row_record}
+use Rattle.stored_database.specs.Records.{is_key_of, is_orphan, Define, HoldRows, is_row_key_of, is_orphan_row, Shows}
 use Rattle.stored_database.specs.Entries.{entries_of_definitions, entries_of_rows, entries_of}
 use Rattle.stored_database.proofs.Lists.{of_map, into_left, into_right, of_append, into_flat_map, of_flat_map}
 
@@ -54,7 +54,7 @@ none_there q records none e among = go (q e.0) refl where
 
 -- ---- kinds
 
--- what a key that is no stray begins with
+-- what a key that is no orphan begins with
 pub data KindOf (ids : List ℕ) (key : List ℕ) : Type 0 where
   of_role : has_prefix role_prefix key ≡ true → KindOf ids key
   of_membership : has_prefix membership_prefix key ≡ true → KindOf ids key
@@ -71,7 +71,7 @@ of_a_table ids key h =
       | inr p ↦ of_policy found.0 found.1 p
     ]
 
-pub kind_of : (ids : List ℕ) (key : List ℕ) → is_stray ids key ≡ false → KindOf ids key
+pub kind_of : (ids : List ℕ) (key : List ℕ) → is_orphan ids key ≡ false → KindOf ids key
 kind_of ids key h =
     go (has_prefix role_prefix key) (has_prefix membership_prefix key) (has_prefix table_prefix key) (has_prefix rows_prefix key) (list_any (is_key_of key) ids)
     of_role of_membership of_table of_row (of_a_table ids key) h
@@ -91,7 +91,7 @@ numbered_table tables id h = of_map (λ (t : TableDefinition). t.id) tables id h
 
 -- ---- rows
 
-pub of_row_table : (ids : List ℕ) (key : List ℕ) → has_prefix rows_prefix key ≡ true → is_stray_row ids key ≡ false → list_any (is_row_key_of key) ids ≡ true
+pub of_row_table : (ids : List ℕ) (key : List ℕ) → has_prefix rows_prefix key ≡ true → is_orphan_row ids key ≡ false → list_any (is_row_key_of key) ids ≡ true
 of_row_table ids key has h = go (has_prefix rows_prefix key) (list_any (is_row_key_of key) ids) has h where
   go : (a b : Bool) → a ≡ true → (a && not b) ≡ false → b ≡ true
   go true true p q = refl
@@ -158,7 +158,7 @@ module _ (records : Records) (d : Definitions) (e : Record) where
 
   -- a record is a definition's, or has the key of a row
   defined_or_row : Define records d → Among e records → IsEntry ⊎ (has_prefix rows_prefix e.0 ≡ true)
-  defined_or_row p among = go (kind_of (ids_of d.tables) e.0 (none_there (is_stray (ids_of d.tables)) records p.no_other e among)) where
+  defined_or_row p among = go (kind_of (ids_of d.tables) e.0 (none_there (is_orphan (ids_of d.tables)) records p.no_other e among)) where
     go : KindOf (ids_of d.tables) e.0 → IsEntry ⊎ (has_prefix rows_prefix e.0 ≡ true)
     go (of_role has) = inl (inl (held_at records role_prefix role_record d.roles p.held.roles e among has))
     go (of_membership has) = inl (inr (inl (held_at records membership_prefix membership_record d.memberships p.held.memberships e among has)))
@@ -190,7 +190,7 @@ module _ (records : Records) (d : Definitions) (e : Record) where
     into among = elim (defined_or_row s.defined among) [
       | inl h ↦ into_left (entries_of_definitions d) (entries_of_rows d.tables s.rows) e (into_entries h)
       | inr row ↦
-          let id = any_found (is_row_key_of e.0) (ids_of d.tables) (of_row_table (ids_of d.tables) e.0 row (none_there (is_stray_row (ids_of d.tables)) records s.no_other_row e among)) in
+          let id = any_found (is_row_key_of e.0) (ids_of d.tables) (of_row_table (ids_of d.tables) e.0 row (none_there (is_orphan_row (ids_of d.tables)) records s.no_other_row e among)) in
           let found = numbered_table d.tables id.0 id.1 in
           into_right (entries_of_definitions d) (entries_of_rows d.tables s.rows) e
           (held_rows records d.tables s.rows s.held found.0 found.1 e among (subst (λ (i : ℕ). has_prefix (row_prefix i) e.0 ≡ true) (sym found.2) id.2))

@@ -6,7 +6,7 @@ use Rattle.abstract_database.specs.Lists.{Among}
 use Rattle.abstract_database.specs.Database.{Database}
 use Rattle.abstract_database.specs.Whole.{Each, HasWholeRows}
 use Rattle.stored_database.specs.Definitions.{TableDefinition, Definitions, table_with, tables_with}
-use Rattle.stored_database.specs.Spelling.{role_record, membership_record, table_record, descriptor_record, policy_record, row_record}
+use Rattle.stored_database.specs.RecordFormat.{role_record, membership_record, table_record, descriptor_record, policy_record, row_record}
 use Rattle.stored_database.specs.Valid.{AreValid}
 use Rattle.stored_database.specs.Records.{Shows}
 use Rattle.stored_database.specs.Entries.{entries_of_definitions, entries_of_rows, IsRecordSize}

@@ -9,9 +9,9 @@ use Rattle.abstract_database.specs.Lists.{TheName, Among}
 use Rattle.abstract_database.specs.Database.{Table, Database, grantor_name, grantee_name}
 use Rattle.abstract_database.specs.Privileges.{owner_descriptor}
 use Rattle.stored_database.specs.Definitions.{TableDefinition, ids_of}
-use Rattle.stored_database.specs.Spelling.{ended, descriptor_prefix, descriptor_record}
+use Rattle.stored_database.specs.RecordFormat.{ended, descriptor_prefix, descriptor_record}
 use Rattle.stored_database.specs.Items.{IsStoredDescriptor}
-use Rattle.stored_database.specs.Records.{is_stray, StandsFor}
+use Rattle.stored_database.specs.Records.{is_orphan, StandsFor}
 use Rattle.stored_database.specs.Spellings.{placed, with_places}
 use Rattle.stored_database.proofs.Lists.{into_map, of_map, of_flat_map}
 use Rattle.stored_database.proofs.Names.{same_ended}
@@ -67,7 +67,7 @@ module _ (records : Records) (b : Database) (r : StandsFor (with_places records)
   not_there : Among (owners id table owner) records → ⊥
   not_there among =
       let placed_there = into_map placed records (owners id table owner) among in
-      of_kind placed_there (kind_of (ids_of r.0.tables) e.0 (none_there (is_stray (ids_of r.0.tables)) (with_places records) r.1.defined.no_other e placed_there))
+      of_kind placed_there (kind_of (ids_of r.0.tables) e.0 (none_there (is_orphan (ids_of r.0.tables)) (with_places records) r.1.defined.no_other e placed_there))
 
 no_table : (records : Records) (a b : Database) → StandsFor records a → StandsFor (with_places records) b → (u : Table) → Among u a.tables → ⊥
 no_table records a b s r u among =

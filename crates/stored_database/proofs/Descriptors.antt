@@ -14,7 +14,7 @@ use Rattle.sql_ast.specs.Read.{IsReadGrantee}
 use Rattle.store.specs.Records.{Record}
 use Rattle.abstract_database.specs.Lists.{TheName}
 use Rattle.abstract_database.specs.Database.{action_number, grantor_name, grantee_name}
-use Rattle.stored_database.specs.Spelling.{ended, bit, place_byte, descriptor_prefix, descriptor_record}
+use Rattle.stored_database.specs.RecordFormat.{ended, bit, place_byte, descriptor_prefix, descriptor_record}
 use Rattle.stored_database.specs.Items.{IsStoredGrantor, IsStoredDescriptor}
 use Rattle.stored_database.proofs.Names.{no_zero_of, same_ended, same_last, same_bit}
 

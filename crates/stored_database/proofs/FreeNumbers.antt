@@ -10,9 +10,9 @@ use Rattle.abstract_database.specs.Database.{Database}
 use Rattle.abstract_database.specs.Whole.{max_tables}
 use Rattle.abstract_database.proofs.ElementLemmas.{any_found, any_holds}
 use Rattle.stored_database.specs.Definitions.{Definitions, ids_of}
-use Rattle.stored_database.specs.Spelling.{descriptor_prefix, policy_prefix}
+use Rattle.stored_database.specs.RecordFormat.{descriptor_prefix, policy_prefix}
 use Rattle.stored_database.specs.Valid.{AreValid}
-use Rattle.stored_database.specs.Records.{is_stray, is_row_key_of, is_stray_row, Define, Shows, HasNoRecords}
+use Rattle.stored_database.specs.Records.{is_orphan, is_row_key_of, is_orphan_row, Define, Shows, HasNoRecords}
 use Rattle.stored_database.proofs.Tables.{small_id}
 use Rattle.stored_database.proofs.Prefixes.{one_kind, one_id}
 use Rattle.stored_database.proofs.AllRecords.{KindOf, of_role, of_membership, of_table, of_row, of_descriptor, of_policy, kind_of, none_there, numbered_table, of_row_table}
@@ -27,7 +27,7 @@ module _ (records : Records) (d : Definitions) (id : ℕ) (small : id < 2 ^ 32) 
   small_number v i among = let t = numbered_table d.tables i among in small_id i (subst (λ (n : ℕ). n ≤ max_tables) t.2 (v.tables t.0 t.1).most)
 
   no_descriptor : Define records d → (e : Record) → Among e records → has_prefix (descriptor_prefix id) e.0 ≡ true → ⊥
-  no_descriptor p e among has = go (kind_of (ids_of d.tables) e.0 (none_there (is_stray (ids_of d.tables)) records p.no_other e among)) where
+  no_descriptor p e among has = go (kind_of (ids_of d.tables) e.0 (none_there (is_orphan (ids_of d.tables)) records p.no_other e among)) where
     kind : (k : ℕ) → has_prefix (k ∷ []) e.0 ≡ true → k ≡ 4
     kind k is = one_kind e.0 k 4 is (kind_alone 4 (big_bytes 4 id) e.0 has)
 
@@ -40,7 +40,7 @@ module _ (records : Records) (d : Definitions) (id : ℕ) (small : id < 2 ^ 32) 
     go (of_policy i there is) = let h = kind 5 (kind_alone 5 (big_bytes 4 i) e.0 is) in omega (arith, h)
 
   no_policy : Define records d → (e : Record) → Among e records → has_prefix (policy_prefix id) e.0 ≡ true → ⊥
-  no_policy p e among has = go (kind_of (ids_of d.tables) e.0 (none_there (is_stray (ids_of d.tables)) records p.no_other e among)) where
+  no_policy p e among has = go (kind_of (ids_of d.tables) e.0 (none_there (is_orphan (ids_of d.tables)) records p.no_other e among)) where
     kind : (k : ℕ) → has_prefix (k ∷ []) e.0 ≡ true → k ≡ 5
     kind k is = one_kind e.0 k 5 is (kind_alone 5 (big_bytes 4 id) e.0 has)
 
@@ -55,7 +55,7 @@ module _ (records : Records) (d : Definitions) (id : ℕ) (small : id < 2 ^ 32) 
   no_row : (db : Database) → Shows records d db → (e : Record) → Among e records → has_prefix (row_prefix id) e.0 ≡ true → ⊥
   no_row db s e among has =
       let of = kind_alone 6 (big_bytes 4 id) e.0 has in
-      let found = any_found (is_row_key_of e.0) (ids_of d.tables) (of_row_table (ids_of d.tables) e.0 of (none_there (is_stray_row (ids_of d.tables)) records s.no_other_row e among)) in
+      let found = any_found (is_row_key_of e.0) (ids_of d.tables) (of_row_table (ids_of d.tables) e.0 of (none_there (is_orphan_row (ids_of d.tables)) records s.no_other_row e among)) in
       other found.0 found.1 (one_id 6 e.0 found.0 id (small_number s.defined.valid found.0 found.1) small found.2 has)
 
 pub free_number : (records : Records) (d : Definitions) (db : Database) (id : ℕ) → Shows records d db → id < 2 ^ 32 → list_any (nat_eq id) (ids_of d.tables) ≡ false → HasNoRecords records id

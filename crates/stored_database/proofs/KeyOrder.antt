@@ -27,7 +27,7 @@ use Rattle.abstract_database.specs.Lists.{TheName, Among, Rising, name_cmp}
 use Rattle.abstract_database.specs.Database.{action_number, grantor_name, grantee_name, Table, role_cmp, membership_cmp, table_cmp, descriptor_cmp, policy_cmp}
 use Rattle.abstract_database.specs.Whole.{Each, IsInOrder}
 use Rattle.stored_database.specs.Definitions.{TableDefinition, Definitions, definition_cmp, table_with, descriptors_of, policies_of, database_of}
-use Rattle.stored_database.specs.Spelling.{ended, place_byte, role_prefix, role_record, membership_prefix, membership_record, table_prefix, table_record, descriptor_prefix, descriptor_record, policy_prefix, policy_record, row_record}
+use Rattle.stored_database.specs.RecordFormat.{ended, place_byte, role_prefix, role_record, membership_prefix, membership_record, table_prefix, table_record, descriptor_prefix, descriptor_record, policy_prefix, policy_record, row_record}
 use Rattle.stored_database.specs.Items.{IsStoredMembership, IsStoredDescriptor, IsStoredPolicy, AreStored}
 use Rattle.stored_database.specs.Records.{HoldDefinitions}
 use Rattle.stored_database.proofs.Lists.{into_map, of_map, of_append, of_flat_map, rest_of_each}

@@ -31,7 +31,7 @@ use Rattle.row_codec.specs.Rows.{row_prefix, row_key}
 use Rattle.row_codec.proofs.Lengths.{row_key_long, row_value_long}
 use Rattle.row_codec.proofs.Layouts.{key_indices_within, all_at}
 use Rattle.stored_database.specs.Definitions.{TableDefinition}
-use Rattle.stored_database.specs.Spelling.{ended, bit, place_byte, type_number, column_bytes, layout_bytes, table_flags, table_record, role_record, membership_record, descriptor_prefix, descriptor_record, roles_bytes, clause_bytes, policy_prefix, policy_record, row_record}
+use Rattle.stored_database.specs.RecordFormat.{ended, bit, place_byte, type_number, column_bytes, layout_bytes, table_flags, table_record, role_record, membership_record, descriptor_prefix, descriptor_record, roles_bytes, clause_bytes, policy_prefix, policy_record, row_record}
 use Rattle.stored_database.specs.Items.{IsStoredMembership, IsStoredTable, IsStoredGrantor, IsStoredDescriptor, IsStoredPolicy}
 use Rattle.stored_database.specs.Entries.{IsRecordSize}
 use Rattle.stored_database.proofs.Lists.{first_of_each, rest_of_each}

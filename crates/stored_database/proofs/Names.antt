@@ -8,7 +8,7 @@ use Rattle.sql_types.specs.Name.{IsUtf8Name}
 use Rattle.sql_types.specs.Domain.{HasNoZero}
 use Rattle.abstract_database.specs.Lists.{TheName}
 use Rattle.abstract_database.specs.Whole.{Each}
-use Rattle.stored_database.specs.Spelling.{ended, bit}
+use Rattle.stored_database.specs.RecordFormat.{ended, bit}
 use Rattle.stored_database.proofs.Lists.{SameFront, same_cons, first_of_each, rest_of_each}
 
 pub no_zero_of : (name : TheName) → IsUtf8Name name → HasNoZero name

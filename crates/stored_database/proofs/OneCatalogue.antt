@@ -10,7 +10,7 @@ use Rattle.abstract_database.specs.Lists.{TheName}
 use Rattle.abstract_database.specs.Database.{TableOf}
 use Rattle.abstract_database.specs.Whole.{Each}
 use Rattle.stored_database.specs.Definitions.{TableDefinition, Definitions, numbered_tables}
-use Rattle.stored_database.specs.Spelling.{table_prefix, table_record, descriptor_prefix, descriptor_record, policy_prefix, policy_record}
+use Rattle.stored_database.specs.RecordFormat.{table_prefix, table_record, descriptor_prefix, descriptor_record, policy_prefix, policy_record}
 use Rattle.stored_database.specs.Items.{IsStoredTable, IsStoredDescriptor, IsStoredPolicy}
 use Rattle.stored_database.specs.Records.{HoldsTable, Define}
 use Rattle.stored_database.proofs.Lists.{same_items, same_cons, first_of_each, rest_of_each}

@@ -9,7 +9,7 @@ use Rattle.row_codec.specs.Rows.{row_prefix}
 use Rattle.abstract_database.specs.Database.{Table, Database}
 use Rattle.abstract_database.specs.Whole.{Each, AreWholeRows, HasWholeRows}
 use Rattle.stored_database.specs.Definitions.{TableDefinition, Definitions, table_with, tables_with, database_with}
-use Rattle.stored_database.specs.Spelling.{row_record}
+use Rattle.stored_database.specs.RecordFormat.{row_record}
 use Rattle.stored_database.specs.Records.{HoldRows, Shows, StandsFor}
 use Rattle.stored_database.proofs.Lists.{same_items, same_cons, first_of_each, rest_of_each}
 use Rattle.stored_database.proofs.Rows.{one_row}

@@ -20,7 +20,7 @@ use Rattle.abstract_database.specs.Whole.{max_tables}
 use Rattle.sql_ast.specs.Rows.{row_cmp}
 use Rattle.sql_ast.specs.Fits.{FitsTable}
 use Rattle.stored_database.specs.Definitions.{TableDefinition, Definitions, definition_cmp, table_with, tables_with, descriptors_of, policies_of}
-use Rattle.stored_database.specs.Spelling.{role_record, membership_record, table_record, descriptor_prefix, descriptor_record, policy_prefix, policy_record, row_record}
+use Rattle.stored_database.specs.RecordFormat.{role_record, membership_record, table_record, descriptor_prefix, descriptor_record, policy_prefix, policy_record, row_record}
 use Rattle.stored_database.specs.Items.{IsStoredMembership, IsStoredDescriptor, IsStoredPolicy}
 use Rattle.stored_database.specs.Valid.{AreValid, Describes}
 use Rattle.stored_database.specs.Entries.{entries_of_definitions, entries_of_rows, entries_of}

@@ -10,7 +10,7 @@ use Rattle.sql_ast.specs.declared.privilege.Descriptor.{Descriptor}
 use Rattle.store.specs.Records.{Record, Records, IsBefore, IsOrdered, has_prefix, key_cmp}
 use Rattle.store.specs.Store.{Contents}
 use Rattle.abstract_database.specs.Database.{Database, action_number, grantor_name, grantee_name}
-use Rattle.stored_database.specs.Spelling.{ended, bit, place_byte, descriptor_prefix, descriptor_record}
+use Rattle.stored_database.specs.RecordFormat.{ended, bit, place_byte, descriptor_prefix, descriptor_record}
 use Rattle.stored_database.specs.Records.{StandsFor}
 use Rattle.stored_database.specs.Spellings.{first_descriptor, with_place, placed, with_places, spelled_in_second, Stands}
 
@@ -128,4 +128,4 @@ descriptor_alone id d e whole is = go (has_prefix (4 ∷ []) e.0) refl (is ∙ s
 -- ---- contents
 
 pub stand_for_one : ((records : Records) (a b : Database) → StandsFor records a → StandsFor records b → a ≡ b) → (contents : Contents) (a b : Database) → Stands contents a → Stands contents b → a ≡ b
-stand_for_one one contents a b p q = one (spelled_in_second contents.spelling contents.records) a b p q
+stand_for_one one contents a b p q = one (spelled_in_second contents.record_format contents.records) a b p q

@@ -23,7 +23,7 @@ use Rattle.store.specs.Records.{Record}
 use Rattle.abstract_database.specs.Lists.{TheName}
 use Rattle.abstract_database.specs.Sizes.{clause_size, policy_size}
 use Rattle.expr_parser.specs.Written.{IsAsWritten}
-use Rattle.stored_database.specs.Spelling.{ended, kind_number, command_number, roles_bytes, clause_bytes, policy_prefix, policy_record}
+use Rattle.stored_database.specs.RecordFormat.{ended, kind_number, command_number, roles_bytes, clause_bytes, policy_prefix, policy_record}
 use Rattle.stored_database.specs.Items.{AreStoredRoles, IsStoredPolicy}
 use Rattle.stored_database.proofs.Lists.{SameFront, same_texts}
 use Rattle.stored_database.proofs.Names.{same_names, same_number}

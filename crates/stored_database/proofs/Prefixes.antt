@@ -16,9 +16,9 @@ use Rattle.abstract_database.specs.Lists.{Among}
 use Rattle.abstract_database.specs.Database.{TableOf, Database, action_number, grantor_name, grantee_name}
 use Rattle.abstract_database.specs.Whole.{Each}
 use Rattle.stored_database.specs.Definitions.{TableDefinition, Definitions, ids_of, numbered_tables}
-use Rattle.stored_database.specs.Spelling.{ended, place_byte, role_prefix, role_record, membership_prefix, membership_record, table_prefix, table_record, descriptor_prefix, descriptor_record, policy_prefix, policy_record, row_record}
+use Rattle.stored_database.specs.RecordFormat.{ended, place_byte, role_prefix, role_record, membership_prefix, membership_record, table_prefix, table_record, descriptor_prefix, descriptor_record, policy_prefix, policy_record, row_record}
 use Rattle.stored_database.specs.Items.{IsStoredTable}
-use Rattle.stored_database.specs.Records.{is_stray, Define, is_stray_row, StandsFor}
+use Rattle.stored_database.specs.Records.{is_orphan, Define, is_orphan_row, StandsFor}
 use Rattle.stored_database.proofs.Names.{same_number}
 use Rattle.stored_database.proofs.Validity.{stored_table}
 use Rattle.stored_database.proofs.OneCatalogue.{one_tables}
@@ -73,7 +73,7 @@ policy_begins id p = own_prefix (policy_prefix id) p.name
 pub row_begins : (id : ℕ) (layout : Layout) (row : Row) → has_prefix (row_prefix id) (row_record id layout row).0 ≡ true
 row_begins id layout row = own_prefix (row_prefix id) (row_key layout row)
 
--- ---- strays
+-- ---- orphans
 
 ids_numbered : (tables : List TableDefinition) → map (λ (p : ℕ × TableOf). p.0) (numbered_tables tables) ≡ ids_of tables
 ids_numbered [] = refl
@@ -88,13 +88,13 @@ told_ids records tables d stored held p =
     same_ids tables d.tables (one_tables records tables d.tables stored (λ t among. stored_table d p.valid t among) held p.held.tables)
 
 pub no_definitions : (records : Records) (tables : List TableDefinition) (e : Record) → Each IsStoredTable tables → Holds records table_prefix table_record tables
-    → Among e records → is_stray (ids_of tables) e.0 ≡ true → (d : Definitions) → Define records d → ⊥
-no_definitions records tables e stored held among stray d p =
-    both_ways (is_stray (ids_of tables) e.0)
-    (subst (λ (ids : List ℕ). is_stray ids e.0 ≡ false) (sym (told_ids records tables d stored held p)) (none_there (is_stray (ids_of d.tables)) records p.no_other e among)) stray
+    → Among e records → is_orphan (ids_of tables) e.0 ≡ true → (d : Definitions) → Define records d → ⊥
+no_definitions records tables e stored held among orphan d p =
+    both_ways (is_orphan (ids_of tables) e.0)
+    (subst (λ (ids : List ℕ). is_orphan ids e.0 ≡ false) (sym (told_ids records tables d stored held p)) (none_there (is_orphan (ids_of d.tables)) records p.no_other e among)) orphan
 
 pub no_database : (records : Records) (tables : List TableDefinition) (e : Record) → Each IsStoredTable tables → Holds records table_prefix table_record tables
-    → Among e records → is_stray_row (ids_of tables) e.0 ≡ true → (db : Database) → StandsFor records db → ⊥
-no_database records tables e stored held among stray db s =
-    both_ways (is_stray_row (ids_of tables) e.0)
-    (subst (λ (ids : List ℕ). is_stray_row ids e.0 ≡ false) (sym (told_ids records tables s.0 stored held s.1.defined)) (none_there (is_stray_row (ids_of s.0.tables)) records s.1.no_other_row e among)) stray
+    → Among e records → is_orphan_row (ids_of tables) e.0 ≡ true → (db : Database) → StandsFor records db → ⊥
+no_database records tables e stored held among orphan db s =
+    both_ways (is_orphan_row (ids_of tables) e.0)
+    (subst (λ (ids : List ℕ). is_orphan_row ids e.0 ≡ false) (sym (told_ids records tables s.0 stored held s.1.defined)) (none_there (is_orphan_row (ids_of s.0.tables)) records s.1.no_other_row e among)) orphan

@@ -7,7 +7,7 @@ use Rattle.store.specs.Records.{Record, Records}
 use Rattle.store.specs.Items.{Holds}
 use Rattle.abstract_database.specs.Lists.{TheName}
 use Rattle.abstract_database.specs.Whole.{Each}
-use Rattle.stored_database.specs.Spelling.{ended, bit, role_flags, role_prefix, role_record, membership_prefix, membership_record}
+use Rattle.stored_database.specs.RecordFormat.{ended, bit, role_flags, role_prefix, role_record, membership_prefix, membership_record}
 use Rattle.stored_database.specs.Items.{IsStoredMembership}
 use Rattle.stored_database.proofs.Lists.{same_items}
 use Rattle.stored_database.proofs.Names.{no_zero_of, same_ended, same_last, same_bit}

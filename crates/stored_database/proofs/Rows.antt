@@ -7,7 +7,7 @@ use Rattle.sql_ast.specs.Fits.{FitsTable}
 use Rattle.store.specs.Records.{Record}
 use Rattle.row_codec.specs.Rows.{row_prefix, row_key, row_value}
 use Rattle.row_codec.proofs.Unique.{same_row_spelled}
-use Rattle.stored_database.specs.Spelling.{row_record}
+use Rattle.stored_database.specs.RecordFormat.{row_record}
 
 pub one_row : (id : ℕ) (layout : Layout) → IsLayout layout → (a b : Row) → FitsTable layout a → FitsTable layout b → row_record id layout a ≡ row_record id layout b → a ≡ b
 one_row id layout is a b p q h =

@@ -13,9 +13,9 @@ use Rattle.abstract_database.specs.Lists.{Among}
 use Rattle.abstract_database.specs.Database.{Database}
 use Rattle.abstract_database.proofs.ElementLemmas.{any_holds}
 use Rattle.stored_database.specs.Definitions.{TableDefinition, Definitions, ids_of}
-use Rattle.stored_database.specs.Spelling.{role_prefix, role_record, membership_prefix, membership_record, table_prefix, table_record, descriptor_prefix, descriptor_record, policy_prefix, policy_record, rows_prefix, row_record}
+use Rattle.stored_database.specs.RecordFormat.{role_prefix, role_record, membership_prefix, membership_record, table_prefix, table_record, descriptor_prefix, descriptor_record, policy_prefix, policy_record, rows_prefix, row_record}
 use Rattle.stored_database.specs.Valid.{AreValid, Describes}
-use Rattle.stored_database.specs.Records.{is_key_of, is_stray, HoldsTable, Define, HoldRows, is_row_key_of, is_stray_row, Shows}
+use Rattle.stored_database.specs.Records.{is_key_of, is_orphan, HoldsTable, Define, HoldRows, is_row_key_of, is_orphan_row, Shows}
 use Rattle.stored_database.specs.Entries.{entries_of_rows, entries_of}
 use Rattle.stored_database.proofs.Lists.{into_map, of_map, of_append, of_flat_map}
 use Rattle.stored_database.proofs.Tables.{small_id}
@@ -266,7 +266,7 @@ module _ (d : Definitions) (v : AreValid d) (rows : List (List Row)) (many : len
       (subst (λ (ids : List ℕ). IsTrue (all_differ nat_eq ids)) (ids_paired d.tables rows many) v.ids)
       (λ z there differ. spelled_miss 6 z.0.id p.0.id (row_record z.0.id z.0.definition.layout) z.1 (small z.0 (paired d.tables rows z there)) (small p.0 (paired d.tables rows p among)) differ (row_begins z.0.id z.0.definition.layout)) among
 
-  -- ---- no strays
+  -- ---- no orphans
 
   in_six : (r : Record) → Among r all → Among r a ⊎ (Among r b ⊎ (Among r c ⊎ (Among r e ⊎ (Among r f ⊎ Among r g))))
   in_six r h = elim (of_append (a ++ (b ++ (c ++ (e ++ f)))) g r h) [
@@ -283,20 +283,20 @@ module _ (d : Definitions) (v : AreValid d) (rows : List (List Row)) (many : len
     ]
   ]
 
-  not_stray : (p q r s t : Bool) → (p ≡ true) ⊎ ((q ≡ true) ⊎ ((r ≡ true) ⊎ ((s ≡ true) ⊎ (t ≡ true)))) → not (p || q || r || s || t) ≡ false
-  not_stray true q r s t h = refl
-  not_stray false true r s t h = refl
-  not_stray false false true s t h = refl
-  not_stray false false false true t h = refl
-  not_stray false false false false true h = refl
-  not_stray false false false false false (inl h) = cc
-  not_stray false false false false false (inr (inl h)) = cc
-  not_stray false false false false false (inr (inr (inl h))) = cc
-  not_stray false false false false false (inr (inr (inr (inl h)))) = cc
-  not_stray false false false false false (inr (inr (inr (inr h)))) = cc
+  not_orphan : (p q r s t : Bool) → (p ≡ true) ⊎ ((q ≡ true) ⊎ ((r ≡ true) ⊎ ((s ≡ true) ⊎ (t ≡ true)))) → not (p || q || r || s || t) ≡ false
+  not_orphan true q r s t h = refl
+  not_orphan false true r s t h = refl
+  not_orphan false false true s t h = refl
+  not_orphan false false false true t h = refl
+  not_orphan false false false false true h = refl
+  not_orphan false false false false false (inl h) = cc
+  not_orphan false false false false false (inr (inl h)) = cc
+  not_orphan false false false false false (inr (inr (inl h))) = cc
+  not_orphan false false false false false (inr (inr (inr (inl h)))) = cc
+  not_orphan false false false false false (inr (inr (inr (inr h)))) = cc
 
-  known_key : (r : Record) → Among r all → is_stray (ids_of d.tables) r.0 ≡ false
-  known_key r among = not_stray (has_prefix role_prefix r.0) (has_prefix membership_prefix r.0) (has_prefix table_prefix r.0) (has_prefix rows_prefix r.0) (list_any (is_key_of r.0) (ids_of d.tables)) (go (in_six r among)) where
+  known_key : (r : Record) → Among r all → is_orphan (ids_of d.tables) r.0 ≡ false
+  known_key r among = not_orphan (has_prefix role_prefix r.0) (has_prefix membership_prefix r.0) (has_prefix table_prefix r.0) (has_prefix rows_prefix r.0) (list_any (is_key_of r.0) (ids_of d.tables)) (go (in_six r among)) where
     go : Among r a ⊎ (Among r b ⊎ (Among r c ⊎ (Among r e ⊎ (Among r f ⊎ Among r g))))
         → (has_prefix role_prefix r.0 ≡ true) ⊎ ((has_prefix membership_prefix r.0 ≡ true) ⊎ ((has_prefix table_prefix r.0 ≡ true) ⊎ ((has_prefix rows_prefix r.0 ≡ true) ⊎ (list_any (is_key_of r.0) (ids_of d.tables) ≡ true))))
     go (inl x) = inl (kind_a r x)
@@ -314,7 +314,7 @@ module _ (d : Definitions) (v : AreValid d) (rows : List (List Row)) (many : len
         (or_right (has_prefix (descriptor_prefix t.0.id) r.0) (has_prefix (policy_prefix t.0.id) r.0) (subst (λ (z : Record). has_prefix (policy_prefix t.0.id) z.0 ≡ true) y.2 (policy_begins t.0.id y.0)))))))
     go (inr (inr (inr (inr (inr x))))) = inr (inr (inr (inl (kind_g r x))))
 
-  no_row_key : (k : ℕ) (es : Records) → AreOfKind k es → (k ≡ 6 → ⊥) → (r : Record) → Among r es → is_stray_row (ids_of d.tables) r.0 ≡ false
+  no_row_key : (k : ℕ) (es : Records) → AreOfKind k es → (k ≡ 6 → ⊥) → (r : Record) → Among r es → is_orphan_row (ids_of d.tables) r.0 ≡ false
   no_row_key k es of differ r among = ap (λ (z : Bool). z && not (list_any (is_row_key_of r.0) (ids_of d.tables))) (other_kind k 6 [] r.0 differ (of r among))
 
   of_known_table : (p q : Bool) → q ≡ true → (p && not q) ≡ false
@@ -322,9 +322,9 @@ module _ (d : Definitions) (v : AreValid d) (rows : List (List Row)) (many : len
   of_known_table false true h = refl
   of_known_table p false h = cc
 
-  known_row_key : (r : Record) → Among r all → is_stray_row (ids_of d.tables) r.0 ≡ false
+  known_row_key : (r : Record) → Among r all → is_orphan_row (ids_of d.tables) r.0 ≡ false
   known_row_key r among = go (in_six r among) where
-    go : Among r a ⊎ (Among r b ⊎ (Among r c ⊎ (Among r e ⊎ (Among r f ⊎ Among r g)))) → is_stray_row (ids_of d.tables) r.0 ≡ false
+    go : Among r a ⊎ (Among r b ⊎ (Among r c ⊎ (Among r e ⊎ (Among r f ⊎ Among r g)))) → is_orphan_row (ids_of d.tables) r.0 ≡ false
     go (inl x) = no_row_key 1 a kind_a (λ h. omega (arith, h)) r x
     go (inr (inl x)) = no_row_key 2 b kind_b (λ h. omega (arith, h)) r x
     go (inr (inr (inl x))) = no_row_key 3 c kind_c (λ h. omega (arith, h)) r x
@@ -347,7 +347,7 @@ module _ (d : Definitions) (v : AreValid d) (rows : List (List Row)) (many : len
       tables = in_c [] ∙ spelled_pass table_prefix table_record d.tables (λ t. refl);
       of_tables = hold_table;
     };
-    no_other = where_none (is_stray (ids_of d.tables)) all known_key;
+    no_other = where_none (is_orphan (ids_of d.tables)) all known_key;
     valid = v;
   }
 
@@ -359,7 +359,7 @@ described_shown d db s = subst (λ (z : Records). Shows z d db) (sym (entries_ar
   defined = all_defined d s.valid s.rows s.each_table;
   rows = s.rows;
   held = hold_pairs (all d s.valid s.rows s.each_table) d.tables s.rows s.each_table (hold_pair d s.valid s.rows s.each_table);
-  no_other_row = where_none (is_stray_row (ids_of d.tables)) (all d s.valid s.rows s.each_table) (known_row_key d s.valid s.rows s.each_table);
+  no_other_row = where_none (is_orphan_row (ids_of d.tables)) (all d s.valid s.rows s.each_table) (known_row_key d s.valid s.rows s.each_table);
   is = s.is;
   whole_rows = s.whole_rows;
 })

@@ -10,7 +10,7 @@ use Rattle.abstract_database.specs.Lists.{TheName}
 use Rattle.abstract_database.specs.Database.{TableOf}
 use Rattle.abstract_database.specs.Whole.{Each, max_tables}
 use Rattle.stored_database.specs.Definitions.{TableDefinition}
-use Rattle.stored_database.specs.Spelling.{ended, flag, bit, type_number, column_bytes, layout_bytes, table_flags, table_record}
+use Rattle.stored_database.specs.RecordFormat.{ended, flag, bit, type_number, column_bytes, layout_bytes, table_flags, table_record}
 use Rattle.stored_database.specs.Items.{IsStoredTable}
 use Rattle.stored_database.proofs.Lists.{SameFront, same_cons, first_of_each, rest_of_each}
 use Rattle.stored_database.proofs.Names.{no_zero_of, same_ended, same_bit, same_number}

@@ -3,7 +3,7 @@ use Rattle.std.specs.Prelude.{Some, List, [], ◌∷◌, ◌++◌, map, flat_map
 use Rattle.sql_types.specs.Row.{Row}
 use Rattle.store.specs.Records.{Record, IsChangeSize}
 use Rattle.stored_database.specs.Definitions.{TableDefinition, Definitions}
-use Rattle.stored_database.specs.Spelling.{role_record, membership_record, table_record, descriptor_record, policy_record, row_record}
+use Rattle.stored_database.specs.RecordFormat.{role_record, membership_record, table_record, descriptor_record, policy_record, row_record}
 
 -- the records of the definitions, kind by kind; those of one kind for a table stand in the order of tables
 abbrev pub entries_of_definitions : Definitions → List Record

@@ -1,5 +1,5 @@
 pub mod Definitions
-pub mod Spelling
+pub mod RecordFormat
 pub mod Items
 pub mod Valid
 pub mod Records

@@ -8,7 +8,7 @@ use Rattle.abstract_database.specs.Database.{Database}
 use Rattle.abstract_database.specs.Whole.{Each, HasWholeRows}
 use Rattle.row_codec.specs.Rows.{row_prefix}
 use Rattle.stored_database.specs.Definitions.{TableDefinition, Definitions, ids_of, database_with}
-use Rattle.stored_database.specs.Spelling.{role_prefix, role_record, membership_prefix, membership_record, table_prefix, table_record, descriptor_prefix, descriptor_record, policy_prefix, policy_record, rows_prefix, row_record}
+use Rattle.stored_database.specs.RecordFormat.{role_prefix, role_record, membership_prefix, membership_record, table_prefix, table_record, descriptor_prefix, descriptor_record, policy_prefix, policy_record, rows_prefix, row_record}
 use Rattle.stored_database.specs.Valid.{AreValid}
 
 -- ---- definitions
@@ -18,8 +18,8 @@ abbrev pub is_key_of : List ℕ → ℕ → Bool
 is_key_of key id = has_prefix (descriptor_prefix id) key || has_prefix (policy_prefix id) key
 
 -- the key is that of no role, membership or table, of no descriptor and no policy of tables of these numbers, and of no row
-abbrev pub is_stray : List ℕ → List ℕ → Bool
-is_stray ids key = not (
+abbrev pub is_orphan : List ℕ → List ℕ → Bool
+is_orphan ids key = not (
     has_prefix role_prefix key || has_prefix membership_prefix key || has_prefix table_prefix key || has_prefix rows_prefix key
     || list_any (is_key_of key) ids)
 
@@ -38,7 +38,7 @@ pub record HoldDefinitions (records : Records) (d : Definitions) : Type 0 where
 -- the records, those of rows aside, are the spellings of these definitions and no others
 pub record Define (records : Records) (d : Definitions) : Type 0 where
   pub held : HoldDefinitions records d
-  pub no_other : entries_where (is_stray (ids_of d.tables)) records ≡ []
+  pub no_other : entries_where (is_orphan (ids_of d.tables)) records ≡ []
   pub valid : AreValid d
 
 -- ---- rows
@@ -54,8 +54,8 @@ abbrev pub is_row_key_of : List ℕ → ℕ → Bool
 is_row_key_of key id = has_prefix (row_prefix id) key
 
 -- the key is a row's, and of no table of these numbers
-abbrev pub is_stray_row : List ℕ → List ℕ → Bool
-is_stray_row ids key = has_prefix rows_prefix key && not (list_any (is_row_key_of key) ids)
+abbrev pub is_orphan_row : List ℕ → List ℕ → Bool
+is_orphan_row ids key = has_prefix rows_prefix key && not (list_any (is_row_key_of key) ids)
 
 -- no record is of a table of this number
 pub record HasNoRecords (records : Records) (id : ℕ) : Type 0 where
@@ -70,7 +70,7 @@ pub record Shows (records : Records) (d : Definitions) (db : Database) : Type 0 
   pub defined : Define records d
   pub rows : List (List Row)
   pub held : HoldRows records d.tables rows
-  pub no_other_row : entries_where (is_stray_row (ids_of d.tables)) records ≡ []
+  pub no_other_row : entries_where (is_orphan_row (ids_of d.tables)) records ≡ []
   pub is : db ≡ database_with d rows
   pub whole_rows : HasWholeRows db
 

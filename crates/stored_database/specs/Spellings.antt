@@ -2,13 +2,13 @@
 -- but those of privilege descriptors, whose keys have a place in the second: 0 for a whole table, which alone has descriptors
 -- in the first.
 use Rattle.std.specs.Prelude.{◌≡◌, ℕ, List, [], ◌∷◌, ◌++◌, map, take, drop, if◌then◌else◌, Option, Some}
-use Rattle.storage_sizes.specs.declared.spelling.Spelling.{Spelling}
-use Rattle.storage_sizes.specs.declared.spelling.Spelling.TheVariants.{First, Second}
+use Rattle.storage_sizes.specs.declared.record_format.RecordFormat.{RecordFormat}
+use Rattle.storage_sizes.specs.declared.record_format.RecordFormat.TheVariants.{V1, V2}
 use Rattle.sql_ast.specs.declared.privilege.Descriptor.{Descriptor}
 use Rattle.store.specs.Records.{Record, Records, has_prefix}
 use Rattle.store.specs.Store.{Contents}
 use Rattle.abstract_database.specs.Database.{Database, action_number, grantor_name, grantee_name}
-use Rattle.stored_database.specs.Spelling.{ended, bit, descriptor_prefix}
+use Rattle.stored_database.specs.RecordFormat.{ended, bit, descriptor_prefix}
 use Rattle.stored_database.specs.Records.{StandsFor}
 
 -- the record of a descriptor in the first spelling, which has no place: the action, the grantor and the grantee
@@ -28,13 +28,13 @@ abbrev pub with_places : Records → Records
 with_places records = map placed records
 
 -- records of either spelling in the second
-abbrev pub spelled_in_second : Spelling → Records → Records
-spelled_in_second First records = with_places records
-spelled_in_second Second records = records
+abbrev pub spelled_in_second : RecordFormat → Records → Records
+spelled_in_second V1 records = with_places records
+spelled_in_second V2 records = records
 
 -- contents stand for this database: their records do, in the second spelling
 abbrev pub Stands : Contents → Database → Type 0
-Stands contents db = StandsFor (spelled_in_second contents.spelling contents.records) db
+Stands contents db = StandsFor (spelled_in_second contents.record_format contents.records) db
 
 -- what a stop left are contents that stand for this database
 abbrev pub Means : Option Contents → Database → Type 0

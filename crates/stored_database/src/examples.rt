@@ -1,7 +1,7 @@
 //! Records by the byte.
 
 ghost use Rattle.std.specs.Prelude.{◌≡◌};
-ghost use Rattle.stored_database.specs.Spelling.{role_record, membership_record, table_record, descriptor_record, policy_record, row_record};
+ghost use Rattle.stored_database.specs.RecordFormat.{role_record, membership_record, table_record, descriptor_record, policy_record, row_record};
 ghost use Rattle.stored_database.specs.Spellings.{first_descriptor};
 ghost use Rattle.stored_database.specs.Examples.{root, root_bytes, eve, eve_bytes, staff_to_bob, staff_to_bob_bytes, t, t_layout, t_bytes, select_to_ann, select_to_ann_bytes, select_to_ann_first_bytes, update_to_public, update_to_public_bytes, select_first_to_bob, select_first_to_bob_bytes, insert_fourth_to_bob, insert_fourth_to_bob_bytes, p, p_bytes, row, row_bytes, f, f_bytes, delete_to_public, delete_to_public_bytes, q, q_bytes};
 

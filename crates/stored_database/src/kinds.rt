@@ -1,5 +1,5 @@
 //! Laws of the kinds of records: a key begins with the byte of one kind, and with the number of one
-//! table where the kind has one. A key of no kind, or of no table, is a stray.
+//! table where the kind has one. A key of no kind, or of no table, is an orphan.
 
 ghost use Rattle.std.specs.Prelude.{◌≡◌, ◌<◌, ◌^◌, ◌⊎◌, ℕ, nat_eq, List, [], ◌∷◌, true, false};
 ghost use Rattle.std.specs.List.{list_any};
@@ -16,9 +16,9 @@ ghost use Rattle.abstract_database.specs.Lists.{Among};
 ghost use Rattle.abstract_database.specs.Database.{Database};
 ghost use Rattle.abstract_database.specs.Whole.{Each};
 ghost use Rattle.stored_database.specs.Definitions.{TableDefinition, Definitions, ids_of};
-ghost use Rattle.stored_database.specs.Spelling.{role_prefix, role_record, membership_prefix, membership_record, table_prefix, table_record, descriptor_prefix, descriptor_record, policy_prefix, policy_record, row_record};
+ghost use Rattle.stored_database.specs.RecordFormat.{role_prefix, role_record, membership_prefix, membership_record, table_prefix, table_record, descriptor_prefix, descriptor_record, policy_prefix, policy_record, row_record};
 ghost use Rattle.stored_database.specs.Items.{IsStoredTable};
-ghost use Rattle.stored_database.specs.Records.{is_stray, is_stray_row, Define, HasNoRecords, Shows, StandsFor};
+ghost use Rattle.stored_database.specs.Records.{is_orphan, is_orphan_row, Define, HasNoRecords, Shows, StandsFor};
 
 /// The key of each record begins with the byte of its kind, and with the number of its table.
 pub fn keys_begin_with_their_kind()
@@ -48,16 +48,16 @@ pub fn keys_have_one_kind()
         → has_prefix (row_prefix a) key ≡ true → has_prefix (row_prefix b) key ≡ true → a ≡ b }
 {}
 
-/// Records with a stray among them define nothing, and with a stray row stand for no database.
-/// Which keys are strays the records of tables tell.
-pub fn strays_stand_for_nothing()
+/// Records with an orphan among them define nothing, and with an orphan row stand for no database.
+/// Which keys are orphans the records of tables tell.
+pub fn orphans_stand_for_nothing()
     ensures definitions { (records : Records) (tables : List TableDefinition) (e : Record)
         → Each IsStoredTable tables → Holds records table_prefix table_record tables
-        → Among e records → is_stray (ids_of tables) e.0 ≡ true
+        → Among e records → is_orphan (ids_of tables) e.0 ≡ true
         → (d : Definitions) → Define records d → ⊥ }
     ensures rows { (records : Records) (tables : List TableDefinition) (e : Record)
         → Each IsStoredTable tables → Holds records table_prefix table_record tables
-        → Among e records → is_stray_row (ids_of tables) e.0 ≡ true
+        → Among e records → is_orphan_row (ids_of tables) e.0 ≡ true
         → (db : Database) → StandsFor records db → ⊥ }
 {}
 

@@ -24,7 +24,7 @@ pub use entries::{one_list_of_records, records_are_entries};
 pub use examples::{numbers_by_the_byte, records_by_the_byte};
 pub use kinds::{
     free_numbers_have_no_records, keys_begin_with_their_kind, keys_have_one_kind,
-    strays_stand_for_nothing,
+    orphans_stand_for_nothing,
 };
 pub use orders::{
     held_definitions_are_in_order, joined_lists_are_in_order, keys_are_in_the_order_of_items,

@@ -15,7 +15,7 @@ ghost use Rattle.abstract_database.specs.Lists.{TheName, Rising};
 ghost use Rattle.abstract_database.specs.Database.{role_cmp, membership_cmp, descriptor_cmp, policy_cmp};
 ghost use Rattle.abstract_database.specs.Whole.{Each, IsInOrder};
 ghost use Rattle.stored_database.specs.Definitions.{TableDefinition, Definitions, definition_cmp, descriptors_of, policies_of, database_of};
-ghost use Rattle.stored_database.specs.Spelling.{role_record, membership_record, table_record, descriptor_record, policy_record, row_record};
+ghost use Rattle.stored_database.specs.RecordFormat.{role_record, membership_record, table_record, descriptor_record, policy_record, row_record};
 ghost use Rattle.stored_database.specs.Items.{IsStoredMembership, IsStoredDescriptor, IsStoredPolicy, AreStored};
 ghost use Rattle.stored_database.specs.Valid.{HasOwnDescriptors, HasOwnPolicies};
 ghost use Rattle.stored_database.specs.Records.{HoldDefinitions};

@@ -6,7 +6,7 @@ ghost use Rattle.store.specs.Records.{Record, Records, IsOrdered, has_prefix};
 ghost use Rattle.store.specs.Store.{Contents};
 ghost use Rattle.abstract_database.specs.Database.{Database};
 ghost use Rattle.stored_database.specs.Records.{StandsFor};
-ghost use Rattle.stored_database.specs.Spelling.{descriptor_record};
+ghost use Rattle.stored_database.specs.RecordFormat.{descriptor_record};
 ghost use Rattle.stored_database.specs.Spellings.{first_descriptor, placed, with_places, Stands};
 
 use crate::databases::one_database;

@@ -14,7 +14,7 @@ ghost use Rattle.abstract_database.specs.Lists.{TheName};
 ghost use Rattle.abstract_database.specs.Whole.{Each};
 ghost use Rattle.row_codec.specs.Rows.{row_prefix};
 ghost use Rattle.stored_database.specs.Definitions.{TableDefinition, numbered_tables};
-ghost use Rattle.stored_database.specs.Spelling.{role_prefix, role_record, membership_prefix, membership_record, table_prefix, table_record, descriptor_prefix, descriptor_record, policy_prefix, policy_record, row_record};
+ghost use Rattle.stored_database.specs.RecordFormat.{role_prefix, role_record, membership_prefix, membership_record, table_prefix, table_record, descriptor_prefix, descriptor_record, policy_prefix, policy_record, row_record};
 ghost use Rattle.stored_database.specs.Items.{IsStoredMembership, IsStoredTable, IsStoredDescriptor, IsStoredPolicy};
 
 use expr_parser::laws::one_answer;

@@ -13,7 +13,7 @@ ghost use Rattle.store.specs.Records.{Record, Records};
 ghost use Rattle.abstract_database.specs.Lists.{TheName, Among};
 ghost use Rattle.abstract_database.specs.Database.{Database};
 ghost use Rattle.stored_database.specs.Definitions.{TableDefinition, Definitions};
-ghost use Rattle.stored_database.specs.Spelling.{role_record, membership_record, table_record, descriptor_record, policy_record, row_record};
+ghost use Rattle.stored_database.specs.RecordFormat.{role_record, membership_record, table_record, descriptor_record, policy_record, row_record};
 ghost use Rattle.stored_database.specs.Items.{IsStoredMembership, IsStoredTable, IsStoredDescriptor, IsStoredPolicy};
 ghost use Rattle.stored_database.specs.Records.{Shows};
 ghost use Rattle.stored_database.specs.Entries.{IsRecordSize};

@@ -10,7 +10,7 @@ ghost use Rattle.sql_ast.specs.Layout.{Layout, IsLayout};
 ghost use Rattle.sql_ast.specs.Fits.{FitsTable};
 ghost use Rattle.abstract_database.specs.Lists.{TheName};
 ghost use Rattle.stored_database.specs.Definitions.{TableDefinition};
-ghost use Rattle.stored_database.specs.Spelling.{role_record, membership_record, table_record, descriptor_record, policy_record, row_record};
+ghost use Rattle.stored_database.specs.RecordFormat.{role_record, membership_record, table_record, descriptor_record, policy_record, row_record};
 ghost use Rattle.stored_database.specs.Items.{IsStoredMembership, IsStoredTable, IsStoredDescriptor, IsStoredPolicy};
 
 use expr_parser::laws::one_answer;

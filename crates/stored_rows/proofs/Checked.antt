@@ -13,16 +13,16 @@ use Rattle.row_codec.specs.Rows.{row_prefix}
 use Rattle.abstract_database.specs.Database.{Database}
 use Rattle.abstract_database.specs.Whole.{Each, AreWholeRows, HasWholeRows}
 use Rattle.stored_database.specs.Definitions.{TableDefinition, Definitions, ids_of, table_with, tables_with, database_with}
-use Rattle.stored_database.specs.Spelling.{row_record, rows_prefix}
+use Rattle.stored_database.specs.RecordFormat.{row_record, rows_prefix}
 use Rattle.stored_database.specs.Records.{Define, HoldRows, Shows, StandsFor}
 use Rattle.stored_database.proofs.Lists.{first_of_each, rest_of_each}
 use Rattle.stored_database.proofs.KeyOrder.{row_order, held_rise}
 use Rattle.stored_database.proofs.Validity.{whole_table}
 use Rattle.stored_database.proofs.OneDatabase.{IsWholeTableOfRows}
 use Rattle.abstract_database.proofs.ElementLemmas.{among_at}
-use Rattle.catalogue_records.specs.Checks.{AllPass, ChecksRecords, IsNoStrayRow, IsRowRecord}
+use Rattle.catalogue_records.specs.Checks.{AllPass, ChecksRecords, IsNoOrphanRow, IsRowRecord}
 use Rattle.catalogue_records.proofs.Checking.{rows_held, rows_pass}
-use Rattle.catalogue_records.proofs.Stray.{no_stray_row, each_row_passes}
+use Rattle.catalogue_records.proofs.Orphan.{no_orphan_row, each_row_passes}
 use Rattle.stored_rows.specs.Checks.{HasOnlyRows, ChecksTables, ChecksRows, StandForOne}
 
 -- ---- lists
@@ -90,15 +90,15 @@ one_fails records ts i t Damaged is lt fails = λ all. fails (all t (among_at ts
 -- ---- databases
 
 pub shown : (records : Records) (d : Definitions) → IsOrdered records → Define records d → Each (HasOnlyRows records) d.tables
-    → AllPass (IsNoStrayRow (ids_of d.tables)) records rows_prefix → (db : Database) × Shows records d db
-shown records d o defined only strays =
+    → AllPass (IsNoOrphanRow (ids_of d.tables)) records rows_prefix → (db : Database) × Shows records d db
+shown records d o defined only orphans =
     let found = rows_of records d.tables o (λ t among. (whole_table d defined.valid t among).layout) only in (
       database_with d found.rows,
       record {
         defined = defined;
         rows = found.rows;
         held = found.held;
-        no_other_row = no_stray_row (ids_of d.tables) records strays;
+        no_other_row = no_orphan_row (ids_of d.tables) records orphans;
         is = refl;
         whole_rows = found.whole;
       },
@@ -115,8 +115,8 @@ with_definitions one records d db defined s = subst (λ (e : Definitions). Shows
 pub shown_tables : (records : Records) (d : Definitions) (db : Database) → Shows records d db → Each (HasOnlyRows records) d.tables
 shown_tables records d db s = only_rows records d.tables s.rows s.held (subst HasWholeRows s.is s.whole_rows)
 
-pub shown_strays : (records : Records) (d : Definitions) (db : Database) → Shows records d db → AllPass (IsNoStrayRow (ids_of d.tables)) records rows_prefix
-shown_strays records d db s = each_row_passes (ids_of d.tables) records s.no_other_row
+pub shown_orphans : (records : Records) (d : Definitions) (db : Database) → Shows records d db → AllPass (IsNoOrphanRow (ids_of d.tables)) records rows_prefix
+shown_orphans records d db s = each_row_passes (ids_of d.tables) records s.no_other_row
 
 pub stands_for_one : ((records : Records) (a b : Database) → StandsFor records a → StandsFor records b → a ≡ b) → (records : Records) (d : Definitions)
     → (db : Database) × Shows records d db → StandForOne records d
@@ -128,10 +128,10 @@ fault_of_tables one records d Memory defined fails = tt
 fault_of_tables one records d Device defined fails = tt
 fault_of_tables one records d Damaged defined fails = λ db stands. fails (shown_tables records d db (with_definitions one records d db defined stands))
 
--- and what the check of strays does after it
+-- and what the check of orphans does after it
 pub after_tables : OneCatalogue → (records : Records) (d : Definitions) (result : Result (Unit {0}) Fault) → IsOrdered records → Define records d → Each (HasOnlyRows records) d.tables
-    → ChecksRecords (IsNoStrayRow (ids_of d.tables)) records rows_prefix result → ChecksRows result records d
-after_tables one records d (Ok x) o defined only strays = shown records d o defined only strays
-after_tables one records d (Err Memory) o defined only strays = tt
-after_tables one records d (Err Device) o defined only strays = tt
-after_tables one records d (Err Damaged) o defined only strays = λ db stands. strays (shown_strays records d db (with_definitions one records d db defined stands))
+    → ChecksRecords (IsNoOrphanRow (ids_of d.tables)) records rows_prefix result → ChecksRows result records d
+after_tables one records d (Ok x) o defined only orphans = shown records d o defined only orphans
+after_tables one records d (Err Memory) o defined only orphans = tt
+after_tables one records d (Err Device) o defined only orphans = tt
+after_tables one records d (Err Damaged) o defined only orphans = λ db stands. orphans (shown_orphans records d db (with_definitions one records d db defined stands))

@@ -6,7 +6,7 @@ ghost use Rattle.store.specs.Store.{StoreState};
 ghost use Rattle.stored_database.specs.Records.{Define};
 ghost use Rattle.stored_rows.specs.Checks.{ChecksRows};
 
-use crate::tables::{check_strays, check_tables};
+use crate::tables::{check_orphans, check_tables};
 use catalogue::definitions::Catalogue;
 use std::alloc::Global;
 use store::{Fault, Map};
@@ -28,7 +28,7 @@ pub fn check_rows<M: Map>(alloc: Global, map: &mut M, catalogue: &Catalogue) -> 
     one_catalogue();
     let tables = catalogue.tables();
     match check_tables(map, tables) {
-        Ok(()) => check_strays(alloc, map, tables),
+        Ok(()) => check_orphans(alloc, map, tables),
         Err(fault) => Err(fault),
     }
 }

@@ -5,13 +5,13 @@ ghost use Rattle.store.specs.Readers.{HasRead};
 ghost use Rattle.store.specs.Store.{StoreState};
 ghost use Rattle.row_codec.specs.Rows.{row_prefix};
 ghost use Rattle.stored_database.specs.Definitions.{ids_of};
-ghost use Rattle.stored_database.specs.Spelling.{rows_prefix};
-ghost use Rattle.catalogue_records.specs.Checks.{ChecksRecords, IsNoStrayRow, IsRowRecord};
+ghost use Rattle.stored_database.specs.RecordFormat.{rows_prefix};
+ghost use Rattle.catalogue_records.specs.Checks.{ChecksRecords, IsNoOrphanRow, IsRowRecord};
 ghost use Rattle.stored_rows.specs.Checks.{ChecksTables};
 
 use catalogue::numbers::table_ids;
 use catalogue::table::TableDefinition;
-use catalogue_records::{RowTest, StrayTest, Strays, check_records};
+use catalogue_records::{OrphanTest, Orphans, RowTest, check_records};
 use std::alloc::Global;
 use store::{Fault, Map};
 
@@ -49,7 +49,7 @@ fn check_table<M: Map>(map: &mut M, table: &TableDefinition) -> Result<(), Fault
 
 /// Whether each record of a row is of one of these tables. Memory: an allocation failed. Device: the
 /// map answered it. Damaged: one of the records is of none.
-pub(crate) fn check_strays<M: Map>(
+pub(crate) fn check_orphans<M: Map>(
     alloc: Global,
     map: &mut M,
     tables: &[TableDefinition],
@@ -57,12 +57,12 @@ pub(crate) fn check_strays<M: Map>(
     ensures preserved { M.preserved map.old map.new }
     ensures read { HasRead result (M.state map.old) (M.state map.new) }
     ensures checked { (M.state map.old).sound
-        → ChecksRecords (IsNoStrayRow (ids_of tables.now)) (M.state map.old).map rows_prefix
+        → ChecksRecords (IsNoOrphanRow (ids_of tables.now)) (M.state map.old).map rows_prefix
         result }
 {
     let ids = table_ids(alloc, tables)?;
-    let test = StrayTest {
-        strays: Strays::OfRows,
+    let test = OrphanTest {
+        orphans: Orphans::OfRows,
         ids: ids.as_slice(),
     };
     check_records(map, &[ROW], &test)

@@ -7,8 +7,8 @@ use crate::reports::{report, report_count};
 use crate::servers::{answered_by, open_server};
 use crate::stores::{PAGES, new_device, new_in_memory};
 use lives::live;
-use sector_device::{Guarded, MemDevice};
-use sessions::Decider;
+use sector_device::{MemDevice, WriteProtected};
+use sessions::SessionHandler;
 use sql_types::answer::Answer;
 use sql_types::event::Event;
 use statements::Statements;
@@ -96,7 +96,7 @@ fn answered_in_memory(alloc: Global, events: &[Event]) -> io::Result<String> {
 /// The answers to events in a life on a device, and those of a second life without events.
 fn answered_in_lives(alloc: Global, events: &[Event]) -> io::Result<String> {
     let mut answers = Vec::new(alloc);
-    let device = Guarded::new(new_device(alloc, PAGES)?);
+    let device = WriteProtected::new(new_device(alloc, PAGES)?);
     let device = lived(alloc, device, events, &mut answers)?;
     let _left = lived(alloc, device, &[], &mut answers)?;
     text_of_answers(alloc, answers.as_slice())
@@ -105,11 +105,17 @@ fn answered_in_lives(alloc: Global, events: &[Event]) -> io::Result<String> {
 /// What a life on a device leaves, which adds its answers to events.
 fn lived(
     alloc: Global,
-    device: Guarded<MemDevice>,
+    device: WriteProtected<MemDevice>,
     events: &[Event],
     answers: &mut Vec<Answer>,
-) -> io::Result<Guarded<MemDevice>> {
-    match live(alloc, device, Decider::new(Statements), events, answers) {
+) -> io::Result<WriteProtected<MemDevice>> {
+    match live(
+        alloc,
+        device,
+        SessionHandler::new(Statements),
+        events,
+        answers,
+    ) {
         (device, Ok(())) => Ok(device),
         (_, Err(_)) => Err(io::Error::from(io::ErrorKind::Other)),
     }

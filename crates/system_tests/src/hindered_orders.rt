@@ -15,7 +15,7 @@ use crate::device_images::{DeviceImage, LENGTH, change_bytes, number_in, word_in
 use crate::files::text_of;
 use crate::orders::{make_database, printed_for_order, told_for_order};
 use crate::reports::report;
-use commands::command::Order;
+use commands::command::Invocation;
 use std::alloc::{AllocError, Global};
 use std::fs::{File, OpenOptions};
 use std::io::Write;
@@ -84,7 +84,7 @@ fn printed_if_hindered(rt: &HostRuntime, alloc: Global, hindrance: &str) -> io::
 /// What `check` prints where its file holds these bytes.
 fn check_bytes(rt: &HostRuntime, alloc: Global, bytes: &[u8]) -> io::Result<String> {
     fs::write(rt, FILE, bytes)?;
-    printed_for_order(rt, alloc, &Order::Check { file: FILE })
+    printed_for_order(rt, alloc, &Invocation::Check { file: FILE })
 }
 
 /// What `check` prints where its file was altered.
@@ -114,7 +114,7 @@ fn serve_on_a_bound_port(rt: &HostRuntime, alloc: Global, file: &str) -> io::Res
 
 /// What `serve` of a file prints on a port, in the place of which stands `PORT`.
 fn serve_on_port(rt: &HostRuntime, alloc: Global, file: &str, port: u16) -> io::Result<String> {
-    let order = Order::Serve {
+    let order = Invocation::Serve {
         file,
         port,
         connections: 1,
@@ -132,7 +132,7 @@ fn without_port(alloc: Global, text: &str, port: u16) -> Result<String, AllocErr
 
 /// What `run --memory` prints where its output fails.
 fn run_to_a_failing_output(rt: &HostRuntime, alloc: Global) -> io::Result<String> {
-    let order = Order::RunMemory {
+    let order = Invocation::RunMemory {
         admin: "root",
         script: SCRIPT,
     };
@@ -143,7 +143,7 @@ fn run_to_a_failing_output(rt: &HostRuntime, alloc: Global) -> io::Result<String
 fn check_a_locked_file(rt: &HostRuntime, alloc: Global) -> io::Result<String> {
     let file = open_database(rt)?;
     file.try_lock()?;
-    printed_for_order(rt, alloc, &Order::Check { file: FILE })
+    printed_for_order(rt, alloc, &Invocation::Check { file: FILE })
 }
 
 /// The file of the database, which is read and written.

@@ -1,17 +1,21 @@
 //! What the program prints for an order.
 
-use commands::command::Order;
+use commands::command::Invocation;
 use real_system::RealSystem;
 use script_runs::text_sink::TextSink;
 use session_server::program::perform;
-use sessions::Decider;
+use sessions::SessionHandler;
 use statements::Statements;
 use std::alloc::{AllocError, Global};
 use std::io;
 use std::io::Write;
 
 /// What the program prints for an order: first on standard output, then the exit status, then on standard error.
-pub fn printed_for_order(rt: &HostRuntime, alloc: Global, order: &Order<'_>) -> io::Result<String> {
+pub fn printed_for_order(
+    rt: &HostRuntime,
+    alloc: Global,
+    order: &Invocation<'_>,
+) -> io::Result<String> {
     let mut out = Vec::new(alloc);
     print_for_order(rt, alloc, order, &mut out)?;
     Ok(String::from_utf8_lossy(alloc, out.as_slice())?)
@@ -21,7 +25,7 @@ pub fn printed_for_order(rt: &HostRuntime, alloc: Global, order: &Order<'_>) -> 
 fn print_for_order(
     rt: &HostRuntime,
     alloc: Global,
-    order: &Order<'_>,
+    order: &Invocation<'_>,
     out: &mut Vec<u8>,
 ) -> io::Result<()> {
     let told = told_for_order(rt, alloc, order, out)?;
@@ -33,7 +37,7 @@ fn print_for_order(
 pub fn told_for_order<W: Write>(
     rt: &HostRuntime,
     alloc: Global,
-    order: &Order<'_>,
+    order: &Invocation<'_>,
     out: &mut W,
 ) -> io::Result<String> {
     let mut err = Vec::new(alloc);
@@ -45,14 +49,14 @@ pub fn told_for_order<W: Write>(
 fn status_for_order<W: Write>(
     rt: &HostRuntime,
     alloc: Global,
-    order: &Order<'_>,
+    order: &Invocation<'_>,
     out: &mut W,
     err: &mut Vec<u8>,
 ) -> io::Result<u8> {
     let mut system = RealSystem::start(rt, alloc)?;
-    let decider = Decider::new(Statements);
+    let handler = SessionHandler::new(Statements);
     let mut sink = TextSink::new(out);
-    Ok(perform(&mut system, alloc, decider, order, &mut sink, err).status)
+    Ok(perform(&mut system, alloc, handler, order, &mut sink, err).status)
 }
 
 /// A line of the exit status, and then what is printed on standard error.
@@ -63,7 +67,7 @@ pub fn after_status(alloc: Global, status: u8, err: &[u8]) -> Result<String, All
 
 /// Makes a new database of 64 pages in a file.
 pub fn make_database(rt: &HostRuntime, alloc: Global, file: &str) -> io::Result<()> {
-    let order = Order::Format {
+    let order = Invocation::Format {
         file,
         pages: 64,
         admin: "root",

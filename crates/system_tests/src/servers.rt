@@ -6,7 +6,7 @@ use connections::listen::Listen;
 use connections::listener::{Served, serve_listener};
 use opening::{OpeningFault, Refused, open};
 use server::server::Server;
-use sessions::Decider;
+use sessions::SessionHandler;
 use sql_types::event::Event;
 use statements::Statements;
 use std::alloc::Global;
@@ -14,14 +14,14 @@ use std::io;
 use store::Store;
 
 /// A server over a store.
-pub type ServerOver<S> = Server<S, Decider<Statements>>;
+pub type ServerOver<S> = Server<S, SessionHandler<Statements>>;
 
 /// Opens a server over a store, or hands the store back and tells why none is.
 pub fn try_server<S: Store + Drop>(
     alloc: Global,
     store: S,
 ) -> Result<ServerOver<S>, (S, OpeningFault)> {
-    match open(alloc, store, Decider::new(Statements)) {
+    match open(alloc, store, SessionHandler::new(Statements)) {
         Ok(server) => Ok(server),
         Err(Refused { store, fault }) => Err((store, fault)),
     }

@@ -7,7 +7,7 @@ use sector_device::{Device, MemDevice};
 use session_server::ending::{Subject, exit_with};
 use session_server::running::run_script_over;
 use session_server::runs::run_for;
-use sessions::Decider;
+use sessions::SessionHandler;
 use sql_types::name::Name;
 use statements::Statements;
 use std::alloc::Global;
@@ -69,9 +69,9 @@ fn run_in_memory(
     err: &mut Vec<u8>,
 ) -> io::Result<u8> {
     let read = Ok(String::from_str(alloc, script)?.into_bytes());
-    let decider = Decider::new(Statements);
+    let handler = SessionHandler::new(Statements);
     let mut sink = TextSink::new(out);
-    Ok(run_for(alloc, decider, ADMIN, read, SCRIPT, &mut sink, err).status)
+    Ok(run_for(alloc, handler, ADMIN, read, SCRIPT, &mut sink, err).status)
 }
 
 /// Runs a script over a new database in pages, and answers the exit status.
@@ -95,7 +95,13 @@ fn run_over<S: Store + Drop>(
     err: &mut Vec<u8>,
 ) -> u8 {
     let mut sink = TextSink::new(out);
-    let run = run_script_over(alloc, store, Decider::new(Statements), script, &mut sink);
+    let run = run_script_over(
+        alloc,
+        store,
+        SessionHandler::new(Statements),
+        script,
+        &mut sink,
+    );
     exit_with(run.ending, SCRIPT, err).status
 }
 

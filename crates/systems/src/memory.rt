@@ -12,7 +12,7 @@ use crate::listener::MemListener;
 use crate::place::ListenPlace;
 use crate::system::System;
 use copying::Unwatched;
-use sector_device::{FileFault, Guarded, HistoryDevice, SystemCause};
+use sector_device::{FileFault, HistoryDevice, SystemCause, WriteProtected};
 use std::alloc::Global;
 use std::time::Duration;
 
@@ -56,16 +56,16 @@ impl<D: Drop> MemSystem<D> {
     }
 }
 
-impl System for MemSystem<Guarded<HistoryDevice>> {
+impl System for MemSystem<WriteProtected<HistoryDevice>> {
     ghost use Rattle.std.specs.Prelude.{◌≡◌, ◌≢◌, ◌≤◌, ◌⊎◌, ◌*◌, List, IfOk, IfErr, OnOk, OnErr};
     ghost use Rattle.systems.specs.Entries.{content_of};
     ghost use Rattle.systems.specs.MemoryLaws.{no_device_in, no_text_in};
 
-    type Device = Guarded<HistoryDevice>;
+    type Device = WriteProtected<HistoryDevice>;
 
     type Listener = MemListener;
 
-    type Watch = Unwatched;
+    type CopyProgress = Unwatched;
 
     ghost state = { λ s. memory_state s.entries.items s.port s.listener s.failures };
 
@@ -105,7 +105,7 @@ impl System for MemSystem<Guarded<HistoryDevice>> {
         &mut self,
         path: &str,
         access: Access,
-    ) -> Result<Guarded<HistoryDevice>, OpenPathFault> {
+    ) -> Result<WriteProtected<HistoryDevice>, OpenPathFault> {
         match find_content(self.entries.as_slice(), path) {
             None | Some(Content::Removed) => Err(OpenPathFault::Missing),
             Some(Content::Open | Content::Reading | Content::Taken) => Err(OpenPathFault::InUse),
@@ -134,7 +134,7 @@ impl System for MemSystem<Guarded<HistoryDevice>> {
     }
 
     // Who else has read the device meanwhile has ended.
-    fn close(&mut self, path: &str, device: Guarded<HistoryDevice>) {
+    fn close(&mut self, path: &str, device: WriteProtected<HistoryDevice>) {
         match exchange(&mut self.entries, path, Content::Device(device)) {
             None | Some(Content::Open | Content::Reading) => {}
             Some(other) => {
@@ -143,11 +143,11 @@ impl System for MemSystem<Guarded<HistoryDevice>> {
         }
     }
 
-    fn make(&mut self, path: &str, pages: u32) -> Result<Guarded<HistoryDevice>, FileFault> {
+    fn make(&mut self, path: &str, pages: u32) -> Result<WriteProtected<HistoryDevice>, FileFault> {
         let Ok(device) = HistoryDevice::new(self.alloc, pages) else {
             return Err(FileFault::Memory);
         };
-        let device = Guarded::new(device);
+        let device = WriteProtected::new(device);
         match find_content(self.entries.as_slice(), path) {
             None => match add(self.alloc, &mut self.entries, path, Content::Open) {
                 Ok(()) => Ok(device),
@@ -161,7 +161,11 @@ impl System for MemSystem<Guarded<HistoryDevice>> {
         }
     }
 
-    fn remove(&mut self, path: &str, device: Guarded<HistoryDevice>) -> Result<(), SystemCause> {
+    fn remove(
+        &mut self,
+        path: &str,
+        device: WriteProtected<HistoryDevice>,
+    ) -> Result<(), SystemCause> {
         match exchange(&mut self.entries, path, Content::Removed) {
             Some(Content::Open) => Ok(()),
             None => {
@@ -180,8 +184,8 @@ impl System for MemSystem<Guarded<HistoryDevice>> {
         &mut self,
         from: &str,
         to: &str,
-        device: Guarded<HistoryDevice>,
-    ) -> Result<(), (Guarded<HistoryDevice>, FileFault)> {
+        device: WriteProtected<HistoryDevice>,
+    ) -> Result<(), (WriteProtected<HistoryDevice>, FileFault)> {
         if is_named(self.entries.as_slice(), to) {
             return Err((device, FileFault::Exists));
         }
@@ -234,6 +238,6 @@ impl System for MemSystem<Guarded<HistoryDevice>> {
 
 /// A system in memory does what `System` says, always: so what is promised of a faithful system is
 /// promised of something.
-pub fn memory_is_faithful(system: &MemSystem<Guarded<HistoryDevice>>)
-    ensures { (⟦<MemSystem<Guarded<HistoryDevice>> as System>⟧.state system.now).faithful }
+pub fn memory_is_faithful(system: &MemSystem<WriteProtected<HistoryDevice>>)
+    ensures { (⟦<MemSystem<WriteProtected<HistoryDevice>> as System>⟧.state system.now).faithful }
 {}

@@ -8,7 +8,7 @@ use crate::access::Access;
 use crate::fault::{OpenPathFault, TextFault};
 use crate::place::ListenPlace;
 use connections::listen::Listen;
-use copying::Watch;
+use copying::CopyProgress;
 use journal_store::JournalDevice;
 use sector_device::{Device, FileFault, SystemCause};
 use std::alloc::Global;
@@ -27,7 +27,7 @@ pub trait System {
     type Listener: Listen + Drop;
 
     /// What is told how far a copy is.
-    type Watch: Watch + Drop;
+    type CopyProgress: CopyProgress + Drop;
 
     /// What the system is at one moment.
     ghost state: { Self → SystemState Self.Device Self.Listener };
@@ -37,7 +37,7 @@ pub trait System {
         ensures { result ≡ (state self.now).failures };
 
     /// What is told how far a copy is that begins now. It is no part of the system, which stays as it is, whatever is told.
-    fn watch_copy(&self) -> Self::Watch;
+    fn watch_copy(&self) -> Self::CopyProgress;
 
     /// Reads the bytes of a text.
     ///

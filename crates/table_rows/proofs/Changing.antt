@@ -16,7 +16,7 @@ use Rattle.row_codec.specs.Rows.{row_key, row_prefix}
 use Rattle.abstract_database.specs.Lists.{put, the_new}
 use Rattle.abstract_database.specs.Changes.{Chosen, new_rows, other_rows, with_rows}
 use Rattle.abstract_database.specs.Whole.{Each}
-use Rattle.stored_database.specs.Spelling.{row_record}
+use Rattle.stored_database.specs.RecordFormat.{row_record}
 use Rattle.stored_database.proofs.KeyOrder.{row_order, held_rise}
 use Rattle.table_rows.specs.HeldRows.{HoldsRows}
 use Rattle.table_rows.specs.Changed.{without_keys, with_records, old_key, old_keys, UpdateIsHeld, KeyIsFound, OtherRecordsStay, HeldRowsAreWhole}

@@ -17,7 +17,7 @@ use Rattle.abstract_database.specs.Guards.{Guard}
 use Rattle.abstract_database.specs.Changes.{Chosen, choose, new_rows}
 use Rattle.abstract_database.specs.Whole.{Each}
 use Rattle.guards.specs.Truths.{is_met}
-use Rattle.stored_database.specs.Spelling.{row_record}
+use Rattle.stored_database.specs.RecordFormat.{row_record}
 use Rattle.table_rows.specs.HeldRows.{ConcernRowsOf}
 use Rattle.table_rows.specs.Changed.{without_keys, old_key, old_keys}
 use Rattle.table_rows.specs.declared.choose.ChosenRows.{ChosenRows}

@@ -7,13 +7,13 @@ use Rattle.sql_ast.specs.Fits.{FitsTable}
 use Rattle.store.specs.Records.{Record, Records}
 use Rattle.store.specs.Steps.{Takes}
 use Rattle.abstract_database.specs.Whole.{Each}
-use Rattle.store.specs.declared.stop.Stop.{Stop}
-use Rattle.stored_database.specs.Spelling.{row_record}
+use Rattle.store.specs.declared.stop.StatementError.{StatementError}
+use Rattle.stored_database.specs.RecordFormat.{row_record}
 use Rattle.table_rows.specs.declared.visit.Flow.{Flow}
 use Rattle.table_rows.specs.declared.visit.Flow.TheVariants.{Continue, Done}
 use Rattle.table_rows.specs.HeldRows.{AreRecordsOf, SpellsRow}
 use Rattle.store.specs.declared.fault.Fault.TheVariants.{Memory, Device, Damaged}
-use Rattle.store.specs.declared.stop.Stop.TheVariants.{Refused, Failed}
+use Rattle.store.specs.declared.stop.StatementError.TheVariants.{Refused, Failed}
 use Rattle.table_rows.specs.Visits.{AnswerAfter, Visits, VisitsRecord, VisitsAll, SpellsVisited}
 use Rattle.table_rows.specs.Walked.{WalksFront, Walks}
 use Rattle.table_rows.proofs.Going.{Goes, goes_first, goes_last, goes_on, goes_done, meets, visit_failed, spelled_on, spelled_last, none_left}
@@ -131,7 +131,7 @@ module _ (id : ℕ) (layout : Layout) where
       walked_early records [] old new (walking_on records records [] entry old old (λ rest. new []) (walking_first records old) is spells (visited_done Done entry old new refl visits))
 
   -- the visit of a record fails
-  pub walk_failed : {A : Type 0} (records remaining later : Records) (entry : Record) (old now last : AnswerAfter A) (failure : Stop) → Walking id layout records remaining old now → remaining ≡ entry ∷ later
+  pub walk_failed : {A : Type 0} (records remaining later : Records) (entry : Record) (old now last : AnswerAfter A) (failure : StatementError) → Walking id layout records remaining old now → remaining ≡ entry ∷ later
       → SpellsVisited layout entry (Err failure) → VisitsRecord id layout entry (Err failure) now last → Walks id layout records old last (Err failure)
   walk_failed records remaining later entry old now last (Refused code) w is spells visits =
       walked_early records later old (λ rest. Err code) (walking_on records remaining later entry old now (λ rest. Err code) w is spells (λ row rest fits entry_is. visits row fits entry_is rest))
@@ -179,12 +179,12 @@ module _ {A : Type 0} (layout : Layout) (records left : Records) (old now : ℕ 
         (walking_on id layout records left later entry (old id) (now id) (λ rest. then id []) (remains.walked id) is spells (visited_done id layout flow entry (now id) (then id) done (visits id)))
 
   -- the visit of a record fails
-  pub failed_visited : (entry : Record) (later : Records) (last : ℕ → AnswerAfter A) (failure : Stop) → left ≡ entry ∷ later → ((id : ℕ) → VisitsRecord id layout entry (Err failure) (now id) (last id))
+  pub failed_visited : (entry : Record) (later : Records) (last : ℕ → AnswerAfter A) (failure : StatementError) → left ≡ entry ∷ later → ((id : ℕ) → VisitsRecord id layout entry (Err failure) (now id) (last id))
       → (id : ℕ) (rows : List Row) → AreRecordsOf id layout rows records → VisitsAll (Err failure) rows (old id) (last id)
   failed_visited entry later last failure is visits id rows h =
       let met = meets id layout left entry later rows (old id) (now id) (remains.going id rows h) is in
       visit_failed id layout failure entry later rows (old id) (now id) (last id) (last id) met (visits id met.row met.fits met.entry_is)
 
-  pub failed_walked : (entry : Record) (later : Records) (last : ℕ → AnswerAfter A) (failure : Stop) → left ≡ entry ∷ later → SpellsVisited layout entry (Err failure)
+  pub failed_walked : (entry : Record) (later : Records) (last : ℕ → AnswerAfter A) (failure : StatementError) → left ≡ entry ∷ later → SpellsVisited layout entry (Err failure)
       → ((id : ℕ) → VisitsRecord id layout entry (Err failure) (now id) (last id)) → (id : ℕ) → Walks id layout records (old id) (last id) (Err failure)
   failed_walked entry later last failure is spells visits id = walk_failed id layout records left later entry (old id) (now id) (last id) failure (remains.walked id) is spells (visits id)

@@ -10,10 +10,10 @@ use Rattle.store.specs.declared.fault.Fault.TheVariants.{Memory, Device, Damaged
 use Rattle.store.specs.Fault.{fault_of}
 use Rattle.store.specs.Records.{Record, Records}
 use Rattle.abstract_database.specs.Whole.{Each}
-use Rattle.stored_database.specs.Spelling.{row_record}
+use Rattle.stored_database.specs.RecordFormat.{row_record}
 use Rattle.table_rows.specs.HeldRows.{AreRecordsOf, SpellsRow}
-use Rattle.store.specs.declared.stop.Stop.{Stop}
-use Rattle.store.specs.declared.stop.Stop.TheVariants.{Refused, Failed}
+use Rattle.store.specs.declared.stop.StatementError.{StatementError}
+use Rattle.store.specs.declared.stop.StatementError.TheVariants.{Refused, Failed}
 use Rattle.table_rows.specs.declared.visit.Flow.{Flow}
 use Rattle.table_rows.specs.Visits.{AnswerAfter, Visits, VisitsAt, VisitsAll}
 
@@ -59,7 +59,7 @@ module _ {A : Type 0} (id : ℕ) (layout : Layout) where
   goes_done entry later rows old now last m visited = m.whole ∙ visited m.rest
 
   -- a visit that fails ends the walk
-  pub visit_failed : (failure : Stop) (entry : Record) (later : Records) (rows : List Row) (old now then last : AnswerAfter A) (m : Meets id layout entry later rows old now) → Visits (Err failure) m.row now then
+  pub visit_failed : (failure : StatementError) (entry : Record) (later : Records) (rows : List Row) (old now then last : AnswerAfter A) (m : Meets id layout entry later rows old now) → Visits (Err failure) m.row now then
       → VisitsAll (Err failure) rows old last
   visit_failed (Refused code) entry later rows old now then last m v = m.whole ∙ v m.rest
   visit_failed (Failed Memory) entry later rows old now then last m v = tt
@@ -67,8 +67,8 @@ module _ {A : Type 0} (id : ℕ) (layout : Layout) where
   visit_failed (Failed Damaged) entry later rows old now then last m v = v
 
 -- so does a fault of the map
-pub fault_ends : {A : Type 0} (fault : StoreFault) (failure : Stop) (rows : List Row) (old last : AnswerAfter A) → failure ≡ Failed (fault_of fault) → VisitsAll (Err failure) rows old last
-fault_ends {A} fault failure rows old last e = subst (λ (f : Stop). VisitsAll (Err f) rows old last) (sym e) (go fault)
+pub fault_ends : {A : Type 0} (fault : StoreFault) (failure : StatementError) (rows : List Row) (old last : AnswerAfter A) → failure ≡ Failed (fault_of fault) → VisitsAll (Err failure) rows old last
+fault_ends {A} fault failure rows old last e = subst (λ (f : StatementError). VisitsAll (Err f) rows old last) (sym e) (go fault)
   where
     go : (fault : StoreFault) → VisitsAll (Err (Failed (fault_of fault))) rows old last
     go store.Full = tt
@@ -84,7 +84,7 @@ row_is a b e = cc
 pub no_row : (row : Row) → None ≡ Some row → ⊥
 no_row row e = cc
 
-pub at_row : {A : Type 0} (id : ℕ) (layout : Layout) (key : List ℕ) (result : Result Flow Stop) (seen row : Row) (old now : AnswerAfter A) → seen ≡ row → VisitsAt id layout key result seen old now → VisitsAt id layout key result row old now
+pub at_row : {A : Type 0} (id : ℕ) (layout : Layout) (key : List ℕ) (result : Result Flow StatementError) (seen row : Row) (old now : AnswerAfter A) → seen ≡ row → VisitsAt id layout key result seen old now → VisitsAt id layout key result row old now
 at_row id layout key result seen row old now e v = subst (λ (r : Row). VisitsAt id layout key result r old now) e v
 
 -- ---- records that spell rows

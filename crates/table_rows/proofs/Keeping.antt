@@ -31,7 +31,7 @@ use Rattle.abstract_database.specs.Guards.{Guard}
 use Rattle.abstract_database.specs.Lists.{Rising}
 use Rattle.abstract_database.specs.Changes.{Chosen, choose, new_rows, other_rows, with_rows, value_beside, replaced_from, replaced, assigned, is_admitted, keeps_not_null, has_double_key}
 use Rattle.abstract_database.specs.Whole.{Each}
-use Rattle.stored_database.specs.Spelling.{row_record}
+use Rattle.stored_database.specs.RecordFormat.{row_record}
 use Rattle.table_rows.specs.HeldRows.{HoldsRows, ConcernRowsOf}
 use Rattle.table_rows.specs.Changed.{without_keys, with_records, old_keys}
 use Rattle.table_rows.specs.NewRows.{all_admitted, new_rows_checked}

@@ -10,7 +10,7 @@ use Rattle.store.proofs.Changes.{ordered_entries_where}
 use Rattle.abstract_database.specs.Lists.{Among, Rising}
 use Rattle.abstract_database.specs.Whole.{Each}
 use Rattle.row_codec.specs.Rows.{row_prefix}
-use Rattle.stored_database.specs.Spelling.{row_record}
+use Rattle.stored_database.specs.RecordFormat.{row_record}
 use Rattle.stored_database.proofs.KeyOrder.{row_order}
 use Rattle.key_ranges.specs.declared.range.KeyRange.{KeyRange}
 use Rattle.key_ranges.specs.Ranges.{is_in}

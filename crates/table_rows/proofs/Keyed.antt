@@ -6,10 +6,10 @@ use Rattle.sql_ast.specs.Fits.{FitsTable}
 use Rattle.store.specs.declared.fault.Fault.TheVariants.{Memory, Device, Damaged}
 use Rattle.store.specs.Records.{Record, IsFound}
 use Rattle.abstract_database.specs.Whole.{Each}
-use Rattle.stored_database.specs.Spelling.{row_record}
+use Rattle.stored_database.specs.RecordFormat.{row_record}
 use Rattle.table_rows.specs.HeldRows.{AreRecordsOf}
-use Rattle.store.specs.declared.stop.Stop.{Stop}
-use Rattle.store.specs.declared.stop.Stop.TheVariants.{Refused, Failed}
+use Rattle.store.specs.declared.stop.StatementError.{StatementError}
+use Rattle.store.specs.declared.stop.StatementError.TheVariants.{Refused, Failed}
 use Rattle.table_rows.specs.declared.visit.Flow.{Flow}
 use Rattle.table_rows.specs.declared.visit.Flow.TheVariants.{Continue, Done}
 use Rattle.table_rows.specs.Visits.{AnswerAfter, Visits, VisitsAll}
@@ -53,7 +53,7 @@ pub one_visited : {A : Type 0} (flow : Flow) (rows : List Row) (row : Row) (old 
 one_visited Continue rows row old new e v = ap old e ∙ v []
 one_visited Done rows row old new e v = ap old e ∙ v []
 
-pub one_failed : {A : Type 0} (failure : Stop) (rows : List Row) (row : Row) (old new : AnswerAfter A) → rows ≡ row ∷ [] → Visits (Err failure) row old new → VisitsAll (Err failure) rows old new
+pub one_failed : {A : Type 0} (failure : StatementError) (rows : List Row) (row : Row) (old new : AnswerAfter A) → rows ≡ row ∷ [] → Visits (Err failure) row old new → VisitsAll (Err failure) rows old new
 one_failed (Refused code) rows row old new e v = ap old e ∙ v []
 one_failed (Failed Memory) rows row old new e v = tt
 one_failed (Failed Device) rows row old new e v = tt

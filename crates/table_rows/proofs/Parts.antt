@@ -8,7 +8,7 @@ use Rattle.store.specs.Records.{Record, Records, IsOrdered, entries_where, first
 use Rattle.store.specs.Walks.{is_within, span}
 use Rattle.store.proofs.Changes.{ordered_entries_where}
 use Rattle.store.proofs.Walking.{none_within, span_goes_on}
-use Rattle.stored_database.specs.Spelling.{row_record}
+use Rattle.stored_database.specs.RecordFormat.{row_record}
 use Rattle.key_ranges.specs.declared.range.KeyRange.{KeyRange}
 use Rattle.key_ranges.specs.declared.range.KeyRange.TheVariants.{Span}
 use Rattle.key_ranges.specs.Ranges.{records_in}

@@ -16,10 +16,10 @@ use Rattle.row_codec.specs.Rows.{row_key, row_prefix}
 use Rattle.abstract_database.specs.Lists.{put, the_new}
 use Rattle.abstract_database.specs.Changes.{has_double_key, with_rows}
 use Rattle.abstract_database.specs.Whole.{Each}
-use Rattle.stored_database.specs.Spelling.{row_record}
+use Rattle.stored_database.specs.RecordFormat.{row_record}
 use Rattle.table_rows.specs.HeldRows.{HoldsRows, ConcernRowsOf}
-use Rattle.store.specs.declared.stop.Stop.{Stop}
-use Rattle.store.specs.declared.stop.Stop.TheVariants.{Refused, Failed}
+use Rattle.store.specs.declared.stop.StatementError.{StatementError}
+use Rattle.store.specs.declared.stop.StatementError.TheVariants.{Refused, Failed}
 use Rattle.table_rows.specs.Failures.{IsDamagedFor}
 use Rattle.table_rows.specs.Puts.{has_key, PutsRecord, PutsAll, PutsRows}
 use Rattle.table_rows.proofs.Changing.{row_put, key_is_found, held_rows_are_whole}
@@ -109,7 +109,7 @@ module _ (id : ℕ) (layout : Layout) (is : IsLayout layout) (all others : List 
   }
 
   -- a row that is not put ends it
-  pub putting_failed : (failure : Stop) (row : Row) (rest : List Row) (now next last : Changes) → Putting id layout all (row ∷ rest) others records old now
+  pub putting_failed : (failure : StatementError) (row : Row) (rest : List Row) (now next last : Changes) → Putting id layout all (row ∷ rest) others records old now
       → PutsRecord (Err failure) (row_record id layout row) records now next → PutsRows (Err failure) id layout all others records old last
   putting_failed (Refused code) row rest now next last p h =
       (p.doubles ∙ found_double layout.key p.rows row rest (sym (key_among row rest now p) ∙ h.0), h.1)
@@ -119,22 +119,22 @@ module _ (id : ℕ) (layout : Layout) (is : IsLayout layout) (all others : List 
 
   -- a row that is put, seen in the code and over the map as it then is
   pub putting_seen : (x : Unit {0}) (seen row : Row) (rest : List Row) (later : Records) (now next : Changes) → seen ≡ row → later ≡ records → Putting id layout all (row ∷ rest) others records old now
-      → (let r : Result (Unit {0}) Stop = Ok x in PutsRecord r (row_record id layout seen) later now next) → Putting id layout all rest others records old next
+      → (let r : Result (Unit {0}) StatementError = Ok x in PutsRecord r (row_record id layout seen) later now next) → Putting id layout all rest others records old next
   putting_seen x seen row rest later now next e m p h =
-      let here : (let r : Result (Unit {0}) Stop = Ok x in PutsRecord r (row_record id layout row) records now next) =
-      subst (λ (es : Records). let r : Result (Unit {0}) Stop = Ok x in PutsRecord r (row_record id layout row) es now next) m
-      (subst (λ (y : Row). let r : Result (Unit {0}) Stop = Ok x in PutsRecord r (row_record id layout y) later now next) e h) in
+      let here : (let r : Result (Unit {0}) StatementError = Ok x in PutsRecord r (row_record id layout row) records now next) =
+      subst (λ (es : Records). let r : Result (Unit {0}) StatementError = Ok x in PutsRecord r (row_record id layout row) es now next) m
+      (subst (λ (y : Row). let r : Result (Unit {0}) StatementError = Ok x in PutsRecord r (row_record id layout y) later now next) e h) in
       putting_next row rest now next p here.0 here.1
 
-  pub failed_seen : (failure : Stop) (seen row : Row) (rest : List Row) (later : Records) (now next last : Changes) → seen ≡ row → later ≡ records → Putting id layout all (row ∷ rest) others records old now
-      → (let r : Result (Unit {0}) Stop = Err failure in PutsRecord r (row_record id layout seen) later now next) → (let r : Result (Unit {0}) Stop = Err failure in PutsRows r id layout all others records old last)
+  pub failed_seen : (failure : StatementError) (seen row : Row) (rest : List Row) (later : Records) (now next last : Changes) → seen ≡ row → later ≡ records → Putting id layout all (row ∷ rest) others records old now
+      → (let r : Result (Unit {0}) StatementError = Err failure in PutsRecord r (row_record id layout seen) later now next) → (let r : Result (Unit {0}) StatementError = Err failure in PutsRows r id layout all others records old last)
   failed_seen failure seen row rest later now next last e m p h =
       putting_failed failure row rest now next last p
-      (subst (λ (es : Records). let r : Result (Unit {0}) Stop = Err failure in PutsRecord r (row_record id layout row) es now next) m
-      (subst (λ (y : Row). let r : Result (Unit {0}) Stop = Err failure in PutsRecord r (row_record id layout y) later now next) e h))
+      (subst (λ (es : Records). let r : Result (Unit {0}) StatementError = Err failure in PutsRecord r (row_record id layout row) es now next) m
+      (subst (λ (y : Row). let r : Result (Unit {0}) StatementError = Err failure in PutsRecord r (row_record id layout y) later now next) e h))
 
 -- a record that is not put is not damaged
-pub put_undamaged : (failure : Stop) (entry : Record) (records : Records) (old new : Changes) → (let r : Result (Unit {0}) Stop = Err failure in PutsRecord r entry records old new) → IsDamagedFor ⊥ failure
+pub put_undamaged : (failure : StatementError) (entry : Record) (records : Records) (old new : Changes) → (let r : Result (Unit {0}) StatementError = Err failure in PutsRecord r entry records old new) → IsDamagedFor ⊥ failure
 put_undamaged (Refused code) entry records old new h = tt
 put_undamaged (Failed Memory) entry records old new h = tt
 put_undamaged (Failed Device) entry records old new h = tt

@@ -15,7 +15,7 @@ use Rattle.abstract_database.specs.Guards.{Guard}
 use Rattle.abstract_database.specs.Changes.{condition_on_row}
 use Rattle.abstract_database.specs.Whole.{Each}
 use Rattle.row_codec.specs.Rows.{row_prefix}
-use Rattle.stored_database.specs.Spelling.{row_record}
+use Rattle.stored_database.specs.RecordFormat.{row_record}
 use Rattle.key_ranges.specs.declared.range.KeyRange.{KeyRange}
 use Rattle.key_ranges.specs.Ranges.{is_in, is_inside}
 use Rattle.key_ranges.proofs.Records.{found_range, in_table, ranges_hold_their_rows}

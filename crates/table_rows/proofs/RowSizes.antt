@@ -7,7 +7,7 @@ use Rattle.sql_ast.specs.Rows.{KeepsLimits}
 use Rattle.store.specs.Records.{IsKeySize}
 use Rattle.row_codec.specs.Rows.{row_prefix, row_key, row_value}
 use Rattle.row_codec.proofs.Lengths.{row_key_long, row_value_long}
-use Rattle.stored_database.specs.Spelling.{row_record}
+use Rattle.stored_database.specs.RecordFormat.{row_record}
 use Rattle.stored_database.proofs.Lengths.{prefix_long}
 
 -- the key of a row that keeps to the limits is one that a store takes

@@ -17,8 +17,8 @@ use Rattle.row_codec.specs.InPlace.{table_cell}
 use Rattle.abstract_database.specs.Expressions.{bound_value}
 use Rattle.abstract_database.specs.Changes.{value_beside, replaced_from, replaced}
 use Rattle.guards.specs.Guards.{cells_of}
-use Rattle.store.specs.declared.stop.Stop.{Stop}
-use Rattle.store.specs.declared.stop.Stop.TheVariants.{Refused, Failed}
+use Rattle.store.specs.declared.stop.StatementError.{StatementError}
+use Rattle.store.specs.declared.stop.StatementError.TheVariants.{Refused, Failed}
 use Rattle.table_rows.specs.Failures.{Gives}
 use Rattle.table_rows.specs.Targets.{terms_in, row_so_wide}
 
@@ -54,8 +54,8 @@ values_bound cells users rows list e = ap (λ c. each (value_on c users) list) e
 -- ---- rows of values
 
 -- a failure of the first stage is one of both
-pub first_failed : {A B : Type 0} (failure : Stop) (meant whole : Result A SqlState) (go : A → Result B SqlState) → meant ≡ whole → (let r : Result A Stop = Err failure in Gives r meant)
-    → (let r : Result B Stop = Err failure in Gives r (whole >>= go))
+pub first_failed : {A B : Type 0} (failure : StatementError) (meant whole : Result A SqlState) (go : A → Result B SqlState) → meant ≡ whole → (let r : Result A StatementError = Err failure in Gives r meant)
+    → (let r : Result B StatementError = Err failure in Gives r (whole >>= go))
 first_failed (Refused code) meant whole go e g = ap (λ r. r >>= go) (sym e ∙ g)
 first_failed (Failed Memory) meant whole go e g = tt
 first_failed (Failed Device) meant whole go e g = g

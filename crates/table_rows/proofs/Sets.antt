@@ -13,8 +13,8 @@ use Rattle.store.specs.declared.fault.Fault.TheVariants.{Memory, Device, Damaged
 use Rattle.store.specs.Records.{Records, IsOrdered}
 use Rattle.abstract_database.specs.Guards.{Guard}
 use Rattle.abstract_database.specs.Changes.{Chosen, Changed, choose, checked_rows, keeps_not_null, new_rows, other_rows}
-use Rattle.store.specs.declared.stop.Stop.{Stop}
-use Rattle.store.specs.declared.stop.Stop.TheVariants.{Refused, Failed}
+use Rattle.store.specs.declared.stop.StatementError.{StatementError}
+use Rattle.store.specs.declared.stop.StatementError.TheVariants.{Refused, Failed}
 use Rattle.table_rows.specs.declared.setting.SetRows.{SetRows}
 use Rattle.table_rows.specs.Failures.{Answers}
 use Rattle.table_rows.specs.HeldRows.{HoldsRows, ConcernRowsOf}
@@ -59,7 +59,7 @@ module _ (id : ℕ) (layout : Layout) (existing admitting : Guard) (condition : 
       subst (λ (x : SetRows). ConcernRowsOf id x.changes) s.are (set_concern id layout admitting nothing_set s.cs tt)
 
   -- a refusal of the choice is that of the statement
-  pub not_set : (records : Records) (go : List Chosen → Result Changed SqlState) (failure : Stop) → (let r : Result SetRows Stop = Err failure in Answers r all_sets) → MakesChanges id layout records (Err failure) (all_choices >>= go)
+  pub not_set : (records : Records) (go : List Chosen → Result Changed SqlState) (failure : StatementError) → (let r : Result SetRows StatementError = Err failure in Answers r all_sets) → MakesChanges id layout records (Err failure) (all_choices >>= go)
   not_set records go (Refused code) e = ap (λ r. r >>= go) (bind_err all_choices (all_set id layout admitting nothing_set) code (sym set_is ∙ e))
   not_set records go (Failed Memory) e = tt
   not_set records go (Failed Device) e = tt

@@ -8,7 +8,7 @@ use Rattle.sql_ast.specs.Layout.{Layout}
 use Rattle.sql_ast.specs.Fits.{FitsTable}
 use Rattle.store.specs.Records.{Record, Records, has_prefix}
 use Rattle.row_codec.specs.Rows.{row_prefix, row_key, row_value}
-use Rattle.stored_database.specs.Spelling.{row_record}
+use Rattle.stored_database.specs.RecordFormat.{row_record}
 use Rattle.stored_database.proofs.Lengths.{prefix_long}
 use Rattle.table_rows.specs.HeldRows.{AreRecordsOf, SpellsRow}
 use Rattle.table_rows.proofs.Changing.{each_of}
@@ -30,15 +30,15 @@ record_is id layout e s h =
     ap (λ (k : List ℕ). (k, e.1)) key ∙ ap (λ (v : List ℕ). (row_prefix id ++ row_key layout s.0, v)) value
 
 -- records that spell rows are the records of rows
-pub record Spelling (id : ℕ) (layout : Layout) (records : Records) : Type 0 where
+pub record RecordFormat (id : ℕ) (layout : Layout) (records : Records) : Type 0 where
   pub rows : List Row
   pub are : records ≡ map (row_record id layout) rows
   pub fit : AllByRecursion (FitsTable layout) rows
 
-spelling_of : (id : ℕ) (layout : Layout) (es : Records) → AllByRecursion (λ e. has_prefix (row_prefix id) e.0 ≡ true) es → AllByRecursion (SpellsRow layout) es → Spelling id layout es
-spelling_of id layout [] prefixed all = record { rows = []; are = refl; fit = tt }
-spelling_of id layout (e ∷ es) prefixed all =
-    let rest = spelling_of id layout es prefixed.1 all.1 in
+record_format_of : (id : ℕ) (layout : Layout) (es : Records) → AllByRecursion (λ e. has_prefix (row_prefix id) e.0 ≡ true) es → AllByRecursion (SpellsRow layout) es → RecordFormat id layout es
+record_format_of id layout [] prefixed all = record { rows = []; are = refl; fit = tt }
+record_format_of id layout (e ∷ es) prefixed all =
+    let rest = record_format_of id layout es prefixed.1 all.1 in
     let first : e ≡ row_record id layout all.0.0 = record_is id layout e all.0 prefixed.0 in
     record {
       rows = all.0.0 ∷ rest.rows;
@@ -49,5 +49,5 @@ spelling_of id layout (e ∷ es) prefixed all =
 -- the rows that they hold
 pub rows_spelled : (id : ℕ) (layout : Layout) (es : Records) → AllByRecursion (λ e. has_prefix (row_prefix id) e.0 ≡ true) es → AllByRecursion (SpellsRow layout) es → (rows : List Row) × AreRecordsOf id layout rows es
 rows_spelled id layout es prefixed all =
-    let s = spelling_of id layout es prefixed all in
+    let s = record_format_of id layout es prefixed all in
     (s.rows, record { are = s.are; fit = each_of (FitsTable layout) s.rows s.fit })

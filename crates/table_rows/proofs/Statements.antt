@@ -19,8 +19,8 @@ use Rattle.abstract_database.specs.Guards.{Guard}
 use Rattle.abstract_database.specs.Changes.{Chosen, Changed, CheckedInsert, CheckedUpdate, CheckedDelete, choose, condition_on_row, inserted_row, new_rows, other_rows, keeps_not_null, checked_rows, has_double_key, with_rows, rows_updated, rows_deleted}
 use Rattle.abstract_database.specs.Whole.{Each}
 use Rattle.table_rows.specs.HeldRows.{HoldsRows, ConcernRowsOf}
-use Rattle.store.specs.declared.stop.Stop.{Stop}
-use Rattle.store.specs.declared.stop.Stop.TheVariants.{Refused, Failed}
+use Rattle.store.specs.declared.stop.StatementError.{StatementError}
+use Rattle.store.specs.declared.stop.StatementError.TheVariants.{Refused, Failed}
 use Rattle.table_rows.specs.declared.choose.ChosenRows.{ChosenRows}
 use Rattle.table_rows.specs.declared.change.RowChanges.{RowChanges}
 use Rattle.table_rows.specs.declared.target.Target.{Target}
@@ -70,7 +70,7 @@ module _ (id : ℕ) (layout : Layout) (keep : Row → Option Row) (guard : Guard
       }
 
   -- a refusal of the choice is that of the statement
-  pub not_chosen : (rows : List Row) (records : Records) (go : List Chosen → Result Changed SqlState) (failure : Stop) → (let r : Result ChosenRows Stop = Err failure in Answers r (all_chosen (is_chosen guard condition) becomes id layout nothing_chosen rows))
+  pub not_chosen : (rows : List Row) (records : Records) (go : List Chosen → Result Changed SqlState) (failure : StatementError) → (let r : Result ChosenRows StatementError = Err failure in Answers r (all_chosen (is_chosen guard condition) becomes id layout nothing_chosen rows))
       → MakesChanges id layout records (Err failure) (each (choose guard condition into) rows >>= go)
   not_chosen rows records go (Refused code) e =
       ap (λ r. r >>= go) (bind_err (each (choose guard condition into) rows) (all_taken keep (taking id layout) nothing_chosen) code (sym (chosen_is keep (taking id layout) guard condition into becomes same rows nothing_chosen) ∙ e))
@@ -111,7 +111,7 @@ module _ (id : ℕ) (layout : Layout) (guard : Guard) (others new : List Row) (r
       is ∙ ap (counted n) (checked_is layout guard others new ∙ ap (λ r. r >>= λ checked. require (not (has_double_key layout.key (others ++ new))) UniqueViolation >>= λ unique. Ok (with_rows layout.key new others)) e
       ∙ ap (λ b. require (not b) UniqueViolation >>= λ unique. Ok (with_rows layout.key new others)) d)
 
-  pub put_failed : (x : Unit {0}) (failure : Stop) (old now : Changes) → new_rows_checked layout guard new ≡ Ok x → (let r : Result (Unit {0}) Stop = Err failure in PutsRows r id layout new others records old now)
+  pub put_failed : (x : Unit {0}) (failure : StatementError) (old now : Changes) → new_rows_checked layout guard new ≡ Ok x → (let r : Result (Unit {0}) StatementError = Err failure in PutsRows r id layout new others records old now)
       → MakesChanges id layout records (Err failure) meant
   put_failed x (Refused code) old now e h = last_stage x true e h.0 ∙ ap (λ (s : SqlState). Err s) (sym h.1)
   put_failed x (Failed Memory) old now e h = tt
@@ -195,7 +195,7 @@ insert_is target insertion c admitting rows h =
     turned (Err code) = refl
 
 -- rows that are not made
-pub not_made : {A : Type 0} (id : ℕ) (layout : Layout) (records : Records) (f : A → Result Row SqlState) (xs : List A) (go : List Row → Result Changed SqlState) (failure : Stop) → (let r : Result (List Row) Stop = Err failure in Gives r (each f xs))
+pub not_made : {A : Type 0} (id : ℕ) (layout : Layout) (records : Records) (f : A → Result Row SqlState) (xs : List A) (go : List Row → Result Changed SqlState) (failure : StatementError) → (let r : Result (List Row) StatementError = Err failure in Gives r (each f xs))
     → MakesChanges id layout records (Err failure) (each f xs >>= go)
 not_made id layout records f xs go (Refused code) e = ap (λ r. r >>= go) e
 not_made id layout records f xs go (Failed Memory) e = tt

@@ -11,9 +11,9 @@ use Rattle.store.specs.declared.fault.Fault.TheVariants.{Memory, Device, Damaged
 use Rattle.store.specs.Records.{Records, IsKeySize}
 use Rattle.abstract_database.specs.Guards.{Guard}
 use Rattle.guards.specs.Truths.{is_met}
-use Rattle.stored_database.specs.Spelling.{row_record}
-use Rattle.store.specs.declared.stop.Stop.{Stop}
-use Rattle.store.specs.declared.stop.Stop.TheVariants.{Refused, Failed}
+use Rattle.stored_database.specs.RecordFormat.{row_record}
+use Rattle.store.specs.declared.stop.StatementError.{StatementError}
+use Rattle.store.specs.declared.stop.StatementError.TheVariants.{Refused, Failed}
 use Rattle.table_rows.specs.declared.target.Target.{Target}
 use Rattle.table_rows.specs.Failures.{Gives, Answers, IsDamagedFor}
 use Rattle.table_rows.specs.Ranged.{FindsRows, FindsDamage}
@@ -49,7 +49,7 @@ module _ {A B : Type 0} (test : Row → Result Bool SqlState) (becomes : Row →
   abbrev becomes_next : Result B SqlState → List Row → Result A SqlState
   becomes_next r rest = r >>= λ new. over_chosen test becomes take (take row new done) rest
 
-  pub became_failed : (failure : Stop) (last : AnswerAfter A) → test row ≡ Ok true → (let r : Result B Stop = Err failure in Gives r (becomes row)) → Visits (Err failure) row (over_chosen test becomes take done) last
+  pub became_failed : (failure : StatementError) (last : AnswerAfter A) → test row ≡ Ok true → (let r : Result B StatementError = Err failure in Gives r (becomes row)) → Visits (Err failure) row (over_chosen test becomes take done) last
   became_failed (Refused code) last e b = λ rest. ap (λ r. step r rest) e ∙ ap (λ r. becomes_next r rest) b
   became_failed (Failed Memory) last e b = tt
   became_failed (Failed Device) last e b = b
@@ -62,22 +62,22 @@ module _ {A B : Type 0} (test : Row → Result Bool SqlState) (becomes : Row →
       ∙ ap (λ (x : A). over_chosen test becomes take x rest) (sym t)
 
 -- a row for which there is no memory ends the walk
-pub no_memory : {A : Type 0} (failure : Stop) (r : Result Flow Stop) (row : Row) (old last : AnswerAfter A) → failure ≡ Failed Memory → IsErrAnd r (λ y. y ≡ failure) → Visits r row old last
-no_memory failure r row old last e is = ended failure (λ r. Visits r row old last) r is (subst (λ (f : Stop). Visits (Err f) row old last) (sym e) tt)
+pub no_memory : {A : Type 0} (failure : StatementError) (r : Result Flow StatementError) (row : Row) (old last : AnswerAfter A) → failure ≡ Failed Memory → IsErrAnd r (λ y. y ≡ failure) → Visits r row old last
+no_memory failure r row old last e is = ended failure (λ r. Visits r row old last) r is (subst (λ (f : StatementError). Visits (Err f) row old last) (sym e) tt)
 
 pub key_fits : (id : ℕ) (layout : Layout) (row : Row) (key : List ℕ) → FitsTable layout row → key ≡ (row_record id layout row).0 → IsKeySize key
 key_fits id layout row key fits e = subst IsKeySize (sym e) (key_size id layout row fits.limits)
 
 -- ---- a walk over a table
 
-pub walk_failed : {A : Type 0} (failure : Stop) (rows : List Row) (old last : AnswerAfter A) → VisitsAll (Err failure) rows old last → (let r : Result A Stop = Err failure in Answers r (old rows))
+pub walk_failed : {A : Type 0} (failure : StatementError) (rows : List Row) (old last : AnswerAfter A) → VisitsAll (Err failure) rows old last → (let r : Result A StatementError = Err failure in Answers r (old rows))
 walk_failed (Refused code) rows old last v = v
 walk_failed (Failed Memory) rows old last v = tt
 walk_failed (Failed Device) rows old last v = tt
 walk_failed (Failed Damaged) rows old last v = v
 
 -- a walk over a target is damaged where it does not find rows
-pub walk_damaged : {A : Type 0} (failure : Stop) (target : Target) (records : Records) (old last : AnswerAfter A) → ((rows : List Row) → FindsRows target records rows → VisitsAll (Err failure) rows old last)
+pub walk_damaged : {A : Type 0} (failure : StatementError) (target : Target) (records : Records) (old last : AnswerAfter A) → ((rows : List Row) → FindsRows target records rows → VisitsAll (Err failure) rows old last)
     → IsDamagedFor (FindsDamage target records) failure
 walk_damaged (Refused code) target records old last v = tt
 walk_damaged (Failed Memory) target records old last v = tt

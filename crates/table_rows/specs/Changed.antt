@@ -10,7 +10,7 @@ use Rattle.store.specs.Records.{Records, Changes, IsOrdered, applied, changed, e
 use Rattle.abstract_database.specs.Changes.{Chosen, new_rows, other_rows, with_rows}
 use Rattle.abstract_database.specs.Whole.{Each, AreWholeRows}
 use Rattle.row_codec.specs.Rows.{row_prefix}
-use Rattle.stored_database.specs.Spelling.{row_record}
+use Rattle.stored_database.specs.RecordFormat.{row_record}
 use Rattle.table_rows.specs.HeldRows.{HoldsRows, ConcernRowsOf}
 
 -- the records without these keys

@@ -12,9 +12,9 @@ use Rattle.store.specs.Records.{changed}
 use Rattle.abstract_database.specs.Guards.{Guard}
 use Rattle.abstract_database.specs.Changes.{assigned, condition_on_row}
 use Rattle.guards.specs.Truths.{is_met}
-use Rattle.stored_database.specs.Spelling.{row_record}
-use Rattle.store.specs.declared.stop.Stop.{Stop}
-use Rattle.store.specs.declared.stop.Stop.TheVariants.{Failed}
+use Rattle.stored_database.specs.RecordFormat.{row_record}
+use Rattle.store.specs.declared.stop.StatementError.{StatementError}
+use Rattle.store.specs.declared.stop.StatementError.TheVariants.{Failed}
 use Rattle.table_rows.specs.declared.target.Assignments.{Assignments}
 use Rattle.table_rows.specs.declared.choose.ChosenRows.{ChosenRows}
 use Rattle.table_rows.specs.declared.choose.Choosing.{Choosing}
@@ -58,6 +58,6 @@ chosen_after c id layout rows =
     all_chosen (is_chosen (sees c.target.now) (condition_on_row (users_of c.target.now) (condition_in c.condition))) (became (users_of c.target.now) c.assignments) id layout c.chosen rows
 
 -- a row is taken, unless an allocation fails
-abbrev pub TakesRow : Result (Unit {0}) Stop → List ℕ → Option Row → ChosenRows → ChosenRows → Type 0
+abbrev pub TakesRow : Result (Unit {0}) StatementError → List ℕ → Option Row → ChosenRows → ChosenRows → Type 0
 TakesRow (Ok x) key new old chosen = chosen ≡ with_chosen key new old
 TakesRow (Err failure) key new old chosen = failure ≡ Failed Memory

@@ -8,7 +8,7 @@ use Rattle.store.specs.Records.{Record, Records, Changes, has_prefix}
 use Rattle.store.specs.Items.{Holds}
 use Rattle.abstract_database.specs.Whole.{Each}
 use Rattle.row_codec.specs.Rows.{row_prefix, Spells}
-use Rattle.stored_database.specs.Spelling.{row_record}
+use Rattle.stored_database.specs.RecordFormat.{row_record}
 
 -- the records of the table of this number are those of these rows, which a table of these columns may hold
 pub record HoldsRows (id : ℕ) (layout : Layout) (records : Records) (rows : List Row) : Type 0 where

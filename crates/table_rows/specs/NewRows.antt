@@ -14,8 +14,8 @@ use Rattle.store.specs.Records.{Records, applied}
 use Rattle.abstract_database.specs.Guards.{Guard}
 use Rattle.abstract_database.specs.Changes.{CheckedInsert, Changed, is_admitted, keeps_not_null, rows_inserted}
 use Rattle.abstract_database.specs.Whole.{Each}
-use Rattle.store.specs.declared.stop.Stop.{Stop}
-use Rattle.store.specs.declared.stop.Stop.TheVariants.{Refused, Failed}
+use Rattle.store.specs.declared.stop.StatementError.{StatementError}
+use Rattle.store.specs.declared.stop.StatementError.TheVariants.{Refused, Failed}
 use Rattle.table_rows.specs.declared.change.RowChanges.{RowChanges}
 use Rattle.table_rows.specs.HeldRows.{HoldsRows, ConcernRowsOf}
 
@@ -51,7 +51,7 @@ pub record LeadsTo (id : ℕ) (layout : Layout) (records : Records) (made : RowC
   pub count : made.count ≡ after.count
 
 -- a statement makes the changes that lead to the rows that are meant, or it is refused as is meant
-abbrev pub MakesChanges : ℕ → Layout → Records → Result RowChanges Stop → Result Changed SqlState → Type 0
+abbrev pub MakesChanges : ℕ → Layout → Records → Result RowChanges StatementError → Result Changed SqlState → Type 0
 MakesChanges id layout records (Ok made) meant = (after : Changed) × (meant ≡ Ok after) × LeadsTo id layout records made after
 MakesChanges id layout records (Err (Refused code)) meant = meant ≡ Err code
 MakesChanges id layout records (Err (Failed Memory)) meant = Unit {0}

@@ -8,8 +8,8 @@ use Rattle.store.specs.declared.fault.StoreFault.{StoreFault}
 use Rattle.store.specs.Store.{StoreState, OnlyReads, HasReadCause, failed_after}
 use Rattle.store.specs.Records.{Record, Records, Changes, applied, changed, lookup}
 use Rattle.abstract_database.specs.Changes.{has_double_key, with_rows}
-use Rattle.store.specs.declared.stop.Stop.{Stop}
-use Rattle.store.specs.declared.stop.Stop.TheVariants.{Refused, Failed}
+use Rattle.store.specs.declared.stop.StatementError.{StatementError}
+use Rattle.store.specs.declared.stop.StatementError.TheVariants.{Refused, Failed}
 use Rattle.table_rows.specs.HeldRows.{HoldsRows, ConcernRowsOf}
 
 -- whether a key is there in the records after these changes
@@ -24,7 +24,7 @@ pub record FindsKey (key : List ℕ) (changes : Changes) (result : Result Bool S
   pub failed : new.has_failed ≡ failed_after result old.has_failed
 
 -- a record is put among changes of records in which no record has its key; it is refused where one has
-abbrev pub PutsRecord : Result (Unit {0}) Stop → Record → Records → Changes → Changes → Type 0
+abbrev pub PutsRecord : Result (Unit {0}) StatementError → Record → Records → Changes → Changes → Type 0
 PutsRecord (Ok x) entry records old new = (has_key entry.0 old records ≡ false) × (new ≡ changed entry.0 (Some (Some entry.1)) old)
 PutsRecord (Err (Refused code)) entry records old new = (has_key entry.0 old records ≡ true) × (code ≡ UniqueViolation)
 PutsRecord (Err (Failed Memory)) entry records old new = Unit {0}
@@ -38,7 +38,7 @@ pub record PutsAll (id : ℕ) (layout : Layout) (rows others : List Row) (record
   pub concern : ConcernRowsOf id old → ConcernRowsOf id new
 
 -- new rows are put among the others, or it is refused that two rows have one key
-abbrev pub PutsRows : Result (Unit {0}) Stop → ℕ → Layout → List Row → List Row → Records → Changes → Changes → Type 0
+abbrev pub PutsRows : Result (Unit {0}) StatementError → ℕ → Layout → List Row → List Row → Records → Changes → Changes → Type 0
 PutsRows (Ok x) id layout rows others records old new = PutsAll id layout rows others records old new
 PutsRows (Err (Refused code)) id layout rows others records old new = (has_double_key layout.key (others ++ rows) ≡ true) × (code ≡ UniqueViolation)
 PutsRows (Err (Failed Memory)) id layout rows others records old new = Unit {0}

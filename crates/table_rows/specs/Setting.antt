@@ -12,9 +12,9 @@ use Rattle.store.specs.Records.{changed}
 use Rattle.abstract_database.specs.Guards.{Guard}
 use Rattle.abstract_database.specs.Changes.{condition_on_row, is_admitted, keeps_not_null}
 use Rattle.row_codec.specs.Rows.{row_value}
-use Rattle.stored_database.specs.Spelling.{row_record}
-use Rattle.store.specs.declared.stop.Stop.{Stop}
-use Rattle.store.specs.declared.stop.Stop.TheVariants.{Failed}
+use Rattle.stored_database.specs.RecordFormat.{row_record}
+use Rattle.store.specs.declared.stop.StatementError.{StatementError}
+use Rattle.store.specs.declared.stop.StatementError.TheVariants.{Failed}
 use Rattle.table_rows.specs.declared.checks.Checks.{Checks}
 use Rattle.table_rows.specs.declared.setting.SetRows.{SetRows}
 use Rattle.table_rows.specs.declared.setting.Setting.{Setting}
@@ -74,6 +74,6 @@ set_after s id layout rows =
     over_chosen (is_chosen (sees s.target.now) (condition_on_row (users_of s.target.now) (condition_in s.condition))) (assigned_by s.target.now s.assignments.now) (setting id layout (admits s.target.now)) s.set rows
 
 -- a row is set, unless an allocation fails
-abbrev pub SetsRow : Result (Unit {0}) Stop → List ℕ → Layout → Guard → Row → SetRows → SetRows → Type 0
+abbrev pub SetsRow : Result (Unit {0}) StatementError → List ℕ → Layout → Guard → Row → SetRows → SetRows → Type 0
 SetsRow (Ok x) key layout guard row old set = set ≡ with_set key layout guard row old
 SetsRow (Err failure) key layout guard row old set = failure ≡ Failed Memory

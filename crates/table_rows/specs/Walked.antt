@@ -5,10 +5,10 @@ use Rattle.sql_types.specs.Row.{Row}
 use Rattle.sql_ast.specs.Layout.{Layout}
 use Rattle.sql_ast.specs.Fits.{FitsTable}
 use Rattle.store.specs.declared.fault.Fault.TheVariants.{Memory, Device, Damaged}
-use Rattle.store.specs.declared.stop.Stop.{Stop}
-use Rattle.store.specs.declared.stop.Stop.TheVariants.{Refused, Failed}
+use Rattle.store.specs.declared.stop.StatementError.{StatementError}
+use Rattle.store.specs.declared.stop.StatementError.TheVariants.{Refused, Failed}
 use Rattle.store.specs.Records.{Record, Records}
-use Rattle.stored_database.specs.Spelling.{row_record}
+use Rattle.stored_database.specs.RecordFormat.{row_record}
 use Rattle.table_rows.specs.HeldRows.{AreRecordsOf, SpellsRow}
 use Rattle.table_rows.specs.Visits.{AnswerAfter}
 
@@ -31,7 +31,7 @@ pub record FindsDamaged (id : ℕ) (layout : Layout) (records : Records) : Type 
   pub damaged : (row : Row) → FitsTable layout row → entry ≡ row_record id layout row → ⊥
 
 -- what a walk has found: it did not fail; or its refusal is what is answered of the rows of the front that it found; or it is damaged by a record that it found
-abbrev pub Walks : {A : Type 0} → ℕ → Layout → Records → AnswerAfter A → AnswerAfter A → Result (Unit {0}) Stop → Type 0
+abbrev pub Walks : {A : Type 0} → ℕ → Layout → Records → AnswerAfter A → AnswerAfter A → Result (Unit {0}) StatementError → Type 0
 Walks id layout records old new (Ok x) = WalksFront id layout records old new
 Walks id layout records old new (Err (Refused code)) = WalksFront id layout records old (λ rest. Err code)
 Walks id layout records old new (Err (Failed Memory)) = Unit {0}

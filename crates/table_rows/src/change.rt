@@ -3,7 +3,7 @@ ghost use Rattle.std.specs.Prelude.{◌≡◌, OnOk, IfOk, IfErr, List};
 ghost use Rattle.sql_types.specs.Row.{Row};
 ghost use Rattle.sql_ast.specs.Layout.{IsLayout};
 ghost use Rattle.abstract_database.specs.Changes.{CheckedInsert, CheckedUpdate, CheckedDelete, rows_updated, rows_deleted};
-ghost use Rattle.store.specs.Stop.{ReadsMap};
+ghost use Rattle.store.specs.StatementError.{ReadsMap};
 ghost use Rattle.table_rows.specs.Failures.{IsDamagedFor};
 ghost use Rattle.table_rows.specs.HeldRows.{HoldsRows, ConcernRowsOf};
 ghost use Rattle.table_rows.specs.Ranged.{FindsSpelled, FindsDamage, IsOfTable, LosesNothing};
@@ -19,7 +19,7 @@ use crate::target::{Assignments, Insertion, Target};
 use crate::values::inserted_rows;
 use expressions::types::Typed;
 use std::alloc::Global;
-use store::{Batch, Map, Stop};
+use store::{Batch, Map, StatementError};
 
 /// What a statement makes of a table: the changes of its records, and how many rows it concerns.
 #[derive(Drop)]
@@ -37,7 +37,7 @@ pub fn insert<M: Map>(
     records: &mut M,
     target: &Target<'_>,
     insertion: &Insertion<'_>,
-) -> Result<RowChanges, Stop>
+) -> Result<RowChanges, StatementError>
     ensures preserved { M.preserved records.old records.new }
     ensures reads { ReadsMap result (M.state records.old) (M.state records.new) }
     ensures changes { (M.state records.old).sound → (rows : List Row) (c : CheckedInsert)
@@ -67,14 +67,14 @@ pub fn insert<M: Map>(
 ///
 /// The rows are looked for in the range of the target: what is made is what the statement means
 /// over all rows of the table where the range loses nothing, as one does that `key_range` gives for
-/// the condition where the guard is quiet.
+/// the condition where the guard is infallible.
 pub fn update<M: Map>(
     alloc: Global,
     records: &mut M,
     target: &Target<'_>,
     condition: Option<&Typed>,
     assignments: &Assignments<'_>,
-) -> Result<RowChanges, Stop>
+) -> Result<RowChanges, StatementError>
     ensures preserved { M.preserved records.old records.new }
     ensures reads { ReadsMap result (M.state records.old) (M.state records.new) }
     ensures changes { (M.state records.old).sound → (rows : List Row) (c : CheckedUpdate)
@@ -108,7 +108,7 @@ fn update_with_keys<M: Map>(
     target: &Target<'_>,
     condition: Option<&Typed>,
     assignments: &Assignments<'_>,
-) -> Result<RowChanges, Stop>
+) -> Result<RowChanges, StatementError>
     ensures preserved { M.preserved records.old records.new }
     ensures reads { ReadsMap result (M.state records.old) (M.state records.new) }
     ensures changes { (M.state records.old).sound → (rows : List Row) (c : CheckedUpdate)
@@ -149,7 +149,7 @@ pub fn delete<M: Map>(
     records: &mut M,
     target: &Target<'_>,
     condition: Option<&Typed>,
-) -> Result<RowChanges, Stop>
+) -> Result<RowChanges, StatementError>
     ensures preserved { M.preserved records.old records.new }
     ensures reads { ReadsMap result (M.state records.old) (M.state records.new) }
     ensures changes { (M.state records.old).sound → (rows : List Row) (c : CheckedDelete)

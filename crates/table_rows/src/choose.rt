@@ -6,7 +6,7 @@ ghost use Rattle.store.specs.Records.{IsKeySize};
 ghost use Rattle.abstract_database.specs.Changes.{condition_on_row};
 ghost use Rattle.row_codec.specs.InPlace.{table_cell};
 ghost use Rattle.guards.specs.Truths.{is_met};
-ghost use Rattle.store.specs.Stop.{ReadsMap};
+ghost use Rattle.store.specs.StatementError.{ReadsMap};
 ghost use Rattle.table_rows.specs.Failures.{Gives, Answers, IsDamagedFor, ReadsNoMap};
 ghost use Rattle.table_rows.specs.HeldRows.{HoldsRows, ConcernRowsOf};
 ghost use Rattle.table_rows.specs.Ranged.{FindsSpelled, FindsDamage, IsOfTable, LosesNothing};
@@ -25,7 +25,7 @@ use sql_types::items::Items;
 use sql_types::state::SqlState;
 use sql_types::value::{Truth, Value};
 use std::alloc::Global;
-use store::{Batch, Fault, MAX_KEY_LENGTH, Map, Stop};
+use store::{Batch, Fault, MAX_KEY_LENGTH, Map, StatementError};
 
 /// The rows that are chosen: their keys are removed in `changes`; in `rows` is what became of
 /// them, where anything is assigned.
@@ -54,7 +54,7 @@ pub(crate) fn choose<M: Map>(
     target: &Target<'_>,
     condition: Option<&Typed>,
     assignments: Option<&Assignments<'_>>,
-) -> Result<ChosenRows, Stop>
+) -> Result<ChosenRows, StatementError>
     ensures preserved { M.preserved records.old records.new }
     ensures reads { ReadsMap result (M.state records.old) (M.state records.new) }
     ensures chosen { (M.state records.old).sound → (rows : List Row)
@@ -97,15 +97,15 @@ impl ChosenRows {
     }
 
     // Takes one more row, of this key, and what becomes of it.
-    fn take(&mut self, key: &[u8], new: Option<Items<Value>>) -> Result<(), Stop>
+    fn take(&mut self, key: &[u8], new: Option<Items<Value>>) -> Result<(), StatementError>
         ensures takes { IsKeySize key.now → TakesRow result key.now new self.old self.new }
         ensures no_read { ReadsNoMap result }
     {
         if key.is_empty() || key.len() > MAX_KEY_LENGTH {
-            return Err(Stop::Failed(Fault::Damaged));
+            return Err(StatementError::Failed(Fault::Damaged));
         }
         let Some(count) = self.count.checked_add(1) else {
-            return Err(Stop::Failed(Fault::Memory));
+            return Err(StatementError::Failed(Fault::Memory));
         };
         self.changes.remove(key)?;
         if let Some(row) = new {
@@ -126,7 +126,12 @@ impl<'a> RowVisitor for Choosing<'a> {
 
     ghost ends_early = { false };
 
-    fn visit(&mut self, columns: &Columns, key: &[u8], row: &RowRef<'_>) -> Result<Flow, Stop> {
+    fn visit(
+        &mut self,
+        columns: &Columns,
+        key: &[u8],
+        row: &RowRef<'_>,
+    ) -> Result<Flow, StatementError> {
         if !is_chosen(self.target, self.condition, row)? {
             return Ok(Flow::Continue);
         }
@@ -171,7 +176,7 @@ fn became(
     users: &Users<'_>,
     assignments: Option<&Assignments<'_>>,
     row: &RowRef<'_>,
-) -> Result<Option<Items<Value>>, Stop>
+) -> Result<Option<Items<Value>>, StatementError>
     ensures no_read { ReadsNoMap result }
     ensures gives { length row.now ≡ length columns.now.columns
         → Gives result (became (names_of users.now) assignments.entry row.now) }

@@ -1,7 +1,7 @@
 //! A walk over the rows of a target in parts, between which other reads may stand.
 ghost use Rattle.std.specs.Prelude.{◌≡◌, ◌++◌, ◌∷◌, [], false, IfErr, IfOk, ℕ, Err, List};
 ghost use Rattle.sql_types.specs.Row.{Row};
-ghost use Rattle.store.specs.Stop.{ReadsMap};
+ghost use Rattle.store.specs.StatementError.{ReadsMap};
 ghost use Rattle.store.specs.Walks.{span};
 ghost use Rattle.key_ranges.specs.declared.range.KeyRange.TheVariants.{Span};
 ghost use Rattle.table_rows.specs.HeldRows.{AreRecordsOf};
@@ -16,7 +16,7 @@ use key_ranges::KeyRange;
 use sql_ast::columns::Columns;
 use sql_types::items::Items;
 use std::alloc::{AllocError, Global};
-use store::{Fault, Map, Stop};
+use store::{Fault, Map, StatementError};
 
 /// Visits the first rows of a target, up to so many, at least one, and gives the range of keys in
 /// which the others are, or `None` where no row is left. A target with one key is visited whole. A
@@ -27,7 +27,7 @@ pub fn visit_part<M: Map, V: RowVisitor>(
     target: &Target<'_>,
     most: u64,
     visitor: &mut V,
-) -> Result<Option<KeyRange>, Stop>
+) -> Result<Option<KeyRange>, StatementError>
     ensures preserved { M.preserved records.old records.new }
     ensures reads { ReadsMap result (M.state records.old) (M.state records.new) }
     ensures part { (M.state records.old).sound → V.ends_early ≡ false → IfOk result
@@ -68,7 +68,7 @@ fn visit_first_rows<M: Map, V: RowVisitor>(
     columns: &Columns,
     most: u64,
     visitor: &mut V,
-) -> Result<Option<KeyRange>, Stop>
+) -> Result<Option<KeyRange>, StatementError>
     ensures preserved { M.preserved records.old records.new }
     ensures reads { ReadsMap result (M.state records.old) (M.state records.new) }
     ensures part { (M.state records.old).sound → V.ends_early ≡ false → IfOk result
@@ -97,7 +97,7 @@ fn visit_first_rows<M: Map, V: RowVisitor>(
             return Ok(Some(span_behind(alloc, entry.key, stop)?));
         }
     }
-    Err(Stop::Failed(Fault::Memory))
+    Err(StatementError::Failed(Fault::Memory))
 }
 
 // The keys behind this one, up to a stop.

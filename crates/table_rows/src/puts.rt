@@ -7,8 +7,8 @@ ghost use Rattle.sql_ast.specs.Fits.{FitsTable};
 ghost use Rattle.store.specs.Records.{applied, IsOrdered};
 ghost use Rattle.sql_ast.specs.Layout.{IsLayout};
 ghost use Rattle.abstract_database.specs.Whole.{Each};
-ghost use Rattle.stored_database.specs.Spelling.{row_record};
-ghost use Rattle.store.specs.Stop.{ReadsMap};
+ghost use Rattle.stored_database.specs.RecordFormat.{row_record};
+ghost use Rattle.store.specs.StatementError.{ReadsMap};
 ghost use Rattle.table_rows.specs.Failures.{IsDamagedFor};
 ghost use Rattle.table_rows.specs.HeldRows.{HoldsRows, ConcernRowsOf};
 ghost use Rattle.table_rows.specs.Puts.{FindsKey, PutsRecord, PutsRows};
@@ -19,7 +19,7 @@ use row_codec::push_row_prefix;
 use sql_ast::columns::Columns;
 use sql_types::state::SqlState;
 use std::alloc::{AllocError, Global};
-use store::{Batch, Map, Stop, StoreFault};
+use store::{Batch, Map, StatementError, StoreFault};
 
 // What the keys of a table's rows begin with has so many bytes.
 const PREFIX_LENGTH: usize = 5;
@@ -34,7 +34,7 @@ pub fn put_rows<M: Map>(
     columns: &Columns,
     rows: &[LentRow<'_>],
     changes: &mut Batch,
-) -> Result<(), Stop>
+) -> Result<(), StatementError>
     requires { AllByRecursion (KeepsLimits columns.now) rows.now }
     ensures preserved { M.preserved records.old records.new }
     ensures reads { ReadsMap result (M.state records.old) (M.state records.new) }
@@ -62,7 +62,7 @@ fn put_row<M: Map>(
     columns: &Columns,
     row: &LentRow<'_>,
     changes: &mut Batch,
-) -> Result<(), Stop>
+) -> Result<(), StatementError>
     requires { KeepsLimits columns.now row.now }
     ensures preserved { M.preserved records.old records.new }
     ensures reads { ReadsMap result (M.state records.old) (M.state records.new) }
@@ -73,7 +73,7 @@ fn put_row<M: Map>(
 {
     let mut record = key_of(alloc, id, columns, row)?;
     if has_key(records, changes, &record)? {
-        return Err(Stop::Refused(SqlState::UniqueViolation));
+        return Err(StatementError::Refused(SqlState::UniqueViolation));
     }
     let key_length = record.len();
     push_value(columns, row, &mut record)?;

@@ -5,7 +5,7 @@ ghost use Rattle.sql_types.specs.Row.{Row};
 ghost use Rattle.sql_ast.specs.Layout.{IsLayout};
 ghost use Rattle.store.specs.Records.{IsKeySize};
 ghost use Rattle.abstract_database.specs.Changes.{CheckedUpdate, condition_on_row, rows_updated};
-ghost use Rattle.store.specs.Stop.{ReadsMap};
+ghost use Rattle.store.specs.StatementError.{ReadsMap};
 ghost use Rattle.table_rows.specs.Failures.{Answers, IsDamagedFor, ReadsNoMap};
 ghost use Rattle.table_rows.specs.HeldRows.{HoldsRows, ConcernRowsOf};
 ghost use Rattle.table_rows.specs.Ranged.{FindsSpelled, FindsDamage, IsOfTable, LosesNothing};
@@ -27,7 +27,7 @@ use expressions::types::Typed;
 use row_codec::RowRef;
 use sql_ast::columns::Columns;
 use std::alloc::Global;
-use store::{Batch, Fault, MAX_KEY_LENGTH, Map, Stop};
+use store::{Batch, Fault, MAX_KEY_LENGTH, Map, StatementError};
 
 /// The rows that are set: what is put in their place, and what the checks say of them.
 #[derive(Drop)]
@@ -62,7 +62,7 @@ pub(crate) fn update_in_place<M: Map>(
     target: &Target<'_>,
     condition: Option<&Typed>,
     assignments: &Assignments<'_>,
-) -> Result<RowChanges, Stop>
+) -> Result<RowChanges, StatementError>
     ensures preserved { M.preserved records.old records.new }
     ensures reads { ReadsMap result (M.state records.old) (M.state records.new) }
     ensures changes { (M.state records.old).sound → (rows : List Row) (c : CheckedUpdate)
@@ -98,7 +98,7 @@ fn set_rows<M: Map>(
     target: &Target<'_>,
     condition: Option<&Typed>,
     assignments: &Assignments<'_>,
-) -> Result<SetRows, Stop>
+) -> Result<SetRows, StatementError>
     ensures preserved { M.preserved records.old records.new }
     ensures reads { ReadsMap result (M.state records.old) (M.state records.new) }
     ensures set { (M.state records.old).sound → (rows : List Row)
@@ -149,16 +149,16 @@ impl SetRows {
         key: &[u8],
         new: &LentRow<'_>,
         value: &mut Vec<u8>,
-    ) -> Result<(), Stop>
+    ) -> Result<(), StatementError>
         ensures sets { IsKeySize key.now → SetsRow result key.now columns.now (admits target.now)
             new.now self.old self.new }
         ensures no_read { ReadsNoMap result }
     {
         if key.is_empty() || key.len() > MAX_KEY_LENGTH {
-            return Err(Stop::Failed(Fault::Damaged));
+            return Err(StatementError::Failed(Fault::Damaged));
         }
         let Some(count) = self.count.checked_add(1) else {
-            return Err(Stop::Failed(Fault::Memory));
+            return Err(StatementError::Failed(Fault::Memory));
         };
         let fits = fits_record(columns, new);
         self.checks.take(target, columns, new, fits);
@@ -181,7 +181,12 @@ impl<'a> RowVisitor for Setting<'a> {
 
     ghost ends_early = { false };
 
-    fn visit(&mut self, columns: &Columns, key: &[u8], row: &RowRef<'_>) -> Result<Flow, Stop> {
+    fn visit(
+        &mut self,
+        columns: &Columns,
+        key: &[u8],
+        row: &RowRef<'_>,
+    ) -> Result<Flow, StatementError> {
         let target = self.target;
         if !is_chosen(target, self.condition, row)? {
             return Ok(Flow::Continue);

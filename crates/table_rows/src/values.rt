@@ -17,7 +17,7 @@ use sql_types::items::Items;
 use sql_types::row::RowView;
 use sql_types::value::ValueRef;
 use std::alloc::{AllocError, Global};
-use store::Stop;
+use store::StatementError;
 
 /// The rows that an INSERT adds, in the order of the statement, lent. Their values are computed on
 /// the row of no columns.
@@ -27,7 +27,7 @@ pub(crate) fn inserted_rows<'a, 'b>(
     insertion: &'a Insertion<'a>,
     no_row: &'a LentRow<'b>,
     users: &'a Users<'a>,
-) -> Result<Items<LentRow<'a>>, Stop>
+) -> Result<Items<LentRow<'a>>, StatementError>
     requires { no_row.now ≡ [] }
     ensures { Gives result (each (λ row. inserted_row columns.now (names_of users.now)
         insertion.now.columns.now (terms_in row)) insertion.now.rows.now) }
@@ -47,7 +47,7 @@ fn inserted_row<'a, 'b>(
     values: &'a [Typed],
     no_row: &'a LentRow<'b>,
     users: &'a Users<'a>,
-) -> Result<LentRow<'a>, Stop>
+) -> Result<LentRow<'a>, StatementError>
     requires { no_row.now ≡ [] }
     ensures { Gives result (inserted_row columns.now (names_of users.now) targets.now
         (terms_in values.now)) }
@@ -64,7 +64,7 @@ pub(crate) fn assigned_row<'a>(
     assignments: &'a Assignments<'a>,
     row: &'a RowRef<'a>,
     users: &'a Users<'a>,
-) -> Result<LentRow<'a>, Stop>
+) -> Result<LentRow<'a>, StatementError>
     ensures no_read { ReadsNoMap result }
     ensures gives { length row.now ≡ length columns.now.columns
         → Gives result (assigned (names_of users.now) assignments.now.columns.now
@@ -81,7 +81,7 @@ fn values_on<'a, R: RowView>(
     list: &'a [Typed],
     row: &'a R,
     users: &'a Users<'a>,
-) -> Result<LentRow<'a>, Stop>
+) -> Result<LentRow<'a>, StatementError>
     ensures { Gives result (each (value_on (R.cell row.now) (names_of users.now)) list.now) }
 {
     let mut values = LentRow::new(alloc);

@@ -8,8 +8,8 @@ ghost use Rattle.sql_ast.specs.Fits.{FitsTable};
 ghost use Rattle.store.specs.Walks.{is_within, span};
 ghost use Rattle.abstract_database.specs.Whole.{Each};
 ghost use Rattle.row_codec.specs.Rows.{row_prefix, Spells};
-ghost use Rattle.stored_database.specs.Spelling.{row_record};
-ghost use Rattle.store.specs.Stop.{ReadsMap};
+ghost use Rattle.stored_database.specs.RecordFormat.{row_record};
+ghost use Rattle.store.specs.StatementError.{ReadsMap};
 ghost use Rattle.table_rows.specs.Failures.{ReadsNoMap};
 ghost use Rattle.table_rows.specs.Visits.{VisitsAt, VisitsRecord, VisitsAll, IsDoneOnlyIf, SpellsVisited};
 ghost use Rattle.table_rows.specs.Walked.{Walks};
@@ -18,7 +18,7 @@ ghost use Rattle.table_rows.specs.HeldRows.{AreRecordsOf, SpellsRow};
 use row_codec::{RowRef, push_row_prefix};
 use sql_ast::columns::Columns;
 use std::alloc::{AllocError, Global};
-use store::{EntryRef, Fault, Map, Stop};
+use store::{EntryRef, Fault, Map, StatementError};
 
 /// Whether a walk goes on behind a row.
 #[derive(Clone, Copy)]
@@ -43,7 +43,12 @@ pub trait RowVisitor {
 
     /// Visits a row, which has this key in the map, and says whether the walk goes on. An error ends
     /// the walk; it is no Device.
-    fn visit(&mut self, columns: &Columns, key: &[u8], row: &RowRef<'_>) -> Result<Flow, Stop>
+    fn visit(
+        &mut self,
+        columns: &Columns,
+        key: &[u8],
+        row: &RowRef<'_>,
+    ) -> Result<Flow, StatementError>
         ensures visits { (id : ℕ) → VisitsAt id columns.now key.now result row.now
             (after self.old id columns.now) (after self.new id columns.now) }
         ensures ends { IsDoneOnlyIf ends_early result }
@@ -71,7 +76,7 @@ pub(crate) fn visit_rows<M: Map, V: RowVisitor>(
     stop: &[u8],
     columns: &Columns,
     visitor: &mut V,
-) -> Result<(), Stop>
+) -> Result<(), StatementError>
     ensures preserved { M.preserved records.old records.new }
     ensures reads { ReadsMap result (M.state records.old) (M.state records.new) }
     ensures visits { (M.state records.old).sound → (id : ℕ) (rows : List Row)
@@ -98,7 +103,7 @@ pub(crate) fn visit_rows<M: Map, V: RowVisitor>(
             Flow::Done => return Ok(()),
         }
     }
-    Err(Stop::Failed(Fault::Memory))
+    Err(StatementError::Failed(Fault::Memory))
 }
 
 /// Whether a key begins with this stop or comes before it.
@@ -120,7 +125,7 @@ pub(crate) fn visit_record<V: RowVisitor>(
     columns: &Columns,
     entry: &EntryRef<'_>,
     visitor: &mut V,
-) -> Result<Flow, Stop>
+) -> Result<Flow, StatementError>
     ensures visits { (id : ℕ) → VisitsRecord id columns.now entry.now result
         (V.after visitor.old id columns.now) (V.after visitor.new id columns.now) }
     ensures spelled { SpellsVisited columns.now entry.now result }
@@ -130,7 +135,7 @@ pub(crate) fn visit_record<V: RowVisitor>(
     // A row takes 400 bytes, so it is lent from where it is read.
     let mut row = RowRef::new();
     match read_row(&mut row, columns, entry.key, entry.value) {
-        None => Err(Stop::Failed(Fault::Damaged)),
+        None => Err(StatementError::Failed(Fault::Damaged)),
         Some(()) => visitor.visit(columns, entry.key, &row),
     }
 }

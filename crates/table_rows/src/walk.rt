@@ -3,7 +3,7 @@ ghost use Rattle.std.specs.Prelude.{◌≡◌, OnOk, List, ℕ, None, false, opt
 ghost use Rattle.std.specs.List.{AllByRecursion};
 ghost use Rattle.sql_types.specs.Row.{Row};
 ghost use Rattle.store.specs.Records.{entry_at};
-ghost use Rattle.store.specs.Stop.{ReadsMap};
+ghost use Rattle.store.specs.StatementError.{ReadsMap};
 ghost use Rattle.table_rows.specs.Visits.{VisitsAll};
 ghost use Rattle.table_rows.specs.HeldRows.{AreRecordsOf, SpellsRow};
 ghost use Rattle.table_rows.specs.Parts.{WalksPart};
@@ -15,7 +15,7 @@ use crate::visit::{RowVisitor, table_prefix, visit_record, visit_rows};
 use key_ranges::KeyRange;
 use sql_ast::columns::Columns;
 use std::alloc::Global;
-use store::{Entry, EntryRef, Map, Stop};
+use store::{Entry, EntryRef, Map, StatementError};
 
 /// Visits the rows of a target, in the order of the keys, until the visitor is done: of its table,
 /// or of those in its range alone. One key is one look-up, and of a span no record outside it is
@@ -26,7 +26,7 @@ pub fn visit_target<M: Map, V: RowVisitor>(
     records: &mut M,
     target: &Target<'_>,
     visitor: &mut V,
-) -> Result<(), Stop>
+) -> Result<(), StatementError>
     ensures preserved { M.preserved records.old records.new }
     ensures reads { ReadsMap result (M.state records.old) (M.state records.new) }
     ensures visits { (M.state records.old).sound → (rows : List Row)
@@ -63,7 +63,7 @@ pub(crate) fn visit_key<M: Map, V: RowVisitor>(
     key: &[u8],
     columns: &Columns,
     visitor: &mut V,
-) -> Result<(), Stop>
+) -> Result<(), StatementError>
     ensures preserved { M.preserved records.old records.new }
     ensures reads { ReadsMap result (M.state records.old) (M.state records.new) }
     ensures visits { (M.state records.old).sound → (id : ℕ) (rows : List Row)

@@ -5,7 +5,7 @@ use Rattle.sql_types.specs.declared.answer.Answer.TheVariants.{Done}
 use Rattle.sql_types.specs.declared.tag.Tag.{Tag}
 use Rattle.expressions.specs.Meaning.{UserNames}
 use Rattle.store.specs.Records.{Records, Changes, IsOrdered, applied}
-use Rattle.store.specs.declared.stop.Stop.{Stop}
+use Rattle.store.specs.declared.stop.StatementError.{StatementError}
 use Rattle.store.proofs.Changes.{ordered_applied}
 use Rattle.abstract_database.specs.Database.{Database}
 use Rattle.abstract_database.specs.Statements.{effect}
@@ -49,7 +49,7 @@ carries who run c d answer old new adds makes db users h by =
 -- ---- over the records of a map
 
 -- over these records, the statement of such users is carried out or refused as is meant
-abbrev pub IsDoneOver : Records → (UserNames → Type 0) → Execution → Definitions → Result Effect Stop → Type 0
+abbrev pub IsDoneOver : Records → (UserNames → Type 0) → Execution → Definitions → Result Effect StatementError → Type 0
 IsDoneOver map who run d result = (db : Database) (users : UserNames) → Shows map d db → who users → Executes map d result (run db users)
 
 -- a statement whose changes look at the records of a map

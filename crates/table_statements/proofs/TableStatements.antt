@@ -11,10 +11,10 @@ use Rattle.sql_ast.specs.declared.statement.AlterTable.{AlterTable}
 use Rattle.sql_ast.specs.declared.statement.DropTable.{DropTable}
 use Rattle.store.specs.declared.fault.Fault.{Fault}
 use Rattle.store.specs.declared.fault.Fault.TheVariants.{Memory, Device, Damaged}
-use Rattle.store.specs.declared.stop.Stop.{Stop}
-use Rattle.store.specs.declared.stop.Stop.TheVariants.{Failed}
+use Rattle.store.specs.declared.stop.StatementError.{StatementError}
+use Rattle.store.specs.declared.stop.StatementError.TheVariants.{Failed}
 use Rattle.store.specs.Readers.{HasRead}
-use Rattle.store.specs.Stop.{ReadsMap}
+use Rattle.store.specs.StatementError.{ReadsMap}
 use Rattle.store.specs.Store.{StoreState}
 use Rattle.expressions.specs.Meaning.{UserNames}
 use Rattle.expressions.specs.Stages.{◌>>=◌}
@@ -86,11 +86,11 @@ failed_with s who run d name Device sound undamaged = λ db users shown by. tt
 failed_with s who run d name Damaged sound undamaged = λ db users shown by.
     undamaged sound (valid_storable d (shown_described s.map d db shown).valid) (rows_sized s.map d db shown (tables_named name d)) refl
 
-pub failed_over : (s : StoreState) (who : UserNames → Type 0) (run : Execution) (d : Definitions) (name : TheName) (fault : Fault) (result : Result Effect Stop) → s.sound →
+pub failed_over : (s : StoreState) (who : UserNames → Type 0) (run : Execution) (d : Definitions) (name : TheName) (fault : Fault) (result : Result Effect StatementError) → s.sound →
     IsErrAnd result (λ stop. stop ≡ Failed fault) →
     (s.sound → AreStorableTables d.tables → HaveKeySizes (row_entries s.map (tables_named name d)) → fault ≡ Damaged → ⊥) → IsDoneOver s.map who run d result
 failed_over s who run d name fault (Ok made) sound is undamaged = absurd is
-failed_over s who run d name fault (Err stop) sound is undamaged = subst (λ (x : Stop). IsDoneOver s.map who run d (Err x)) (sym is) (failed_with s who run d name fault sound undamaged)
+failed_over s who run d name fault (Err stop) sound is undamaged = subst (λ (x : StatementError). IsDoneOver s.map who run d (Err x)) (sym is) (failed_with s who run d name fault sound undamaged)
 
 fault_reads : (fault : Fault) (old new : StoreState) → HasRead {T = Unit {0}} (Err fault) old new → ReadsMap {A = Effect} (Err (Failed fault)) old new
 fault_reads Memory old new h = record { only_reads = h.only_reads; cause = tt; failed = h.failed }
@@ -98,9 +98,9 @@ fault_reads Device old new h = record { only_reads = h.only_reads; cause = h.cau
 fault_reads Damaged old new h = record { only_reads = h.only_reads; cause = tt; failed = h.failed }
 
 -- the statement stops for the fault of its reads
-pub stops_reading : (fault : Fault) (result : Result Effect Stop) (old new : StoreState) → IsErrAnd result (λ stop. stop ≡ Failed fault) → HasRead {T = Unit {0}} (Err fault) old new → ReadsMap result old new
+pub stops_reading : (fault : Fault) (result : Result Effect StatementError) (old new : StoreState) → IsErrAnd result (λ stop. stop ≡ Failed fault) → HasRead {T = Unit {0}} (Err fault) old new → ReadsMap result old new
 stops_reading fault (Ok made) old new is h = absurd is
-stops_reading fault (Err stop) old new is h = subst (λ (x : Stop). ReadsMap {A = Effect} (Err x) old new) (sym is) (fault_reads fault old new h)
+stops_reading fault (Err stop) old new is h = subst (λ (x : StatementError). ReadsMap {A = Effect} (Err x) old new) (sym is) (fault_reads fault old new h)
 
 module _ (d : Definitions) (current : TheName) (s : DropTable) where
   drop_alike : (db : Database) (users : UserNames) → Describes d db → users.current ≡ current →

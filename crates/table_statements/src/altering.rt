@@ -1,7 +1,7 @@
 //! ALTER TABLE .. ROW LEVEL SECURITY (PostgreSQL manual, ALTER TABLE).
 
 ghost use Rattle.std.specs.Prelude.{◌≡◌, IfOk, IfErr};
-ghost use Rattle.store.specs.Stop.{FailsForMemory};
+ghost use Rattle.store.specs.StatementError.{FailsForMemory};
 ghost use Rattle.abstract_database.specs.Statements.{alter_table as alters_table};
 ghost use Rattle.catalogue.specs.Executed.{Defines};
 ghost use Rattle.catalogue_changes.specs.Carried.{IsCurrent};
@@ -17,7 +17,7 @@ use sql_ast::statement::{AlterTable, RowSecurityChange};
 use sql_types::name::Name;
 use sql_types::tag::Tag;
 use std::alloc::{AllocError, Global};
-use store::{Batch, Stop};
+use store::{Batch, StatementError};
 
 /// Carries out ALTER TABLE for the current role: it puts the table with its row security enabled,
 /// disabled, forced or not forced.
@@ -29,7 +29,7 @@ pub fn alter_table(
     catalogue: &Catalogue,
     current: &Name,
     statement: &AlterTable,
-) -> Result<Effect, Stop>
+) -> Result<Effect, StatementError>
     ensures memory { IfErr result FailsForMemory }
     ensures executes { Defines (IsCurrent current.now)
         (λ db users. alters_table db users statement.now) catalogue.now result }

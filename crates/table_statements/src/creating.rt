@@ -1,7 +1,7 @@
 //! CREATE TABLE (SQL:2016 Foundation, 11.3; PostgreSQL manual, CREATE TABLE).
 
 ghost use Rattle.std.specs.Prelude.{◌≡◌, IfErr};
-ghost use Rattle.store.specs.Stop.{FailsForMemory};
+ghost use Rattle.store.specs.StatementError.{FailsForMemory};
 ghost use Rattle.sql_ast.specs.Read.{IsReadCreateTable};
 ghost use Rattle.abstract_database.specs.Statements.{create_table as creates_table};
 ghost use Rattle.abstract_database.specs.Whole.{IsRoleOf};
@@ -20,7 +20,7 @@ use sql_types::name::Name;
 use sql_types::state::SqlState;
 use sql_types::tag::Tag;
 use std::alloc::Global;
-use store::{Batch, Stop};
+use store::{Batch, StatementError};
 
 /// Carries out CREATE TABLE, as the parser reads it, for the current role, which is a role of the
 /// catalogue: it puts the new table, which the role owns and which has no row. The system grants the
@@ -35,19 +35,19 @@ pub fn create_table(
     catalogue: &Catalogue,
     current: &Name,
     statement: &CreateTable,
-) -> Result<Effect, Stop>
+) -> Result<Effect, StatementError>
     ensures memory { IfErr result FailsForMemory }
     ensures executes { IsReadCreateTable statement.now → IsRoleOf catalogue.now.roles current.now
         → Defines (IsCurrent current.now)
         (λ db users. creates_table db users statement.now) catalogue.now result }
 {
     if let Some(_) = catalogue.table(&statement.table) {
-        return Err(Stop::Refused(SqlState::DuplicateTable));
+        return Err(StatementError::Refused(SqlState::DuplicateTable));
     }
     let tables = catalogue.tables();
     let columns = new_columns(alloc, statement.elements.as_slice(), tables.len())?;
     let Some(id) = least_free_id(tables) else {
-        return Err(Stop::Refused(SqlState::ProgramLimitExceeded));
+        return Err(StatementError::Refused(SqlState::ProgramLimitExceeded));
     };
     let table = new_table(alloc, id, &statement.table, current, columns)?;
     let mut changes = Batch::new(alloc);

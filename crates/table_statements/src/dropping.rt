@@ -1,7 +1,7 @@
 //! DROP TABLE (SQL:2016 Foundation, 11.21; PostgreSQL manual, DROP TABLE).
 
 ghost use Rattle.expressions.specs.Meaning.{UserNames};
-ghost use Rattle.store.specs.Stop.{ReadsMap};
+ghost use Rattle.store.specs.StatementError.{ReadsMap};
 ghost use Rattle.abstract_database.specs.Database.{Database};
 ghost use Rattle.abstract_database.specs.Statements.{drop_table as drops_table};
 ghost use Rattle.stored_database.specs.Records.{Shows};
@@ -18,7 +18,7 @@ use sql_types::name::Name;
 use sql_types::tag::Tag;
 use sql_types::try_copy::TryCopy;
 use std::alloc::Global;
-use store::{Batch, Map, Stop};
+use store::{Batch, Map, StatementError};
 
 /// Carries out DROP TABLE for the current role: it drops the table with its privilege descriptors and
 /// its policies, and with the rows whose records this map has.
@@ -33,7 +33,7 @@ pub fn drop_table<M: Map>(
     catalogue: &Catalogue,
     current: &Name,
     statement: &DropTable,
-) -> Result<Effect, Stop>
+) -> Result<Effect, StatementError>
     ensures preserved { M.preserved map.old map.new }
     ensures read { ReadsMap result (M.state map.old) (M.state map.new) }
     ensures executes { (M.state map.old).sound → (db : Database) (users : UserNames)

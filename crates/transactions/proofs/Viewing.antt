@@ -17,7 +17,7 @@ use Rattle.transactions.proofs.Latest.{lookup-applied_all}
 pub view_only_reads : (lists : List Changes) (old new : StoreState) → OnlyReads old new → OnlyReads (view_state lists old) (view_state lists new)
 view_only_reads lists old new reads = record {
   history = record { sound = reads.history.sound; fulls = reads.history.fulls; failures = reads.history.failures; faults = reads.history.faults };
-  unchanged = λ sound. record { map = ap (applied_all lists) (reads.unchanged sound).map; spelling = (reads.unchanged sound).spelling; number = (reads.unchanged sound).number };
+  unchanged = λ sound. record { map = ap (applied_all lists) (reads.unchanged sound).map; record_format = (reads.unchanged sound).record_format; number = (reads.unchanged sound).number };
   leaves = λ sound. reads.leaves sound;
 }
 

@@ -27,7 +27,7 @@ pub record KeepsRecords (old new : StoreState) : Type 0 where
 
 -- a map that was not read is like that
 pub records_same : (s : StoreState) → KeepsRecords s s
-records_same s = record { sound = λ is. is; unchanged = λ is. record { map = refl; spelling = refl; number = refl } }
+records_same s = record { sound = λ is. is; unchanged = λ is. record { map = refl; record_format = refl; number = refl } }
 
 -- and so is one after two runs of reads
 pub records_joined : (old mid new : StoreState) → KeepsRecords old mid → KeepsRecords mid new → KeepsRecords old new
@@ -35,7 +35,7 @@ records_joined old mid new first second = record {
   sound = λ is. second.sound (first.sound is);
   unchanged = λ is.
       let then = second.unchanged (first.sound is) in
-      record { map = then.map ∙ (first.unchanged is).map; spelling = then.spelling ∙ (first.unchanged is).spelling; number = then.number ∙ (first.unchanged is).number };
+      record { map = then.map ∙ (first.unchanged is).map; record_format = then.record_format ∙ (first.unchanged is).record_format; number = then.number ∙ (first.unchanged is).number };
 }
 
 -- the least entry from this key on is found, or there is none, or it is also the least one from a later key on

@@ -3,7 +3,7 @@
 use crate::journals::logged::LoggedDevice;
 use journal_switches::{SwitchFault, turn_off, turn_on};
 use kv_store::OpenFault;
-use sector_device::{Device, Guarded, MemDevice};
+use sector_device::{Device, MemDevice, WriteProtected};
 use std::alloc::Global;
 use store::StoreFault;
 
@@ -11,11 +11,11 @@ use store::StoreFault;
 pub const PAGES: u32 = 64;
 
 /// A device in memory whose sectors a store writes, and that knows what was written.
-pub type GuardedDevice = Guarded<LoggedDevice<MemDevice>>;
+pub type WriteProtectedDevice = WriteProtected<LoggedDevice<MemDevice>>;
 
 /// A device of a test. What it is made of is named where stores are opened on it, and nowhere else.
 pub struct TestDevice {
-    guarded: GuardedDevice,
+    guarded: WriteProtectedDevice,
 }
 
 // Written and not derived: where a value is dropped this is one call, and not its parts one by one.
@@ -28,16 +28,16 @@ impl Drop for TestDevice {
 impl TestDevice {
     /// A device of which nothing was written.
     pub fn new(memory: MemDevice) -> TestDevice {
-        TestDevice::of(Guarded::new(LoggedDevice::new(memory)))
+        TestDevice::of(WriteProtected::new(LoggedDevice::new(memory)))
     }
 
     /// A device that is made of this one.
-    pub fn of(guarded: GuardedDevice) -> TestDevice {
+    pub fn of(guarded: WriteProtectedDevice) -> TestDevice {
         TestDevice { guarded }
     }
 
     /// What it is made of.
-    pub fn into_guarded(self) -> GuardedDevice {
+    pub fn into_guarded(self) -> WriteProtectedDevice {
         let TestDevice { guarded } = self;
         guarded
     }
@@ -57,7 +57,7 @@ impl TestDevice {
 #[derive(Clone, Copy)]
 pub enum DeviceEvent {
     /// It stops after so many writes.
-    Stop(u64),
+    StatementError(u64),
     /// A call fails that comes after so many, and does nothing.
     Failure(u64),
     /// A call fails that comes after so many, and is carried out all the same.
@@ -68,7 +68,7 @@ impl DeviceEvent {
     /// Lets it happen to a device in memory.
     pub fn prepare(self, memory: &MemDevice) {
         match self {
-            DeviceEvent::Stop(writes) => memory.stop_after(writes),
+            DeviceEvent::StatementError(writes) => memory.stop_after(writes),
             DeviceEvent::Failure(calls) => memory.fail_call(calls),
             DeviceEvent::LateFailure(calls) => memory.fail_call_late(calls),
         }
@@ -120,8 +120,8 @@ impl JournalSwitch {
     fn turned(
         self,
         alloc: Global,
-        device: GuardedDevice,
-    ) -> (GuardedDevice, Result<u64, SwitchFault>) {
+        device: WriteProtectedDevice,
+    ) -> (WriteProtectedDevice, Result<u64, SwitchFault>) {
         match self {
             JournalSwitch::On => turn_on(alloc, device),
             JournalSwitch::Off => turn_off(alloc, device),

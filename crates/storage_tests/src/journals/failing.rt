@@ -67,7 +67,7 @@ fn commit_failing(
     tally.count_first();
     let is_so = answer == Err(StoreFault::Device);
     tally.disagree(is_so, "a failure is answered otherwise");
-    store.prepare(DeviceEvent::Stop(0));
+    store.prepare(DeviceEvent::StatementError(0));
     let is_closed = store.is_closed(&script.batch(index, 1)?);
     tally.disagree(is_closed, "a call is answered after a failure");
     let is_quiet = store.failures() == failures.saturating_add(1);

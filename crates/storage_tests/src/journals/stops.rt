@@ -247,7 +247,7 @@ fn is_answered(
     tally: &mut TestTally,
 ) -> Result<bool> {
     let batch = script.batch(next.index, next.life)?;
-    store.prepare(DeviceEvent::Stop(writes));
+    store.prepare(DeviceEvent::StatementError(writes));
     let answer = store.commit(&batch);
     tally.count_first();
     let is_so = answer.is_ok() || answer == Err(StoreFault::Device);

@@ -102,7 +102,7 @@ fn stop_after(
     tally: &mut TestTally,
 ) -> Result<bool> {
     let device = image.device()?;
-    device.prepare(DeviceEvent::Stop(writes));
+    device.prepare(DeviceEvent::StatementError(writes));
     let (device, answer) = turning.switch.turn(script.alloc, device);
     let answered = answer.number();
     let is_so = matches!(&answer, SwitchAnswer::Number(_) | SwitchAnswer::Device);

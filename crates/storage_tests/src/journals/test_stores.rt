@@ -1,6 +1,6 @@
 //! Stores of a test.
 
-use crate::journals::devices::{DeviceEvent, GuardedDevice, PAGES, TestDevice};
+use crate::journals::devices::{DeviceEvent, PAGES, TestDevice, WriteProtectedDevice};
 use crate::journals::images::{SectorChoice, TestImage};
 use crate::journals::logged::LoggedDevice;
 use crate::journals::record_lists::same_records;
@@ -11,14 +11,14 @@ use crate::stores::map_calls::{commit, look_up};
 use anyhow::{Result, bail};
 use device_store::DeviceStore;
 use kv_store::{MAX_CACHE_PAGES, OpenFault, PageStore};
-use sector_device::{Guarded, MemDevice};
+use sector_device::{MemDevice, WriteProtected};
 use std::alloc::Global;
 use store::{Batch, Entry, Map, MemStore, Store, StoreFault};
 
 /// The store on a device of a test.
 pub struct TestStore {
     alloc: Global,
-    store: DeviceStore<GuardedDevice>,
+    store: DeviceStore<WriteProtectedDevice>,
 }
 
 // Written and not derived: where a value is dropped this is one call, and not its parts one by one.
@@ -131,7 +131,7 @@ pub fn commit_first(
 
 /// A device with a new store, with a journal or without, that has the record of the role root.
 pub fn new_device(alloc: Global, has_journal: bool) -> Result<TestDevice> {
-    let mut guarded = Guarded::new(LoggedDevice::new(MemDevice::new(alloc, PAGES)?));
+    let mut guarded = WriteProtected::new(LoggedDevice::new(MemDevice::new(alloc, PAGES)?));
     format(
         alloc,
         &mut guarded,

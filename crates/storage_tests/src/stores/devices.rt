@@ -12,13 +12,13 @@ use cow_pages::CowPages;
 use device_store::DeviceStore;
 use journal_store::JournalStore;
 use kv_store::{MAX_CACHE_PAGES, PageStore};
-use sector_device::{Device, Guarded, MAX_MEMORY_PAGES, MemDevice, SECTOR_SIZE};
+use sector_device::{Device, MAX_MEMORY_PAGES, MemDevice, SECTOR_SIZE, WriteProtected};
 use std::alloc::{AllocError, Global};
 use std::mem;
 use store::{Batch, Entry, MAX_KEY_LENGTH, MAX_VALUE_LENGTH};
 
 /// A store on a device in memory, with a journal or without.
-type MemoryDeviceStore = DeviceStore<Guarded<MemDevice>>;
+type MemoryDeviceStore = DeviceStore<WriteProtected<MemDevice>>;
 
 /// An open store on a device.
 #[derive(Drop)]
@@ -62,13 +62,13 @@ fn new_device(call: &CallWords<'_>) -> Result<MemDevice> {
     if call.second.is_empty() {
         return Ok(device);
     }
-    let mut device = Guarded::new(device);
+    let mut device = WriteProtected::new(device);
     format_as_called(&mut device, call)?;
     Ok(device.into_device())
 }
 
 /// Makes a new store of the record that a call writes.
-fn format_as_called(device: &mut Guarded<MemDevice>, call: &CallWords<'_>) -> Result<()> {
+fn format_as_called(device: &mut WriteProtected<MemDevice>, call: &CallWords<'_>) -> Result<()> {
     format(
         call.alloc,
         device,
@@ -81,7 +81,7 @@ fn format_as_called(device: &mut Guarded<MemDevice>, call: &CallWords<'_>) -> Re
 /// Makes a new store of one record on a device of 64 pages, with a journal or without.
 pub fn format<D: Device>(
     alloc: Global,
-    device: &mut Guarded<D>,
+    device: &mut WriteProtected<D>,
     has_journal: bool,
     key: &[u8],
     value: &[u8],
@@ -97,7 +97,7 @@ pub fn format<D: Device>(
 /// Makes a new store of one record, where it is one and the device has 64 pages. Answers whether it is made.
 fn is_formatted<D: Device>(
     alloc: Global,
-    device: &mut Guarded<D>,
+    device: &mut WriteProtected<D>,
     has_journal: bool,
     first: &Entry,
 ) -> bool {
@@ -180,7 +180,7 @@ fn open(
         bail!("no cache has so many pages");
     }
     let taken = taken(device, first.alloc)?;
-    match DeviceStore::open_with(first.alloc, Guarded::new(taken), cache) {
+    match DeviceStore::open_with(first.alloc, WriteProtected::new(taken), cache) {
         Ok(store) => {
             let (left, answer) = run_on_store(store, first, calls, out);
             *device = left;

@@ -8,7 +8,7 @@ use crate::transcript::Transcript;
 use anyhow::{Result, bail};
 use sql_types::name::Name;
 use std::alloc::Global;
-use store::{Batch, Entry, MemStore, Spelling, Store, StoreFault};
+use store::{Batch, Entry, MemStore, RecordFormat, Store, StoreFault};
 
 /// A store, and the changes that are to be committed next.
 #[derive(Drop)]
@@ -71,7 +71,7 @@ impl<S: Store> Callee for Records<S> {
                 let answer = commit_migration(&mut self.store, &self.batch);
                 self.begin_next(answer, call, out);
             }
-            "spelling" => call.answer(out, word_of(self.store.spelling())),
+            "record_format" => call.answer(out, word_of(self.store.record_format())),
             "number" => self.answer_number(call, out),
             _ => make_on(self, call, out)?,
         }
@@ -80,10 +80,10 @@ impl<S: Store> Callee for Records<S> {
 }
 
 /// The word of a spelling.
-fn word_of(spelling: Spelling) -> &'static str {
-    match spelling {
-        Spelling::First => "first",
-        Spelling::Second => "second",
+fn word_of(record_format: RecordFormat) -> &'static str {
+    match record_format {
+        RecordFormat::V1 => "first",
+        RecordFormat::V2 => "second",
     }
 }
 

@@ -8,7 +8,7 @@ use crate::stops::tallies::Tests;
 use crate::stops::work::{Attempt, Work, hinder_each};
 use crate::stores::SMALL_PAGES;
 use database_copies::{DatabaseCopyFault, Unwatched, copy_database};
-use sector_device::{Guarded, MemDevice};
+use sector_device::{MemDevice, WriteProtected};
 use std::alloc::Global;
 
 /// Copies the database that a device holds to a new device, which stops after each count of sector writes, or one of `every`
@@ -37,7 +37,7 @@ fn copied_to(
     source: &Image,
     target: MemDevice,
 ) -> Result<(MemDevice, bool), TestFault> {
-    let device = Guarded::new(source.running(alloc)?);
+    let device = WriteProtected::new(source.running(alloc)?);
     let (device, target, copied) = copy_database(alloc, device, target, &mut Unwatched);
     let is_done = was_copied(alloc, source, device.into_device(), copied)?;
     Ok((target, is_done))

@@ -8,17 +8,17 @@ use crate::stops::talks::Talk;
 use crate::stops::work::Attempt;
 use crate::stores::{SMALL_PAGES, new_device};
 use device_store::{DeviceStore, MAX_CACHE_PAGES};
-use sector_device::{Guarded, MemDevice};
+use sector_device::{MemDevice, WriteProtected};
 use sql_types::answer::Answer;
 use sql_types::event::Event;
 use std::alloc::{AllocError, Global};
-use store::{Cursor, Entry, Map, Spelling, Store};
+use store::{Cursor, Entry, Map, RecordFormat, Store};
 
 /// How many pages the program keeps.
 pub const CACHE_PAGES: usize = MAX_CACHE_PAGES;
 
 /// A store on a device, with a journal or without.
-type StoreOnDevice = DeviceStore<Guarded<MemDevice>>;
+type StoreOnDevice = DeviceStore<WriteProtected<MemDevice>>;
 
 /// A server over a store on a device.
 pub type OnDevice = ServerOver<StoreOnDevice>;
@@ -68,7 +68,7 @@ fn open_or_hand_back(
     if cache == 0 || cache > MAX_CACHE_PAGES {
         return Err((device, TestFault::NoSuchCache));
     }
-    match DeviceStore::open_with(alloc, Guarded::new(device), cache) {
+    match DeviceStore::open_with(alloc, WriteProtected::new(device), cache) {
         Ok(store) => server_or_device(alloc, store),
         Err((device, fault)) => Err((device.into_device(), TestFault::NoStore(fault))),
     }
@@ -169,10 +169,10 @@ pub fn find_and_end(
 
 /// The format of the store on a device.
 fn format_of(store: &StoreOnDevice) -> u32 {
-    match (store, store.spelling()) {
+    match (store, store.record_format()) {
         (DeviceStore::Journaled(_), _) => 3,
-        (DeviceStore::Pages(_), Spelling::First) => 1,
-        (DeviceStore::Pages(_), Spelling::Second) => 2,
+        (DeviceStore::Pages(_), RecordFormat::First) => 1,
+        (DeviceStore::Pages(_), RecordFormat::V2) => 2,
     }
 }
 

@@ -19,15 +19,15 @@ change_descriptors-requires-clause-table c =
     ∙ ap (λ (ts : List TableDefinition). (get_or ts c.in-Ok.index t).definition.name) c.as_slice.ensures.value
     ∙ sym (ap (λ (u : TableDefinition). u.definition.name) c.index_mut.ensures.value)
 
-pub change_descriptors-requires-clause-room : goal.change_descriptors-requires-clause-room
-change_descriptors-requires-clause-room c =
+pub change_descriptors-requires-clause-reservation : goal.change_descriptors-requires-clause-reservation
+change_descriptors-requires-clause-reservation c =
     let facts = c.in-Ok.ensures in
     let n = c.args.change.table in
     let t = c.index_mut.result.now in
     let found = facts.position (λ (u : TableDefinition). name_cmp u.definition.name n) (always_returns_same _ _ _ (λ a r g called. search rules)) in
     let order = subst (Rising definition_cmp) (sym c.as_slice.ensures.value) c.requires.order in
     let at = c.index_mut.ensures.value ∙ ap (λ (ts : List TableDefinition). get_or ts c.in-Ok.index t) (sym c.as_slice.ensures.value) in
-    c.requires.room t
+    c.requires.reservation t
     (ap (find (is_definition_named n)) (sym c.as_slice.ensures.value)
     ∙ found_there (λ (u : TableDefinition). u.definition.name) n c.as_slice.result.now order c.in-Ok.index facts.bound found t at)
 

@@ -1,5 +1,5 @@
 use Rattle.std.proofs.Common.{◌≡◌, ◌∷◌, ◌++◌, drop, length, flat_map}
-use Rattle.stored_database.specs.Spelling.{column_bytes}
+use Rattle.stored_database.specs.RecordFormat.{column_bytes}
 use Rattle.catalogue_changes.proofs.encode.push_layout.Given as goal
 
 -- the columns to come are left to append

@@ -1,5 +1,5 @@
 use Rattle.std.proofs.Common.{◌≡◌, ◌++◌, drop, flat_map}
-use Rattle.stored_database.specs.Spelling.{ended}
+use Rattle.stored_database.specs.RecordFormat.{ended}
 use Rattle.catalogue_changes.proofs.encode.push_names.Given as goal
 
 -- the names to come are left to append

@@ -1,6 +1,6 @@
 use Rattle.std.proofs.Common.{◌≡◌, ◌++◌, drop, map}
 use Rattle.std.specs.List.{AllByRecursion}
-use Rattle.stored_database.specs.Spelling.{descriptor_record}
+use Rattle.stored_database.specs.RecordFormat.{descriptor_record}
 use Rattle.catalogue_changes.specs.Entries.{HaveRecordSizes, IsStorableDescriptor}
 use Rattle.catalogue_changes.proofs.entries.descriptor_entries.Given as goal
 

@@ -1,5 +1,5 @@
 use Rattle.std.proofs.Common.{◌≡◌, ◌++◌, drop, map}
-use Rattle.stored_database.specs.Spelling.{membership_record}
+use Rattle.stored_database.specs.RecordFormat.{membership_record}
 use Rattle.catalogue_changes.specs.Entries.{HaveRecordSizes}
 use Rattle.catalogue_changes.proofs.entries.membership_entries.Given as goal
 

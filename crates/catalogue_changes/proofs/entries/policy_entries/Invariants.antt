@@ -1,6 +1,6 @@
 use Rattle.std.proofs.Common.{◌≡◌, ◌++◌, drop, map}
 use Rattle.std.specs.List.{AllByRecursion}
-use Rattle.stored_database.specs.Spelling.{policy_record}
+use Rattle.stored_database.specs.RecordFormat.{policy_record}
 use Rattle.catalogue.specs.Policies.{policies_in}
 use Rattle.catalogue_changes.specs.Entries.{HaveRecordSizes, IsStorable}
 use Rattle.catalogue_changes.proofs.entries.policy_entries.Given as goal

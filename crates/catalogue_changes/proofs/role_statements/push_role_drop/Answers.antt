@@ -1,7 +1,7 @@
 use Rattle.std.proofs.Common.{ap, ◌∙◌}
 use Rattle.sql_ast.specs.declared.role.Role.{Role}
 use Rattle.abstract_database.specs.Lists.{drop_where}
-use Rattle.stored_database.specs.Spelling.{role_record}
+use Rattle.stored_database.specs.RecordFormat.{role_record}
 use Rattle.stored_database.proofs.KeyOrder.{role_order}
 use Rattle.catalogue.specs.Changes.{concerns}
 use Rattle.catalogue_changes.proofs.AddLemmas.{both_added, same_membership_changes}

@@ -1,7 +1,7 @@
 use Rattle.std.proofs.Common.{subst}
 use Rattle.sql_ast.specs.declared.role.Role.{Role}
 use Rattle.store.specs.Records.{Changes}
-use Rattle.stored_database.specs.Spelling.{role_record}
+use Rattle.stored_database.specs.RecordFormat.{role_record}
 use Rattle.stored_database.proofs.KeyOrder.{role_order}
 use Rattle.catalogue_changes.specs.Entries.{Adds}
 use Rattle.catalogue_changes.proofs.ItemLemmas.{changes_of_put}

@@ -1,6 +1,6 @@
 use Rattle.std.proofs.Common.{List, refl, ap, sym, subst}
 use Rattle.stored_database.specs.Definitions.{TableDefinition}
-use Rattle.stored_database.specs.Spelling.{table_record}
+use Rattle.stored_database.specs.RecordFormat.{table_record}
 use Rattle.stored_database.proofs.KeyOrder.{table_order}
 use Rattle.catalogue.specs.Lookups.{is_definition_named}
 use Rattle.catalogue_changes.specs.SchemaChanges.{row_entries, part_removals}

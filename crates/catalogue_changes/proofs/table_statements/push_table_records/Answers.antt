@@ -1,7 +1,7 @@
 use Rattle.std.proofs.Common.{find, refl, ap, ◌∙◌}
 use Rattle.abstract_database.specs.Lists.{TheName}
 use Rattle.stored_database.specs.Definitions.{TableDefinition}
-use Rattle.stored_database.specs.Spelling.{table_record}
+use Rattle.stored_database.specs.RecordFormat.{table_record}
 use Rattle.stored_database.proofs.KeyOrder.{table_order}
 use Rattle.catalogue.specs.Lookups.{is_definition_named}
 use Rattle.catalogue_changes.specs.SchemaChanges.{descriptor_entries, policy_entries}

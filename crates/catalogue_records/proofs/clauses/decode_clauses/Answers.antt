@@ -1,6 +1,6 @@
 use Rattle.std.proofs.Common.{◌≡◌, ◌∙◌, ap, List, ℕ, true, false, length}
 use Rattle.std.specs.Bool.{◌==◌}
-use Rattle.stored_database.specs.Spelling.{clause_bytes}
+use Rattle.stored_database.specs.RecordFormat.{clause_bytes}
 use Rattle.catalogue_records.specs.Clauses.{AreStoredClauses, IsStoredClauseIfAny}
 use Rattle.catalogue_records.proofs.Fronts.{no_second, pair_ends}
 use Rattle.catalogue_records.proofs.clauses.decode_clauses.Goals as goal

@@ -8,5 +8,5 @@ invariant-loop-index g l =
     let state = g.S.Map.state in
     record {
       history : KeepsHistory (state l.fn.server.store) (state l.server.store);
-      answered : AnswersAll g.X.Decide.Reads state g.K.Sink l.fn.server (take l.index l.fn.events) l.fn.sink l.server l.sink;
+      answered : AnswersAll g.X.EventHandler.Reads state g.K.Sink l.fn.server (take l.index l.fn.events) l.fn.sink l.server l.sink;
     }

@@ -12,7 +12,7 @@ invariant-loop g l =
       history : KeepsHistory (state l.fn.server.store) (state l.server.store);
       works : l.server.stopped ≡ false;
       none_failed : g.L.Listen.failures l.listener ≡ g.L.Listen.failures l.fn.listener;
-      served : ServedSoFar g.X.Decide.Reads state g.L.Sink.Sink l.counter l.fn.server (g.L.Listen.listening l.fn.listener) l.server (g.L.Listen.listening l.listener);
-      runs : StandsWithinLimit state l.fn.server → HasRun g.X.Decide.Reads state l.fn.server l.server;
+      served : ServedSoFar g.X.EventHandler.Reads state g.L.Sink.Sink l.counter l.fn.server (g.L.Listen.listening l.fn.listener) l.server (g.L.Listen.listening l.listener);
+      runs : StandsWithinLimit state l.fn.server → HasRun g.X.EventHandler.Reads state l.fn.server l.server;
       left : (state l.fn.server.store).sound → LeavesNoSession state l.fn.server → LeavesNoSession state l.server;
     }

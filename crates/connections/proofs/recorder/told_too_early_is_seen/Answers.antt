@@ -7,4 +7,4 @@ returns-clause-told g c e t tells early = same_last c.args.first.now.numbers.ite
 
 pub returns-clause-broken : goal.returns-clause-broken
 returns-clause-broken g c e some =
-    none_recorded g.X.Decide.Reads g.S.Map.state c.args.old.now c.args.new.now c.args.first.now c.args.last.now _ (λ k. k.numbers.items) (λ l m s session answer broken. broken) e some
+    none_recorded g.X.EventHandler.Reads g.S.Map.state c.args.old.now c.args.new.now c.args.first.now c.args.last.now _ (λ k. k.numbers.items) (λ l m s session answer broken. broken) e some

@@ -24,7 +24,7 @@ returns-in_err-commit-clause-preserved g c = g.M.Map.preserved_joined c.args.sou
 
 pub returns-in_err-commit-clause-copies : goal.returns-in_err-commit-clause-copies
 returns-in_err-commit-clause-copies g c = λ sound there works marked.
-    answered (λ r. Copies r (whole (g.S.Map.state c.args.target.now).spelling (g.M.Map.state c.args.source.now).map) (g.S.Map.state c.args.target.now) (g.S.Map.state c.commit.new.self))
+    answered (λ r. Copies r (whole (g.S.Map.state c.args.target.now).record_format (g.M.Map.state c.args.source.now).map) (g.S.Map.state c.args.target.now) (g.S.Map.state c.commit.new.self))
     (Write c.in_err-commit.field-0.0) c.from_residual-in_err-commit.result c.from_residual-in_err-commit.ensures.1
     (broken _ (behind_mark (g.M.Map.state c.args.source.now).map) _ (g.S.Map.state c.args.target.now) (g.S.Map.state c.loop.target) (g.S.Map.state c.commit.new.self) c.take_records.new.batch c.in_err-commit.field-0.0 _
     (marked_in_order (g.M.Map.state c.args.source.now).map (g.met.M.Map.ordered c.args.source.now sound)) c.in_err-commit.ensures.commits (c.loop.invariant.grown sound there works marked)

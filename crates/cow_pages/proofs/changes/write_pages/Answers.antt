@@ -38,9 +38,9 @@ pub returns-in_err-write_page-clause-cached : goal.returns-in_err-write_page-cla
 returns-in_err-write_page-clause-cached g c first agrees =
     let so_far = c.loop-index.invariant in
     let mid = g.D.Device.state c.loop-index.device in
-    let left = c.forget.new.self in
+    let left = c.invalidate.new.self in
     written_agrees left mid (g.D.Device.state c.write_page.new.device) c.in-Some.page
-    (less_agrees c.loop-index.cache left mid.content (so_far.cached first agrees) c.forget.ensures.others) c.forget.ensures.here (c.write_page.ensures.alone (so_far.history.faithful first))
+    (less_agrees c.loop-index.cache left mid.content (so_far.cached first agrees) c.invalidate.ensures.others) c.invalidate.ensures.here (c.write_page.ensures.alone (so_far.history.faithful first))
 
 pub loop-index-preserved : goal.loop-index-preserved
 loop-index-preserved g c =
@@ -69,9 +69,9 @@ loop-index-preserved g c =
                 written_now waits new page bytes w.in-Some.ensures.dirty done other others also (w.in-Some.ensures.alone other (some_dirty (waits other) others also) same) in
                 below_more (λ (k : ℕ). index ≡ k → bytes_of_page new.content other ≡ others) c.loop-index.index written here index lt refl;
             cached = λ first agrees.
-                let left = w.forget.new.self in
+                let left = w.invalidate.new.self in
                 put_agrees left w.put.new.self new.content
-                (written_agrees left mid new page (less_agrees c.loop-index.cache left mid.content (so_far.cached first agrees) w.forget.ensures.others) w.forget.ensures.here (steps.alone (so_far.history.faithful first)))
+                (written_agrees left mid new page (less_agrees c.loop-index.cache left mid.content (so_far.cached first agrees) w.invalidate.ensures.others) w.invalidate.ensures.here (steps.alone (so_far.history.faithful first)))
                 page bytes (page_is new.content page ∙ w.in_ok-write_page.ensures.page (so_far.history.faithful first)) w.put.ensures.here w.put.ensures.others;
           })
       | goal.in_default w ↦

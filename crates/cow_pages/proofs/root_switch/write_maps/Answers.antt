@@ -26,9 +26,9 @@ pub returns-in_err-write_page-clause-cached : goal.returns-in_err-write_page-cla
 returns-in_err-write_page-clause-cached g c first agrees =
     let so_far = c.loop-index.invariant in
     let mid = g.D.Device.state c.loop-index.device in
-    let left = c.forget.new.self in
+    let left = c.invalidate.new.self in
     written_agrees left mid (g.D.Device.state c.write_page.new.device) (get_or c.args.pages.now c.loop-index.index 0)
-    (less_agrees c.loop-index.cache left mid.content (so_far.cached first agrees) c.forget.ensures.others) c.forget.ensures.here (c.write_page.ensures.alone (so_far.history.faithful first))
+    (less_agrees c.loop-index.cache left mid.content (so_far.cached first agrees) c.invalidate.ensures.others) c.invalidate.ensures.here (c.write_page.ensures.alone (so_far.history.faithful first))
 
 pub loop-index-preserved : goal.loop-index-preserved
 loop-index-preserved g c =
@@ -52,9 +52,9 @@ loop-index-preserved g c =
                 ∙ so_far.written first j lt positive)
                 (λ positive. ap (λ (b : List ℕ). entries_in b) (page_is new.content (get_or pages index 0) ∙ w.in_ok-write_page.ensures.page (so_far.history.faithful first)) ∙ w.put_map.ensures);
             cached = λ first agrees.
-                let left = w.forget.new.self in
-                written_agrees left mid new (get_or pages index 0) (less_agrees c.loop-index.cache left mid.content (so_far.cached first agrees) w.forget.ensures.others)
-                w.forget.ensures.here (steps.alone (so_far.history.faithful first));
+                let left = w.invalidate.new.self in
+                written_agrees left mid new (get_or pages index 0) (less_agrees c.loop-index.cache left mid.content (so_far.cached first agrees) w.invalidate.ensures.others)
+                w.invalidate.ensures.here (steps.alone (so_far.history.faithful first));
           })
       | goal.else-page-ne0 w ↦
           rw (w.device-is, w.cache-is) (record {

@@ -16,7 +16,7 @@ returns g c =
       ran = ran;
       closed = c.run_script-end.ensures.left;
       left_is = left_is;
-      life = subst (λ (left : _). LivesFrom g.D.Device g.X.Decide.Reads c.args.server (IsOfScript g.X.Decide.Reads store_state g.K.Sink c.args.server last c.args.sink.now ran) (g.D.Device.state left)) (sym left_is)
-          (script_life g.met.D.Device.only_now (λ device faithful s lt. g.met.D.Device.content_left device s faithful lt) c.one_database.ensures g.X.Decide.Reads g.K.Sink
+      life = subst (λ (left : _). LivesFrom g.D.Device g.X.EventHandler.Reads c.args.server (IsOfScript g.X.EventHandler.Reads store_state g.K.Sink c.args.server last c.args.sink.now ran) (g.D.Device.state left)) (sym left_is)
+          (script_life g.met.D.Device.only_now (λ device faithful s lt. g.met.D.Device.content_left device s faithful lt) c.one_database.ensures g.X.EventHandler.Reads g.K.Sink
           c.args.server last (lines_of c.args.script.now) c.args.sink.now c.run_script-end.new.sink c.run_script-end.result c.run_script-end.ensures.history ran);
     }

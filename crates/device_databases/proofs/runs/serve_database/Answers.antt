@@ -18,7 +18,7 @@ returns g c =
       refused = c.serve_listener-served.ensures.refused;
       closed = c.serve_listener-served.ensures.left;
       left_is = left_is;
-      life = subst (λ (left : _). LivesFrom g.D.Device g.X.Decide.Reads c.args.server (IsOfListener g.X.Decide.Reads store_state g.L.Sink.Sink c.args.server last (g.L.Listen.listening c.args.listener.now) serves) (g.D.Device.state left)) (sym left_is)
-          (connections_life g.met.D.Device.only_now (λ device faithful s lt. g.met.D.Device.content_left device s faithful lt) c.one_database.ensures g.X.Decide.Reads g.L.Sink.Sink
+      life = subst (λ (left : _). LivesFrom g.D.Device g.X.EventHandler.Reads c.args.server (IsOfListener g.X.EventHandler.Reads store_state g.L.Sink.Sink c.args.server last (g.L.Listen.listening c.args.listener.now) serves) (g.D.Device.state left)) (sym left_is)
+          (connections_life g.met.D.Device.only_now (λ device faithful s lt. g.met.D.Device.content_left device s faithful lt) c.one_database.ensures g.X.EventHandler.Reads g.L.Sink.Sink
           c.args.server last (g.L.Listen.listening c.args.listener.now) serves.between serves.connections c.serve_listener-served.ensures.history serves.each);
     }

@@ -5,13 +5,13 @@ use Rattle.entry_differences.specs.Additions.{HaveRecordSizes}
 use Rattle.entry_differences.proofs.difference.push_differences.Given as goal
 
 -- what differs between the records to come is left to add
-abbrev pub invariant-loop-gone : goal.invariant-loop-gone
-invariant-loop-gone l = record {
+abbrev pub invariant-loop-removed : goal.invariant-loop-removed
+invariant-loop-removed l = record {
   added : (records : Records) → IsOrdered records
       → applied_in_turn (differences l.fn.old l.fn.new) (applied l.fn.out records) ≡ applied_in_turn (differences l.old l.new) (applied l.out records);
   old_sizes : HaveRecordSizes l.old;
   new_sizes : HaveRecordSizes l.new;
 }
 
-abbrev pub decreases-loop-gone : goal.decreases-loop-gone
-decreases-loop-gone l = length l.old + length l.new
+abbrev pub decreases-loop-removed : goal.decreases-loop-removed
+decreases-loop-removed l = length l.old + length l.new

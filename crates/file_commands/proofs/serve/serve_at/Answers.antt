@@ -9,7 +9,7 @@ returns g c =
     let mid = g.Y.System.state c.bind.new.self in
     let new = g.Y.System.state c.unbind.new.self in
     let bind = c.in-Ok.ensures in
-    served_at g.Y.Device.Device g.Y.Listener.Sink.Sink g.X.Decide.Reads g.Y.Listener.Listen.listening old new c.args.place c.in-Ok.bound.1 c.args.limits.connections c.args.server (g.E.Write.contents c.args.err.now)
+    served_at g.Y.Device.Device g.Y.Listener.Sink.Sink g.X.EventHandler.Reads g.Y.Listener.Listen.listening old new c.args.place c.in-Ok.bound.1 c.args.limits.connections c.args.server (g.E.Write.contents c.args.err.now)
     (g.E.Write.contents c.serve_on-left.new.err) c.in-Ok.bound.0 c.serve_on-left.new.listener c.serve_on-left.result.0 (record {
       kind = bind.kind;
       asked = bind.place;

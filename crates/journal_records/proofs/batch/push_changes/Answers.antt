@@ -1,7 +1,7 @@
 use Rattle.std.proofs.Common.{◌∙◌, ◌++◌, ℕ, List, sym, ap}
 use Rattle.store.specs.Records.{IsChangeSize}
 use Rattle.journal_records.specs.Changes.{change_then}
-use Rattle.journal_records.proofs.Spelling.{one_change_more, holds_at}
+use Rattle.journal_records.proofs.RecordFormat.{one_change_more, holds_at}
 use Rattle.journal_records.proofs.batch.push_changes.Goals as goal
 
 pub push_change-requires : goal.push_change-requires

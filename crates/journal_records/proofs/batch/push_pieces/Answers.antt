@@ -2,7 +2,7 @@ use Rattle.std.proofs.Common.{◌∙◌, ◌++◌, ℕ, List, sym, ap, subst}
 use Rattle.std.specs.List.{AllByRecursion}
 use Rattle.store.specs.Records.{Changes, IsChangeSize}
 use Rattle.journal_records.specs.Changes.{changes_then}
-use Rattle.journal_records.proofs.Spelling.{one_piece_more, holds_in_piece}
+use Rattle.journal_records.proofs.RecordFormat.{one_piece_more, holds_in_piece}
 use Rattle.journal_records.proofs.batch.push_pieces.Goals as goal
 
 pub push_changes-requires : goal.push_changes-requires

@@ -18,7 +18,7 @@ returns-in_default-clause-begins g c sound kind second =
     let p = pages_of c.args.store.now in
     let held = sound.works c.requires.works in
     record {
-      leaves = before_leaves p (pages_of c.write_beside.new.self) (contents_of p) kind (c.in_default.ensures.leaves (contents_of p) held);
+      leaves = before_leaves p (pages_of c.write_protected.new.self) (contents_of p) kind (c.in_default.ensures.leaves (contents_of p) held);
       outcome = ⊎_elim (λ had. absurd (false≢true (sym c.requires.works ∙ had))) (λ counted. counted.1 sound) c.in_default.ensures.outcome.1.cause;
     }
 
@@ -26,7 +26,7 @@ pub returns-clause-begins : goal.returns-clause-begins
 returns-clause-begins g c sound kind second =
     let s = c.args.store.now in
     let p = pages_of s in
-    let q = pages_of c.write_beside.new.self in
+    let q = pages_of c.write_protected.new.self in
     let r = pages_of c.commit_kind.new.self in
     let is = c.in-Ok.ensures in
     let held = sound.works c.requires.works in
@@ -44,4 +44,4 @@ pub returns-clause-number : goal.returns-clause-number
 returns-clause-number g c sound second =
     let p = pages_of c.args.store.now in
     let is = c.in-Ok.ensures in
-    number_risen p (pages_of c.write_beside.new.self) (pages_of c.commit_kind.new.self) (contents_of p) is.keeps.root (is.outcome.holds (contents_of p) (sound.works c.requires.works)) second c.commit_kind.result c.commit_kind.ensures.switches
+    number_risen p (pages_of c.write_protected.new.self) (pages_of c.commit_kind.new.self) (contents_of p) is.keeps.root (is.outcome.holds (contents_of p) (sound.works c.requires.works)) second c.commit_kind.result c.commit_kind.ensures.switches

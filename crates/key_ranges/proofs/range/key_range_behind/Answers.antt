@@ -8,7 +8,7 @@ use Rattle.key_ranges.specs.declared.range.KeyRange.{KeyRange}
 use Rattle.key_ranges.specs.Bounds.{Bounds, bounds_of}
 use Rattle.key_ranges.specs.Ranges.{range_after, HasKeysBehind, IsRangeOf}
 use Rattle.key_ranges.proofs.Within.{range_keys, range_prefix}
-use Rattle.key_ranges.proofs.Quietness.{all_quiet}
+use Rattle.key_ranges.proofs.Infallibility.{all_infallible}
 use Rattle.key_ranges.proofs.range.key_range_behind.Goals as goal
 
 -- the range that was made, from the key of a layout and the bytes that were pushed
@@ -34,5 +34,5 @@ returns-clause-prefix c =
     c.in_ok-range.ensures c.key-key.ensures.key c.in_ok-push_row_prefix.ensures.ok c.new-prefix.ensures.items in
     subst (IsRangeOf c.args.id) (sym is) (range_prefix c.args.id bounds c.args.columns.now.key)
 
-pub returns-clause-quiet : goal.returns-clause-quiet
-returns-clause-quiet c = all_quiet c.args.conditions.now (sym c.are_quiet.ensures.exact ∙ c.if-not-are_quiet.false)
+pub returns-clause-infallible : goal.returns-clause-infallible
+returns-clause-infallible c = all_infallible c.args.conditions.now (sym c.are_infallible.ensures.exact ∙ c.if-not-are_infallible.false)

@@ -3,7 +3,7 @@ use Rattle.std.proofs.lemmas.Bool.{false≢true}
 use Rattle.std.proofs.lemmas.Result.{MatchResult-weaker}
 use Rattle.sector_device.specs.Device.{history_joined}
 use Rattle.sector_device.specs.declared.device.Device.{Ghosts}
-use Rattle.page_roots.specs.Formats.{spelling_of}
+use Rattle.page_roots.specs.Formats.{record_format_of}
 use Rattle.page_roots.specs.Root.{RootFields}
 use Rattle.pages.specs.declared.array.PageFault.{PageFault}
 use Rattle.pages.specs.declared.array.PageFault.TheVariants.{Memory, Malformed}
@@ -44,7 +44,7 @@ module _ (g : Over) (c : In-Ok g) (contents : Contents) (holds : HoldsContents c
   stand = subst (λ (cs : Changes). Represents (applied_in_turn cs contents.records) (working_array c.make_pieces-made.new.pages)) c.pieces.ensures.changes
       (c.in-Ok.ensures.made holds.is_open.faithful contents.records (working_holds contents c.args.pages.now holds)).1
 
-  represents : Represents (changed_in (spelling_of c.args.format) c.args.batch.now contents).records (working_array c.make_pieces-made.new.pages)
+  represents : Represents (changed_in (record_format_of c.args.format) c.args.batch.now contents).records (working_array c.make_pieces-made.new.pages)
   represents =
       let in_order = ordered_is contents.records (map_rises (durable_array c.args.pages.now) contents.records holds.durable) in
       subst (λ (es : Records). Represents es (working_array c.make_pieces-made.new.pages)) (in_turn_is c.args.batch.now contents.records c.pieces.ensures.ordered in_order) stand
@@ -56,7 +56,7 @@ returns-else-not-may_commit-clause-batch g c contents holds =
     let mid = c.make_pieces-made.new.pages in
     let new = c.finish.new.pages in
     let preserved = c.in-Ok.ensures.preserved in
-    let after = changed_in (spelling_of c.args.format) c.args.batch.now contents in
+    let after = changed_in (record_format_of c.args.format) c.args.batch.now contents in
     let left = leaves g at.After-preserved_stays contents holds preserved in
     let stay = stays g at.After-preserved_stays contents holds preserved in
     let open_still = opened g at.In-Ok contents holds in
@@ -90,7 +90,7 @@ returns-then-not-may_commit-clause-batch g c contents holds =
       takes = takes_of_old c.free_pages-free.result old mid preserved.preserved.root takes.1;
     } in
     record {
-      leaves = abandoned_leaves contents old mid holds preserved left stay new c.abandon.ensures.outcome c.abandon.ensures.preserved (changed_in (spelling_of c.args.format) c.args.batch.now contents);
+      leaves = abandoned_leaves contents old mid holds preserved left stay new c.abandon.ensures.outcome c.abandon.ensures.preserved (changed_in (record_format_of c.args.format) c.args.batch.now contents);
       outcome = (
         no_reserve c.args.reserve c.args.batch.now contents.records old takes.0 lacks,
         abandoned_back contents old mid holds preserved left stay new c.abandon.ensures.outcome c.abandon.ensures.preserved (opened g at.In-Ok contents holds),
@@ -126,7 +126,7 @@ returns-then-has_failed-clause-batch g c contents holds =
     let left = leaves g at.After-preserved_stays contents holds preserved in
     let stay = stays g at.After-preserved_stays contents holds preserved in
     record {
-      leaves = abandoned_leaves contents old mid holds preserved left stay new c.abandon-in-Err.ensures.outcome c.abandon-in-Err.ensures.preserved (changed_in (spelling_of c.args.format) c.args.batch.now contents);
+      leaves = abandoned_leaves contents old mid holds preserved left stay new c.abandon-in-Err.ensures.outcome c.abandon-in-Err.ensures.preserved (changed_in (record_format_of c.args.format) c.args.batch.now contents);
       outcome = abandoned_lost contents old mid holds preserved left stay new c.abandon-in-Err.ensures.outcome c.abandon-in-Err.ensures.preserved
           (sym c.has_failed.ensures ∙ c.if-has_failed.true);
     }
@@ -146,7 +146,7 @@ returns-in-Full-clause-batch g c contents holds =
     subst (λ (cs : Changes). LacksRoom cs contents.records old) c.pieces.ensures.changes
     (c.in-Err.ensures.room holds.is_open.faithful contents.records (working_holds contents old holds) c.in-Full.is) in
     record {
-      leaves = abandoned_leaves contents old mid holds preserved left stay new abandoned c.abandon-in-Err.ensures.preserved (changed_in (spelling_of c.args.format) c.args.batch.now contents);
+      leaves = abandoned_leaves contents old mid holds preserved left stay new abandoned c.abandon-in-Err.ensures.preserved (changed_in (record_format_of c.args.format) c.args.batch.now contents);
       outcome = (
         no_room c.args.reserve c.args.batch.now contents.records old lacks,
         abandoned_back contents old mid holds preserved left stay new abandoned c.abandon-in-Err.ensures.preserved
@@ -166,7 +166,7 @@ returns-in-Memory-clause-batch g c contents holds =
     let stay = stays g at.After-preserved_stays contents holds preserved in
     let works : has_failed mid ≡ false = sym abandoned.has_failed ∙ sym c.has_failed.ensures ∙ c.if-has_failed.false in
     record {
-      leaves = abandoned_leaves contents old mid holds preserved left stay new abandoned c.abandon-in-Err.ensures.preserved (changed_in (spelling_of c.args.format) c.args.batch.now contents);
+      leaves = abandoned_leaves contents old mid holds preserved left stay new abandoned c.abandon-in-Err.ensures.preserved (changed_in (record_format_of c.args.format) c.args.batch.now contents);
       outcome = abandoned_back contents old mid holds preserved left stay new abandoned c.abandon-in-Err.ensures.preserved
           (c.preserved_stays.ensures.open old holds.is_open preserved works);
     }
@@ -202,7 +202,7 @@ returns-else-not-may_commit-clause-numbered g c contents holds =
     let old = c.args.pages.now in
     let mid = c.make_pieces-made.new.pages in
     let preserved = c.in-Ok.ensures.preserved in
-    let after = changed_in (spelling_of c.args.format) c.args.batch.now contents in
+    let after = changed_in (record_format_of c.args.format) c.args.batch.now contents in
     let left = leaves g at.After-preserved_stays contents holds preserved in
     let stands = represents g at.In-Ok contents holds in
     let is = c.finish.ensures.finished (opened g at.In-Ok contents holds) (first_used after.records mid stands) in

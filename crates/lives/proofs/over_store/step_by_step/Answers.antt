@@ -31,7 +31,7 @@ loop-event-preserved g c =
         told.0 ++ c.step-answer.result ∷ [],
         told.1 ++ (state new.store).time.moment ∷ [],
         c.in-Ok.ensures.items ∙ ap (λ items. items ++ c.step-answer.result ∷ []) told.2 ∙ append_assoc c.args.answers.now.items told.0 (c.step-answer.result ∷ []),
-        rw at (steps_more g.X.Decide.Reads state first mid new (take c.loop-event.event-index c.args.events.now) told.0 told.1 event c.step-answer.result
+        rw at (steps_more g.X.EventHandler.Reads state first mid new (take c.loop-event.event-index c.args.events.now) told.0 told.1 event c.step-answer.result
             told.3 c.step-answer.ensures.history c.step-answer.ensures.steps),
       );
     }

@@ -11,5 +11,5 @@ invariant-loop-event g l =
       room : vec_len l.answers + length l.events ≤ vec_capacity l.answers + l.event-index;
       count : length l.answers.items ≡ length l.fn.answers.items + l.event-index;
       history : KeepsHistory (state l.fn.server.store) (state l.server.store);
-      told : (told : List Answer) × (moments : List ℕ) × (l.answers.items ≡ l.fn.answers.items ++ told) × StepsAt g.X.Decide.Reads state l.fn.server (take l.event-index l.events) told moments l.server;
+      told : (told : List Answer) × (moments : List ℕ) × (l.answers.items ≡ l.fn.answers.items ++ told) × StepsAt g.X.EventHandler.Reads state l.fn.server (take l.event-index l.events) told moments l.server;
     }

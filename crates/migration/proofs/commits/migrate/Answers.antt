@@ -19,7 +19,7 @@ returns-in-Ok-commit_respelled-clause-failed g c =
 pub returns-in-Ok-commit_respelled-clause-migrates : goal.returns-in-Ok-commit_respelled-clause-migrates
 returns-in-Ok-commit_respelled-clause-migrates g c = λ sound works db stands.
     let old = g.S.Map.state c.args.store.now in
-    let are = subst (λ (lists : List Changes). AreRespelling old.spelling old.map lists) (sym c.as_slice.ensures) (c.in-Ok.ensures.spelled sound) in
+    let are = subst (λ (lists : List Changes). AreRespelling old.record_format old.map lists) (sym c.as_slice.ensures) (c.in-Ok.ensures.spelled sound) in
     migrates_ok g.S.Map.state c.args.store.now c.respelled_lists.new.store c.commit_respelled.new.store c.as_slice.result.now c.in-Ok.ensures.read.only_reads c.in-Ok.ensures.read.failed
     sound are works db (λ x left. g.met.S.Store.settled c.args.store.now x sound works left) stands
     c.in-Ok-commit_respelled.field-0 c.in-Ok-commit_respelled.ensures.none c.in-Ok-commit_respelled.ensures.some
@@ -39,14 +39,14 @@ returns-clause-failed g c =
 pub returns-clause-cause : goal.returns-clause-cause
 returns-clause-cause g c = λ sound.
     let old = g.S.Map.state c.args.store.now in
-    let are = subst (λ (lists : List Changes). AreRespelling old.spelling old.map lists) (sym c.as_slice.ensures) (c.in-Ok.ensures.spelled sound) in
+    let are = subst (λ (lists : List Changes). AreRespelling old.record_format old.map lists) (sym c.as_slice.ensures) (c.in-Ok.ensures.spelled sound) in
     cause_err g.S.Map.state c.args.store.now c.respelled_lists.new.store c.commit_respelled.new.store c.as_slice.result.now c.in-Ok.ensures.read.only_reads c.in-Ok.ensures.read.failed
     sound are c.in-Err-commit_respelled.fault c.in-Err-commit_respelled.ensures.none c.in-Err-commit_respelled.ensures.some
 
 pub returns-clause-migrates : goal.returns-clause-migrates
 returns-clause-migrates g c = λ sound works db stands.
     let old = g.S.Map.state c.args.store.now in
-    let are = subst (λ (lists : List Changes). AreRespelling old.spelling old.map lists) (sym c.as_slice.ensures) (c.in-Ok.ensures.spelled sound) in
+    let are = subst (λ (lists : List Changes). AreRespelling old.record_format old.map lists) (sym c.as_slice.ensures) (c.in-Ok.ensures.spelled sound) in
     migrates_err g.S.Map.state c.args.store.now c.respelled_lists.new.store c.commit_respelled.new.store c.as_slice.result.now c.in-Ok.ensures.read.only_reads c.in-Ok.ensures.read.failed
     sound are works db (λ x left. g.met.S.Store.settled c.args.store.now x sound works left) stands
     c.in-Err-commit_respelled.fault c.in-Err-commit_respelled.ensures.none c.in-Err-commit_respelled.ensures.some

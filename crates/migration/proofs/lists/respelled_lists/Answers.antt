@@ -5,4 +5,4 @@ use Rattle.migration.proofs.lists.respelled_lists.Goals as goal
 pub returns-in-Err-clause-spelled : goal.returns-in-Err-clause-spelled
 returns-in-Err-clause-spelled g c = λ s.
     let old = g.S.Map.state c.args.store.now in
-    fault_of_first old.spelling (sym c.spelling.ensures ∙ c.in-First.is) c.in-Err.fault old.map (c.in-Err.ensures.spelled s)
+    fault_of_first old.record_format (sym c.record_format.ensures ∙ c.in-V1.is) c.in-Err.fault old.map (c.in-Err.ensures.spelled s)

@@ -1,7 +1,7 @@
 use Rattle.std.proofs.Common.{◌≡◌, List, Ok, Err, ⊎_elim, ap, sym, ◌∙◌, subst}
 use Rattle.store.specs.Store.{Contents, KeepsHistory, stored}
 use Rattle.stored_database.specs.Spellings.{Stands}
-use Rattle.storage_sizes.specs.declared.spelling.Spelling.TheVariants.{Second}
+use Rattle.storage_sizes.specs.declared.record_format.RecordFormat.TheVariants.{V2}
 use Rattle.store.specs.Records.{Changes, Records}
 use Rattle.stored_database.specs.Records.{Shows}
 use Rattle.server.specs.Standing.{Represents, at_start}
@@ -48,7 +48,7 @@ returns-in-Ok-commit_respelled-clause-history g c =
 pub returns-in-Ok-commit_respelled-clause-read : goal.returns-in-Ok-commit_respelled-clause-read
 returns-in-Ok-commit_respelled-clause-read g c = λ looks.
     let old = g.S.Map.state c.args.store in
-    let unlisted = c.as_slice.ensures ∙ c.in-Ok.ensures.none (opened_looking old.spelling tt looks) in
+    let unlisted = c.as_slice.ensures ∙ c.in-Ok.ensures.none (opened_looking old.record_format tt looks) in
     subst (λ (store : _). HasLooked (Ok tt) old (g.S.Map.state store)) (sym c.over.ensures.store)
     (looked_through g.S.Map.state c.args.store c.read_store.new.store c.commit_respelled.new.store c.as_slice.result.now c.in-Ok.ensures.read.only_reads c.in-Ok.ensures.read.failed
     c.in-Ok-commit_respelled.field-0 c.in-Ok-commit_respelled.ensures.none unlisted)
@@ -56,14 +56,14 @@ returns-in-Ok-commit_respelled-clause-read g c = λ looks.
 pub returns-in-Ok-commit_respelled-clause-preserved : goal.returns-in-Ok-commit_respelled-clause-preserved
 returns-in-Ok-commit_respelled-clause-preserved g c = λ looks works.
     let old = g.S.Map.state c.args.store in
-    let unlisted = c.as_slice.ensures ∙ c.in-Ok.ensures.none (opened_looking old.spelling tt looks) in
+    let unlisted = c.as_slice.ensures ∙ c.in-Ok.ensures.none (opened_looking old.record_format tt looks) in
     subst (λ (store : _). g.S.Map.preserved c.args.store store) (sym c.over.ensures.store)
     (subst (λ (store : _). g.S.Map.preserved c.args.store store) (sym (c.in-Ok-commit_respelled.ensures.none unlisted).1) (c.in-Ok.ensures.preserved works))
 
 pub returns-in-Ok-commit_respelled-clause-same : goal.returns-in-Ok-commit_respelled-clause-same
 returns-in-Ok-commit_respelled-clause-same g c = λ sound works db stands.
     let old = g.S.Map.state c.args.store in
-    let are = subst (λ (lists : List Changes). AreRespelling old.spelling old.map lists) (sym c.as_slice.ensures) (c.in-Ok.ensures.found sound).0 in
+    let are = subst (λ (lists : List Changes). AreRespelling old.record_format old.map lists) (sym c.as_slice.ensures) (c.in-Ok.ensures.found sound).0 in
     subst (λ (store : _). KeepsDatabase db (Ok tt) old (g.S.Map.state store)) (sym c.over.ensures.store)
     (migrates_ok g.S.Map.state c.args.store c.read_store.new.store c.commit_respelled.new.store c.as_slice.result.now c.in-Ok.ensures.read.only_reads c.in-Ok.ensures.read.failed
     sound are works db (λ x left. g.met.S.Store.settled c.args.store x sound works left) stands
@@ -73,7 +73,7 @@ pub returns-in-Ok-commit_respelled-clause-opened : goal.returns-in-Ok-commit_res
 returns-in-Ok-commit_respelled-clause-opened g c = λ sound.
     let old = g.S.Map.state c.args.store in
     let works = c.in-Ok.ensures.works in
-    let are = subst (λ (lists : List Changes). AreRespelling old.spelling old.map lists) (sym c.as_slice.ensures) (c.in-Ok.ensures.found sound).0 in
+    let are = subst (λ (lists : List Changes). AreRespelling old.record_format old.map lists) (sym c.as_slice.ensures) (c.in-Ok.ensures.found sound).0 in
     let found = (c.in-Ok.ensures.found sound).1 in
     let db = found.0 in
     let stands : Stands (stored old) db = (c.in-Ok.read.1, found.1) in
@@ -81,7 +81,7 @@ returns-in-Ok-commit_respelled-clause-opened g c = λ sound.
     let migrated : Migrates (Ok c.in-Ok-commit_respelled.field-0) db old (g.S.Map.state c.commit_respelled.new.store) =
     migrates_ok g.S.Map.state c.args.store c.read_store.new.store c.commit_respelled.new.store c.as_slice.result.now c.in-Ok.ensures.read.only_reads c.in-Ok.ensures.read.failed
     sound are works db settled stands c.in-Ok-commit_respelled.field-0 c.in-Ok-commit_respelled.ensures.none c.in-Ok-commit_respelled.ensures.some in
-    let second = ap (λ (contents : Contents). contents.spelling) migrated.outcome in
+    let second = ap (λ (contents : Contents). contents.record_format) migrated.outcome in
     let shown = subst (λ (records : Records). Shows records c.in-Ok.read.1 db) (sym (ap (λ (contents : Contents). contents.records) migrated.outcome)) found.1 in
     let history = ends_history g.S.Map.state c.args.store c.read_store.new.store c.commit_respelled.new.store c.as_slice.result.now c.in-Ok.ensures.read.only_reads c.in-Ok.ensures.read.failed
     (Ok c.in-Ok-commit_respelled.field-0) c.in-Ok-commit_respelled.ensures.none c.in-Ok-commit_respelled.ensures.some in
@@ -90,7 +90,7 @@ returns-in-Ok-commit_respelled-clause-opened g c = λ sound.
     record {
       database = db;
       stands = stands;
-      second = subst (λ (store : _). (g.S.Map.state store).spelling ≡ Second) (sym c.over.ensures.store) second;
+      second = subst (λ (store : _). (g.S.Map.state store).record_format ≡ V2) (sym c.over.ensures.store) second;
       represents =
           subst (λ (store : _). Represents g.S.Map.state c.over.result (at_start (g.S.Map.state store) db)) (sym c.over.ensures.store)
           (c.over.ensures.represents db (history.sound sound) (unfailed ∙ works) second shown);
@@ -99,7 +99,7 @@ returns-in-Ok-commit_respelled-clause-opened g c = λ sound.
 pub returns-in-Ok-commit_respelled-clause-number : goal.returns-in-Ok-commit_respelled-clause-number
 returns-in-Ok-commit_respelled-clause-number g c = λ sound.
     let old = g.S.Map.state c.args.store in
-    subst (λ (store : _). IsNumberAfter old.spelling old.number (g.S.Map.state store).number) (sym c.over.ensures.store)
+    subst (λ (store : _). IsNumberAfter old.record_format old.number (g.S.Map.state store).number) (sym c.over.ensures.store)
     (number_then g.S.Map.state c.args.store c.read_store.new.store c.commit_respelled.new.store c.as_slice.result.now c.in-Ok.ensures.read.only_reads c.in-Ok.ensures.read.failed
     sound c.in-Ok.ensures.works c.in-Ok-commit_respelled.field-0 c.in-Ok-commit_respelled.ensures.none c.in-Ok-commit_respelled.ensures.some
     (λ second. c.as_slice.ensures ∙ c.in-Ok.ensures.none second))
@@ -120,19 +120,19 @@ returns-in-Err-commit_respelled-clause-history g c =
 pub returns-in-Err-commit_respelled-clause-read : goal.returns-in-Err-commit_respelled-clause-read
 returns-in-Err-commit_respelled-clause-read g c = λ looks.
     let old = g.S.Map.state c.args.store in
-    no_look_refused old.spelling c.in-Err-commit_respelled.fault c.read_store.new.store c.commit_respelled.new.store c.as_slice.result.now
+    no_look_refused old.record_format c.in-Err-commit_respelled.fault c.read_store.new.store c.commit_respelled.new.store c.as_slice.result.now
     (λ second. c.as_slice.ensures ∙ c.in-Ok.ensures.none second) c.in-Err-commit_respelled.ensures.none looks
 
 pub returns-in-Err-commit_respelled-clause-preserved : goal.returns-in-Err-commit_respelled-clause-preserved
 returns-in-Err-commit_respelled-clause-preserved g c = λ looks works.
     let old = g.S.Map.state c.args.store in
-    no_look_refused old.spelling c.in-Err-commit_respelled.fault c.read_store.new.store c.commit_respelled.new.store c.as_slice.result.now
+    no_look_refused old.record_format c.in-Err-commit_respelled.fault c.read_store.new.store c.commit_respelled.new.store c.as_slice.result.now
     (λ second. c.as_slice.ensures ∙ c.in-Ok.ensures.none second) c.in-Err-commit_respelled.ensures.none looks
 
 pub returns-in-Err-commit_respelled-clause-same : goal.returns-in-Err-commit_respelled-clause-same
 returns-in-Err-commit_respelled-clause-same g c = λ sound works db stands.
     let old = g.S.Map.state c.args.store in
-    let are = subst (λ (lists : List Changes). AreRespelling old.spelling old.map lists) (sym c.as_slice.ensures) (c.in-Ok.ensures.found sound).0 in
+    let are = subst (λ (lists : List Changes). AreRespelling old.record_format old.map lists) (sym c.as_slice.ensures) (c.in-Ok.ensures.found sound).0 in
     (migrates_err g.S.Map.state c.args.store c.read_store.new.store c.commit_respelled.new.store c.as_slice.result.now c.in-Ok.ensures.read.only_reads c.in-Ok.ensures.read.failed
     sound are works db (λ x left. g.met.S.Store.settled c.args.store x sound works left) stands
     c.in-Err-commit_respelled.fault c.in-Err-commit_respelled.ensures.none c.in-Err-commit_respelled.ensures.some).keeps
@@ -140,7 +140,7 @@ returns-in-Err-commit_respelled-clause-same g c = λ sound works db stands.
 pub returns-in-Err-commit_respelled-clause-cause : goal.returns-in-Err-commit_respelled-clause-cause
 returns-in-Err-commit_respelled-clause-cause g c = λ sound.
     let old = g.S.Map.state c.args.store in
-    let are = subst (λ (lists : List Changes). AreRespelling old.spelling old.map lists) (sym c.as_slice.ensures) (c.in-Ok.ensures.found sound).0 in
+    let are = subst (λ (lists : List Changes). AreRespelling old.record_format old.map lists) (sym c.as_slice.ensures) (c.in-Ok.ensures.found sound).0 in
     cause_err g.S.Map.state c.args.store c.read_store.new.store c.commit_respelled.new.store c.as_slice.result.now c.in-Ok.ensures.read.only_reads c.in-Ok.ensures.read.failed
     sound are c.in-Err-commit_respelled.fault c.in-Err-commit_respelled.ensures.none c.in-Err-commit_respelled.ensures.some
 

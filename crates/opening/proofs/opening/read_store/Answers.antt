@@ -25,7 +25,7 @@ returns-in-Err-read_under-clause-found g c = λ sound.
     let lists = c.as_slice.result.now in
     let still = c.in-Ok.ensures.read.only_reads.history.sound sound in
     let reads = c.in-Ok-respelled_lists.ensures.read.only_reads in
-    let are = subst (λ (ls : List Changes). AreRespelling (state mid).spelling (state mid).map ls) (sym c.as_slice.ensures) (c.in-Ok-respelled_lists.ensures.spelled still) in
+    let are = subst (λ (ls : List Changes). AreRespelling (state mid).record_format (state mid).map ls) (sym c.as_slice.ensures) (c.in-Ok-respelled_lists.ensures.spelled still) in
     let finds =
     subst (λ (es : Records). Finds (AreOfDatabase (applied_all lists es)) (Err fault)) (reads.unchanged still).map
     (c.in-Err-read_under.ensures.found (reads.history.sound still)) in

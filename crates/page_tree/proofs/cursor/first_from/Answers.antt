@@ -21,4 +21,4 @@ returns-in-Err-clause-found g c sound map represents =
     c.in-Err.ensures.found sound _ (root_at (g.P.Pages.state c.args.pages.now).array map c.args.key.now (numbered_of g.P.Pages c.args.pages.now sound) represents)
 
 pub returns-in-Err-clause-place : goal.returns-in-Err-clause-place
-returns-in-Err-clause-place g c sound map represents = c.forget.ensures map
+returns-in-Err-clause-place g c sound map represents = c.reset.ensures map

@@ -4,7 +4,7 @@ use Rattle.sql_types.specs.declared.answer.Answer.TheVariants.{Done}
 use Rattle.sql_types.specs.declared.tag.Tag.TheVariants as tag
 use Rattle.sql_types.specs.declared.state.SqlState.TheVariants.{UndefinedTable, OutOfMemory}
 use Rattle.sql_ast.specs.declared.policy.Policy.{Policy}
-use Rattle.store.specs.declared.stop.Stop.TheVariants.{Refused}
+use Rattle.store.specs.declared.stop.StatementError.TheVariants.{Refused}
 use Rattle.abstract_database.specs.Statements.{create_policy}
 use Rattle.stored_database.specs.Definitions.{TableDefinition}
 use Rattle.catalogue_changes.specs.Carried.{IsCurrent}

@@ -23,18 +23,18 @@ returns-clause-left c =
     let s = c.args.statement in
     let t = c.args.table.now in
     let made = c.in_ok-exchanged.exchanged in
-    let after : with_those made.come.items (without_those made.gone.items t.descriptors) ≡ descriptors_after c.in_ok-change.change t.descriptors = sym c.in_ok-change.ensures.after in
+    let after : with_those made.added.items (without_those made.removed.items t.descriptors) ≡ descriptors_after c.in_ok-change.change t.descriptors = sym c.in_ok-change.ensures.after in
     leaves_alone c.args.current.now (run_of s) d (table_of s) t c.requires d.roles refl d.memberships refl t.descriptors refl
-    (tag_of s) c.in_ok-exchanged.warning (with_those made.come.items (without_those made.gone.items t.descriptors)) (descriptors_after c.in_ok-change.change t.descriptors) after (λ a. c.in_ok-exchanged.ensures.left a)
+    (tag_of s) c.in_ok-exchanged.warning (with_those made.added.items (without_those made.removed.items t.descriptors)) (descriptors_after c.in_ok-change.change t.descriptors) after (λ a. c.in_ok-exchanged.ensures.left a)
 
 pub change_of-requires : goal.change_of-requires
 change_of-requires c =
     let t = c.args.table.now in
     let made = c.in_ok-exchanged.exchanged in
-    subst (λ (n : TheName). Fits n made.gone.items made.come.items t.descriptors) (named_as c.args.catalogue.now (table_of c.args.statement) t c.requires) c.in_ok-exchanged.ensures.fits
+    subst (λ (n : TheName). Fits n made.removed.items made.added.items t.descriptors) (named_as c.args.catalogue.now (table_of c.args.statement) t c.requires) c.in_ok-exchanged.ensures.fits
 
-pub exchanged-requires-clause-asker : goal.exchanged-requires-clause-asker
-exchanged-requires-clause-asker c = λ s. c.in_ok-roles.ensures.test s ∙ ap (λ (ms : List Membership). is_in ms c.args.current.now s) c.memberships-memberships.ensures.memberships
+pub exchanged-requires-clause-requester : goal.exchanged-requires-clause-requester
+exchanged-requires-clause-requester c = λ s. c.in_ok-roles.ensures.test s ∙ ap (λ (ms : List Membership). is_in ms c.args.current.now s) c.memberships-memberships.ensures.memberships
 
 pub exchanged-requires-clause-table : goal.exchanged-requires-clause-table
 exchanged-requires-clause-table c = named_as c.args.catalogue.now (table_of c.args.statement) c.args.table.now c.requires

@@ -4,4 +4,4 @@ use Rattle.privilege_statements.specs.Changes.{come_of}
 use Rattle.privilege_statements.proofs.changes.coming.Given as goal
 
 abbrev pub invariant-loop-descriptor : goal.invariant-loop-descriptor
-invariant-loop-descriptor l = l.come.items ++ come_of l.table.descriptors (into_iter_items l.descriptor-iterator) ≡ come_of l.table.descriptors l.fn.granted.items
+invariant-loop-descriptor l = l.added.items ++ come_of l.table.descriptors (into_iter_items l.descriptor-iterator) ≡ come_of l.table.descriptors l.fn.granted.items

@@ -34,17 +34,17 @@ loop-index-preserved c =
     let stays_front : drop i stays ≡ c.index-stays.result.now ∷ drop (i + 1) stays = front_at stays i c.index-stays.result.now (omega (arith, c.requires.staying, c.loop-index-test.true)) (sym c.index-stays.ensures) in
     let named_front : drop i named ≡ c.index.result.now ∷ drop (i + 1) named = front_at named i c.index.result.now (omega (arith, c.requires.named, c.loop-index-test.true)) (sym c.index.ensures) in
     record {
-      gone =
-          ap (λ (l : List Descriptor). l ++ gone_of (drop (i + 1) stays) (drop (i + 1) ds)) next.gone
-          ∙ gone_step c.loop-index.taken.gone.items c.index-stays.result.now d (drop (i + 1) stays) (drop (i + 1) ds)
-          ∙ ap (λ (l : List Bool). c.loop-index.taken.gone.items ++ gone_of l (d ∷ drop (i + 1) ds)) (sym stays_front)
-          ∙ ap (λ (l : List Descriptor). c.loop-index.taken.gone.items ++ gone_of (drop i stays) l) (sym front)
-          ∙ was.gone;
-      come =
-          ap (λ (l : List Descriptor). l ++ cleared_of c.args.option_alone (drop (i + 1) named) (drop (i + 1) stays) (drop (i + 1) ds)) next.come
-          ∙ come_step c.loop-index.taken.come.items c.args.option_alone c.index.result.now c.index-stays.result.now d (drop (i + 1) named) (drop (i + 1) stays) (drop (i + 1) ds)
-          ∙ ap (λ (l : List Bool). c.loop-index.taken.come.items ++ cleared_of c.args.option_alone l (c.index-stays.result.now ∷ drop (i + 1) stays) (d ∷ drop (i + 1) ds)) (sym named_front)
-          ∙ ap (λ (l : List Bool). c.loop-index.taken.come.items ++ cleared_of c.args.option_alone (drop i named) l (d ∷ drop (i + 1) ds)) (sym stays_front)
-          ∙ ap (λ (l : List Descriptor). c.loop-index.taken.come.items ++ cleared_of c.args.option_alone (drop i named) (drop i stays) l) (sym front)
-          ∙ was.come;
+      removed =
+          ap (λ (l : List Descriptor). l ++ gone_of (drop (i + 1) stays) (drop (i + 1) ds)) next.removed
+          ∙ gone_step c.loop-index.taken.removed.items c.index-stays.result.now d (drop (i + 1) stays) (drop (i + 1) ds)
+          ∙ ap (λ (l : List Bool). c.loop-index.taken.removed.items ++ gone_of l (d ∷ drop (i + 1) ds)) (sym stays_front)
+          ∙ ap (λ (l : List Descriptor). c.loop-index.taken.removed.items ++ gone_of (drop i stays) l) (sym front)
+          ∙ was.removed;
+      added =
+          ap (λ (l : List Descriptor). l ++ cleared_of c.args.option_alone (drop (i + 1) named) (drop (i + 1) stays) (drop (i + 1) ds)) next.added
+          ∙ come_step c.loop-index.taken.added.items c.args.option_alone c.index.result.now c.index-stays.result.now d (drop (i + 1) named) (drop (i + 1) stays) (drop (i + 1) ds)
+          ∙ ap (λ (l : List Bool). c.loop-index.taken.added.items ++ cleared_of c.args.option_alone l (c.index-stays.result.now ∷ drop (i + 1) stays) (d ∷ drop (i + 1) ds)) (sym named_front)
+          ∙ ap (λ (l : List Bool). c.loop-index.taken.added.items ++ cleared_of c.args.option_alone (drop i named) l (d ∷ drop (i + 1) ds)) (sym stays_front)
+          ∙ ap (λ (l : List Descriptor). c.loop-index.taken.added.items ++ cleared_of c.args.option_alone (drop i named) (drop i stays) l) (sym front)
+          ∙ was.added;
     }

@@ -4,7 +4,7 @@ use Rattle.privilege_statements.proofs.changes.what_is_taken.Given as goal
 
 abbrev pub invariant-loop-index : goal.invariant-loop-index
 invariant-loop-index l = record {
-  gone : l.taken.gone.items ++ gone_of (drop l.index l.taking.staying.items) (drop l.index l.descriptors) ≡ gone_of l.taking.staying.items l.descriptors;
-  come : l.taken.come.items ++ cleared_of l.option_alone (drop l.index l.taking.named.items) (drop l.index l.taking.staying.items) (drop l.index l.descriptors)
+  removed : l.taken.removed.items ++ gone_of (drop l.index l.taking.staying.items) (drop l.index l.descriptors) ≡ gone_of l.taking.staying.items l.descriptors;
+  added : l.taken.added.items ++ cleared_of l.option_alone (drop l.index l.taking.named.items) (drop l.index l.taking.staying.items) (drop l.index l.descriptors)
       ≡ cleared_of l.option_alone l.taking.named.items l.taking.staying.items l.descriptors;
 }

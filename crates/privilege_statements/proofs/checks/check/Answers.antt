@@ -11,14 +11,14 @@ use Rattle.privilege_statements.proofs.checks.check.Goals as goal
 
 pub returns-then-not-knows_grantees-clause-refused : goal.returns-then-not-knows_grantees-clause-refused
 returns-then-not-knows_grantees-clause-refused c =
-    let a = c.args.asker in
+    let a = c.args.requester in
     let db = asked_by a in
     let grantees = c.args.grantees.now in
     no_role db a.role.now c.args.table.now a.table.now.definition.layout c.args.privileges.now grantees (all_together (has_role db) role_of grantees ∙ sym c.knows_grantees.ensures ∙ c.if-not-knows_grantees.true)
 
 pub returns-then-not-names_columns-clause-refused : goal.returns-then-not-names_columns-clause-refused
 returns-then-not-names_columns-clause-refused c =
-    let a = c.args.asker in
+    let a = c.args.requester in
     let db = asked_by a in
     let ps = c.args.privileges.now in
     let layout = a.table.now.definition.layout in
@@ -28,7 +28,7 @@ returns-then-not-names_columns-clause-refused c =
 
 pub returns-then-not-has_some-clause-refused : goal.returns-then-not-has_some-clause-refused
 returns-then-not-has_some-clause-refused c =
-    let a = c.args.asker in
+    let a = c.args.requester in
     let db = asked_by a in
     let ps = c.args.privileges.now in
     let layout = a.table.now.definition.layout in
@@ -39,7 +39,7 @@ returns-then-not-has_some-clause-refused c =
 
 pub returns-clause-allowed : goal.returns-clause-allowed
 returns-clause-allowed c =
-    let a = c.args.asker in
+    let a = c.args.requester in
     let db = asked_by a in
     let ps = c.args.privileges.now in
     let layout = a.table.now.definition.layout in

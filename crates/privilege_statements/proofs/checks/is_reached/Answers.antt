@@ -6,7 +6,7 @@ use Rattle.privilege_statements.proofs.checks.is_reached.Goals as goal
 
 pub returns-then-names_grantee : goal.returns-then-names_grantee
 returns-then-names_grantee c =
-    let a = c.args.asker in
+    let a = c.args.requester in
     let t = a.table.now in
     let own = c.descriptors-own.ensures.order.descriptors in
     let asked = some_asked a.catalogue.now.memberships a.role.now t.definition.name a.roles.now c.requires t.descriptors own c.names_grantee.ensures.named c.names-names.result.now c.names-names.ensures in
@@ -15,7 +15,7 @@ returns-then-names_grantee c =
 
 pub returns-else-names_grantee : goal.returns-else-names_grantee
 returns-else-names_grantee c =
-    let a = c.args.asker in
+    let a = c.args.requester in
     let t = a.table.now in
     let own = c.descriptors-own.ensures.order.descriptors in
     let asked = some_asked a.catalogue.now.memberships a.role.now t.definition.name a.roles.now c.requires t.descriptors own c.names_grantee.ensures.named c.names-names.result.now c.names-names.ensures in

@@ -4,4 +4,4 @@ use Rattle.privilege_statements.specs.Units.{by_role, with_grantor}
 use Rattle.privilege_statements.proofs.grantors.acting_grantors.Given as goal
 
 abbrev pub invariant-loop-privilege : goal.invariant-loop-privilege
-invariant-loop-privilege l = map by_role l.all.items ≡ map (with_grantor (asked_by l.asker) l.asker.role.now l.asker.table.now.definition) (take l.privilege-index l.privileges)
+invariant-loop-privilege l = map by_role l.all.items ≡ map (with_grantor (asked_by l.requester) l.requester.role.now l.requester.table.now.definition) (take l.privilege-index l.privileges)

@@ -9,9 +9,9 @@ use Rattle.privilege_statements.proofs.named.what_is_named.Goals as goal
 
 pub returns : goal.returns
 returns c =
-    let db = asked_by c.args.asker in
-    let role = c.args.asker.role.now in
-    let table = c.args.asker.table.now.definition in
+    let db = asked_by c.args.requester in
+    let role = c.args.requester.role.now in
+    let table = c.args.requester.table.now.definition in
     let grantees = c.args.grantees.now in
     let grantable = c.args.grantable in
     let ps = c.args.privileges.now in

@@ -3,7 +3,7 @@ use Rattle.std.specs.Option.{option_copied}
 use Rattle.sql_types.specs.declared.answer.Answer.TheVariants.{Done}
 use Rattle.sql_types.specs.declared.tag.Tag.{Tag}
 use Rattle.sql_types.specs.declared.state.SqlState.TheVariants.{UndefinedTable, OutOfMemory}
-use Rattle.store.specs.declared.stop.Stop.TheVariants.{Refused}
+use Rattle.store.specs.declared.stop.StatementError.TheVariants.{Refused}
 use Rattle.abstract_database.specs.Lists.{TheName}
 use Rattle.stored_database.specs.Definitions.{TableDefinition, Definitions}
 use Rattle.catalogue.specs.Lookups.{is_definition_named}

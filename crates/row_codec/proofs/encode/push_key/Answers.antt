@@ -1,7 +1,7 @@
 use Rattle.std.proofs.Common.{◌++◌, ap, ◌∙◌}
 use Rattle.row_codec.specs.Cells.{key_cell}
 use Rattle.sql_types.specs.Row.{value_at}
-use Rattle.row_codec.proofs.Spelling.{begins_less, appended, key_bytes-more}
+use Rattle.row_codec.proofs.RecordFormat.{begins_less, appended, key_bytes-more}
 use Rattle.row_codec.proofs.encode.push_key.Goals as goal
 
 pub returns-in_err-push_key_cell-clause-begins : goal.returns-in_err-push_key_cell-clause-begins

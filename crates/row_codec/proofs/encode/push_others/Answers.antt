@@ -1,7 +1,7 @@
 use Rattle.std.proofs.Common.{◌++◌, true, false, arith, sym, ap, ◌∙◌}
 use Rattle.sql_ast.specs.Rows.{value_cell_size}
 use Rattle.row_codec.specs.Cells.{value_cell}
-use Rattle.row_codec.proofs.Spelling.{begins_less, cells_grow, record_size-within}
+use Rattle.row_codec.proofs.RecordFormat.{begins_less, cells_grow, record_size-within}
 use Rattle.row_codec.proofs.encode.push_others.Goals as goal
 use Rattle.row_codec.proofs.encode.push_others.Goals.{then-not-is_in_key+in_ok-push_value_cell, else-not-is_in_key}
 

@@ -4,7 +4,7 @@ use Rattle.key_ranges.specs.declared.range.KeyRange.{KeyRange}
 use Rattle.row_statements.specs.Ranges.{range_left, range_among, IsRangeAmong}
 use Rattle.row_statements.proofs.Ranging.{one_range, one_ranged, range_is_among}
 use Rattle.row_statements.proofs.ranges.ranged.Goals as goal
-use Rattle.row_statements.proofs.ranges.ranged.Goals.{then-quiet+in_ok-range, else-quiet}
+use Rattle.row_statements.proofs.ranges.ranged.Goals.{then-infallible+in_ok-range, else-infallible}
 
 pub loop-index-preserved : goal.loop-index-preserved
 loop-index-preserved c =
@@ -13,18 +13,18 @@ loop-index-preserved c =
     let conditions = c.args.conditions.now in
     let i = c.loop-index.index in
     let source = c.index-sources-index.result in
-    let quiet = c.are_guards_quiet-quiet.ensures in
+    let infallible = c.are_guards_infallible-infallible.ensures in
     let left = range_left i users source conditions in
-    let exact : c.if-quiet.range ≡ range_among users sources conditions i source =
-    elim c.if-quiet.branch [
-      | then-quiet+in_ok-range w ↦ w.range-is ∙ w.in_ok-range.ensures.exact ∙ ap (λ (b : Bool). if b then left else None) (sym w.if-quiet.true ∙ quiet)
-      | else-quiet w ↦ w.range-is ∙ ap (λ (b : Bool). if b then left else None) (sym w.if-quiet.false ∙ quiet)
+    let exact : c.if-infallible.range ≡ range_among users sources conditions i source =
+    elim c.if-infallible.branch [
+      | then-infallible+in_ok-range w ↦ w.range-is ∙ w.in_ok-range.ensures.exact ∙ ap (λ (b : Bool). if b then left else None) (sym w.if-infallible.true ∙ infallible)
+      | else-infallible w ↦ w.range-is ∙ ap (λ (b : Bool). if b then left else None) (sym w.if-infallible.false ∙ infallible)
     ] in
-    let among : IsRangeAmong users sources conditions i source c.if-quiet.range =
-    elim c.if-quiet.branch [
-      | then-quiet+in_ok-range w ↦ subst (λ (o : Option KeyRange). IsRangeAmong users sources conditions i source o) (sym w.range-is)
-          (range_is_among users sources conditions i source w.in_ok-range.range (sym quiet ∙ w.if-quiet.true) w.in_ok-range.ensures.safe)
-      | else-quiet w ↦ subst (λ (o : Option KeyRange). IsRangeAmong users sources conditions i source o) (sym w.range-is) tt
+    let among : IsRangeAmong users sources conditions i source c.if-infallible.range =
+    elim c.if-infallible.branch [
+      | then-infallible+in_ok-range w ↦ subst (λ (o : Option KeyRange). IsRangeAmong users sources conditions i source o) (sym w.range-is)
+          (range_is_among users sources conditions i source w.in_ok-range.range (sym infallible ∙ w.if-infallible.true) w.in_ok-range.ensures.safe)
+      | else-infallible w ↦ subst (λ (o : Option KeyRange). IsRangeAmong users sources conditions i source o) (sym w.range-is) tt
     ] in (
       one_range users sources conditions sources c.loop-index.ranged c.push.new.self i source _ c.in_ok-push.ensures.ok c.loop-index.invariant.0 (omega arith) c.index-sources-index.is exact,
       one_ranged users sources conditions sources c.loop-index.ranged c.push.new.self i source _ c.in_ok-push.ensures.ok c.loop-index.invariant.1 (omega arith) c.index-sources-index.is refl among,

@@ -7,5 +7,5 @@ invariant-loop g l =
     let state = g.S.Map.state in
     record {
       history : KeepsHistory (state l.fn.server.store) (state l.server.store);
-      closed : ClosesSoFar g.X.Decide.Reads state l.fn.server l.counter l.server;
+      closed : ClosesSoFar g.X.EventHandler.Reads state l.fn.server l.counter l.server;
     }

@@ -11,5 +11,5 @@ invariant-loop-text g l =
     record {
       counted : l.number ≡ l.text-index;
       history : KeepsHistory (state l.fn.server.store) (state l.server.store);
-      so_far : SoFar g.X.Decide.Reads state g.K.Sink l.fn.server (take l.text-index (texts_of l.lines)) l.fn.sink (progress_of (names_of l.numbers) l.server l.sink);
+      so_far : SoFar g.X.EventHandler.Reads state g.K.Sink l.fn.server (take l.text-index (texts_of l.lines)) l.fn.sink (progress_of (names_of l.numbers) l.server l.sink);
     }

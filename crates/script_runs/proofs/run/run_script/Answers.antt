@@ -9,7 +9,7 @@ returns-in_default-clause-runs g c = record {
   told = c.run_text-end.new.sink;
   ran = c.run_text-end.ensures.runs;
   closed = λ within. c.close_sessions.ensures.closes (
-      within_then g.X.Decide.Reads g.S.Map.state c.args.server.now c.run_text-end.new.server c.run_text-end.ensures.runs.events c.run_text-end.ensures.runs.answers c.run_text-end.ensures.history.sound
+      within_then g.X.EventHandler.Reads g.S.Map.state c.args.server.now c.run_text-end.new.server c.run_text-end.ensures.runs.events c.run_text-end.ensures.runs.answers c.run_text-end.ensures.history.sound
       c.run_text-end.ensures.runs.ran within
       );
   kept = c.in_default.ensures.kept;
@@ -18,9 +18,9 @@ returns-in_default-clause-runs g c = record {
 
 pub returns-in_default-clause-left : goal.returns-in_default-clause-left
 returns-in_default-clause-left g c within =
-    let then = within_then g.X.Decide.Reads g.S.Map.state c.args.server.now c.run_text-end.new.server c.run_text-end.ensures.runs.events c.run_text-end.ensures.runs.answers
+    let then = within_then g.X.EventHandler.Reads g.S.Map.state c.args.server.now c.run_text-end.new.server c.run_text-end.ensures.runs.events c.run_text-end.ensures.runs.answers
     c.run_text-end.ensures.history.sound c.run_text-end.ensures.runs.ran within in
-    leaves_none g.X.Decide.Reads g.S.Map.state c.run_text-end.new.server c.close_sessions.new.server then (c.close_sessions.ensures.closes then)
+    leaves_none g.X.EventHandler.Reads g.S.Map.state c.run_text-end.new.server c.close_sessions.new.server then (c.close_sessions.ensures.closes then)
 
 pub returns-clause-runs : goal.returns-clause-runs
 returns-clause-runs g c = record {
@@ -29,7 +29,7 @@ returns-clause-runs g c = record {
   told = c.run_text-end.new.sink;
   ran = c.run_text-end.ensures.runs;
   closed = λ within. c.close_sessions.ensures.closes (
-      within_then g.X.Decide.Reads g.S.Map.state c.args.server.now c.run_text-end.new.server c.run_text-end.ensures.runs.events c.run_text-end.ensures.runs.answers c.run_text-end.ensures.history.sound
+      within_then g.X.EventHandler.Reads g.S.Map.state c.args.server.now c.run_text-end.new.server c.run_text-end.ensures.runs.events c.run_text-end.ensures.runs.answers c.run_text-end.ensures.history.sound
       c.run_text-end.ensures.runs.ran within
       );
   kept = c.in-Ok.ensures.kept;
@@ -38,6 +38,6 @@ returns-clause-runs g c = record {
 
 pub returns-clause-left : goal.returns-clause-left
 returns-clause-left g c within =
-    let then = within_then g.X.Decide.Reads g.S.Map.state c.args.server.now c.run_text-end.new.server c.run_text-end.ensures.runs.events c.run_text-end.ensures.runs.answers
+    let then = within_then g.X.EventHandler.Reads g.S.Map.state c.args.server.now c.run_text-end.new.server c.run_text-end.ensures.runs.events c.run_text-end.ensures.runs.answers
     c.run_text-end.ensures.history.sound c.run_text-end.ensures.runs.ran within in
-    leaves_none g.X.Decide.Reads g.S.Map.state c.run_text-end.new.server c.close_sessions.new.server then (c.close_sessions.ensures.closes then)
+    leaves_none g.X.EventHandler.Reads g.S.Map.state c.run_text-end.new.server c.close_sessions.new.server then (c.close_sessions.ensures.closes then)

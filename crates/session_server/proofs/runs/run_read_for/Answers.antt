@@ -11,7 +11,7 @@ returns-in_default g c =
     record {
       named = λ named. (
         Fault Memory,
-        source_not_run g.row.X.Denot g.X.Decide.Reads g.K.Sink c.args.admin.now c.args.script c.args.out.now,
+        source_not_run g.row.X.Denot g.X.EventHandler.Reads g.K.Sink c.args.admin.now c.args.script c.args.out.now,
         record { status = c.exit_with.ensures.status; told = c.exit_with.ensures.told; silent = c.exit_with.ensures.silent },
       );
       unnamed = λ unnamed. absurd (unnamed is);

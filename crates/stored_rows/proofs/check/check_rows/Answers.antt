@@ -2,8 +2,8 @@ use Rattle.std.proofs.Common.{List, subst, Err}
 use Rattle.store.specs.Records.{Records}
 use Rattle.abstract_database.specs.Whole.{Each}
 use Rattle.stored_database.specs.Definitions.{TableDefinition, ids_of}
-use Rattle.stored_database.specs.Spelling.{rows_prefix}
-use Rattle.catalogue_records.specs.Checks.{ChecksRecords, IsNoStrayRow}
+use Rattle.stored_database.specs.RecordFormat.{rows_prefix}
+use Rattle.catalogue_records.specs.Checks.{ChecksRecords, IsNoOrphanRow}
 use Rattle.stored_rows.specs.Checks.{HasOnlyRows, ChecksTables}
 use Rattle.stored_rows.proofs.Checked.{fault_of_tables, after_tables}
 use Rattle.stored_rows.proofs.check.check_rows.Goals as goal
@@ -12,12 +12,12 @@ pub returns-in-Ok-clause-checked : goal.returns-in-Ok-clause-checked
 returns-in-Ok-clause-checked g c = λ s defined.
     let records = (g.M.Map.state c.args.map.now).map in
     let d = c.args.catalogue.now in
-    let result = c.check_strays.result in
+    let result = c.check_orphans.result in
     let reads = c.in-Ok.ensures.read.only_reads in
     let only = subst (λ (ts : List TableDefinition). Each (HasOnlyRows records) ts) c.tables-tables.ensures.tables (c.in-Ok.ensures.checked s) in
-    let then = subst (λ (es : Records). ChecksRecords (IsNoStrayRow (ids_of c.tables-tables.result.now)) es rows_prefix result) (reads.unchanged s).map (c.check_strays.ensures.checked (reads.history.sound s)) in
-    let strays = subst (λ (ts : List TableDefinition). ChecksRecords (IsNoStrayRow (ids_of ts)) records rows_prefix result) c.tables-tables.ensures.tables then in
-    after_tables c.one_catalogue.ensures records d result (g.met.M.Map.ordered c.args.map.now s) defined only strays
+    let then = subst (λ (es : Records). ChecksRecords (IsNoOrphanRow (ids_of c.tables-tables.result.now)) es rows_prefix result) (reads.unchanged s).map (c.check_orphans.ensures.checked (reads.history.sound s)) in
+    let orphans = subst (λ (ts : List TableDefinition). ChecksRecords (IsNoOrphanRow (ids_of ts)) records rows_prefix result) c.tables-tables.ensures.tables then in
+    after_tables c.one_catalogue.ensures records d result (g.met.M.Map.ordered c.args.map.now s) defined only orphans
 
 pub returns-in-Err-clause-checked : goal.returns-in-Err-clause-checked
 returns-in-Err-clause-checked g c = λ s defined.

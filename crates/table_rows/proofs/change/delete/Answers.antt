@@ -8,7 +8,7 @@ use Rattle.table_rows.specs.Ranged.{FindsDamage}
 use Rattle.table_rows.specs.Targets.{users_of, sees, condition_in}
 use Rattle.table_rows.specs.Choosing.{became}
 use Rattle.table_rows.specs.NewRows.{MakesChanges}
-use Rattle.store.specs.declared.stop.Stop.{Stop}
+use Rattle.store.specs.declared.stop.StatementError.{StatementError}
 use Rattle.table_rows.specs.declared.change.RowChanges.{RowChanges}
 use Rattle.table_rows.proofs.MapReads.{ended}
 use Rattle.table_rows.proofs.Statements.{delete_is, deleted, all_others, picked, not_chosen}
@@ -30,7 +30,7 @@ returns-clause-changes g c = λ s rows checked is h i l.
     let condition = condition_on_row (users_of target) (condition_in c.args.condition) in
     let chosen = c.in_ok-chosen.chosen in
     let p = picked target.id target.columns.now (λ x. None) (sees target) condition (λ row. Ok row) (became (users_of target) None) (λ row. refl) rows records chosen (g.met.M.Map.ordered c.args.records.now s) h (c.in_ok-chosen.ensures.chosen s rows h l) in
-    let made : Result RowChanges Stop = Ok (record { changes = chosen.changes; count = chosen.count }) in
+    let made : Result RowChanges StatementError = Ok (record { changes = chosen.changes; count = chosen.count }) in
     subst (λ (m : Result Changed SqlState). MakesChanges target.id target.columns.now records made m) (sym (delete_is target c.args.condition checked (sees target) rows i))
     (deleted target.id target.columns.now (sees target) condition rows records chosen p)
 

@@ -3,7 +3,7 @@ use Rattle.sql_types.specs.declared.state.SqlState.{SqlState}
 use Rattle.sql_types.specs.Row.{Row}
 use Rattle.expressions.specs.Stages.{◌>>=◌, each}
 use Rattle.abstract_database.specs.Changes.{Changed, checked_rows}
-use Rattle.store.specs.declared.stop.Stop.TheVariants.{Refused}
+use Rattle.store.specs.declared.stop.StatementError.TheVariants.{Refused}
 use Rattle.table_rows.specs.Targets.{users_of, admits, inserted_by}
 use Rattle.table_rows.specs.NewRows.{MakesChanges, inserted}
 use Rattle.table_rows.proofs.MapReads.{ended}

@@ -3,7 +3,7 @@ use Rattle.std.specs.Prelude.{IfErr}
 use Rattle.sql_types.specs.declared.state.SqlState.{SqlState}
 use Rattle.expressions.specs.Stages.{◌>>=◌, each}
 use Rattle.abstract_database.specs.Changes.{Chosen, Changed, checked_rows, choose, condition_on_row, new_rows, other_rows, rows_updated}
-use Rattle.store.specs.declared.stop.Stop.TheVariants.{Refused}
+use Rattle.store.specs.declared.stop.StatementError.TheVariants.{Refused}
 use Rattle.table_rows.specs.Failures.{IsDamagedFor}
 use Rattle.table_rows.specs.Ranged.{FindsDamage}
 use Rattle.table_rows.specs.Targets.{users_of, sees, admits, condition_in, assigned_by}

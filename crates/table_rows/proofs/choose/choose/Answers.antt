@@ -2,7 +2,7 @@ use Rattle.std.proofs.Common.{◌≡◌, ◌∙◌, Err, Ok, refl, subst, sym, R
 use Rattle.std.specs.Prelude.{IfErr}
 use Rattle.sql_types.specs.declared.state.SqlState.{SqlState}
 use Rattle.abstract_database.specs.Changes.{condition_on_row}
-use Rattle.store.specs.declared.stop.Stop.{Stop}
+use Rattle.store.specs.declared.stop.StatementError.{StatementError}
 use Rattle.table_rows.specs.declared.choose.ChosenRows.{ChosenRows}
 use Rattle.table_rows.specs.Failures.{Answers, IsDamagedFor}
 use Rattle.table_rows.specs.Targets.{users_of, sees, condition_in}
@@ -24,8 +24,8 @@ returns-in_err-visit_target-clause-chosen g c = λ s rows h l.
     let found = finds target (g.M.Map.state c.args.records.now).map rows (g.met.M.Map.ordered c.args.records.now s) l.of_table h in
     let v = c.in_err-visit_target.ensures.visits s (rows_of target rows) found in
     ended failure (λ r. Answers r (all_chosen test becomes target.id target.columns.now nothing_chosen rows)) c.from_residual.result c.from_residual.ensures.1
-    (subst (λ (m : Result ChosenRows SqlState). let r : Result ChosenRows Stop = Err failure in Answers r m) (all_of_target becomes (taking target.id target.columns.now) rows nothing_chosen target c.args.condition l h.fit)
-    (subst (λ (d : ChosenRows). let r : Result ChosenRows Stop = Err failure in Answers r (all_chosen test becomes target.id target.columns.now d (rows_of target rows))) c.new-chosen.ensures
+    (subst (λ (m : Result ChosenRows SqlState). let r : Result ChosenRows StatementError = Err failure in Answers r m) (all_of_target becomes (taking target.id target.columns.now) rows nothing_chosen target c.args.condition l h.fit)
+    (subst (λ (d : ChosenRows). let r : Result ChosenRows StatementError = Err failure in Answers r (all_chosen test becomes target.id target.columns.now d (rows_of target rows))) c.new-chosen.ensures
     (walk_failed failure (rows_of target rows) _ _ v)))
 
 pub returns-clause-chosen : goal.returns-clause-chosen

@@ -1,7 +1,7 @@
 use Rattle.std.proofs.Common.{◌++◌, ap, ◌∙◌}
 use Rattle.row_codec.specs.Cells.{key_cell}
 use Rattle.sql_types.specs.Row.{value_at}
-use Rattle.row_codec.proofs.Spelling.{appended, key_bytes-more}
+use Rattle.row_codec.proofs.RecordFormat.{appended, key_bytes-more}
 use Rattle.table_rows.proofs.lent_record.push_key.Goals as goal
 
 pub loop-index-preserved : goal.loop-index-preserved

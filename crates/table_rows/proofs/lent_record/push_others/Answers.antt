@@ -2,7 +2,7 @@ use Rattle.std.proofs.Common.{◌<◌, get_or, length, true, false, arith, sym, 
 use Rattle.sql_types.specs.Value.{owned}
 use Rattle.sql_types.specs.declared.value.Value.TheVariants.{Null}
 use Rattle.sql_ast.specs.Rows.{value_cell_size}
-use Rattle.row_codec.proofs.Spelling.{cells_grow, record_size-within}
+use Rattle.row_codec.proofs.RecordFormat.{cells_grow, record_size-within}
 use Rattle.table_rows.proofs.LentValues.{value_there, get_or_same}
 use Rattle.table_rows.proofs.lent_record.push_others.Goals as goal
 use Rattle.table_rows.proofs.lent_record.push_others.Goals.{then-not-is_in_key+in_ok-push_value_cell, else-not-is_in_key}

@@ -1,5 +1,5 @@
 use Rattle.std.proofs.Common.{◌∙◌, ◌++◌, ◌∷◌, [], ℕ, IfErr, Result, Ok, Err, refl, ap, subst}
-use Rattle.store.specs.declared.stop.Stop.{Stop}
+use Rattle.store.specs.declared.stop.StatementError.{StatementError}
 use Rattle.store.specs.Records.{Record, entries_where, is_from}
 use Rattle.store.specs.Walks.{span}
 use Rattle.store.proofs.Changes.{ordered_entries_where}
@@ -87,7 +87,7 @@ returns-in_err-visit_record-clause-fails g c = λ s id rows h.
     let now = λ (id : ℕ). g.V.RowVisitor.after c.loop-visited.visitor id c.args.columns.now in
     let last = λ (id : ℕ). g.V.RowVisitor.after c.visit_record.new.visitor id c.args.columns.now in
     let failure = c.in_err-visit_record.field-0.0 in
-    ended failure (λ r. IfErr r (λ failure. let whole : Result (Unit {0}) Stop = Err failure in VisitsAll whole rows (g.V.RowVisitor.after c.args.visitor.now id c.args.columns.now) (last id))) c.from_residual-in_err-visit_record.result c.from_residual-in_err-visit_record.ensures.1
+    ended failure (λ r. IfErr r (λ failure. let whole : Result (Unit {0}) StatementError = Err failure in VisitsAll whole rows (g.V.RowVisitor.after c.args.visitor.now id c.args.columns.now) (last id))) c.from_residual-in_err-visit_record.result c.from_residual-in_err-visit_record.ensures.1
     (failed_visited c.args.columns.now _ left.0 _ now left.2 took.0 took.1 last failure took.2
     (λ id. subst (λ (e : Record). VisitsRecord id c.args.columns.now e (Err failure) (now id) (last id)) (c.entry-entry.ensures took.0 took.3) (c.in_err-visit_record.ensures.visits id)) id rows h)
 

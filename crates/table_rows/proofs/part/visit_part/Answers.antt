@@ -2,7 +2,7 @@ use Rattle.std.proofs.Common.{◌≡◌, ◌∙◌, ℕ, IfOk, IfErr, Option, No
 use Rattle.store.specs.Records.{Records, entry_at}
 use Rattle.key_ranges.specs.declared.range.KeyRange.{KeyRange}
 use Rattle.store.specs.Walks.{span}
-use Rattle.store.specs.declared.stop.Stop.{Stop}
+use Rattle.store.specs.declared.stop.StatementError.{StatementError}
 use Rattle.table_rows.specs.HeldRows.{AreRecordsOf}
 use Rattle.table_rows.specs.Parts.{WalksPart}
 use Rattle.table_rows.specs.Ranged.{records_of}

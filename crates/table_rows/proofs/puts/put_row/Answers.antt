@@ -1,6 +1,6 @@
 use Rattle.std.proofs.Common.{◌≡◌, ◌≤◌, List, ℕ, length, arith, sym, subst}
 use Rattle.row_codec.specs.Rows.{row_value}
-use Rattle.stored_database.specs.Spelling.{row_record}
+use Rattle.stored_database.specs.RecordFormat.{row_record}
 use Rattle.store.specs.Records.{IsKeySize}
 use Rattle.table_rows.proofs.Putting.{put_concern}
 use Rattle.table_rows.proofs.RowSizes.{key_size, value_size, record_made}

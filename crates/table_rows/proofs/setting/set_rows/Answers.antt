@@ -2,7 +2,7 @@ use Rattle.std.proofs.Common.{◌≡◌, ◌∙◌, Err, Ok, refl, subst, sym, R
 use Rattle.std.specs.Prelude.{IfErr}
 use Rattle.sql_types.specs.declared.state.SqlState.{SqlState}
 use Rattle.abstract_database.specs.Changes.{condition_on_row}
-use Rattle.store.specs.declared.stop.Stop.{Stop}
+use Rattle.store.specs.declared.stop.StatementError.{StatementError}
 use Rattle.table_rows.specs.declared.setting.SetRows.{SetRows}
 use Rattle.table_rows.specs.Failures.{Answers, IsDamagedFor}
 use Rattle.table_rows.specs.Targets.{users_of, sees, admits, condition_in, assigned_by}
@@ -26,8 +26,8 @@ returns-in_err-visit_target-clause-set g c = λ s rows h l.
     let found = finds target (g.M.Map.state c.args.records.now).map rows (g.met.M.Map.ordered c.args.records.now s) l.of_table h in
     let v = c.in_err-visit_target.ensures.visits s (rows_of target rows) found in
     ended failure (λ r. Answers r (over_chosen test into take nothing_set rows)) c.from_residual.result c.from_residual.ensures.1
-    (subst (λ (m : Result SetRows SqlState). let r : Result SetRows Stop = Err failure in Answers r m) (all_of_target into take rows nothing_set target c.args.condition l h.fit)
-    (subst (λ (d : SetRows). let r : Result SetRows Stop = Err failure in Answers r (over_chosen test into take d (rows_of target rows))) c.new-set.ensures
+    (subst (λ (m : Result SetRows SqlState). let r : Result SetRows StatementError = Err failure in Answers r m) (all_of_target into take rows nothing_set target c.args.condition l h.fit)
+    (subst (λ (d : SetRows). let r : Result SetRows StatementError = Err failure in Answers r (over_chosen test into take d (rows_of target rows))) c.new-set.ensures
     (walk_failed failure (rows_of target rows) _ _ v)))
 
 pub returns-clause-set : goal.returns-clause-set

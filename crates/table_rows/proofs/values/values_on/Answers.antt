@@ -2,7 +2,7 @@ use Rattle.std.proofs.Common.{arith, sym}
 use Rattle.expressions.specs.Rows.{names_of, value_on}
 use Rattle.expressions.specs.Stages.{each}
 use Rattle.expressions.proofs.Each.{begins, slice_goes_on, slice_ends}
-use Rattle.store.specs.declared.stop.Stop.TheVariants.{Refused}
+use Rattle.store.specs.declared.stop.StatementError.TheVariants.{Refused}
 use Rattle.table_rows.specs.Failures.{Gives}
 use Rattle.table_rows.proofs.Loops.{each_failed}
 use Rattle.table_rows.proofs.MapReads.{ended}

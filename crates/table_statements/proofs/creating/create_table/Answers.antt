@@ -3,7 +3,7 @@ use Rattle.std.specs.Option.{option_copied}
 use Rattle.sql_types.specs.declared.answer.Answer.TheVariants.{Done}
 use Rattle.sql_types.specs.declared.tag.Tag.TheVariants as tag
 use Rattle.sql_types.specs.declared.state.SqlState.TheVariants.{DuplicateTable, ProgramLimitExceeded, OutOfMemory}
-use Rattle.store.specs.declared.stop.Stop.TheVariants.{Refused}
+use Rattle.store.specs.declared.stop.StatementError.TheVariants.{Refused}
 use Rattle.abstract_database.specs.Statements.{create_table}
 use Rattle.stored_database.specs.Definitions.{TableDefinition, ids_of}
 use Rattle.catalogue.specs.Numbers.{IsLeastFree}

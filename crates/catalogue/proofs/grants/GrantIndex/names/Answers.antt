@@ -6,7 +6,7 @@ use Rattle.abstract_database.specs.Database.{grantee_name}
 use Rattle.catalogue.specs.declared.grants.Granted.{Granted}
 use Rattle.catalogue.specs.Grants.{granted_cmp, is_entry_for}
 use Rattle.catalogue.proofs.Granting.{searched_grantee}
-use Rattle.catalogue.proofs.Regranting.{grantees_of}
+use Rattle.catalogue.proofs.DescriptorEdits.{grantees_of}
 use Rattle.catalogue.proofs.grants.GrantIndex.names.Goals as goal
 
 pub returns : goal.returns

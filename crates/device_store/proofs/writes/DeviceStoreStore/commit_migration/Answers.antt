@@ -1,4 +1,4 @@
-use Rattle.storage_sizes.specs.declared.spelling.Spelling.TheVariants.{Second}
+use Rattle.storage_sizes.specs.declared.record_format.RecordFormat.TheVariants.{V2}
 use Rattle.store.specs.Contents.{changed_in}
 use Rattle.store.specs.Store.{Contents}
 use Rattle.kv_store.specs.declared.reserve.Reserve.TheVariants.{Open}
@@ -11,10 +11,10 @@ returns-in-Pages g c =
     let is = c.commit_migration.ensures in
     record {
       commits = commits_in_pages g.met.D.Device.only_now c.in-Pages.store c.commit_migration.new.self c.args.self.now c.in-Pages.is Open c.args.batch.now
-          (λ (contents : Contents). changed_in Second c.args.batch.now contents) _ is.commits is.batch is.still;
+          (λ (contents : Contents). changed_in V2 c.args.batch.now contents) _ is.commits is.batch is.still;
     }
 
 pub returns-in-Journaled : goal.returns-in-Journaled
 returns-in-Journaled g c =
     let is = c.commit_migration-in-Journaled.ensures in
-    record { commits = commits_in_journal c.args.self.now c.in-Journaled.store c.commit_migration-in-Journaled.new.self c.in-Journaled.is (λ (contents : Contents). changed_in Second c.args.batch.now contents) _ is.commits }
+    record { commits = commits_in_journal c.args.self.now c.in-Journaled.store c.commit_migration-in-Journaled.new.self c.in-Journaled.is (λ (contents : Contents). changed_in V2 c.args.batch.now contents) _ is.commits }

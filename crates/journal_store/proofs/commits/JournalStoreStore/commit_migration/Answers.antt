@@ -1,5 +1,5 @@
 use Rattle.std.proofs.Common.{ap}
-use Rattle.storage_sizes.specs.declared.spelling.Spelling.{Spelling}
+use Rattle.storage_sizes.specs.declared.record_format.RecordFormat.{RecordFormat}
 use Rattle.store.specs.Contents.{changed_in}
 use Rattle.store.specs.Store.{stored}
 use Rattle.journal_store.specs.Stores.{journal_state}
@@ -9,4 +9,4 @@ use Rattle.journal_store.proofs.commits.JournalStoreStore.commit_migration.Goals
 pub returns-clause-commits : goal.returns-clause-commits
 returns-clause-commits g c =
     let s = c.args.self.now in
-    commits_as c.commit.result _ _ (journal_state s) _ (λ sound works. ap (λ (x : Spelling). changed_in x c.args.batch.now (stored (journal_state s))) (sound.works works).second) c.commit.ensures.commits
+    commits_as c.commit.result _ _ (journal_state s) _ (λ sound works. ap (λ (x : RecordFormat). changed_in x c.args.batch.now (stored (journal_state s))) (sound.works works).second) c.commit.ensures.commits

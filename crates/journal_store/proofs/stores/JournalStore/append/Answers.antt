@@ -21,8 +21,8 @@ spelled_as items sectors root own number bytes same is few read i some lt =
     (subst (λ (r : ℕ). sector_at 6 (get_or items i []) ≡ Holds (part_of r (entry_of number bytes) i)) is
     (read 6 i (omega (arith, some, is)) few (omega (arith, lt, ap (λ (xs : List (List ℕ)). length xs) same))))
 
-pub returns-in_default-write_beside : goal.returns-in_default-write_beside
-returns-in_default-write_beside g c =
+pub returns-in_default-write_protected : goal.returns-in_default-write_protected
+returns-in_default-write_protected g c =
     let s = c.args.self.now in
     let items = c.in-Ok.sectors.items in
     let sectors = c.deref.result.now in
@@ -32,7 +32,7 @@ returns-in_default-write_beside g c =
     append_failed g.met.D.Device.only_now (λ device q faithful lt. g.met.D.Device.content_left device q faithful lt) s _ c.args.batch c.args.number c.args.bytes.now sectors
     c.requires.works c.requires.next c.requires.spells c.requires.some c.requires.fits count
     (spelled_as items sectors c.number-root.result (root_number s) c.args.number c.args.bytes.now same c.number-root.ensures few c.in-Ok.ensures.read)
-    c.in-Ok-record.ensures.ok c.write_beside.ensures.size c.write_beside.ensures.writes c.write_beside.ensures.leaves c.write_beside.ensures.keeps c.in_default-write_beside.ensures.outcome.1
+    c.in-Ok-record.ensures.ok c.write_protected.ensures.size c.write_protected.ensures.writes c.write_protected.ensures.leaves c.write_protected.ensures.keeps c.in_default-write_protected.ensures.outcome.1
 
 pub returns : goal.returns
 returns g c =
@@ -45,6 +45,6 @@ returns g c =
     append_done g.met.D.Device.only_now (λ device q faithful lt. g.met.D.Device.content_left device q faithful lt) s _ c.args.batch c.args.number c.args.bytes.now sectors
     c.requires.works c.requires.next c.requires.spells c.requires.some c.requires.fits count
     (spelled_as items sectors c.number-root.result (root_number s) c.args.number c.args.bytes.now same c.number-root.ensures few c.in-Ok.ensures.read)
-    c.in-Ok-record.ensures.ok c.write_beside.ensures.size c.write_beside.ensures.writes c.write_beside.ensures.leaves c.write_beside.ensures.keeps
-    refl (omega (arith, c.len.ensures, ap (λ (xs : List (List ℕ)). length xs) same)) c.in-Ok-write_beside.ensures.outcome c.in-Ok-write_beside.ensures.written c.in-Ok-write_beside.ensures.synced
+    c.in-Ok-record.ensures.ok c.write_protected.ensures.size c.write_protected.ensures.writes c.write_protected.ensures.leaves c.write_protected.ensures.keeps
+    refl (omega (arith, c.len.ensures, ap (λ (xs : List (List ℕ)). length xs) same)) c.in-Ok-write_protected.ensures.outcome c.in-Ok-write_protected.ensures.written c.in-Ok-write_protected.ensures.synced
     (omega (arith, c.requires.fits, count, s.room))

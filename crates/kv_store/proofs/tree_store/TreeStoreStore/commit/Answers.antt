@@ -1,8 +1,8 @@
 use Rattle.std.proofs.Common.{refl, sym, ap, ◌∙◌, subst}
 use Rattle.std.proofs.lemmas.Bool.{false≢true}
-use Rattle.storage_sizes.specs.declared.spelling.Spelling.{Spelling}
+use Rattle.storage_sizes.specs.declared.record_format.RecordFormat.{RecordFormat}
 use Rattle.page_roots.specs.declared.format.Format.{Format}
-use Rattle.page_roots.specs.Formats.{spelling_of}
+use Rattle.page_roots.specs.Formats.{record_format_of}
 use Rattle.store.specs.Records.{Changes, applied}
 use Rattle.store.specs.Store.{Contents, Commits, stored}
 use Rattle.store.specs.Contents.{changed_in, changed_by_batch}
@@ -47,10 +47,10 @@ returns g c =
     let batch = c.args.batch.now in
     let is = c.change.ensures in
     record {
-      commits = subst (λ (f : Format). Commits c.change.result (changed_in (spelling_of f) batch (stored (store_state old))) (store_state old) (store_state new)) c.format-format.ensures is.commits;
+      commits = subst (λ (f : Format). Commits c.change.result (changed_in (record_format_of f) batch (stored (store_state old))) (store_state old) (store_state new)) c.format-format.ensures is.commits;
       empty = λ none worked. absurd (false≢true (sym c.if-is_empty.false ∙ c.is_empty.ensures.1 none));
-      batch = λ worked contents holds. subst (λ (s : Spelling). CommitsBatch Kept batch c.change.result contents (changed_in s batch contents) old.pages.below new.pages.below)
-          (ap spelling_of c.format-format.ensures ∙ holds.spelled) (is.batch worked contents holds);
+      batch = λ worked contents holds. subst (λ (s : RecordFormat). CommitsBatch Kept batch c.change.result contents (changed_in s batch contents) old.pages.below new.pages.below)
+          (ap record_format_of c.format-format.ensures ∙ holds.spelled) (is.batch worked contents holds);
       still = λ had. absurd (false≢true (sym c.if-self.false ∙ had));
       counts = is.counts;
       rises = λ sound differs. is.rises sound (λ same. differs (ap (λ (x : Contents). x.records) same));

@@ -1,7 +1,7 @@
 use Rattle.std.proofs.Common.{◌≡◌, refl, sym, ap, ◌∙◌, subst}
 use Rattle.std.proofs.lemmas.Bool.{false≢true}
-use Rattle.storage_sizes.specs.declared.spelling.Spelling.{Spelling}
-use Rattle.storage_sizes.specs.declared.spelling.Spelling.TheVariants.{First, Second}
+use Rattle.storage_sizes.specs.declared.record_format.RecordFormat.{RecordFormat}
+use Rattle.storage_sizes.specs.declared.record_format.RecordFormat.TheVariants.{V1, V2}
 use Rattle.store.specs.Store.{Contents, Commits, stored}
 use Rattle.store.specs.Contents.{changed_in}
 use Rattle.kv_store.specs.declared.reserve.Reserve.TheVariants.{Open}
@@ -28,10 +28,10 @@ returns g c =
     let is = c.change.ensures in
     let second = c.respelled-format.ensures.spelled in
     record {
-      commits = subst (λ (s : Spelling). Commits c.change.result (changed_in s batch (stored (store_state old))) (store_state old) (store_state new)) second is.commits;
-      batch = λ worked contents holds. subst (λ (s : Spelling). CommitsBatch Open batch c.change.result contents (changed_in s batch contents) old.pages.below new.pages.below) second (is.batch worked contents holds);
+      commits = subst (λ (s : RecordFormat). Commits c.change.result (changed_in s batch (stored (store_state old))) (store_state old) (store_state new)) second is.commits;
+      batch = λ worked contents holds. subst (λ (s : RecordFormat). CommitsBatch Open batch c.change.result contents (changed_in s batch contents) old.pages.below new.pages.below) second (is.batch worked contents holds);
       still = λ had. absurd (false≢true (sym c.if-self.false ∙ had));
       counts = is.counts;
-      rises = λ sound was. is.rises sound (λ same. let bad : First ≡ Second = sym was ∙ (ap (λ (x : Contents). x.spelling) same ∙ second) in cc);
+      rises = λ sound was. is.rises sound (λ same. let bad : V1 ≡ V2 = sym was ∙ (ap (λ (x : Contents). x.record_format) same ∙ second) in cc);
       kind = is.kind;
     }

@@ -3,7 +3,7 @@ use Rattle.store.specs.Records.{Records}
 use Rattle.store.specs.declared.fault.StoreFault.{StoreFault}
 use Rattle.stored_database.specs.Records.{Shows}
 use Rattle.server.specs.Standing.{HolderShows, event_of}
-use Rattle.server.specs.Deeds.{DecidesAt, Performs}
+use Rattle.server.specs.Decisions.{DecidesAt, Performs}
 use Rattle.server.proofs.Carrying.{after_reads, reads_first, decide_err}
 use Rattle.server.proofs.server.Server.attempt.Goals as goal
 
@@ -16,14 +16,14 @@ returns-in-Ok-clause-attempts g c sound runs db holder w =
     let reads = read.only_reads in
     let same = (reads.unchanged sound).map in
     let decides = c.in-Ok.ensures.decides sound db holder w.committed w.held w.in_block in
-    let moved = subst (λ (r : Records). DecidesAt g.X.Decide.Reads r old.catalogue old.slot db holder old.sessions.entries e (Ok c.in-Ok.deed)) (sym same) decides in
-    reads_first g.X.Decide.Reads state old c.perform.new.self c.decide-decided.new.map db holder e c.perform.result sound (λ x left. g.met.S.Store.settled old.store x sound w.unfailed left) w reads
-    (c.perform.ensures.carries (reads.history.sound sound) runs db holder e
+    let moved = subst (λ (r : Records). DecidesAt g.X.EventHandler.Reads r old.catalogue old.writer db holder old.sessions.entries e (Ok c.in-Ok.decision)) (sym same) decides in
+    reads_first g.X.EventHandler.Reads state old c.apply.new.self c.decide-decided.new.map db holder e c.apply.result sound (λ x left. g.met.S.Store.settled old.store x sound w.unfailed left) w reads
+    (c.apply.ensures.carries (reads.history.sound sound) runs db holder e
     (record {
       unfailed = read.failed ∙ w.unfailed;
-      second = (reads.unchanged sound).spelling ∙ w.second;
+      second = (reads.unchanged sound).record_format ∙ w.second;
       committed = subst (λ (r : Records). Shows r old.catalogue db) (sym same) w.committed;
-      held = subst (λ (r : Records). HolderShows r old.catalogue old.slot holder) (sym same) w.held;
+      held = subst (λ (r : Records). HolderShows r old.catalogue old.writer holder) (sym same) w.held;
       in_block = w.in_block;
     }) moved)
 
@@ -32,6 +32,6 @@ returns-in-Err-clause-attempts g c sound runs db holder w =
     let old = c.args.self.now in
     let state = g.S.Map.state in
     let e = event_of c.args.event.now in
-    subst (λ (f : StoreFault). Performs g.X.Decide.Reads state old (after_reads old c.decide-decided.new.map) db holder e (Err f)) (sym c.store_fault.ensures)
-    (decide_err g.X.Decide.Reads state old c.decide-decided.new.map db holder e c.in-Err.fault sound (λ x left. g.met.S.Store.settled old.store x sound w.unfailed left) w runs
+    subst (λ (f : StoreFault). Performs g.X.EventHandler.Reads state old (after_reads old c.decide-decided.new.map) db holder e (Err f)) (sym c.store_fault.ensures)
+    (decide_err g.X.EventHandler.Reads state old c.decide-decided.new.map db holder e c.in-Err.fault sound (λ x left. g.met.S.Store.settled old.store x sound w.unfailed left) w runs
     c.in-Err.ensures.read (c.in-Err.ensures.decides sound db holder w.committed w.held w.in_block))

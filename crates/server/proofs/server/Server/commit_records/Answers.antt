@@ -1,7 +1,7 @@
 use Rattle.std.proofs.Common.{refl, ◌∙◌, None}
 use Rattle.store.specs.Store.{stored}
 use Rattle.store.specs.Contents.{changed_by_batch}
-use Rattle.server.specs.Deeds.{machine_at}
+use Rattle.server.specs.Decisions.{machine_at}
 use Rattle.server.proofs.Passing.{commit_done}
 use Rattle.server.proofs.Carrying.{slot_is_free, works_unheld, commit_err}
 use Rattle.server.proofs.server.Server.commit_records.Goals as goal
@@ -15,8 +15,8 @@ returns-in-Ok-clause-carries g c sound runs db holder e w p =
     let done = commits.at_once sound w.unfailed in (
       machine_at p.0 None old.sessions.entries,
       p.5,
-      works_unheld g.S.Map.state (record old { store = c.commit.new.self }) c.commit.new.self d p.0 old.sessions.entries refl refl (slot_is_free st.map d old.slot holder p.2 w.held) runs refl (commits.failed ∙ w.unfailed)
-          (done.committed.spelling ∙ w.second) (rw done.committed.map p.1),
+      works_unheld g.S.Map.state (record old { store = c.commit.new.self }) c.commit.new.self d p.0 old.sessions.entries refl refl (slot_is_free st.map d old.writer holder p.2 w.held) runs refl (commits.failed ∙ w.unfailed)
+          (done.committed.record_format ∙ w.second) (rw done.committed.map p.1),
       commit_done c.in-Ok.field-0 (changed_by_batch c.args.changes.now (stored st)) st (g.S.Map.state c.commit.new.self) d d db p.0 commits.history done w.second w.committed w.second p.1,
     )
 
@@ -24,5 +24,5 @@ pub returns-in-Err-clause-carries : goal.returns-in-Err-clause-carries
 returns-in-Err-clause-carries g c sound runs db holder e w p =
     let old = c.args.self.now in
     let st = g.S.Map.state old.store in
-    commit_err g.X.Decide.Reads g.S.Map.state old (record old { store = c.commit.new.self }) db holder old.catalogue (changed_by_batch c.args.changes.now (stored st)) c.args.answer
+    commit_err g.X.EventHandler.Reads g.S.Map.state old (record old { store = c.commit.new.self }) db holder old.catalogue (changed_by_batch c.args.changes.now (stored st)) c.args.answer
     (machine_at p.0 None old.sessions.entries) e c.in-Err.fault sound w runs refl refl refl refl c.in-Err.ensures.commits w.second p.1 p.3 p.4 p.5

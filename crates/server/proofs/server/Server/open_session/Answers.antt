@@ -1,6 +1,6 @@
 use Rattle.std.proofs.Common.{◌≡◌, refl, sym}
 use Rattle.abstract_database.specs.Machine.{with_session}
-use Rattle.server.specs.Deeds.{machine_at}
+use Rattle.server.specs.Decisions.{machine_at}
 use Rattle.server.proofs.Passing.{none_pass}
 use Rattle.server.proofs.Carrying.{inserted_to}
 use Rattle.server.proofs.server.Server.open_session.Goals as goal

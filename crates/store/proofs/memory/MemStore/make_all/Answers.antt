@@ -12,7 +12,7 @@ loop-change-preserved c =
     let rising = subst (λ (cs : Changes). IsOrdered cs) c.in-Some.ensures.items c.loop-change.invariant.rising in
     let held = subst (λ (cs : Changes). AreHeld cs (changes_of c.loop-change.self.entries)) c.in-Some.ensures.items c.loop-change.invariant.held in
     record {
-      spelling = c.make.ensures.spelling ∙ c.loop-change.invariant.spelling;
+      record_format = c.make.ensures.record_format ∙ c.loop-change.invariant.record_format;
       whole = one_made c.loop-change.changes.items c.pop.new.self.items c.in-Some.change (records_of c.loop-change.self.entries) _ _ c.in-Some.ensures.items c.make.ensures.made c.loop-change.invariant.whole;
       rising = start_ordered c.pop.new.self.items (c.in-Some.change ∷ []) rising;
       held = others_held c.pop.new.self.items c.in-Some.change (changes_of c.loop-change.self.entries) _ rising held c.make.ensures.elsewhere;

@@ -5,6 +5,6 @@ use Rattle.store.proofs.memory.MemStore.release_all.Given as goal
 -- the spelling and the records are as they were
 abbrev pub invariant-loop-change : goal.invariant-loop-change
 invariant-loop-change l = record {
-  spelling : l.self.spelling ≡ l.fn.self.spelling;
+  record_format : l.self.record_format ≡ l.fn.self.record_format;
   same : records_of l.self.entries ≡ records_of l.fn.self.entries;
 }

@@ -7,7 +7,7 @@ use Rattle.store.proofs.memory.MemStore.remove_all.Given as goal
 -- the pieces that are left make what all of them do
 abbrev pub invariant-loop-piece : goal.invariant-loop-piece
 invariant-loop-piece l = record {
-  spelling : l.self.spelling ≡ l.fn.self.spelling;
+  record_format : l.self.record_format ≡ l.fn.self.record_format;
   whole : applied (removing (all_changes l.left)) (records_of l.self.entries) ≡ applied (removing (all_changes l.fn.pieces)) (records_of l.fn.self.entries);
 }
 

@@ -19,6 +19,6 @@ loop-change-preserved-then-not-is_put c =
     let gone = c.remove.ensures ∙ ap (λ (k : List ℕ). changed k None es) c.key.ensures in
     let made = ap (λ (cs : Changes). applied cs []) gone ∙ removal_made change.0 es c.loop-change.self.entries.ordered ∙ sym (one_removed change (applied es []) none) in
     record {
-      spelling = c.loop-change.invariant.spelling;
+      record_format = c.loop-change.invariant.record_format;
       whole = piece_made c.loop-change.left.now c.in-Some.before.now (change ∷ []) (records_of c.loop-change.self.entries) (records_of c.remove.new.self) _ c.in-Some.ensures.cases.0 made c.loop-change.invariant.whole;
     }

@@ -13,7 +13,7 @@ returns-clause-goes c =
     let entries = c.args.self.now.entries in
     let from = puts_from c.args.start.now (changes_of entries) _ entries.ordered c.place_from-from.ensures in
     record {
-      only_reads = read_nothing c.args.self.now.spelling (records_of entries);
+      only_reads = read_nothing c.args.self.now.record_format (records_of entries);
       answer = λ sound. c.count_within.ensures ∙ ap (λ (es : Records). count_of (entries_where (is_within c.args.stop.now) es)) from;
       cause = tt;
       failed = refl;

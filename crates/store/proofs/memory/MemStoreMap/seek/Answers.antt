@@ -9,7 +9,7 @@ pub returns-clause-goes : goal.returns-clause-goes
 returns-clause-goes c =
     let entries = c.args.self.now.entries in
     record {
-      only_reads = read_nothing c.args.self.now.spelling (records_of entries);
+      only_reads = read_nothing c.args.self.now.record_format (records_of entries);
       answer = λ sound. puts_from c.args.key.now (changes_of entries) _ entries.ordered c.place_from-place.ensures;
       cause = tt;
       failed = refl;

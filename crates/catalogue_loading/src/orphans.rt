@@ -1,0 +1,35 @@
+//! Orphans: records of no kind, and of a table that there is not.
+
+ghost use Rattle.std.specs.Prelude.{◌≡◌};
+ghost use Rattle.store.specs.Store.{StoreState};
+ghost use Rattle.store.specs.Readers.{HasRead};
+ghost use Rattle.stored_database.specs.Definitions.{ids_of};
+ghost use Rattle.catalogue_loading.specs.Found.{Finds};
+ghost use Rattle.catalogue_loading.specs.Held.{HasNoOrphan};
+
+use catalogue::numbers::table_ids;
+use catalogue::table::TableDefinition;
+use catalogue_records::{OrphanTest, Orphans, check_records, no_orphan_is_left};
+use std::alloc::Global;
+use store::{Fault, Map};
+
+/// Reads all records, and finds no orphan where these are the tables. Memory: an allocation failed.
+/// Device: the map answered it. Damaged: one of the records is an orphan.
+pub(crate) fn check_orphans<M: Map>(
+    alloc: Global,
+    map: &mut M,
+    tables: &[TableDefinition],
+) -> Result<(), Fault>
+    ensures preserved { M.preserved map.old map.new }
+    ensures read { HasRead result (M.state map.old) (M.state map.new) }
+    ensures found { (M.state map.old).sound
+        → Finds (λ _. HasNoOrphan (ids_of tables.now) (M.state map.old).map) result }
+{
+    no_orphan_is_left();
+    let ids = table_ids(alloc, tables)?;
+    let test = OrphanTest {
+        orphans: Orphans::OfDefinitions,
+        ids: &ids,
+    };
+    check_records(map, &[], &test)
+}

@@ -1,0 +1,30 @@
+use Rattle.std.proofs.Common.{subst}
+use Rattle.abstract_database.specs.Lists.{TheName}
+use Rattle.abstract_database.specs.Machine.{executes}
+use Rattle.abstract_database.specs.Runs.{TheText}
+use Rattle.server.specs.Decisions.{DecidesAt}
+use Rattle.sessions.specs.Opening.{Opens}
+use Rattle.sessions.proofs.AnyReading.{closing_decides}
+use Rattle.sessions.specs.Readings.{ReadsText}
+use Rattle.sessions.proofs.Deciding.{opening_decides}
+use Rattle.sessions.proofs.SeenDefinitions.{has_roles}
+use Rattle.sessions.proofs.handler.SessionHandlerEventHandler.decide.Goals as goal
+
+pub returns-in-Ok-clause-decides : goal.returns-in-Ok-clause-decides
+returns-in-Ok-clause-decides g c sound db holder shown held holds =
+    rw c.in-Open.is (opening_decides (g.M.Map.state c.args.map.now).map c.args.catalogue.now c.args.writer.now db holder c.args.sessions.now.entries _ _ _ holds
+    (subst (λ (name : TheName). Opens db holder c.args.sessions.now.entries c.in-Open.session name c.in-Ok.decision) c.as_str.ensures (c.in-Ok.ensures.opens db holder (has_roles _ c.args.catalogue.now db shown) holds)))
+
+pub returns-in-Err-clause-decides : goal.returns-in-Err-clause-decides
+returns-in-Err-clause-decides g c sound db holder shown held holds = rw c.in-Open.is (c.in-Err.ensures.memory db holder)
+
+pub returns-in-Statement-clause-decides : goal.returns-in-Statement-clause-decides
+returns-in-Statement-clause-decides g c sound db holder shown held holds =
+    rw c.in-Statement.is
+    (subst (λ (text : TheText). DecidesAt ReadsText (g.M.Map.state c.args.map.now).map c.args.catalogue.now c.args.writer.now db holder c.args.sessions.now.entries
+    (executes c.in-Statement.session text) c.decide_text.result) c.as_str-in-Statement.ensures (c.decide_text.ensures.decides sound db holder shown held holds))
+
+pub returns-in-Close-clause-decides : goal.returns-in-Close-clause-decides
+returns-in-Close-clause-decides g c sound db holder shown held holds =
+    rw c.in-Close.is (closing_decides ReadsText (g.M.Map.state c.args.map.now).map c.args.catalogue.now c.args.writer.now db holder c.args.sessions.now.entries _ _
+    (c.close.ensures (g.M.Map.state c.args.map.now).map c.args.catalogue.now db holder held holds))
