@@ -11,7 +11,7 @@ ghost use Rattle.copying.specs.Copying.{Copies, Finishes, HasCopyCause, HasOutsi
 use crate::fault::RecordCopyFault;
 use crate::mark::MARK;
 use crate::taking::take_records;
-use crate::watch::CopyProgress;
+use sector_device::CopyProgress;
 use std::alloc::Global;
 use store::{Batch, Fault, Map, Store};
 
@@ -59,7 +59,7 @@ pub fn copy_records<M: Map, S: Store, W: CopyProgress>(
     alloc: Global,
     source: &mut M,
     target: &mut S,
-    watch: &mut W,
+    progress: &mut W,
 ) -> Result<(), RecordCopyFault>
     ensures preserved { M.preserved source.old source.new }
     ensures reads { OnlyReads (M.state source.old) (M.state source.new) }
@@ -83,7 +83,7 @@ pub fn copy_records<M: Map, S: Store, W: CopyProgress>(
             return finish(target, batch);
         }
         target.commit(&batch)?;
-        watch.tell(bytes);
+        progress.tell(bytes);
     }
     Err(RecordCopyFault::Read(Fault::Memory))
 }

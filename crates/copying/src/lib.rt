@@ -5,9 +5,7 @@ mod copies;
 mod fault;
 mod mark;
 mod taking;
-mod watch;
 
 pub use copies::copy_records;
 pub use fault::RecordCopyFault;
 pub use mark::mark_of_a_copy;
-pub use watch::{CopyProgress, Unwatched};

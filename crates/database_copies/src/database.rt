@@ -9,10 +9,10 @@ ghost use Rattle.database_copies.specs.Databases.{CopiesDatabase, CopiesStore, H
 use crate::fault::DatabaseCopyFault;
 use crate::source::read_source;
 use crate::under::copy_under;
-use device_copies::{CopyProgress, copied_records_stand};
+use device_copies::copied_records_stand;
 use device_store::DeviceStore;
 use journal_store::JournalDevice;
-use sector_device::Device;
+use sector_device::{CopyProgress, Device};
 use std::alloc::Global;
 use store::Store;
 
@@ -28,12 +28,12 @@ use store::Store;
 /// nothing was written. `Full`: no room is left on it; it names how many pages a copy wants at least. `Device`: it failed.
 /// `Memory`: an allocation failed.
 ///
-/// The watch is told now and then how far a large copy is.
+/// The progress is told now and then how far a large copy is.
 pub fn copy_database<D: JournalDevice, E: Device, W: CopyProgress>(
     alloc: Global,
     source: D,
     target: E,
-    watch: &mut W,
+    progress: &mut W,
 ) -> (D, E, Result<(), DatabaseCopyFault>)
     ensures history { DeviceHistory (D.state source) (D.state result.0) }
     ensures unwritten { (D.state source).faithful → KeepsContent (D.state source) (D.state result.0) }
@@ -44,7 +44,7 @@ pub fn copy_database<D: JournalDevice, E: Device, W: CopyProgress>(
         Ok(store) => store,
         Err((source, fault)) => return (source, target, Err(DatabaseCopyFault::Pages(fault))),
     };
-    let (target, copied) = copy_store(alloc, &mut store, target, watch);
+    let (target, copied) = copy_store(alloc, &mut store, target, progress);
     (store.into_device(), target, copied)
 }
 
@@ -53,7 +53,7 @@ fn copy_store<S: Store, E: Device, W: CopyProgress>(
     alloc: Global,
     store: &mut S,
     target: E,
-    watch: &mut W,
+    progress: &mut W,
 ) -> (E, Result<(), DatabaseCopyFault>)
     ensures preserved { S.preserved store.old store.new }
     ensures history { KeepsHistory (S.state store.old) (S.state store.new) }
@@ -66,7 +66,7 @@ fn copy_store<S: Store, E: Device, W: CopyProgress>(
         Ok(lists) => lists,
         Err(fault) => return (target, Err(DatabaseCopyFault::Read(fault))),
     };
-    let (target, copied) = copy_under(alloc, store, lists.as_slice(), target, watch);
+    let (target, copied) = copy_under(alloc, store, lists.as_slice(), target, progress);
     (target, told(copied))
 }
 

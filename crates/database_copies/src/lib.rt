@@ -7,5 +7,4 @@ mod source;
 mod under;
 
 pub use database::copy_database;
-pub use device_copies::{CopyProgress, Unwatched};
 pub use fault::DatabaseCopyFault;

@@ -6,8 +6,8 @@ ghost use Rattle.transactions.specs.Views.{applied_all};
 ghost use Rattle.copying.specs.Copying.{HasOutsized, behind_mark};
 ghost use Rattle.device_copies.specs.Copies.{CopiesTo, HasSourceCause};
 
-use device_copies::{CopyProgress, DeviceCopyFault, copy_to_device};
-use sector_device::Device;
+use device_copies::{DeviceCopyFault, copy_to_device};
+use sector_device::{CopyProgress, Device};
 use std::alloc::Global;
 use store::{Batch, Map};
 use transactions::View;
@@ -18,7 +18,7 @@ pub(crate) fn copy_under<M: Map, E: Device, W: CopyProgress>(
     map: &mut M,
     lists: &[Batch],
     target: E,
-    watch: &mut W,
+    progress: &mut W,
 ) -> (E, Result<(), DeviceCopyFault>)
     ensures preserved { M.preserved map.old map.new }
     ensures history { KeepsHistory (M.state map.old) (M.state map.new) }
@@ -29,7 +29,7 @@ pub(crate) fn copy_under<M: Map, E: Device, W: CopyProgress>(
         → HasOutsized (behind_mark (applied_all lists.now (M.state map.old).map))) }
 {
     let mut view = View::new(alloc, map, lists);
-    let copied = copy_to_device(alloc, &mut view, target, watch);
+    let copied = copy_to_device(alloc, &mut view, target, progress);
     view.into_map();
     copied
 }

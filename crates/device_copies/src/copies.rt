@@ -8,9 +8,9 @@ ghost use Rattle.device_copies.specs.Copies.{CopiesTo, HasSourceCause, told_of};
 use crate::fault::DeviceCopyFault;
 use crate::marked::marked_store;
 use crate::wanted::no_room_fault;
-use copying::{CopyProgress, copy_records};
+use copying::copy_records;
 use kv_store::{Fault, Map, StoreFault, sound_images};
-use sector_device::Device;
+use sector_device::{CopyProgress, Device};
 use std::alloc::Global;
 use storage_sizes::SECTORS_PER_PAGE;
 
@@ -26,12 +26,12 @@ use storage_sizes::SECTORS_PER_PAGE;
 /// device; it names how many pages a copy wants at least: those of leaves that are full, and never fewer than one more than
 /// the device has. The records are read once more for it. `Device`: the device failed. `Memory`: an allocation failed.
 ///
-/// The watch is told how far a large copy is, as `copy_records` does.
+/// The progress is told how far a large copy is, as `copy_records` does.
 pub fn copy_to_device<M: Map, D: Device, W: CopyProgress>(
     alloc: Global,
     source: &mut M,
     target: D,
-    watch: &mut W,
+    progress: &mut W,
 ) -> (D, Result<(), DeviceCopyFault>)
     ensures preserved { M.preserved source.old source.new }
     ensures reads { OnlyReads (M.state source.old) (M.state source.new) }
@@ -46,7 +46,7 @@ pub fn copy_to_device<M: Map, D: Device, W: CopyProgress>(
         Ok(store) => store,
         Err((target, fault)) => return (target, Err(fault)),
     };
-    let copied = copy_records(alloc, source, &mut store, watch);
+    let copied = copy_records(alloc, source, &mut store, progress);
     sound_images(&store);
     let no_room = no_room_fault(source, pages, copied);
     (store.into_device(), told(copied, no_room))

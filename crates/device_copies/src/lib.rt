@@ -8,6 +8,5 @@ mod marks;
 mod wanted;
 
 pub use copies::copy_to_device;
-pub use copying::{CopyProgress, Unwatched};
 pub use fault::DeviceCopyFault;
 pub use marks::{copied_records_stand, marked_records_stand_for_nothing};

@@ -10,9 +10,9 @@ ghost use Rattle.file_commands.specs.Copying.{CopiesBeside, CopiesFile, Renames,
 use crate::copy_fault::FileCopyFault;
 use crate::fault::CommandFault;
 use cow_pages::page_count;
-use database_copies::{CopyProgress, DatabaseCopyFault, copy_database};
+use database_copies::{DatabaseCopyFault, copy_database};
 use journal_store::JournalDevice;
-use sector_device::{Device, FileFault};
+use sector_device::{CopyProgress, Device, FileFault};
 use std::alloc::{AllocError, Global};
 use storage_sizes::{MAX_PAGES, SECTORS_PER_PAGE};
 use systems::{Access, System};
@@ -114,7 +114,7 @@ fn copy_as<Y: System>(
         Ok(blank) => blank,
         Err(fault) => return (device, Err(partial_fault(fault))),
     };
-    let (left, copy, copied) = copy_watched(alloc, device, blank, system.watch_copy());
+    let (left, copy, copied) = copy_with_progress(alloc, device, blank, system.copy_progress());
     match copied {
         Ok(()) => (left, rename_copy(system, partial, target, copy)),
         Err(fault) => {
@@ -124,20 +124,20 @@ fn copy_as<Y: System>(
     }
 }
 
-// Copies the database on a device to another device, while a watch is told how far that is.
-fn copy_watched<D: JournalDevice, W: CopyProgress + Drop>(
+// Copies the database on a device to another device, while its progress is told.
+fn copy_with_progress<D: JournalDevice, W: CopyProgress + Drop>(
     alloc: Global,
     device: D,
     blank: D,
-    watch: W,
+    progress: W,
 ) -> (D, D, Result<(), DatabaseCopyFault>)
     ensures history { KeepsHistory (D.state device) (D.state result.0) }
     ensures unwritten { (D.state device).faithful → KeepsContent (D.state device) (D.state result.0) }
     ensures copies { (D.state device).faithful
         → CopiesDatabase (D.state device) (D.state result.0) D.state result.2 blank result.1 }
 {
-    let mut watch = watch;
-    copy_database(alloc, device, blank, &mut watch)
+    let mut progress = progress;
+    copy_database(alloc, device, blank, &mut progress)
 }
 
 // Why nothing was made under the name that a copy has until it is whole.

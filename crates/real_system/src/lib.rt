@@ -5,12 +5,12 @@ mod files;
 mod listening;
 mod new_files;
 mod private_socket;
+mod progress;
 mod real;
 mod socket;
 mod streams;
-mod watching;
 
 pub use listening::PlaceListener;
+pub use progress::PrintedProgress;
 pub use real::RealSystem;
 pub use streams::{NULL_DEVICE, SystemStream};
-pub use watching::PrintedProgress;

@@ -3,9 +3,9 @@
 use crate::files::open_file;
 use crate::listening::PlaceListener;
 use crate::new_files::{is_there, make_file, rename_new};
+use crate::progress::PrintedProgress;
 use crate::socket::{FileId, file_at, remove_made};
 use crate::streams::StandardStreams;
-use crate::watching::PrintedProgress;
 use connections::system_listener::SystemListener;
 use sector_device::{FileDevice, FileFault, SystemCause, SystemFile, WriteProtected};
 use std::alloc::Global;
@@ -68,7 +68,7 @@ impl<
         self.failures
     }
 
-    fn watch_copy(&self) -> PrintedProgress<'r, R> {
+    fn copy_progress(&self) -> PrintedProgress<'r, R> {
         PrintedProgress::begin(self.rt)
     }
 

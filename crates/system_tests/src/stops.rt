@@ -28,7 +28,7 @@
 mod bad_frames;
 mod choices;
 mod commits;
-mod copies;
+mod copy_stops;
 pub mod fault;
 pub mod images;
 mod kinds;
@@ -45,7 +45,7 @@ use crate::device_images::DeviceImage;
 use crate::files::{names_of, text_of};
 use crate::stops::bad_frames::send_bad_frames;
 use crate::stops::commits::ScriptEvent;
-use crate::stops::copies::stop_copies;
+use crate::stops::copy_stops::stop_copies;
 use crate::stops::fault::TestFault;
 use crate::stops::images::Image;
 use crate::stops::kinds::Kind;

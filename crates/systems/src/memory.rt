@@ -11,8 +11,7 @@ use crate::fault::{OpenPathFault, TextFault};
 use crate::listener::MemListener;
 use crate::place::ListenPlace;
 use crate::system::System;
-use copying::Unwatched;
-use sector_device::{FileFault, HistoryDevice, SystemCause, WriteProtected};
+use sector_device::{FileFault, HistoryDevice, SystemCause, Unwatched, WriteProtected};
 use std::alloc::Global;
 use std::time::Duration;
 
@@ -73,7 +72,7 @@ impl System for MemSystem<WriteProtected<HistoryDevice>> {
         self.failures
     }
 
-    fn watch_copy(&self) -> Unwatched {
+    fn copy_progress(&self) -> Unwatched {
         Unwatched
     }
 

@@ -8,9 +8,8 @@ use crate::access::Access;
 use crate::fault::{OpenPathFault, TextFault};
 use crate::place::ListenPlace;
 use connections::listen::Listen;
-use copying::CopyProgress;
 use journal_store::JournalDevice;
-use sector_device::{Device, FileFault, SystemCause};
+use sector_device::{CopyProgress, Device, FileFault, SystemCause};
 use std::alloc::Global;
 use std::time::Duration;
 use storage_sizes::{MAX_PAGES, SECTORS_PER_PAGE};
@@ -37,7 +36,7 @@ pub trait System {
         ensures { result ≡ (state self.now).failures };
 
     /// What is told how far a copy is that begins now. It is no part of the system, which stays as it is, whatever is told.
-    fn watch_copy(&self) -> Self::CopyProgress;
+    fn copy_progress(&self) -> Self::CopyProgress;
 
     /// Reads the bytes of a text.
     ///

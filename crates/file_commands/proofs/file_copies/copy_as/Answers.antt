@@ -30,7 +30,7 @@ returns-in-Ok-copied g c =
     let new = g.Y.System.state c.rename_copy.new.system in
     let made = c.in-Ok.ensures in
     let blank = c.in-Ok.blank in
-    let copying = c.copy_watched-left in
+    let copying = c.copy_with_progress-left in
     let left = copying.result.0 in
     let copy = copying.result.1 in
     let tried : IsTried device old c.args.partial.now c.args.target.now c.args.pages c.args.device (Ok tt) left blank copy = record {
@@ -50,7 +50,7 @@ returns-in-Err-copied g c =
     let partial = c.args.partial.now in
     let made = c.in-Ok.ensures in
     let blank = c.in-Ok.blank in
-    let copying = c.copy_watched-left in
+    let copying = c.copy_with_progress-left in
     let left = copying.result.0 in
     let copy = copying.result.1 in
     inr (inl (record {

@@ -1,4 +1,4 @@
-//! Who watches a copy.
+//! How far a copy from one device to another is.
 
 /// Who is told how far a copy is. It has no part of what is copied, nor of where: so whatever it does, the copy is the same.
 pub trait CopyProgress {

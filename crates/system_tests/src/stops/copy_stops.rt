@@ -7,8 +7,8 @@ use crate::stops::servers::find_on;
 use crate::stops::tallies::Tests;
 use crate::stops::work::{Attempt, Work, hinder_each};
 use crate::stores::SMALL_PAGES;
-use database_copies::{DatabaseCopyFault, Unwatched, copy_database};
-use sector_device::{MemDevice, WriteProtected};
+use database_copies::{DatabaseCopyFault, copy_database};
+use sector_device::{MemDevice, Unwatched, WriteProtected};
 use std::alloc::Global;
 
 /// Copies the database that a device holds to a new device, which stops after each count of sector writes, or one of `every`

@@ -1,6 +1,6 @@
 //! Lines on standard error that tell how far a copy is.
 
-use copying::CopyProgress;
+use sector_device::CopyProgress;
 use std::time::{Clock, Duration, Instant};
 
 /// For how many seconds a copy goes on before a line is told, and from one line to the next, at least.
@@ -16,7 +16,7 @@ pub struct PrintedProgress<'r, R> {
 }
 
 impl<'r, R: Eprint + Clock> PrintedProgress<'r, R> {
-    /// A watch of a copy that begins now.
+    /// The progress of a copy that begins now.
     pub(crate) fn begin(rt: &'r R) -> PrintedProgress<'r, R> {
         PrintedProgress {
             rt,
