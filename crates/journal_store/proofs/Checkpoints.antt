@@ -7,11 +7,11 @@ use Rattle.sector_device.proofs.Runs.{lifted}
 use Rattle.sector_device.specs.Device.{DeviceState, Image, IsBehindRoots, AgreesBeside, KeepsHistory as DeviceHistory, timeline}
 use Rattle.sector_device.specs.declared.device.Device.{Ghosts}
 use Rattle.page_roots.specs.Root.{RootFields}
-use Rattle.journal_chain.specs.Chain.{Region, Entry}
-use Rattle.journal_chain.specs.Journal.{IsJournal, NumbersUpTo}
-use Rattle.journal_chain.proofs.Journals.{none_of_later}
-use Rattle.sector_journal.specs.Journals.{region_in, HasJournal, HoldsJournal}
-use Rattle.sector_journal.proofs.Appending.{outside_is, same_sector}
+use Rattle.journal.specs.Chain.{Region, Entry}
+use Rattle.journal.specs.Journal.{IsJournal, NumbersUpTo}
+use Rattle.journal.proofs.Journals.{none_of_later}
+use Rattle.journal.specs.Journals.{region_in, HasJournal, HoldsJournal}
+use Rattle.journal.proofs.Appending.{outside_is, same_sector}
 use Rattle.cow_pages.specs.Cow.{root_of}
 use Rattle.store.specs.Contents.{changed_by_batch}
 use Rattle.store.specs.Records.{Records, Changes, IsOrdered, applied}

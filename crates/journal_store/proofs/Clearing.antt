@@ -5,12 +5,12 @@ use Rattle.std.proofs.lemmas.List.{get_or-replicate, length-replicate}
 use Rattle.sector_device.specs.Timeline.{weakened}
 use Rattle.sector_device.specs.Device.{DeviceState, Image, IsSynced, IsBehindRoots, timeline}
 use Rattle.sector_device.specs.Sectors.{IsSectorOf, MayHoldSectors, WritesSectors, HoldsSectors}
-use Rattle.journal_chain.specs.Chain.{Region, Blank, Chains}
-use Rattle.journal_chain.specs.Journal.{IsJournal, IsSound, NumbersUpTo}
-use Rattle.journal_records.specs.Sectors.{zeros, sector_at}
-use Rattle.journal_records.proofs.Reading.{blank_where}
-use Rattle.sector_journal.specs.Journals.{region_in, HoldsJournal}
-use Rattle.sector_journal.proofs.Appending.{inside_is, outside_is}
+use Rattle.journal.specs.Chain.{Region, Blank, Chains}
+use Rattle.journal.specs.Journal.{IsJournal, IsSound, NumbersUpTo}
+use Rattle.journal.specs.Sectors.{zeros, sector_at}
+use Rattle.journal.proofs.SectorsRead.{blank_where}
+use Rattle.journal.specs.Journals.{region_in, HoldsJournal}
+use Rattle.journal.proofs.Appending.{inside_is, outside_is}
 use Rattle.journal_store.specs.Clearing.{MayBeCleared, ClearsSome, IsCleared}
 use Rattle.journal_store.specs.Formatting.{HasNoParts}
 use Rattle.journal_store.specs.Meaning.{journal_start, journal_room}

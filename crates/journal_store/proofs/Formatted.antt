@@ -8,7 +8,7 @@ use Rattle.page_roots.specs.declared.format.Format.TheVariants.{Three}
 use Rattle.page_nodes.specs.declared.cell.NodeKind.TheVariants.{Leaf}
 use Rattle.page_nodes.specs.Node.{IsNode}
 use Rattle.page_tree.proofs.Represented.{leaf_is_tree}
-use Rattle.sector_journal.specs.Journals.{HasJournal, region_in}
+use Rattle.journal.specs.Journals.{HasJournal, region_in}
 use Rattle.cow_pages.specs.declared.open.OpenFault.TheVariants.{NotADatabase}
 use Rattle.cow_pages.specs.Image.{Means, one_page, is_size, first_fault}
 use Rattle.cow_pages.specs.Formatting.{IsUnmarked, IsBlank, IsNoneOrFirst as IsNoneOrFirstPage}

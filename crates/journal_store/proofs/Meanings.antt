@@ -4,11 +4,11 @@ use Rattle.std.proofs.lemmas.List.{take_all}
 use Rattle.std.proofs.Math.Seq.{take-add}
 use Rattle.storage_sizes.specs.declared.record_format.RecordFormat.TheVariants.{V2}
 use Rattle.sector_device.specs.Device.{Image}
-use Rattle.journal_chain.specs.Chain.{Entry}
-use Rattle.journal_chain.proofs.Journals.{none_of_later}
-use Rattle.journal_records.specs.Changes.{Spells}
-use Rattle.journal_records.specs.Records.{parts_of}
-use Rattle.sector_journal.specs.Journals.{region_in, HasJournal, HasEither}
+use Rattle.journal.specs.Chain.{Entry}
+use Rattle.journal.proofs.Journals.{none_of_later}
+use Rattle.journal.specs.Changes.{Spells}
+use Rattle.journal.specs.Records.{parts_of}
+use Rattle.journal.specs.Journals.{region_in, HasJournal, HasEither}
 use Rattle.store.specs.Contents.{changed_by_batch}
 use Rattle.store.specs.Records.{Records, Changes, applied}
 use Rattle.store.specs.Store.{Contents}

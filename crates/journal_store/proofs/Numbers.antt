@@ -1,8 +1,8 @@
 -- The number of a store with a journal: the greatest of its root's and of those in its journal.
 use Rattle.std.proofs.Common.{◌≡◌, ◌+◌, ◌-◌, ◌++◌, inl, inr, ⊎_elim, ℕ, List, [], ◌∷◌, length, max, refl, arith}
 use Rattle.std.proofs.lemmas.Bool.{cases_lt}
-use Rattle.journal_chain.specs.Chain.{Part, Holds, Region, Entry, Chains, part_of}
-use Rattle.journal_chain.specs.Journal.{IsGreatest}
+use Rattle.journal.specs.Chain.{Part, Holds, Region, Entry, Chains, part_of}
+use Rattle.journal.specs.Journal.{IsGreatest}
 use Rattle.journal_store.specs.Meaning.{IsNumberOf}
 
 -- the greater of a root's number and of the greatest in the journal

@@ -6,11 +6,11 @@ use Rattle.storage_sizes.specs.declared.record_format.RecordFormat.TheVariants.{
 use Rattle.sector_device.specs.Device.{DeviceState, Image, IsSynced, KeepsHistory, history_joined}
 use Rattle.sector_device.specs.declared.device.Device.{Ghosts}
 use Rattle.kv_store.proofs.SameKind.{journaled_is_second}
-use Rattle.journal_chain.specs.Chain.{Region}
-use Rattle.journal_chain.specs.Journal.{IsJournal, NumbersUpTo, IsGreatest}
-use Rattle.sector_journal.specs.Journals.{region_in, HasJournal, HoldsJournal}
-use Rattle.sector_journal.specs.Reading.{region_of}
-use Rattle.sector_journal.proofs.Opening.{region_same, region_still}
+use Rattle.journal.specs.Chain.{Region}
+use Rattle.journal.specs.Journal.{IsJournal, NumbersUpTo, IsGreatest}
+use Rattle.journal.specs.Journals.{region_in, HasJournal, HoldsJournal}
+use Rattle.journal.specs.Reading.{region_of}
+use Rattle.journal.proofs.Opening.{region_same, region_still}
 use Rattle.cow_pages.specs.declared.open.OpenFault.{OpenFault}
 use Rattle.cow_pages.specs.declared.open.OpenFault.TheVariants.{WrongSize, NotADatabase, Damaged, Device, Memory}
 use Rattle.cow_pages.specs.Image.{Means, first_fault, is_size}

@@ -8,9 +8,9 @@ use Rattle.sector_device.proofs.Runs.{lifted}
 use Rattle.sector_device.specs.Device.{Image, IsLeft, DeviceState, timeline}
 use Rattle.sector_device.specs.declared.device.Device.{Ghosts}
 use Rattle.page_roots.specs.Root.{RootFields}
-use Rattle.journal_chain.specs.Chain.{Entry}
-use Rattle.journal_chain.specs.Journal.{IsJournal, NumbersUpTo}
-use Rattle.sector_journal.specs.Journals.{region_in, HoldsJournal}
+use Rattle.journal.specs.Chain.{Entry}
+use Rattle.journal.specs.Journal.{IsJournal, NumbersUpTo}
+use Rattle.journal.specs.Journals.{region_in, HoldsJournal}
 use Rattle.cow_pages.specs.Cow.{root_of}
 use Rattle.cow_pages.specs.Held.{KeepsContent}
 use Rattle.store.specs.Records.{Record, Records, Changes, IsFound}

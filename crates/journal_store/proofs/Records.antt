@@ -13,14 +13,14 @@ use Rattle.sector_device.proofs.Runs.{started, lifted, present_lifted}
 use Rattle.sector_device.specs.Device.{Image, IsSynced, KeepsSize, timeline}
 use Rattle.sector_device.specs.Sectors.{WritesSectors, HoldsSectors}
 use Rattle.sector_device.specs.declared.device.Device.{Ghosts}
-use Rattle.journal_chain.specs.Chain.{Entry, Holds, part_of}
-use Rattle.journal_chain.proofs.Chaining.{end_with}
-use Rattle.journal_records.specs.Changes.{Spells, change_then}
-use Rattle.journal_records.specs.Records.{entry_of}
-use Rattle.journal_records.specs.Sectors.{sector_at}
-use Rattle.journal_records.proofs.Parts.{length-parts_of}
-use Rattle.sector_journal.specs.Journals.{region_in, HoldsJournal, CanAppend, IsAppended}
-use Rattle.sector_journal.proofs.Appending.{leaves_written, appended_now}
+use Rattle.journal.specs.Chain.{Entry, Holds, part_of}
+use Rattle.journal.proofs.Chaining.{end_with}
+use Rattle.journal.specs.Changes.{Spells, change_then}
+use Rattle.journal.specs.Records.{entry_of}
+use Rattle.journal.specs.Sectors.{sector_at}
+use Rattle.journal.proofs.Parts.{length-parts_of}
+use Rattle.journal.specs.Journals.{region_in, HoldsJournal, CanAppend, IsAppended}
+use Rattle.journal.proofs.Appending.{leaves_written, appended_now}
 use Rattle.cow_pages.specs.Cow.{device_below, root_of}
 use Rattle.store.specs.Contents.{changed_by_batch}
 use Rattle.store.specs.Records.{Records, Changes, IsOrdered, applied}

@@ -2,14 +2,14 @@
 use Rattle.std.proofs.Common.{◌≡◌, ◌<◌, ◌≤◌, ◌+◌, ◌-◌, ◌/◌, ◌%◌, ◌++◌, ◌∷◌, ℕ, zero, suc, List, [], take, length, get_or, sym, ap, subst, ◌∙◌, arith}
 use Rattle.std.proofs.lemmas.List.{take_more}
 use Rattle.std.specs.Prelude.{Result, Ok, Err, IsErrAnd}
-use Rattle.journal_chain.specs.Chain.{Region, Entry, Chains, end_of}
-use Rattle.journal_records.specs.Changes.{Spells}
-use Rattle.journal_records.specs.Records.{entry_of, parts_of}
-use Rattle.sector_journal.specs.Reading.{entries_of, AreWhole}
-use Rattle.sector_journal.specs.declared.journal.JournalRecord.{JournalRecord}
+use Rattle.journal.specs.Chain.{Region, Entry, Chains, end_of}
+use Rattle.journal.specs.Changes.{Spells}
+use Rattle.journal.specs.Records.{entry_of, parts_of}
+use Rattle.journal.specs.Reading.{entries_of, AreWhole}
+use Rattle.journal.specs.declared.journal.JournalRecord.{JournalRecord}
 use Rattle.store.specs.declared.fault.Fault.{Fault}
 use Rattle.store.specs.declared.fault.Fault.TheVariants.{Damaged}
-use Rattle.sector_journal.proofs.Opening.{entries_more}
+use Rattle.journal.proofs.Opening.{entries_more}
 use Rattle.store.specs.Records.{Records, Changes, IsOrdered, applied}
 use Rattle.transactions.specs.Views.{applied_all}
 use Rattle.journal_store.specs.Meaning.{SpellBatches, joined_parts}

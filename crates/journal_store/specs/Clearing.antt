@@ -2,7 +2,7 @@
 use Rattle.std.specs.Prelude.{◌≡◌, ◌⊎◌, ◌<◌, ℕ, List}
 use Rattle.sector_device.specs.Timeline.{LeavesOnly}
 use Rattle.sector_device.specs.Device.{DeviceState, Image, IsSynced, IsBehindRoots, timeline}
-use Rattle.journal_records.specs.Sectors.{zeros}
+use Rattle.journal.specs.Sectors.{zeros}
 
 -- in each sector what a stop might have left, or, behind the root sectors, zeros
 abbrev pub MayBeCleared : DeviceState → Image → Type 0

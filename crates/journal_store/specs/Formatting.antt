@@ -5,7 +5,7 @@ use Rattle.sector_device.specs.Timeline.{LeavesOnly, Passes}
 use Rattle.sector_device.specs.Device.{DeviceState, Image, KeepsSize, HasFailed, IsLeft, IsSynced, IsBehindRoots, timeline}
 use Rattle.sector_device.specs.Page.{IsAlone, IsOutside}
 use Rattle.sector_device.specs.declared.device.Device.{Ghosts}
-use Rattle.journal_records.specs.Sectors.{zeros}
+use Rattle.journal.specs.Sectors.{zeros}
 use Rattle.cow_pages.specs.declared.open.OpenFault.TheVariants.{NotADatabase}
 use Rattle.cow_pages.specs.Image.{first_fault}
 use Rattle.cow_pages.specs.Formatting.{IsBlank}

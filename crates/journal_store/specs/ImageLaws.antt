@@ -3,9 +3,9 @@ use Rattle.std.proofs.Common.{◌≡◌, ◌≤◌, ◌<◌, ◌⊎◌, inl, inr
 use Rattle.std.proofs.lemmas.Bool.{cases_lt, false≢true}
 use Rattle.sector_device.specs.Device.{Image}
 use Rattle.page_roots.specs.Formats.{has_journal}
-use Rattle.journal_chain.specs.Chain.{Part, Sector, Blank, Holds, Malformed, Region}
-use Rattle.sector_journal.specs.Journals.{region_in}
-use Rattle.sector_journal.proofs.Appending.{outside_is}
+use Rattle.journal.specs.Chain.{Part, Sector, Blank, Holds, Malformed, Region}
+use Rattle.journal.specs.Journals.{region_in}
+use Rattle.journal.proofs.Appending.{outside_is}
 use Rattle.cow_pages.proofs.Meaning.{one_meaning}
 use Rattle.store.specs.Store.{Contents}
 use Rattle.kv_store.specs.Contents.{HasContentsWith}

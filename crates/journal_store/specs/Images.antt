@@ -1,7 +1,7 @@
 -- What an image contains, whether its root says that there is a journal or not.
 use Rattle.std.specs.Prelude.{◌⊎◌, ℕ, false, Option, Some, None}
 use Rattle.sector_device.specs.Device.{Image}
-use Rattle.sector_journal.specs.Journals.{region_in}
+use Rattle.journal.specs.Journals.{region_in}
 use Rattle.store.specs.Store.{Contents}
 use Rattle.kv_store.specs.Numbered.{HasContentsUnder}
 use Rattle.journal_store.specs.Meaning.{HasJournaledContents, IsNumberOf, journal_start, journal_room}

@@ -2,10 +2,10 @@
 use Rattle.std.specs.Prelude.{◌≡◌, ◌⊎◌, ◌≤◌, ◌++◌, ℕ, true, List, [], ◌∷◌, Option, Some, None}
 use Rattle.storage_sizes.specs.declared.record_format.RecordFormat.TheVariants.{V2}
 use Rattle.sector_device.specs.Device.{Image}
-use Rattle.journal_chain.specs.Chain.{Part, Region, Entry, Holds}
-use Rattle.journal_chain.specs.Journal.{NumbersUpTo}
-use Rattle.journal_records.specs.Changes.{Spells}
-use Rattle.sector_journal.specs.Journals.{HasJournal}
+use Rattle.journal.specs.Chain.{Part, Region, Entry, Holds}
+use Rattle.journal.specs.Journal.{NumbersUpTo}
+use Rattle.journal.specs.Changes.{Spells}
+use Rattle.journal.specs.Journals.{HasJournal}
 use Rattle.store.specs.Records.{Changes}
 use Rattle.store.specs.Store.{Contents}
 use Rattle.transactions.specs.Views.{applied_all}

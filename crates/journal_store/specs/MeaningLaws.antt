@@ -1,10 +1,10 @@
 -- Laws of images with a journal that the ghost members of a store cite: an image has one contents at most.
 use Rattle.std.proofs.Common.{◌≡◌, ℕ, true, List, [], ◌∷◌, refl, sym, ap, subst, ◌∙◌}
 use Rattle.sector_device.specs.Device.{Image}
-use Rattle.journal_chain.specs.Chain.{Entry}
-use Rattle.journal_chain.proofs.Chaining.{one_chain}
-use Rattle.journal_records.proofs.Rising.{one_batch_read}
-use Rattle.sector_journal.specs.Journals.{region_in, HasJournal}
+use Rattle.journal.specs.Chain.{Entry}
+use Rattle.journal.proofs.Chaining.{one_chain}
+use Rattle.journal.proofs.Rising.{one_batch_read}
+use Rattle.journal.specs.Journals.{region_in, HasJournal}
 use Rattle.cow_pages.proofs.Meaning.{one_meaning}
 use Rattle.store.specs.Records.{Changes}
 use Rattle.store.specs.Store.{Contents}

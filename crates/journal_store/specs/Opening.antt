@@ -2,11 +2,11 @@
 use Rattle.std.specs.Prelude.{◌≡◌, ◌⊎◌, ◌/◌, ℕ, List, false, Some, None, Result, MatchResult}
 use Rattle.sector_device.specs.Device.{DeviceState, KeepsHistory, HasFailed}
 use Rattle.sector_device.specs.declared.device.Device.{Ghosts}
-use Rattle.journal_chain.specs.Chain.{Entry, end_of}
-use Rattle.journal_chain.specs.Journal.{IsJournal, IsGreatest}
-use Rattle.sector_journal.specs.Journals.{region_in}
-use Rattle.sector_journal.specs.Reading.{region_of, entries_of}
-use Rattle.sector_journal.specs.declared.journal.JournalRecord.{JournalRecord}
+use Rattle.journal.specs.Chain.{Entry, end_of}
+use Rattle.journal.specs.Journal.{IsJournal, IsGreatest}
+use Rattle.journal.specs.Journals.{region_in}
+use Rattle.journal.specs.Reading.{region_of, entries_of}
+use Rattle.journal.specs.declared.journal.JournalRecord.{JournalRecord}
 use Rattle.cow_pages.specs.declared.open.OpenFault.{OpenFault}
 use Rattle.cow_pages.specs.declared.open.OpenFault.TheVariants.{WrongSize, NotADatabase, Damaged, Device, Memory}
 use Rattle.cow_pages.specs.Image.{first_fault}

@@ -4,10 +4,10 @@ use Rattle.std.proofs.Math.Path.{fun_ext}
 use Rattle.std.proofs.lemmas.Bool.{cases_lt}
 use Rattle.sector_device.specs.Device.{DeviceState, Image, IsLeft}
 use Rattle.sector_device.specs.declared.device.Device.{Ghosts}
-use Rattle.journal_chain.specs.Chain.{Region, Entry}
-use Rattle.journal_chain.specs.Journal.{IsJournal}
-use Rattle.sector_journal.specs.Journals.{region_in, HasJournal, HoldsJournal}
-use Rattle.sector_journal.proofs.Appending.{outside_is, same_sector}
+use Rattle.journal.specs.Chain.{Region, Entry}
+use Rattle.journal.specs.Journal.{IsJournal}
+use Rattle.journal.specs.Journals.{region_in, HasJournal, HoldsJournal}
+use Rattle.journal.proofs.Appending.{outside_is, same_sector}
 use Rattle.cow_pages.specs.Cow.{device_below, root_of, durable_array}
 use Rattle.cow_pages.proofs.Meaning.{settled_left}
 use Rattle.store.specs.Records.{Records, IsOrdered}

@@ -4,8 +4,8 @@ use Rattle.storage_sizes.specs.declared.record_format.RecordFormat.TheVariants.{
 use Rattle.sector_device.specs.Timeline.{read_by}
 use Rattle.sector_device.specs.Device.{DeviceState, timeline}
 use Rattle.sector_device.specs.declared.device.Device.{Ghosts}
-use Rattle.journal_chain.specs.Chain.{Entry, end_of}
-use Rattle.sector_journal.specs.Journals.{region_in, HoldsJournal}
+use Rattle.journal.specs.Chain.{Entry, end_of}
+use Rattle.journal.specs.Journals.{region_in, HoldsJournal}
 use Rattle.cow_pages.specs.Cow.{device_of, device_below, root_of}
 use Rattle.store.specs.Records.{Records, Changes, IsOrdered}
 use Rattle.store.specs.Store.{Contents, StoreState}

@@ -10,7 +10,7 @@ ghost use Rattle.journal_store.specs.Stores.{journal_state, root_number, end_of_
 
 use crate::devices::JournalDevice;
 use crate::stores::JournalStore;
-use journal_records::{PART_SIZE, batch_bytes};
+use journal::{PART_SIZE, batch_bytes};
 use sql_types::try_copy::TryCopy;
 use store::{Batch, RecordFormat, Store, StoreFault};
 

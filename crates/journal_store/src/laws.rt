@@ -2,9 +2,9 @@
 ghost use Rattle.std.specs.Prelude.{◌≡◌, ◌⊎◌, ◌+◌, ◌++◌, ◌∷◌, [], ℕ, true, List};
 ghost use Rattle.storage_sizes.specs.declared.record_format.RecordFormat.TheVariants.{V2};
 ghost use Rattle.sector_device.specs.Device.{Image};
-ghost use Rattle.journal_chain.specs.Chain.{Entry};
-ghost use Rattle.journal_records.specs.Changes.{Spells};
-ghost use Rattle.sector_journal.specs.Journals.{HasJournal, HasEither};
+ghost use Rattle.journal.specs.Chain.{Entry};
+ghost use Rattle.journal.specs.Changes.{Spells};
+ghost use Rattle.journal.specs.Journals.{HasJournal, HasEither};
 ghost use Rattle.store.specs.Contents.{changed_by_batch};
 ghost use Rattle.store.specs.Records.{Changes};
 ghost use Rattle.store.specs.Store.{Contents};

@@ -6,7 +6,7 @@ ghost use Rattle.kv_store.specs.TreeStore.{pages_of};
 
 use crate::devices::JournalDevice;
 use crate::room::reserve_with;
-use journal_records::write_sectors;
+use journal::write_sectors;
 use kv_store::{Reserve, TreeStore};
 use sector_device::Device;
 use sql_types::try_copy::TryCopy;
@@ -93,7 +93,7 @@ impl<D: JournalDevice> JournalStore<D> {
     ghost use Rattle.transactions.specs.Views.{applied_all};
     ghost use Rattle.store.specs.Contents.{changed_by_batch};
     ghost use Rattle.store.specs.Store.{Commits, stored};
-    ghost use Rattle.journal_records.specs.Changes.{Spells};
+    ghost use Rattle.journal.specs.Changes.{Spells};
     ghost use Rattle.kv_store.specs.Reserve.{KeepsReserve};
     ghost use Rattle.journal_store.specs.Room.{changes_in, reserve_for, HasRoomFor, HadNoRoomFor};
     ghost use Rattle.journal_store.specs.Stores.{journal_state, end_of_records, root_number, base_of, device_under, IsSoundJournal};

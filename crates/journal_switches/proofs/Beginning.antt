@@ -7,7 +7,7 @@ use Rattle.sector_device.specs.declared.device.Device.{Ghosts}
 use Rattle.storage_sizes.specs.declared.record_format.RecordFormat.TheVariants.{V2}
 use Rattle.page_roots.specs.Formats.{has_journal}
 use Rattle.page_roots.specs.Root.{RootFields}
-use Rattle.sector_journal.specs.Journals.{region_in, HasJournal, HoldsJournal}
+use Rattle.journal.specs.Journals.{region_in, HasJournal, HoldsJournal}
 use Rattle.cow_pages.specs.declared.cow.CowPages.{CowPages}
 use Rattle.cow_pages.specs.Cow.{device_below, root_of, durable_array, HasNoRoomForMaps}
 use Rattle.cow_pages.proofs.Meaning.{settled_left}

@@ -8,8 +8,8 @@ use Rattle.sector_device.specs.Device.{DeviceState, Image, IsLeft, IsBehindRoots
 use Rattle.sector_device.specs.declared.device.Device.{Ghosts}
 use Rattle.page_roots.specs.Formats.{has_journal}
 use Rattle.page_roots.specs.Root.{RootFields}
-use Rattle.journal_chain.specs.Chain.{Region}
-use Rattle.sector_journal.specs.Journals.{region_in, HasJournal}
+use Rattle.journal.specs.Chain.{Region}
+use Rattle.journal.specs.Journals.{region_in, HasJournal}
 use Rattle.cow_pages.specs.declared.cow.CowPages.{CowPages}
 use Rattle.cow_pages.specs.Cow.{device_below, root_of}
 use Rattle.store.specs.Contents.{changed_by_batch}

@@ -5,9 +5,9 @@ use Rattle.std.proofs.lemmas.Bool.{cases_lt}
 use Rattle.sector_device.specs.Timeline.{IsPresent}
 use Rattle.sector_device.specs.Device.{DeviceState, Image, IsLeft, timeline}
 use Rattle.sector_device.specs.declared.device.Device.{Ghosts}
-use Rattle.journal_chain.specs.Chain.{Region, Entry}
-use Rattle.sector_journal.specs.Journals.{region_in, HoldsJournal}
-use Rattle.sector_journal.proofs.Appending.{outside_is, same_sector}
+use Rattle.journal.specs.Chain.{Region, Entry}
+use Rattle.journal.specs.Journals.{region_in, HoldsJournal}
+use Rattle.journal.proofs.Appending.{outside_is, same_sector}
 use Rattle.cow_pages.specs.Cow.{root_of}
 use Rattle.store.specs.Store.{Contents, stored}
 use Rattle.kv_store.specs.Numbered.{HasContentsUnder}

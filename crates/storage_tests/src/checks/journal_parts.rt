@@ -2,7 +2,7 @@
 use crate::checks::require::Findings;
 use crate::stores::table::add_change;
 use anyhow::Result;
-use journal_records::{
+use journal::{
     JournalSector, PART_SIZE, SectorTag, batch_bytes, one_batch, one_part, part_bytes, read_batch,
     read_sector, write_sectors,
 };

@@ -1,9 +1,8 @@
 //! A record is appended and read, and sectors that are no journal.
 use crate::checks::require::Findings;
 use anyhow::Result;
-use journal_records::{PART_SIZE, write_sectors};
+use journal::{PART_SIZE, append, read_journal, write_sectors};
 use sector_device::{Device, MemDevice, SECTOR_SIZE};
-use sector_journal::{append, read_journal};
 use std::alloc::{AllocError, Global};
 use store::Fault;
 

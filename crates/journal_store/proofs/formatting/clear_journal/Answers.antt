@@ -1,4 +1,4 @@
-use Rattle.sector_journal.proofs.Appending.{on_ok_both}
+use Rattle.journal.proofs.Appending.{on_ok_both}
 use Rattle.journal_store.proofs.Clearing.{clears_some, all_cleared}
 use Rattle.journal_store.proofs.formatting.clear_journal.Goals as goal
 

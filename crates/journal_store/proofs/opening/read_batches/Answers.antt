@@ -1,5 +1,5 @@
 use Rattle.std.proofs.Common.{◌≡◌, Option, Some, None, IfSome, List, ℕ, sym, subst, ◌∙◌}
-use Rattle.journal_records.specs.Changes.{Spells}
+use Rattle.journal.specs.Changes.{Spells}
 use Rattle.store.specs.Records.{Changes}
 use Rattle.journal_store.proofs.Replaying.{one_more, spelled_at}
 use Rattle.journal_store.proofs.opening.read_batches.Goals as goal

@@ -1,8 +1,8 @@
 use Rattle.std.proofs.Common.{◌≡◌, Err, List, sym, ap, subst, ◌∙◌}
-use Rattle.journal_chain.specs.Chain.{Entry}
-use Rattle.journal_chain.proofs.Chaining.{one_chain}
-use Rattle.sector_journal.specs.Reading.{region_of, entries_of}
-use Rattle.sector_journal.specs.declared.journal.JournalRecord.{JournalRecord}
+use Rattle.journal.specs.Chain.{Entry}
+use Rattle.journal.proofs.Chaining.{one_chain}
+use Rattle.journal.specs.Reading.{region_of, entries_of}
+use Rattle.journal.specs.declared.journal.JournalRecord.{JournalRecord}
 use Rattle.store.specs.declared.fault.Fault.{Fault}
 use Rattle.journal_store.specs.Meaning.{SpellBatches, journal_room}
 use Rattle.journal_store.proofs.Replaying.{ends_inside, passed_on}

@@ -1,7 +1,7 @@
 use Rattle.std.proofs.Common.{◌≡◌, ◌∙◌, ◌<◌, ◌≤◌, ◌/◌, ℕ, List, [], length, get_or, refl, sym, ap, subst, arith}
-use Rattle.journal_chain.specs.Chain.{Holds, part_of}
-use Rattle.journal_records.specs.Records.{entry_of}
-use Rattle.journal_records.specs.Sectors.{sector_at}
+use Rattle.journal.specs.Chain.{Holds, part_of}
+use Rattle.journal.specs.Records.{entry_of}
+use Rattle.journal.specs.Sectors.{sector_at}
 use Rattle.journal_store.specs.Stores.{root_number}
 use Rattle.journal_store.proofs.Records.{refused_memory, append_failed, append_done}
 use Rattle.journal_store.proofs.stores.JournalStore.append.Goals as goal

@@ -1,0 +1,11 @@
+pub mod Chaining
+pub mod Journals
+pub mod Numbers
+pub mod Written
+pub mod SectorsRead
+pub mod RecordFormat
+pub mod Rising
+pub mod Parts
+pub mod Appending
+pub mod Whole
+pub mod Opening

@@ -1,0 +1,7 @@
+pub mod Chain
+pub mod Journal
+pub mod Sectors
+pub mod Changes
+pub mod Records
+pub mod Journals
+pub mod Reading

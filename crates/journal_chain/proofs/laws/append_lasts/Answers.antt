@@ -1,5 +1,0 @@
-use Rattle.journal_chain.proofs.Journals.{journal_with}
-use Rattle.journal_chain.proofs.laws.append_lasts.Goals as goal
-
-pub returns : goal.returns
-returns c region image root room top es new = journal_with region image root room top es new

@@ -1,5 +1,0 @@
-use Rattle.journal_chain.proofs.Chaining.{numbered}
-use Rattle.journal_chain.proofs.laws.numbers_rise.Goals as goal
-
-pub returns : goal.returns
-returns c region image root p top new = numbered region image root p top new

@@ -1,2 +1,0 @@
-pub mod Chain
-pub mod Journal

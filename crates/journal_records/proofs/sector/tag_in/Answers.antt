@@ -1,7 +1,0 @@
-use Rattle.std.proofs.Common.{refl}
-use Rattle.journal_records.specs.Sectors.{part_at}
-use Rattle.journal_records.proofs.sector.tag_in.Goals as goal
-
-pub returns : goal.returns
-unfolding part_at
-returns c = rw (c.u64_at.ensures, c.u64_at-2.ensures, c.u16_at.ensures, c.u16_at-2.ensures) refl

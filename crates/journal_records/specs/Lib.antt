@@ -1,3 +1,0 @@
-pub mod Sectors
-pub mod Changes
-pub mod Records

@@ -1,8 +1,0 @@
-use Rattle.std.proofs.Common.{◌<◌, ℕ, [], get_or}
-use Rattle.journal_chain.specs.Journal.{IsSound}
-use Rattle.journal_records.specs.Sectors.{sector_at}
-use Rattle.sector_journal.proofs.chain.are_sound.Given as goal
-
--- the sectors before this one have no fault
-abbrev pub invariant-loop-place : goal.invariant-loop-place
-invariant-loop-place l = (q : ℕ) → q < l.place → IsSound l.root l.room l.end q (sector_at l.room (get_or l.sectors q []))
