@@ -31,8 +31,10 @@ use catalogue::effect::Effect;
 use catalogue::staged::Staged;
 use catalogue_loading::load;
 use md5::{Digest, Md5};
-use privilege_statements::{grant, revoke};
-use role_statements::{create_role, drop_role, grant_role, revoke_role};
+use schema_statements::{
+    alter_table, create_role, create_table, drop_role, drop_table, grant, grant_role, revoke,
+    revoke_role,
+};
 use sql_ast::statement::{DatabaseStatement, DefiningStatement, Statement};
 use sql_parser::parse::parse;
 use sql_types::answer::Answer;
@@ -42,7 +44,6 @@ use sql_types::try_copy::TryCopy;
 use std::alloc::{AllocError, Global};
 use store::{Batch, Fault, MemStore, StatementError, Store};
 use stored_rows::check_rows;
-use table_statements::{alter_table, create_table, drop_table};
 
 /// The superuser of a new database.
 const ADMIN: &str = "r0";

@@ -10,15 +10,15 @@ ghost use Rattle.server.specs.Executed.{MayExecute, users_named};
 
 use catalogue::definitions::Catalogue;
 use catalogue::effect::Effect;
-use policy_statements::{create_policy, drop_policy};
-use privilege_statements::{grant, revoke};
-use role_statements::{create_role, drop_role, grant_role, revoke_role};
+use schema_statements::{
+    alter_table, create_policy, create_role, create_table, drop_policy, drop_role, drop_table,
+    grant, grant_role, revoke, revoke_role,
+};
 use server::execute::Execute;
 use sql_ast::statement::{DatabaseStatement, DefiningStatement};
 use sql_types::name::Name;
 use std::alloc::Global;
 use store::{Map, StatementError};
-use table_statements::{alter_table, create_table, drop_table};
 
 /// What carries out every statement over the database: each by what its kind says of it.
 #[derive(Clone, Copy)]

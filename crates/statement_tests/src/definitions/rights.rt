@@ -6,13 +6,13 @@ use crate::words::{action_word, words_if};
 use catalogue::definitions::Catalogue;
 use catalogue::table::TableDefinition;
 use role_membership::closure;
+use schema_statements::acts_as_owner;
 use sql_ast::privilege::Action;
 use sql_ast::statement::Statement;
 use sql_parser::parse::parse;
 use sql_types::name::Name;
 use sql_types::state::{Refusal, SqlState};
 use std::alloc::{AllocError, Global};
-use table_statements::acts_as_owner;
 
 /// Each action.
 const ACTIONS: [Action; 4] = [

@@ -1,6 +1,0 @@
-use Rattle.std.proofs.Common.{◌≡◌, ◌++◌, map, take}
-use Rattle.privilege_statements.specs.Named.{descriptor_of}
-use Rattle.privilege_statements.proofs.named.push_each.Given as goal
-
-abbrev pub invariant-loop-grantee : goal.invariant-loop-grantee
-invariant-loop-grantee l = l.list.items ≡ l.initial.list.items ++ map (descriptor_of l.target.table.now l.target.grantable l.privilege l.by) (take l.grantee-index l.target.grantees.now)

@@ -1,5 +1,0 @@
-use Rattle.std.proofs.Common.{length}
-use Rattle.privilege_statements.proofs.ordered.+halves_ordered.Given as goal
-
-abbrev pub decreases-halves_ordered : goal.decreases-halves_ordered
-decreases-halves_ordered l = length l.list.now

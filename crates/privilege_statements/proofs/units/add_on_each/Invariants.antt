@@ -1,7 +1,0 @@
-use Rattle.std.proofs.Common.{◌≡◌, map, take}
-use Rattle.abstract_database.specs.Privileges.{on_column, indices_of}
-use Rattle.privilege_statements.specs.Units.{with_each}
-use Rattle.privilege_statements.proofs.units.add_on_each.Given as goal
-
-abbrev pub invariant-loop-name : goal.invariant-loop-name
-invariant-loop-name l = l.units.items ≡ with_each l.initial.units.items (map (on_column l.action) (indices_of l.columns (take l.name-index l.names)))

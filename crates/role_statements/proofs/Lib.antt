@@ -1,4 +1,0 @@
-pub mod Using
-pub mod Carrying
-pub mod RoleStatements
-pub mod MembershipStatements

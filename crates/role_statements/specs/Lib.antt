@@ -1,2 +1,0 @@
-pub mod Usage
-pub mod MembershipStatements

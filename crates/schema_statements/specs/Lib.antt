@@ -1,0 +1,13 @@
+pub mod RoleUsage
+pub mod MembershipStatements
+pub mod Owners
+pub mod Refusing
+pub mod PolicyChecks
+pub mod PolicyNames
+pub mod Asking
+pub mod DescriptorChanges
+pub mod PrivilegeUnits
+pub mod NamedDescriptors
+pub mod PrivilegeDescriptors
+pub mod Alone
+pub mod PrivilegeStatements

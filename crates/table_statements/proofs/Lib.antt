@@ -1,8 +1,0 @@
-pub mod ColumnLemmas
-pub mod LayoutLemmas
-pub mod Carrying
-pub mod Owning
-pub mod TableParts
-pub mod NewTableParts
-pub mod TableStatements
-pub mod CreateLemmas
