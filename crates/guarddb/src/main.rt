@@ -1,13 +1,13 @@
 //! The program `guarddb`.
 #![tactic(auto)]
 
-use commands::command::{Invocation, UsageFault, read_command};
+use cli::command::{Invocation, UsageFault, read_command};
+use cli::ending::Subject;
+use cli::program::perform;
+use cli::runs::run_for;
+use cli::usage::{report_fault, report_usage, words_fault};
 use real_system::{NULL_DEVICE, RealSystem};
 use script_runs::text_sink::TextSink;
-use session_server::ending::Subject;
-use session_server::program::perform;
-use session_server::runs::run_for;
-use session_server::usage::{report_fault, report_usage, words_fault};
 use sessions::SessionHandler;
 use statements::Statements;
 use std::alloc::Global;

@@ -2,8 +2,8 @@
 
 use crate::files::text_of;
 use crate::orders::{after_status, printed_for_order};
-use commands::command::{UsageFault, read_command};
-use session_server::usage::{report_usage, words_fault};
+use cli::command::{UsageFault, read_command};
+use cli::usage::{report_usage, words_fault};
 use std::alloc::{AllocError, Global};
 use std::io;
 

@@ -15,7 +15,7 @@ use crate::device_images::{DeviceImage, LENGTH, change_bytes, number_in, word_in
 use crate::files::text_of;
 use crate::orders::{make_database, printed_for_order, told_for_order};
 use crate::reports::report;
-use commands::command::Invocation;
+use cli::command::Invocation;
 use std::alloc::{AllocError, Global};
 use std::fs::{File, OpenOptions};
 use std::io::Write;

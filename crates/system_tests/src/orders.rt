@@ -1,9 +1,9 @@
 //! What the program prints for an order.
 
-use commands::command::Invocation;
+use cli::command::Invocation;
+use cli::program::perform;
 use real_system::RealSystem;
 use script_runs::text_sink::TextSink;
-use session_server::program::perform;
 use sessions::SessionHandler;
 use statements::Statements;
 use std::alloc::{AllocError, Global};

@@ -1,12 +1,12 @@
 //! The stores that scripts are run over.
 
+use cli::ending::{Subject, exit_with};
+use cli::running::run_script_over;
+use cli::runs::run_for;
 use cow_pages::page_count;
 use kv_store::PageStore;
 use script_runs::text_sink::TextSink;
 use sector_device::{Device, MemDevice};
-use session_server::ending::{Subject, exit_with};
-use session_server::running::run_script_over;
-use session_server::runs::run_for;
 use sessions::SessionHandler;
 use sql_types::name::Name;
 use statements::Statements;

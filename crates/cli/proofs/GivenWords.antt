@@ -1,0 +1,154 @@
+-- What a getter gives, and which words a command has.
+use Rattle.std.proofs.Common.{◌≡◌, ◌∙◌, ap, subst, sym, refl, ℕ, Bool, true, false, List, Option, Some, None, codes, option_map, is_some, slice_index, arith}
+use Rattle.std.specs.Prelude.{◌↔◌, IsTrue}
+use Rattle.std.specs.Borrow.{Bor}
+use Rattle.clap.specs.Words.{Row, first_of, first_value, one_of, one_text, rows_of}
+use Rattle.clap.proofs.WalkLemmas.{first_value-rows, one_text-rows}
+use Rattle.clap.specs.declared.parser.matches.Found.{Found}
+use Rattle.sql_types.specs.Name.{IsName}
+use Rattle.cli.specs.CommandLine.{TheWord, Given, Format, Copy, Journal, Run, RunMemory, Serve, ServeSocket, Check, Describe, HasWords, GivesAs, IsFlag, IsRoleName, lent_word}
+
+module _ (f : Found) (id : List ℕ) (r : Option (Bor (List ℕ))) (got : option_map (λ s. s.now) r ≡ first_value f id) where
+  -- what a getter gives is the word that the rows have
+  pub got_so : first_of id (rows_of f) ≡ option_map (λ s. s.now) r
+  got_so = sym (first_value-rows f id) ∙ sym got
+
+  pub got_word : (x : Bor (List ℕ)) → r ≡ Some x → first_of id (rows_of f) ≡ Some x.now
+  got_word x is = sym (first_value-rows f id) ∙ sym got ∙ ap (option_map (λ s. s.now)) is
+
+  pub got_none : r ≡ None → first_of id (rows_of f) ≡ None
+  got_none is = sym (first_value-rows f id) ∙ sym got ∙ ap (option_map (λ s. s.now)) is
+
+  pub no_word : (word : TheWord) → r ≡ None → first_of id (rows_of f) ≡ Some word → ⊥
+  no_word word is has =
+      let bad : None ≡ Some word = sym (got_none is) ∙ has in
+      cc
+
+  pub no_gap : (x : Bor (List ℕ)) → r ≡ Some x → first_of id (rows_of f) ≡ None → ⊥
+  no_gap x is has =
+      let bad : None ≡ Some x.now = sym has ∙ got_word x is in
+      cc
+
+is_gap : (r : Option (Bor (List ℕ))) → option_map (λ s. s.now) r ≡ None → is_some r ≡ true → ⊥
+is_gap None none there = cc
+is_gap (Some x) none there = cc
+
+no_such : (r : Option (Bor (List ℕ))) → is_some r ≡ false → r ≡ None
+no_such None lacks = refl
+no_such (Some x) lacks = cc
+
+module _ (f : Found) (id : List ℕ) (r : Option (Bor (List ℕ))) (got : option_map (λ s. s.now) r ≡ first_value f id) where
+  pub some_word : is_some r ≡ true → first_of id (rows_of f) ≡ None → ⊥
+  some_word there has = is_gap r (got ∙ first_value-rows f id ∙ has) there
+
+  pub none_word : is_some r ≡ false → first_of id (rows_of f) ≡ None
+  none_word lacks = got_none f id r got (no_such r lacks)
+
+-- what a getter gives of a flag is whether it is given
+pub flag_so : (f : Found) (id : List ℕ) (given : Bool) → (one_text f id ≡ None → given ≡ false) → (one_text f id ≡ Some (codes "true") → given ≡ true) → (one_text f id ≡ Some (codes "false") → given ≡ false)
+    → IsFlag (one_of id (rows_of f)) given
+flag_so f id given none set unset = record {
+  set = λ is. set (one_text-rows f id ∙ is);
+  unset = λ is. unset (one_text-rows f id ∙ is);
+  absent = λ is. none (one_text-rows f id ∙ is);
+}
+
+-- the name of a role that is given, and no name
+pub role_given : (r : Option (Bor (List ℕ))) (x : Bor (List ℕ)) → r ≡ Some x → IsName x.now → IsRoleName (lent_word r)
+role_given r x is named = subst (λ o. IsRoleName (lent_word o)) (sym is) named
+
+pub no_role_given : (r : Option (Bor (List ℕ))) → r ≡ None → IsRoleName (lent_word r)
+no_role_given r is = subst (λ o. IsRoleName (lent_word o)) (sym is) tt
+
+-- a test that fails of a name
+pub no_name : (name : List ℕ) (named : Bool) → (IsTrue named ↔ IsName name) → named ≡ false → IsName name → ⊥
+no_name name named test is really =
+    let bad : IsTrue false = subst IsTrue is (test.1 really) in
+    cc
+
+-- ---- each command has its own words
+
+-- commands with names of another first letter differ
+other_name : (a b : TheWord) → a ≡ b → (slice_index a 0 ≡ slice_index b 0 → ⊥) → ⊥
+other_name a b same differ = differ (ap (λ (t : TheWord). slice_index t 0) same)
+
+-- and so do those with names of another second letter
+other_second : (a b : TheWord) → a ≡ b → (slice_index a 1 ≡ slice_index b 1 → ⊥) → ⊥
+other_second a b same differ = differ (ap (λ (t : TheWord). slice_index t 1) same)
+
+pub no_format : (rows : List Row) → ((file pages admin : TheWord) (journal : Bool) → HasWords rows (Format file pages admin journal) → ⊥) → (given : Given) → GivesAs (codes "format") rows given → ⊥
+no_format rows lacks (Format file pages admin journal) gives = lacks file pages admin journal gives.words
+no_format rows lacks (Copy file new pages journal) gives = other_name _ _ gives.named (λ e. omega (arith, e))
+no_format rows lacks (Journal file state) gives = other_name _ _ gives.named (λ e. omega (arith, e))
+no_format rows lacks (Run file script) gives = other_name _ _ gives.named (λ e. omega (arith, e))
+no_format rows lacks (RunMemory admin script) gives = other_name _ _ gives.named (λ e. omega (arith, e))
+no_format rows lacks (Serve file port connections idle) gives = other_name _ _ gives.named (λ e. omega (arith, e))
+no_format rows lacks (ServeSocket file socket connections idle) gives = other_name _ _ gives.named (λ e. omega (arith, e))
+no_format rows lacks (Check file) gives = other_name _ _ gives.named (λ e. omega (arith, e))
+no_format rows lacks (Describe file role json) gives = other_name _ _ gives.named (λ e. omega (arith, e))
+
+pub no_run : (rows : List Row) → ((file script : TheWord) → HasWords rows (Run file script) → ⊥) → ((admin script : TheWord) → HasWords rows (RunMemory admin script) → ⊥) → (given : Given) → GivesAs (codes "run") rows given → ⊥
+no_run rows fewer lacks (Format file pages admin journal) gives = other_name _ _ gives.named (λ e. omega (arith, e))
+no_run rows fewer lacks (Copy file new pages journal) gives = other_name _ _ gives.named (λ e. omega (arith, e))
+no_run rows fewer lacks (Journal file state) gives = other_name _ _ gives.named (λ e. omega (arith, e))
+no_run rows fewer lacks (Run file script) gives = fewer file script gives.words
+no_run rows fewer lacks (RunMemory admin script) gives = lacks admin script gives.words
+no_run rows fewer lacks (Serve file port connections idle) gives = other_name _ _ gives.named (λ e. omega (arith, e))
+no_run rows fewer lacks (ServeSocket file socket connections idle) gives = other_name _ _ gives.named (λ e. omega (arith, e))
+no_run rows fewer lacks (Check file) gives = other_name _ _ gives.named (λ e. omega (arith, e))
+no_run rows fewer lacks (Describe file role json) gives = other_name _ _ gives.named (λ e. omega (arith, e))
+
+pub no_serve : (rows : List Row) → ((file port connections : TheWord) (idle : Option TheWord) → HasWords rows (Serve file port connections idle) → ⊥) → ((file socket connections : TheWord) (idle : Option TheWord) → HasWords rows (ServeSocket file socket connections idle) → ⊥) → (given : Given) → GivesAs (codes "serve") rows given → ⊥
+no_serve rows port socket (Format file pages admin journal) gives = other_name _ _ gives.named (λ e. omega (arith, e))
+no_serve rows port socket (Copy file new pages journal) gives = other_name _ _ gives.named (λ e. omega (arith, e))
+no_serve rows port socket (Journal file state) gives = other_name _ _ gives.named (λ e. omega (arith, e))
+no_serve rows port socket (Run file script) gives = other_name _ _ gives.named (λ e. omega (arith, e))
+no_serve rows port socket (RunMemory admin script) gives = other_name _ _ gives.named (λ e. omega (arith, e))
+no_serve rows port socket (Serve file number connections idle) gives = port file number connections idle gives.words
+no_serve rows port socket (ServeSocket file path connections idle) gives = socket file path connections idle gives.words
+no_serve rows port socket (Check file) gives = other_name _ _ gives.named (λ e. omega (arith, e))
+no_serve rows port socket (Describe file role json) gives = other_name _ _ gives.named (λ e. omega (arith, e))
+
+pub no_check : (rows : List Row) → ((file : TheWord) → HasWords rows (Check file) → ⊥) → (given : Given) → GivesAs (codes "check") rows given → ⊥
+no_check rows lacks (Format file pages admin journal) gives = other_name _ _ gives.named (λ e. omega (arith, e))
+no_check rows lacks (Copy file new pages journal) gives = other_second _ _ gives.named (λ e. omega (arith, e))
+no_check rows lacks (Journal file state) gives = other_name _ _ gives.named (λ e. omega (arith, e))
+no_check rows lacks (Run file script) gives = other_name _ _ gives.named (λ e. omega (arith, e))
+no_check rows lacks (RunMemory admin script) gives = other_name _ _ gives.named (λ e. omega (arith, e))
+no_check rows lacks (Serve file port connections idle) gives = other_name _ _ gives.named (λ e. omega (arith, e))
+no_check rows lacks (ServeSocket file socket connections idle) gives = other_name _ _ gives.named (λ e. omega (arith, e))
+no_check rows lacks (Check file) gives = lacks file gives.words
+no_check rows lacks (Describe file role json) gives = other_name _ _ gives.named (λ e. omega (arith, e))
+
+pub no_describe : (rows : List Row) → ((file : TheWord) (role : Option TheWord) (json : Bool) → HasWords rows (Describe file role json) → ⊥) → (given : Given) → GivesAs (codes "describe") rows given → ⊥
+no_describe rows lacks (Format file pages admin journal) gives = other_name _ _ gives.named (λ e. omega (arith, e))
+no_describe rows lacks (Copy file new pages journal) gives = other_name _ _ gives.named (λ e. omega (arith, e))
+no_describe rows lacks (Journal file state) gives = other_name _ _ gives.named (λ e. omega (arith, e))
+no_describe rows lacks (Run file script) gives = other_name _ _ gives.named (λ e. omega (arith, e))
+no_describe rows lacks (RunMemory admin script) gives = other_name _ _ gives.named (λ e. omega (arith, e))
+no_describe rows lacks (Serve file port connections idle) gives = other_name _ _ gives.named (λ e. omega (arith, e))
+no_describe rows lacks (ServeSocket file socket connections idle) gives = other_name _ _ gives.named (λ e. omega (arith, e))
+no_describe rows lacks (Check file) gives = other_name _ _ gives.named (λ e. omega (arith, e))
+no_describe rows lacks (Describe file role json) gives = lacks file role json gives.words
+
+pub no_copy : (rows : List Row) → ((file new pages : TheWord) (journal : Bool) → HasWords rows (Copy file new pages journal) → ⊥) → (given : Given) → GivesAs (codes "copy") rows given → ⊥
+no_copy rows lacks (Format file pages admin journal) gives = other_name _ _ gives.named (λ e. omega (arith, e))
+no_copy rows lacks (Copy file new pages journal) gives = lacks file new pages journal gives.words
+no_copy rows lacks (Journal file state) gives = other_name _ _ gives.named (λ e. omega (arith, e))
+no_copy rows lacks (Run file script) gives = other_name _ _ gives.named (λ e. omega (arith, e))
+no_copy rows lacks (RunMemory admin script) gives = other_name _ _ gives.named (λ e. omega (arith, e))
+no_copy rows lacks (Serve file port connections idle) gives = other_name _ _ gives.named (λ e. omega (arith, e))
+no_copy rows lacks (ServeSocket file socket connections idle) gives = other_name _ _ gives.named (λ e. omega (arith, e))
+no_copy rows lacks (Check file) gives = other_second _ _ gives.named (λ e. omega (arith, e))
+no_copy rows lacks (Describe file role json) gives = other_name _ _ gives.named (λ e. omega (arith, e))
+
+pub no_journal : (rows : List Row) → ((file state : TheWord) → HasWords rows (Journal file state) → ⊥) → (given : Given) → GivesAs (codes "journal") rows given → ⊥
+no_journal rows lacks (Format file pages admin journal) gives = other_name _ _ gives.named (λ e. omega (arith, e))
+no_journal rows lacks (Copy file new pages journal) gives = other_name _ _ gives.named (λ e. omega (arith, e))
+no_journal rows lacks (Journal file state) gives = lacks file state gives.words
+no_journal rows lacks (Run file script) gives = other_name _ _ gives.named (λ e. omega (arith, e))
+no_journal rows lacks (RunMemory admin script) gives = other_name _ _ gives.named (λ e. omega (arith, e))
+no_journal rows lacks (Serve file port connections idle) gives = other_name _ _ gives.named (λ e. omega (arith, e))
+no_journal rows lacks (ServeSocket file socket connections idle) gives = other_name _ _ gives.named (λ e. omega (arith, e))
+no_journal rows lacks (Check file) gives = other_name _ _ gives.named (λ e. omega (arith, e))
+no_journal rows lacks (Describe file role json) gives = other_name _ _ gives.named (λ e. omega (arith, e))

@@ -1,0 +1,17 @@
+pub mod BuiltCommands
+pub mod CommandLines
+pub mod GivenSo
+pub mod GivenWords
+mod Blank
+pub mod Changes
+mod Copied
+mod Served
+mod OnlyRead
+mod Switched
+mod Taken
+mod Earlier
+pub mod Lasting
+pub mod Machine
+pub mod ScriptEnds
+mod FaultMessages
+mod GivenJournals

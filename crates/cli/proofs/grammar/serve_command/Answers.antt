@@ -1,0 +1,27 @@
+use Rattle.std.proofs.Common.{codes, false}
+use Rattle.std.proofs.lemmas.Result.{IfOk-weaker}
+use Rattle.clap.specs.Words.{App, new_app, with_rule}
+use Rattle.cli.specs.CommandGrammar.{IsCommand, option_rule, word_rule}
+use Rattle.cli.proofs.BuiltCommands.{with_an_arg}
+use Rattle.cli.proofs.grammar.serve_command.Goals as goal
+
+-- `serve` with its first words
+abbrev with_file : App
+with_file = with_rule (new_app (codes "serve")) (word_rule (codes "file") false)
+
+abbrev with_port : App
+with_port = with_rule with_file (option_rule (codes "port") false)
+
+abbrev with_socket : App
+with_socket = with_rule with_port (option_rule (codes "socket") false)
+
+abbrev with_connections : App
+with_connections = with_rule with_socket (option_rule (codes "connections") false)
+
+pub returns : goal.returns
+returns c =
+    let one : IsCommand with_file c.in_ok-arg.field-0 = with_an_arg (new_app (codes "serve")) (word_rule (codes "file") false) c.command.result c.word.result c.in_ok-arg.field-0 c.command.ensures c.word.ensures c.in_ok-arg.ensures in
+    let two : IsCommand with_port c.in_ok-arg-2.field-0 = with_an_arg with_file (option_rule (codes "port") false) c.in_ok-arg.field-0 c.option.result c.in_ok-arg-2.field-0 one c.option.ensures c.in_ok-arg-2.ensures in
+    let three : IsCommand with_socket c.in_ok-arg-3.field-0 = with_an_arg with_port (option_rule (codes "socket") false) c.in_ok-arg-2.field-0 c.option-2.result c.in_ok-arg-3.field-0 two c.option-2.ensures c.in_ok-arg-3.ensures in
+    let four : IsCommand with_connections c.in_ok-arg-4.field-0 = with_an_arg with_socket (option_rule (codes "connections") false) c.in_ok-arg-3.field-0 c.option-3.result c.in_ok-arg-4.field-0 three c.option-3.ensures c.in_ok-arg-4.ensures in
+    IfOk-weaker c.arg-5.result _ _ (λ command h. with_an_arg with_connections (option_rule (codes "idle") false) c.in_ok-arg-4.field-0 c.option-4.result command four c.option-4.ensures h) c.arg-5.ensures

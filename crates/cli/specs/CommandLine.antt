@@ -1,0 +1,211 @@
+-- What the words of a command line ask for, as `clap` reads them.
+use Rattle.std.specs.Prelude.{◌≡◌, ◌≢◌, ◌≤◌, ℕ, Bool, true, false, List, [], map, length, codes, Option, Some, None, Result, Ok, Err}
+use Rattle.std.specs.Option.{option_map}
+use Rattle.std.specs.Borrow.{Bor}
+use Rattle.clap.specs.Words.{IsAmong, Row, first_of, fault_of, kind_of, one_of, subcommand_of}
+use Rattle.clap.specs.declared.error.Error.{Error}
+use Rattle.clap.specs.declared.error.kind.ErrorKind.{ErrorKind}
+use Rattle.clap.specs.declared.error.kind.ErrorKind.TheVariants as kind
+use Rattle.sql_types.specs.Name.{IsName}
+use Rattle.cli.specs.declared.command.Invocation.{Invocation}
+use Rattle.cli.specs.declared.command.Invocation.TheVariants as order
+use Rattle.cli.specs.declared.command.UsageFault.{UsageFault}
+use Rattle.cli.specs.declared.command.UsageFault.TheVariants as usage
+use Rattle.cli.specs.declared.number.NumberOption.{NumberOption}
+use Rattle.cli.specs.declared.number.NumberOption.TheVariants.{Pages, Port, Connections, Idle}
+use Rattle.cli.specs.CommandGrammar.{program_app}
+use Rattle.cli.specs.Numbers.{IsNumberFor, NoNumberFor}
+
+abbrev pub TheWord : Type 0
+TheWord = List ℕ
+
+abbrev pub TheWords : Type 0
+TheWords = List TheWord
+
+-- borrowed words, as lists of bytes
+abbrev pub lent_words : List (Bor TheWord) → TheWords
+lent_words words = map (λ word. word.now) words
+
+-- a borrowed word, where there is one
+abbrev pub lent_word : Option (Bor TheWord) → Option TheWord
+lent_word word = option_map (λ w. w.now) word
+
+-- ---- what the words say
+
+-- the words that a command is given
+pub data Given : Type 0 where
+  Format : (file pages admin : TheWord) (journal : Bool) → Given
+  Copy : (file new pages : TheWord) (journal : Bool) → Given
+  Journal : (file state : TheWord) → Given
+  Run : (file script : TheWord) → Given
+  RunMemory : (admin script : TheWord) → Given
+  Serve : (file port connections : TheWord) (idle : Option TheWord) → Given
+  ServeSocket : (file socket connections : TheWord) (idle : Option TheWord) → Given
+  Check : (file : TheWord) → Given
+  Describe : (file : TheWord) (role : Option TheWord) (json : Bool) → Given
+
+abbrev pub command_of : Given → TheWord
+command_of (Format file pages admin journal) = codes "format"
+command_of (Copy file new pages journal) = codes "copy"
+command_of (Journal file state) = codes "journal"
+command_of (Run file script) = codes "run"
+command_of (RunMemory admin script) = codes "run"
+command_of (Serve file port connections idle) = codes "serve"
+command_of (ServeSocket file socket connections idle) = codes "serve"
+command_of (Check file) = codes "check"
+command_of (Describe file role json) = codes "describe"
+
+-- whether a flag is given: its value is `true` then, and else `false` or none
+pub record IsFlag (value : Option TheWord) (given : Bool) : Type 0 where
+  pub set : value ≡ Some (codes "true") → given ≡ true
+  pub unset : value ≡ Some (codes "false") → given ≡ false
+  pub absent : value ≡ None → given ≡ false
+
+-- the words stand where the command takes them: `format` and `copy` have `--journal` or not; `run` has two words without `--memory`, and one with it;
+-- `serve` has a port or a socket, and `--idle` or not; `describe` has a role or none, and `--json` or not
+abbrev pub HasWords : List Row → Given → Type 0
+HasWords rows (Format file pages admin journal) = (first_of (codes "file") rows ≡ Some file) × (first_of (codes "pages") rows ≡ Some pages) × (first_of (codes "admin") rows ≡ Some admin) × IsFlag (one_of (codes "journal") rows) journal
+HasWords rows (Copy file new pages journal) = (first_of (codes "file") rows ≡ Some file) × (first_of (codes "new") rows ≡ Some new) × (first_of (codes "pages") rows ≡ Some pages) × IsFlag (one_of (codes "journal") rows) journal
+HasWords rows (Journal file state) = (first_of (codes "file") rows ≡ Some file) × (first_of (codes "state") rows ≡ Some state)
+HasWords rows (Run file script) = (first_of (codes "memory") rows ≡ None) × (first_of (codes "first") rows ≡ Some file) × (first_of (codes "second") rows ≡ Some script)
+HasWords rows (RunMemory admin script) = (first_of (codes "memory") rows ≡ Some admin) × (first_of (codes "first") rows ≡ Some script) × (first_of (codes "second") rows ≡ None)
+HasWords rows (Serve file port connections idle) = (first_of (codes "file") rows ≡ Some file) × (first_of (codes "port") rows ≡ Some port) × (first_of (codes "socket") rows ≡ None) × (first_of (codes "connections") rows ≡ Some connections) × (first_of (codes "idle") rows ≡ idle)
+HasWords rows (ServeSocket file socket connections idle) = (first_of (codes "file") rows ≡ Some file) × (first_of (codes "port") rows ≡ None) × (first_of (codes "socket") rows ≡ Some socket) × (first_of (codes "connections") rows ≡ Some connections) × (first_of (codes "idle") rows ≡ idle)
+HasWords rows (Check file) = first_of (codes "file") rows ≡ Some file
+HasWords rows (Describe file role json) = (first_of (codes "file") rows ≡ Some file) × (first_of (codes "role") rows ≡ role) × IsFlag (one_of (codes "json") rows) json
+
+-- what follows the command of this name gives it these words
+pub record GivesAs (name : TheWord) (rows : List Row) (given : Given) : Type 0 where
+  pub named : name ≡ command_of given
+  pub words : HasWords rows given
+
+-- the words fit the grammar, and give a command these
+pub record Gives (line : TheWords) (given : Given) : Type 0 where
+  pub fits : fault_of program_app line ≡ []
+  pub rows : List Row
+  pub command : subcommand_of program_app line ≡ Some (command_of given, rows)
+  pub words : HasWords rows given
+
+-- reading the words ends at a word or a check with this kind of error
+abbrev pub EndsReading : ErrorKind → TheWords → Type 0
+EndsReading k words = IsAmong k (fault_of program_app words)
+
+-- ---- orders
+
+-- a path that the system takes for a socket's
+pub record IsSocketPath (path : TheWord) : Type 0 where
+  pub filled : 1 ≤ length path
+  pub short : length path ≤ 107
+
+-- the word that switches a journal on or off
+abbrev pub switch_word : Bool → TheWord
+switch_word true = codes "on"
+switch_word false = codes "off"
+
+-- the limit, where one is given
+abbrev pub IsIdleFor : Option TheWord → Option ℕ → Type 0
+IsIdleFor None None = Unit {0}
+IsIdleFor (Some word) (Some seconds) = IsNumberFor Idle word seconds
+IsIdleFor None (Some seconds) = ⊥
+IsIdleFor (Some word) None = ⊥
+
+-- the role, where one is given: a name that a role can have
+abbrev pub IsRoleName : Option TheWord → Type 0
+IsRoleName None = Unit {0}
+IsRoleName (Some name) = IsName name
+
+-- of what is given the order says the words as they stand, but the numbers as such; names are those that a role can have, and paths of sockets
+-- those that the system takes
+abbrev pub IsOrdered : (Given → Type 0) → Invocation → Type 0
+IsOrdered G (order.Format file pages admin journal) = (number : TheWord) × G (Format file.now number admin.now journal) × IsNumberFor Pages number pages × IsName admin.now
+IsOrdered G (order.Copy file new pages journal) = (number : TheWord) × G (Copy file.now new.now number journal) × IsNumberFor Pages number pages
+IsOrdered G (order.Journal file on) = G (Journal file.now (switch_word on))
+IsOrdered G (order.Run file script) = G (Run file.now script.now)
+IsOrdered G (order.RunMemory admin script) = G (RunMemory admin.now script.now) × IsName admin.now
+IsOrdered G (order.Serve file port connections idle) = (number count : TheWord) × (limit : Option TheWord) × G (Serve file.now number count limit) × IsNumberFor Port number port × IsNumberFor Connections count connections × IsIdleFor limit idle
+IsOrdered G (order.ServeSocket file socket connections idle) = (count : TheWord) × (limit : Option TheWord) × G (ServeSocket file.now socket.now count limit) × IsSocketPath socket.now × IsNumberFor Connections count connections × IsIdleFor limit idle
+IsOrdered G (order.Check file) = G (Check file.now)
+IsOrdered G (order.Describe file role json) = G (Describe file.now (lent_word role) json) × IsRoleName (lent_word role)
+IsOrdered G order.Help = ⊥
+IsOrdered G order.Version = ⊥
+
+-- the words give this order, or reading them ends at a flag for help or the version
+abbrev pub Asks : TheWords → Invocation → Type 0
+Asks words order.Help = EndsReading kind.DisplayHelp words
+Asks words order.Version = EndsReading kind.DisplayVersion words
+Asks words o = IsOrdered (Gives words) o
+
+-- ---- refusals
+
+-- the word for the name of a role, for the path of a socket, for on or off, and for a number
+abbrev pub name_in : Given → Option TheWord
+name_in (Format file pages admin journal) = Some admin
+name_in (RunMemory admin script) = Some admin
+name_in (Describe file role json) = role
+name_in _ = None
+
+abbrev pub path_in : Given → Option TheWord
+path_in (ServeSocket file socket connections idle) = Some socket
+path_in _ = None
+
+abbrev pub switch_in : Given → Option TheWord
+switch_in (Journal file state) = Some state
+switch_in _ = None
+
+abbrev pub number_in : NumberOption → Given → Option TheWord
+number_in Pages (Format file pages admin journal) = Some pages
+number_in Pages (Copy file new pages journal) = Some pages
+number_in Port (Serve file port connections idle) = Some port
+number_in Connections (Serve file port connections idle) = Some connections
+number_in Connections (ServeSocket file socket connections idle) = Some connections
+number_in Idle (Serve file port connections idle) = idle
+number_in Idle (ServeSocket file socket connections idle) = idle
+number_in _ _ = None
+
+-- a word that switches nothing on or off
+pub record IsNoSwitch (word : TheWord) : Type 0 where
+  pub not_on : word ≢ codes "on"
+  pub not_off : word ≢ codes "off"
+
+-- nothing is given that a command takes, or its name, its path, its word for on or off or one of its numbers is none
+abbrev pub IsUnfit : (Given → Type 0) → UsageFault → Type 0
+IsUnfit G usage.Form = (given : Given) → G given → ⊥
+IsUnfit G usage.Serving = (given : Given) → G given → ⊥
+IsUnfit G (usage.Number option word) = (given : Given) × G given × (number_in option given ≡ Some word.now) × NoNumberFor option word.now
+IsUnfit G (usage.Path path) = (given : Given) × G given × (path_in given ≡ Some path.now) × (IsSocketPath path.now → ⊥)
+IsUnfit G (usage.Name name) = (given : Given) × G given × (name_in given ≡ Some name.now) × (IsName name.now → ⊥)
+IsUnfit G (usage.Switch word) = (given : Given) × G given × (switch_in given ≡ Some word.now) × IsNoSwitch word.now
+IsUnfit G _ = ⊥
+
+-- a word was given to an option, and gives it no number
+abbrev pub IsNoNumber : NumberOption → Option TheWord → UsageFault → Type 0
+IsNoNumber asked given (usage.Number option word) = (option ≡ asked) × (given ≡ Some word.now) × NoNumberFor asked word.now
+IsNoNumber asked given _ = ⊥
+
+-- the error is neither refused memory nor a request for help or the version
+pub record IsMistake (e : Error) : Type 0 where
+  pub not_memory : kind_of e ≢ kind.OutOfMemory
+  pub not_help : kind_of e ≢ kind.DisplayHelp
+  pub not_version : kind_of e ≢ kind.DisplayVersion
+
+-- the words fit the grammar, and yet give no command what it takes
+abbrev pub HasWrongForm : TheWords → Type 0
+HasWrongForm words = (fault_of program_app words ≡ []) × IsUnfit (Gives words) usage.Form
+
+-- reading the words ends with a mistake, or what they give fits no command
+abbrev pub Refuses : TheWords → UsageFault → Type 0
+Refuses words (usage.Grammar e) = IsMistake e × EndsReading (kind_of e) words
+Refuses words usage.Form = HasWrongForm words
+Refuses words usage.Serving = HasWrongForm words
+Refuses words usage.Memory = Unit {0}
+Refuses words u = IsUnfit (Gives words) u
+
+-- ---- an error of `clap`
+
+-- an error is an order where it is a request for help or the version, and else a fault
+abbrev pub IsReadFrom : Error → Result Invocation UsageFault → Type 0
+IsReadFrom e (Ok order.Help) = kind_of e ≡ kind.DisplayHelp
+IsReadFrom e (Ok order.Version) = kind_of e ≡ kind.DisplayVersion
+IsReadFrom e (Err (usage.Grammar mistake)) = (mistake ≡ e) × IsMistake e
+IsReadFrom e (Err usage.Memory) = kind_of e ≡ kind.OutOfMemory
+IsReadFrom e _ = ⊥

@@ -1,0 +1,222 @@
+-- What the program does for a command: its output, its messages and its exit status.
+use Rattle.std.specs.Prelude.{◌≡◌, ◌⊎◌, ◌++◌, ℕ, Bool, List, codes, Option, Some, Result, Ok, Err, IsUtf8}
+use Rattle.std.specs.Option.{option_map}
+use Rattle.sql_types.specs.Name.{IsName}
+use Rattle.abstract_database.specs.Lists.{TheName}
+use Rattle.abstract_database.specs.Runs.{ReadingRelation}
+use Rattle.script_runs.specs.declared.sink.Sink.{Ghosts as SinkGhosts}
+use Rattle.script_runs.specs.ScriptRun.{Known}
+use Rattle.sector_device.specs.declared.device.Device.{Ghosts}
+use Rattle.script_runs.specs.declared.run.ScriptEnd.{ScriptEnd}
+use Rattle.connections.specs.declared.listener.Served.{Served}
+use Rattle.connections.specs.Listening.{Listening}
+use Rattle.cli.specs.declared.command.Invocation.{Invocation}
+use Rattle.cli.specs.declared.command.Invocation.TheVariants as order
+use Rattle.cli.specs.declared.command.UsageFault.{UsageFault}
+use Rattle.cli.specs.declared.command.UsageFault.TheVariants as usage
+use Rattle.cli.specs.declared.texts.TheConstants.{HELP, USAGE, VERSION}
+use Rattle.cli.specs.Usage.{name_reason, usage_reason}
+use Rattle.cli.specs.declared.fault.CommandFault.{CommandFault}
+use Rattle.cli.specs.declared.fault.CommandFault.TheVariants as command
+use Rattle.cli.specs.declared.opened.CommandEnd.{CommandEnd}
+use Rattle.cli.specs.Commands.{ChecksFile, RunsFile}
+use Rattle.cli.specs.Formatting.{FormatsFile}
+use Rattle.cli.specs.Serving.{ServesFile}
+use Rattle.systems.specs.declared.place.ListenPlace.{ListenPlace}
+use Rattle.systems.specs.declared.place.ListenPlace.TheVariants.{Port, Socket}
+use Rattle.systems.specs.Systems.{IsSame, SystemState}
+use Rattle.cli.specs.declared.ending.ProgramFault.{ProgramFault}
+use Rattle.cli.specs.declared.ending.ProgramFault.TheVariants as fault
+use Rattle.cli.specs.declared.ending.Ending.{Ending}
+use Rattle.cli.specs.declared.ending.Ending.TheVariants as ending
+use Rattle.cli.specs.declared.ending.Exit.{Exit}
+use Rattle.cli.specs.declared.ending.Subject.{Subject}
+use Rattle.cli.specs.declared.ending.Subject.TheVariants as subject
+use Rattle.cli.specs.Ending.{caller_status, ending_of, ending_of_serving, name_message, fault_of_command, fault_status, Exits, ExitsAfter, HasTold}
+use Rattle.cli.specs.CopyCommand.{Copies}
+use Rattle.cli.specs.Describing.{Describes}
+use Rattle.cli.specs.Printing.{EndsBy, IsPrinted, Prints}
+use Rattle.cli.specs.Running.{IsNotRun, RunsOverNew}
+use Rattle.cli.specs.Script.{IsReadAt, Source, ill_encoded}
+use Rattle.cli.specs.JournalCommand.{Switches}
+
+-- ---- faults of usage
+
+-- the reason, how the program is called, and where its help is
+abbrev pub usage_message : List ℕ → List ℕ
+usage_message reason = codes "error: " ++ (reason ++ (codes "\n\nUsage: " ++ (USAGE.now ++ codes "\n\nFor more information, try '--help'.\n")))
+
+-- what standard error is told of a fault of usage; refused memory is told as elsewhere
+abbrev pub usage_text : UsageFault → Option (List ℕ)
+usage_text usage.Memory = Some (name_message fault.Memory)
+usage_text u = option_map usage_message (usage_reason u)
+
+abbrev pub usage_status : UsageFault → ℕ
+usage_status usage.Memory = fault_status
+usage_status _ = caller_status
+
+-- ---- the run of a script
+
+-- this is the end, and nothing was printed
+abbrev pub IsUnread : {K : Type 0} → ProgramFault → K → Ending → K → Type 0
+IsUnread f before e after = (e ≡ ending.Fault f) × (after ≡ before)
+
+-- a script of UTF-8 was run over a new database of this administrator; another was not, for the first byte that is none
+pub record RunsBytes (X : Type 0) {K : Type 0} (Reads : ReadingRelation) (k : SinkGhosts K) (admin : TheName) (script : List ℕ) (before : K) (e : Ending) (after : K) : Type 0 where
+  pub encoded : IsUtf8 script → RunsOverNew X Reads k admin script before e after
+  pub other : (IsUtf8 script → ⊥) → IsUnread (ill_encoded script) before e after
+
+-- the script was run over a new database of this administrator, unless it could not be read or memory was refused before
+abbrev pub RunsSource : Type 0 → {K : Type 0} → ReadingRelation → SinkGhosts K → TheName → Source → K → Ending → K → Type 0
+RunsSource X Reads k admin (Ok script) before e after = IsNotRun before e after ⊎ RunsBytes X Reads k admin script.items before e after
+RunsSource X Reads k admin (Err f) before e after = IsNotRun before e after ⊎ IsUnread f before e after
+
+-- the work was done for a name that a role can have; any other is the caller's fault, and nothing was printed
+pub record DoneFor {K : Type 0} (about : Subject) (admin : List ℕ) (P : Ending → Type 0) (exit : Exit) (out_before out_after : K) (err_before err_after : Known) : Type 0 where
+  pub named : IsName admin → EndsBy about P exit err_before err_after
+  pub unnamed : (IsName admin → ⊥) → (exit.status ≡ caller_status) × HasTold exit (usage_message (name_reason admin)) err_before err_after × (out_after ≡ out_before)
+
+-- the script was run over a new database in memory whose one role has this name
+abbrev pub RunsFor : Subject → Type 0 → {K : Type 0} → ReadingRelation → SinkGhosts K → List ℕ → Source → Exit → K → K → Known → Known → Type 0
+RunsFor about X Reads k admin script exit out_before out_after err_before err_after =
+    DoneFor about admin (λ e. RunsSource X Reads k admin script out_before e out_after) exit out_before out_after err_before err_after
+
+-- ---- a command over a file
+
+-- where the command was carried out the text was printed; else its fault is the end, and nothing was
+abbrev pub IsAnswered : Result (Unit {0}) CommandFault → List ℕ → Known → Ending → Known → Type 0
+IsAnswered (Ok x) text before e after = IsPrinted text before e after
+IsAnswered (Err f) text before e after = (e ≡ ending.Fault (fault_of_command f)) × (after ≡ before)
+
+-- ---- over a system
+
+-- nothing of the system has changed, if it is faithful
+abbrev pub StaysSame : {D L : Type 0} → SystemState D L → SystemState D L → Type 0
+StaysSame old new = old.faithful → IsSame old new
+
+-- a database was made in a new file, with a journal or without, or it was not
+pub record Formats {D L : Type 0} (g : Ghosts D) (old : SystemState D L) (path : List ℕ) (pages : ℕ) (admin : TheName) (journal : Bool) (before : Known) (e : Ending) (new : SystemState D L) (after : Known) : Type 0 where
+  pub outcome : Result (Unit {0}) CommandFault
+  pub formats : FormatsFile g old path pages admin journal outcome new
+  pub answered : IsAnswered outcome (codes "ok FORMAT\n") before e after
+
+-- memory was refused before anything was done
+pub record IsNotFormatted {D L : Type 0} (old : SystemState D L) (before : Known) (e : Ending) (new : SystemState D L) (after : Known) : Type 0 where
+  pub ends : e ≡ ending.Fault fault.Memory
+  pub same : IsSame old new
+  pub silent : after ≡ before
+
+-- so it was for a name that a role can have; for any other, or where memory was refused before, nothing was done
+pub record DoesFormat {D L K : Type 0} (g : Ghosts D) (k : SinkGhosts K) (old : SystemState D L) (file : Subject) (path : List ℕ) (pages : ℕ) (admin : List ℕ) (journal : Bool) (exit : Exit) (new : SystemState D L) (out_before out_after : K) (err_before err_after : Known) : Type 0 where
+  pub does : DoneFor file admin (λ e. IsNotFormatted old (k.held out_before) e new (k.held out_after) ⊎ Formats g old path pages admin journal (k.held out_before) e new (k.held out_after)) exit out_before out_after err_before err_after
+  pub unnamed : (IsName admin → ⊥) → IsSame old new
+
+-- a database was opened over the file, or none was; that the file was migrated was told, where it was
+pub record Checks (X : Type 0) {D L : Type 0} (g : Ghosts D) (old : SystemState D L) (file : Subject) (path : List ℕ) (exit : Exit) (new : SystemState D L) (out_before out_after err_before err_after : Known) : Type 0 where
+  pub end : CommandEnd (Unit {0})
+  pub heard : Known
+  pub checks : ChecksFile X g old path err_before end new heard
+  pub ending : Ending
+  pub answered : IsAnswered end.outcome (codes "ok CHECK\n") out_before ending out_after
+  pub ends : ExitsAfter end.told file ending exit heard err_after
+
+-- how the run of a script over a file ended
+abbrev pub ending_of_run : Result ScriptEnd CommandFault → Ending
+ending_of_run (Ok end) = ending_of end
+ending_of_run (Err f) = ending.Fault (fault_of_command f)
+
+-- `file` is what messages call the file, and `path` its path
+module _ (X : Type 0) {D L K : Type 0} (g : Ghosts D) (k : SinkGhosts K) (Reads : ReadingRelation) (old : SystemState D L) (file : Subject) (path : List ℕ) where
+  -- the script was run over the database in the file, or that was not opened; that it was migrated was told, where it was
+  pub record RunsOverFile (script : List ℕ) (exit : Exit) (new : SystemState D L) (out_before out_after : K) (err_before err_after : Known) : Type 0 where
+    pub end : CommandEnd ScriptEnd
+    pub heard : Known
+    pub runs : RunsFile X g k Reads old path script out_before err_before end new out_after heard
+    pub ends : ExitsAfter end.told file (ending_of_run end.outcome) exit heard err_after
+
+  -- the fault of a script was told, and nothing else was done
+  pub record IsNoneRun (script : Subject) (f : ProgramFault) (exit : Exit) (new : SystemState D L) (out_before out_after : K) (err_before err_after : Known) : Type 0 where
+    pub ends : Exits script (ending.Fault f) exit err_before err_after
+    pub silent : out_after ≡ out_before
+    pub same : StaysSame old new
+
+  -- a script of UTF-8 was run over the database in the file; of another the first byte that is none was told
+  pub record RunsBytesOver (script : Subject) (read : List ℕ) (exit : Exit) (new : SystemState D L) (out_before out_after : K) (err_before err_after : Known) : Type 0 where
+    pub encoded : IsUtf8 read → RunsOverFile read exit new out_before out_after err_before err_after
+    pub other : (IsUtf8 read → ⊥) → IsNoneRun script (ill_encoded read) exit new out_before out_after err_before err_after
+
+  -- so it was with what was read of the script; or why it could not be read was told
+  abbrev pub RunsRead : Subject → Source → Exit → SystemState D L → K → K → Known → Known → Type 0
+  RunsRead script (Ok read) exit new out_before out_after err_before err_after = RunsBytesOver script read.items exit new out_before out_after err_before err_after
+  RunsRead script (Err f) exit new out_before out_after err_before err_after = IsNoneRun script f exit new out_before out_after err_before err_after
+
+  -- the text that the script's path names was run, or why it could not be read was told
+  pub record RunsOver (script : Subject) (script_path : List ℕ) (exit : Exit) (new : SystemState D L) (out_before out_after : K) (err_before err_after : Known) : Type 0 where
+    pub source : Source
+    pub read : IsReadAt old script_path source new
+    pub runs : RunsRead script source exit new out_before out_after err_before err_after
+
+-- the text that the script's path names was run over a new database in memory, and nothing else was done
+pub record RunsInMemory (X : Type 0) {D L K : Type 0} (k : SinkGhosts K) (Reads : ReadingRelation) (old : SystemState D L) (script : Subject) (admin script_path : List ℕ) (exit : Exit) (new : SystemState D L) (out_before out_after : K) (err_before err_after : Known) : Type 0 where
+  pub source : Source
+  pub read : IsReadAt old script_path source new
+  pub same : StaysSame old new
+  pub runs : RunsFor script X Reads k admin source exit out_before out_after err_before err_after
+
+-- how a server ended
+abbrev pub ending_of_server : Result Served CommandFault → Ending
+ending_of_server (Ok served) = ending_of_serving served
+ending_of_server (Err f) = ending.Fault (fault_of_command f)
+
+-- the place where a server listens, as messages name it
+abbrev pub place_subject : ListenPlace → Subject
+place_subject (Port port) = subject.Port port
+place_subject (Socket path) = subject.Named path
+
+-- what a fault of a server is about: the place, once the database is open, where it is not bound
+abbrev pub fault_subject : Subject → ListenPlace → CommandFault → Subject
+fault_subject file place (command.Net cause) = place_subject place
+fault_subject file place f = file
+
+-- what the end of a server is about
+abbrev pub server_subject : Subject → ListenPlace → Result Served CommandFault → Subject
+server_subject file place (Ok served) = place_subject place
+server_subject file place (Err f) = fault_subject file place f
+
+-- so many connections at most were served at a place over the database in a file, or why they were not was told; that the file
+-- was migrated was told, where it was
+pub record Serves (X : Type 0) {D L C : Type 0} (g : Ghosts D) (c : SinkGhosts C) (Reads : ReadingRelation) (listening : L → Option Listening) (old : SystemState D L) (file : Subject) (path : List ℕ) (place : ListenPlace) (connections : ℕ) (exit : Exit) (new : SystemState D L) (err_before err_after : Known) : Type 0 where
+  pub end : CommandEnd Served
+  pub heard : Known
+  pub serves : ServesFile X g c Reads listening old path place connections err_before end new heard
+  pub ends : ExitsAfter end.told (server_subject file place end.outcome) (ending_of_server end.outcome) exit heard err_after
+
+-- ---- what a command does
+
+-- `X` decides events, `g` is what is said of the devices of files, `k` of the sink that takes answers, `c` of the sinks of connections,
+-- `listening` of listeners and `state` of systems. The script that was named was run over the database that was named, or why not was told; a
+-- database in a file was made, copied, checked, described or served, or its journal was turned on or off; or a text was printed
+module _ (X : Type 0) {D L K C S : Type 0} (g : Ghosts D) (k : SinkGhosts K) (c : SinkGhosts C) (Reads : ReadingRelation) (listening : L → Option Listening) (state : S → SystemState D L) (old : SystemState D L) where
+  abbrev pub IsPerformed : Invocation → Exit → SystemState D L → K → K → Known → Known → Type 0
+  IsPerformed (order.Format file pages admin journal) exit new out_before out_after err_before err_after =
+      DoesFormat g k old (subject.Named file) file.now pages admin.now journal exit new out_before out_after err_before err_after
+  IsPerformed (order.Copy file target pages journal) exit new out_before out_after err_before err_after =
+      Copies g state old file target pages journal exit new (k.held out_before) (k.held out_after) err_before err_after
+  IsPerformed (order.Journal file on) exit new out_before out_after err_before err_after =
+      Switches g old file on exit new (k.held out_before) (k.held out_after) err_before err_after
+  IsPerformed (order.Run file script) exit new out_before out_after err_before err_after =
+      RunsOver X g k Reads old (subject.Named file) file.now (subject.Named script) script.now exit new out_before out_after err_before err_after
+  IsPerformed (order.RunMemory admin script) exit new out_before out_after err_before err_after =
+      RunsInMemory X k Reads old (subject.Named script) admin.now script.now exit new out_before out_after err_before err_after
+  IsPerformed (order.Serve file port connections idle) exit new out_before out_after err_before err_after =
+      Serves X g c Reads listening old (subject.Named file) file.now (Port port) connections exit new err_before err_after × (out_after ≡ out_before)
+  IsPerformed (order.ServeSocket file socket connections idle) exit new out_before out_after err_before err_after =
+      Serves X g c Reads listening old (subject.Named file) file.now (Socket socket) connections exit new err_before err_after × (out_after ≡ out_before)
+  IsPerformed (order.Check file) exit new out_before out_after err_before err_after =
+      Checks X g old (subject.Named file) file.now exit new (k.held out_before) (k.held out_after) err_before err_after
+  IsPerformed (order.Describe file role json) exit new out_before out_after err_before err_after =
+      Describes g old file role exit new (k.held out_before) (k.held out_after) err_before err_after
+  IsPerformed order.Help exit new out_before out_after err_before err_after =
+      Prints HELP.now exit (k.held out_before) (k.held out_after) err_before err_after × IsSame old new
+  IsPerformed order.Version exit new out_before out_after err_before err_after =
+      Prints VERSION.now exit (k.held out_before) (k.held out_after) err_before err_after × IsSame old new

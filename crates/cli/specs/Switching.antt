@@ -1,0 +1,56 @@
+-- What turning the journal of the database in a file on or off does.
+use Rattle.std.specs.Prelude.{◌≡◌, ◌⊎◌, ℕ, Bool, true, false, List, Result, Ok, Err}
+use Rattle.sector_device.specs.Device.{DeviceState}
+use Rattle.sector_device.specs.declared.device.Device.{Ghosts}
+use Rattle.systems.specs.declared.access.Access.TheVariants.{Write}
+use Rattle.systems.specs.Systems.{SystemState}
+use Rattle.abstract_database.specs.Database.{Database}
+use Rattle.journal_switches.specs.declared.fault.SwitchFault.{SwitchFault}
+use Rattle.journal_switches.specs.TurningOn.{TurnsOn}
+use Rattle.journal_switches.specs.TurningOff.{TurnsOff}
+use Rattle.device_databases.specs.Databases.{HoldsDatabase, LeavesDatabase}
+use Rattle.cli.specs.declared.fault.CommandFault.{CommandFault}
+use Rattle.cli.specs.declared.switch_fault.FileSwitchFault.{FileSwitchFault}
+use Rattle.cli.specs.declared.switch_fault.FileSwitchFault.TheVariants.{File}
+use Rattle.cli.specs.Files.{ChangesDevice, IsNotOpened}
+use Rattle.cli.specs.SwitchFaults.{of_switch}
+
+-- the journal of a device is turned on, or off
+abbrev pub Switches : {D : Type 0} (g : Ghosts D) → Bool → DeviceState → Result ℕ SwitchFault → DeviceState → Type 0
+Switches g true d result e = TurnsOn g d result e
+Switches g false d result e = TurnsOff g d result e
+
+-- the database that the device held stays, at every moment
+abbrev pub KeepsDatabase : DeviceState → DeviceState → Type 0
+KeepsDatabase d e = (db : Database) → HoldsDatabase d db → LeavesDatabase db d e
+
+-- `g` is what is said of devices, `old` the system before, and `path` that of the file
+module _ {D L : Type 0} (g : Ghosts D) (old : SystemState D L) (path : List ℕ) (on : Bool) where
+  -- so was the journal of the device that the path named, which is there as that has left it
+  pub record IsSwitched (result : Result ℕ SwitchFault) (new : SystemState D L) : Type 0 where
+    pub device : D
+    pub left : D
+    pub switches : Switches g on (g.state device) result (g.state left)
+    pub changes : old.faithful → ChangesDevice g old path device left new
+
+  -- the database has a journal now, or none
+  pub record IsFileSwitched (new : SystemState D L) : Type 0 where
+    pub number : ℕ
+    pub switched : IsSwitched (Ok number) new
+    pub stays : old.faithful → KeepsDatabase (g.state switched.device) (g.state switched.left)
+
+  -- the file was opened, and its journal was not turned on or off
+  pub record IsSwitchRefused (fault : FileSwitchFault) (new : SystemState D L) : Type 0 where
+    pub why : SwitchFault
+    pub is : fault ≡ of_switch why
+    pub tried : IsSwitched (Err why) new
+
+  -- the file was not opened, and all is as it was
+  pub record IsFileUnswitched (fault : FileSwitchFault) (new : SystemState D L) : Type 0 where
+    pub why : CommandFault
+    pub is : fault ≡ File why
+    pub unopened : IsNotOpened g old path Write why new
+
+  abbrev pub SwitchesFile : Result (Unit {0}) FileSwitchFault → SystemState D L → Type 0
+  SwitchesFile (Ok x) new = IsFileSwitched new
+  SwitchesFile (Err fault) new = IsFileUnswitched fault new ⊎ IsSwitchRefused fault new

@@ -1,0 +1,34 @@
+-- Why words are refused, as it is told.
+use Rattle.std.specs.Prelude.{◌++◌, ℕ, List, codes, Option, Some, None}
+use Rattle.cli.specs.declared.command.UsageFault.{UsageFault}
+use Rattle.cli.specs.declared.command.UsageFault.TheVariants as usage
+use Rattle.cli.specs.declared.number.NumberOption.{NumberOption}
+use Rattle.cli.specs.Numbers.{number_rule}
+
+-- why a name is refused
+abbrev pub name_reason : List ℕ → List ℕ
+name_reason name = codes "'" ++ (name ++ codes "' is no name: NAME has 1 to 63 bytes and no zero byte")
+
+-- why a path is refused
+abbrev pub path_reason : List ℕ → List ℕ
+path_reason path = codes "'" ++ (path ++ codes "' cannot name a socket: PATH has 1 to 107 bytes")
+
+-- why a word for a number is refused
+abbrev pub number_reason : NumberOption → List ℕ → List ℕ
+number_reason option word = number_rule option ++ (codes ", not '" ++ (word ++ codes "'"))
+
+-- why a word for on or off is refused
+abbrev pub switch_reason : List ℕ → List ℕ
+switch_reason word = codes "journal takes FILE on, or FILE off, not '" ++ (word ++ codes "'")
+
+-- why words are refused; where `clap` found a mistake the text is its own
+abbrev pub usage_reason : UsageFault → Option (List ℕ)
+usage_reason (usage.Grammar e) = None
+usage_reason usage.Form = Some (codes "run takes FILE SCRIPT, or --memory NAME SCRIPT")
+usage_reason usage.Serving = Some (codes "serve takes FILE, either --port P or --socket PATH, and --connections K")
+usage_reason (usage.Number option word) = Some (number_reason option word.now)
+usage_reason (usage.Path path) = Some (path_reason path.now)
+usage_reason (usage.Name name) = Some (name_reason name.now)
+usage_reason (usage.Switch word) = Some (switch_reason word.now)
+usage_reason usage.Encoding = Some (codes "a word is not UTF-8")
+usage_reason usage.Memory = Some (codes "memory was refused")

@@ -1,0 +1,448 @@
+//! The words of a command line, and the order that they give.
+
+ghost use Rattle.std.specs.Prelude.{◌≡◌, ◌↔◌, IsTrue, IfOk, IfErr, Some, codes};
+ghost use Rattle.clap.specs.Words.{found_of, rows_of};
+ghost use Rattle.sql_types.specs.Name.{IsName};
+ghost use Rattle.cli.specs.CommandLine.{Asks, Refuses, Journal, Serve, ServeSocket, GivesAs, IsOrdered, IsUnfit, IsIdleFor, IsNoNumber, IsReadFrom, IsRoleName, IsSocketPath, lent_word, lent_words};
+ghost use Rattle.cli.specs.Numbers.{IsNumberFor};
+ghost use Rattle.cli.specs.declared.number.NumberOption.TheVariants.{Idle};
+ghost use Rattle.cli.specs.Usage.{usage_reason};
+
+use crate::error_reason::ErrorReason;
+use crate::grammar::program_command;
+use crate::number::NumberOption;
+use clap::ArgMatches;
+use clap::error::{Error, ErrorKind};
+use sql_types::name::MAX_NAME_LENGTH;
+use std::alloc::Global;
+use std::fmt;
+
+/// What a command line asks for. Words are as they were given; numbers are in the range of their
+/// option.
+#[derive(Clone, Copy)]
+pub enum Invocation<'a> {
+    /// `format FILE --pages N --admin NAME`: makes FILE, a database of N pages whose one role is the
+    /// superuser NAME. With `--journal` it has a journal.
+    Format {
+        file: &'a str,
+        pages: u32,
+        admin: &'a str,
+        journal: bool,
+    },
+    /// `copy FILE NEW --pages N`: copies the database in FILE to NEW, a new file of N pages. With
+    /// `--journal` NEW has a journal.
+    Copy {
+        file: &'a str,
+        new: &'a str,
+        pages: u32,
+        journal: bool,
+    },
+    /// `journal FILE on` and `journal FILE off`: gives the database in FILE a journal, or takes its
+    /// journal away.
+    Journal {
+        file: &'a str,
+        on: bool,
+    },
+    /// `run FILE SCRIPT`: runs the file SCRIPT over the database in FILE.
+    Run {
+        file: &'a str,
+        script: &'a str,
+    },
+    /// `run --memory NAME SCRIPT`: runs the file SCRIPT over an empty database in memory whose one
+    /// role is the superuser NAME.
+    RunMemory {
+        admin: &'a str,
+        script: &'a str,
+    },
+    /// `serve FILE --port P --connections K`: serves K connections on port P of 127.0.0.1, one after
+    /// another, over the database in FILE. With `--idle SECONDS` a connection ends that sends nothing
+    /// for so long.
+    Serve {
+        file: &'a str,
+        port: u16,
+        connections: u32,
+        idle: Option<u32>,
+    },
+    /// `serve FILE --socket PATH --connections K`: the same on a Unix socket, whose file is made at
+    /// PATH.
+    ServeSocket {
+        file: &'a str,
+        socket: &'a str,
+        connections: u32,
+        idle: Option<u32>,
+    },
+    /// `check FILE`: opens the database in FILE, and says whether it is whole.
+    Check {
+        file: &'a str,
+    },
+    /// `describe FILE`: prints who may do what in the database in FILE. With ROLE it prints what that
+    /// role may do, and with `--json` it prints JSON.
+    Describe {
+        file: &'a str,
+        role: Option<&'a str>,
+        json: bool,
+    },
+    /// `--help` or `-h`, also after a command: prints the help.
+    Help,
+    /// `--version` or `-V`: prints the version.
+    Version,
+}
+
+/// Why a command line is refused.
+#[derive(Drop)]
+pub enum UsageFault<'a> {
+    /// The words do not fit the grammar. The error's text names the wrong word.
+    Grammar(Error),
+    /// The words after `run` are neither FILE SCRIPT nor `--memory` NAME SCRIPT.
+    Form,
+    /// The words after `serve` are not FILE, either `--port` P or `--socket` PATH, and `--connections`
+    /// K.
+    Serving,
+    /// The word for a number is no decimal number in the range of its option.
+    Number { option: NumberOption, word: &'a str },
+    /// PATH of a socket is empty or has over 107 bytes.
+    Path(&'a str),
+    /// NAME is empty, has over 63 bytes or a zero byte.
+    Name(&'a str),
+    /// The word after FILE of `journal` is neither `on` nor `off`.
+    Switch(&'a str),
+    /// A word is not UTF-8.
+    Encoding,
+    /// Memory was refused.
+    Memory,
+}
+
+impl fmt::Display for UsageFault<'_> {
+    ghost output = { usage_reason };
+
+    fn fmt<W: fmt::Write>(&self, f: &mut fmt::Formatter<W>) -> fmt::Result {
+        match self {
+            UsageFault::Grammar(error) => write!(f, "{}", ErrorReason(error)),
+            UsageFault::Form => write!(f, "run takes FILE SCRIPT, or --memory NAME SCRIPT"),
+            UsageFault::Serving => {
+                write!(
+                    f,
+                    "serve takes FILE, either --port P or --socket PATH, and --connections K"
+                )
+            }
+            UsageFault::Number { option, word } => write!(f, "{option}, not '{word}'"),
+            UsageFault::Path(path) => {
+                write!(f, "'{path}' cannot name a socket: PATH has 1 to 107 bytes")
+            }
+            UsageFault::Name(name) => {
+                write!(
+                    f,
+                    "'{name}' is no name: NAME has 1 to 63 bytes and no zero byte"
+                )
+            }
+            UsageFault::Switch(word) => {
+                write!(f, "journal takes FILE on, or FILE off, not '{word}'")
+            }
+            UsageFault::Encoding => write!(f, "a word is not UTF-8"),
+            UsageFault::Memory => write!(f, "memory was refused"),
+        }
+    }
+}
+
+/// The order that the words after the program's name give, as `clap` reads them: one of the commands
+/// `format`, `copy`, `journal`, `run`, `serve`, `check` and `describe` with its words and options, each given
+/// once; or a flag for help or the version. Words that give none are refused: by `Grammar`, `Form`, `Serving`,
+/// `Number`, `Path`, `Name` or `Switch`.
+/// `Memory` may come of any words.
+pub fn read_command<'a>(
+    alloc: Global,
+    words: &'a [&'a str],
+) -> Result<Invocation<'a>, UsageFault<'a>>
+    ensures asked { IfOk result (Asks (lent_words words.entry.now)) }
+    ensures refused { IfErr result (Refuses (lent_words words.entry.now)) }
+{
+    let Ok(command) = program_command(alloc) else {
+        return Err(UsageFault::Memory);
+    };
+    let matches = match command.try_get_matches_from(words) {
+        Ok(matches) => matches,
+        Err(error) => return read_error(error),
+    };
+    match matches.subcommand() {
+        Some((name, given)) => read_given(name, given),
+        None => Err(UsageFault::Form),
+    }
+}
+
+/// What an error of `clap` is: a request for help or the version, or a fault.
+fn read_error<'a>(error: Error) -> Result<Invocation<'a>, UsageFault<'a>>
+    ensures { IsReadFrom error result }
+{
+    match error.kind() {
+        ErrorKind::DisplayHelp => Ok(Invocation::Help),
+        ErrorKind::DisplayVersion => Ok(Invocation::Version),
+        ErrorKind::OutOfMemory => Err(UsageFault::Memory),
+        _ => Err(UsageFault::Grammar(error)),
+    }
+}
+
+/// The order that the words after the command of this name give.
+fn read_given<'a>(name: &str, given: &ArgMatches<'a>) -> Result<Invocation<'a>, UsageFault<'a>>
+    ensures asked { IfOk result (IsOrdered (GivesAs name.now (rows_of (found_of given.now)))) }
+    ensures refused { IfErr result (IsUnfit (GivesAs name.now (rows_of (found_of given.now)))) }
+{
+    match name {
+        "format" => read_format(given),
+        "copy" => read_copy(given),
+        "journal" => read_journal(given),
+        "run" => read_run(given),
+        "serve" => read_serve(given),
+        "check" => read_check(given),
+        "describe" => read_describe(given),
+        _ => Err(UsageFault::Form),
+    }
+}
+
+/// The order that the words after `format` give.
+fn read_format<'a>(given: &ArgMatches<'a>) -> Result<Invocation<'a>, UsageFault<'a>>
+    ensures asked { IfOk result (IsOrdered (GivesAs (codes "format") (rows_of (found_of given.now)))) }
+    ensures refused { IfErr result (IsUnfit (GivesAs (codes "format") (rows_of (found_of given.now)))) }
+{
+    let Some(file) = given.get_str("file") else {
+        return Err(UsageFault::Form);
+    };
+    let Some(word) = given.get_str("pages") else {
+        return Err(UsageFault::Form);
+    };
+    let Some(admin) = given.get_str("admin") else {
+        return Err(UsageFault::Form);
+    };
+    let journal = given.get_flag("journal");
+    let option = NumberOption::Pages;
+    let Some(pages) = option.read(word) else {
+        return Err(UsageFault::Number { option, word });
+    };
+    if !is_name(admin) {
+        return Err(UsageFault::Name(admin));
+    }
+    Ok(Invocation::Format {
+        file,
+        pages,
+        admin,
+        journal,
+    })
+}
+
+/// The order that the words after `copy` give.
+fn read_copy<'a>(given: &ArgMatches<'a>) -> Result<Invocation<'a>, UsageFault<'a>>
+    ensures asked { IfOk result (IsOrdered (GivesAs (codes "copy") (rows_of (found_of given.now)))) }
+    ensures refused { IfErr result (IsUnfit (GivesAs (codes "copy") (rows_of (found_of given.now)))) }
+{
+    let Some(file) = given.get_str("file") else {
+        return Err(UsageFault::Form);
+    };
+    let Some(new) = given.get_str("new") else {
+        return Err(UsageFault::Form);
+    };
+    let Some(word) = given.get_str("pages") else {
+        return Err(UsageFault::Form);
+    };
+    let journal = given.get_flag("journal");
+    let pages = read_number(NumberOption::Pages, word)?;
+    Ok(Invocation::Copy {
+        file,
+        new,
+        pages,
+        journal,
+    })
+}
+
+/// The order that the words after `journal` give.
+fn read_journal<'a>(given: &ArgMatches<'a>) -> Result<Invocation<'a>, UsageFault<'a>>
+    ensures asked { IfOk result (IsOrdered (GivesAs (codes "journal") (rows_of (found_of given.now)))) }
+    ensures refused { IfErr result (IsUnfit (GivesAs (codes "journal") (rows_of (found_of given.now)))) }
+{
+    let Some(file) = given.get_str("file") else {
+        return Err(UsageFault::Form);
+    };
+    let Some(word) = given.get_str("state") else {
+        return Err(UsageFault::Form);
+    };
+    switch_journal(file, word)
+}
+
+/// The order to give a file a journal, or to take its journal away.
+fn switch_journal<'a>(file: &'a str, word: &'a str) -> Result<Invocation<'a>, UsageFault<'a>>
+    ensures asked { IfOk result (IsOrdered (λ given. given ≡ Journal file.now word.now)) }
+    ensures refused { IfErr result (IsUnfit (λ given. given ≡ Journal file.now word.now)) }
+{
+    match word {
+        "on" => Ok(Invocation::Journal { file, on: true }),
+        "off" => Ok(Invocation::Journal { file, on: false }),
+        _ => Err(UsageFault::Switch(word)),
+    }
+}
+
+/// The order that the words after `run` give.
+fn read_run<'a>(given: &ArgMatches<'a>) -> Result<Invocation<'a>, UsageFault<'a>>
+    ensures asked { IfOk result (IsOrdered (GivesAs (codes "run") (rows_of (found_of given.now)))) }
+    ensures refused { IfErr result (IsUnfit (GivesAs (codes "run") (rows_of (found_of given.now)))) }
+{
+    let Some(first) = given.get_str("first") else {
+        return Err(UsageFault::Form);
+    };
+    let Some(admin) = given.get_str("memory") else {
+        let Some(script) = given.get_str("second") else {
+            return Err(UsageFault::Form);
+        };
+        return Ok(Invocation::Run {
+            file: first,
+            script,
+        });
+    };
+    if given.get_str("second").is_some() {
+        return Err(UsageFault::Form);
+    }
+    if !is_name(admin) {
+        return Err(UsageFault::Name(admin));
+    }
+    Ok(Invocation::RunMemory {
+        admin,
+        script: first,
+    })
+}
+
+/// The order that the words after `serve` give.
+fn read_serve<'a>(given: &ArgMatches<'a>) -> Result<Invocation<'a>, UsageFault<'a>>
+    ensures asked { IfOk result (IsOrdered (GivesAs (codes "serve") (rows_of (found_of given.now)))) }
+    ensures refused { IfErr result (IsUnfit (GivesAs (codes "serve") (rows_of (found_of given.now)))) }
+{
+    let Some(file) = given.get_str("file") else {
+        return Err(UsageFault::Serving);
+    };
+    let Some(count) = given.get_str("connections") else {
+        return Err(UsageFault::Serving);
+    };
+    let limit = given.get_str("idle");
+    let Some(port) = given.get_str("port") else {
+        let Some(socket) = given.get_str("socket") else {
+            return Err(UsageFault::Serving);
+        };
+        return serve_on_socket(file, socket, count, limit);
+    };
+    if given.get_str("socket").is_some() {
+        return Err(UsageFault::Serving);
+    }
+    serve_on_port(file, port, count, limit)
+}
+
+/// The order to serve so many connections on a port.
+fn serve_on_port<'a>(
+    file: &'a str,
+    port_word: &'a str,
+    count_word: &'a str,
+    limit: Option<&'a str>,
+) -> Result<Invocation<'a>, UsageFault<'a>>
+    ensures asked { IfOk result (IsOrdered (λ given. given
+        ≡ Serve file.now port_word.now count_word.now (lent_word limit.entry))) }
+    ensures refused { IfErr result (IsUnfit (λ given. given
+        ≡ Serve file.now port_word.now count_word.now (lent_word limit.entry))) }
+{
+    let port = read_number(NumberOption::Port, port_word)?;
+    let connections = read_number(NumberOption::Connections, count_word)?;
+    let idle = read_limit(limit)?;
+    Ok(Invocation::Serve {
+        file,
+        port: port as u16,
+        connections,
+        idle,
+    })
+}
+
+/// The order to serve so many connections on a socket.
+fn serve_on_socket<'a>(
+    file: &'a str,
+    socket: &'a str,
+    count_word: &'a str,
+    limit: Option<&'a str>,
+) -> Result<Invocation<'a>, UsageFault<'a>>
+    ensures asked { IfOk result (IsOrdered (λ given. given
+        ≡ ServeSocket file.now socket.now count_word.now (lent_word limit.entry))) }
+    ensures refused { IfErr result (IsUnfit (λ given. given
+        ≡ ServeSocket file.now socket.now count_word.now (lent_word limit.entry))) }
+{
+    if !is_socket_path(socket) {
+        return Err(UsageFault::Path(socket));
+    }
+    let connections = read_number(NumberOption::Connections, count_word)?;
+    let idle = read_limit(limit)?;
+    Ok(Invocation::ServeSocket {
+        file,
+        socket,
+        connections,
+        idle,
+    })
+}
+
+/// The seconds of `--idle`, where its word is given.
+fn read_limit<'a>(limit: Option<&'a str>) -> Result<Option<u32>, UsageFault<'a>>
+    ensures read { IfOk result (IsIdleFor (lent_word limit.entry)) }
+    ensures refused { IfErr result (IsNoNumber Idle (lent_word limit.entry)) }
+{
+    match limit {
+        None => Ok(None),
+        Some(word) => Ok(Some(read_number(NumberOption::Idle, word)?)),
+    }
+}
+
+/// The number that a word gives to an option.
+fn read_number<'a>(option: NumberOption, word: &'a str) -> Result<u32, UsageFault<'a>>
+    ensures read { IfOk result (IsNumberFor option word.now) }
+    ensures refused { IfErr result (IsNoNumber option (Some word.now)) }
+{
+    match option.read(word) {
+        Some(number) => Ok(number),
+        None => Err(UsageFault::Number { option, word }),
+    }
+}
+
+/// The order that the word after `check` gives.
+fn read_check<'a>(given: &ArgMatches<'a>) -> Result<Invocation<'a>, UsageFault<'a>>
+    ensures asked { IfOk result (IsOrdered (GivesAs (codes "check") (rows_of (found_of given.now)))) }
+    ensures refused { IfErr result (IsUnfit (GivesAs (codes "check") (rows_of (found_of given.now)))) }
+{
+    match given.get_str("file") {
+        Some(file) => Ok(Invocation::Check { file }),
+        None => Err(UsageFault::Form),
+    }
+}
+
+/// The order that the words after `describe` give.
+fn read_describe<'a>(given: &ArgMatches<'a>) -> Result<Invocation<'a>, UsageFault<'a>>
+    ensures asked { IfOk result (IsOrdered (GivesAs (codes "describe") (rows_of (found_of given.now)))) }
+    ensures refused { IfErr result (IsUnfit (GivesAs (codes "describe") (rows_of (found_of given.now)))) }
+{
+    let Some(file) = given.get_str("file") else {
+        return Err(UsageFault::Form);
+    };
+    let role = given.get_str("role");
+    let json = given.get_flag("json");
+    if let Some(name) = role {
+        if !is_name(name) {
+            return Err(UsageFault::Name(name));
+        }
+    }
+    Ok(Invocation::Describe { file, role, json })
+}
+
+/// Whether a role can have this name: it has 1 to 63 bytes, none of them zero.
+pub fn is_name(name: &str) -> bool
+    ensures { IsTrue result ↔ IsName name.now }
+{
+    !name.is_empty() && name.len() <= MAX_NAME_LENGTH && !name.as_bytes().contains(&0)
+}
+
+/// How many bytes the path of a socket has at most.
+const MAX_SOCKET_PATH_LENGTH: usize = 107;
+
+/// Whether the system takes this path for a socket: it has 1 to 107 bytes.
+pub fn is_socket_path(path: &str) -> bool
+    ensures { IsTrue result ↔ IsSocketPath path.now }
+{
+    !path.is_empty() && path.len() <= MAX_SOCKET_PATH_LENGTH
+}

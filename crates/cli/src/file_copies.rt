@@ -1,0 +1,170 @@
+//! A copy of the database in a file, in a new file.
+
+ghost use Rattle.std.specs.Prelude.{◌≡◌, ◌≢◌, ◌≤◌, IfOk, string_bytes};
+ghost use Rattle.sector_device.specs.Device.{KeepsHistory};
+ghost use Rattle.cow_pages.specs.Held.{KeepsContent};
+ghost use Rattle.database_copies.specs.Databases.{CopiesDatabase};
+ghost use Rattle.cli.specs.CopyFaults.{of_partial};
+ghost use Rattle.cli.specs.Copying.{CopiesBeside, CopiesFile, Renames, partial_path};
+
+use crate::copy_fault::FileCopyFault;
+use crate::fault::CommandFault;
+use cow_pages::page_count;
+use database_copies::{DatabaseCopyFault, copy_database};
+use journal_store::JournalDevice;
+use sector_device::{CopyProgress, Device, FileFault};
+use std::alloc::{AllocError, Global};
+use storage_sizes::{MAX_PAGES, SECTORS_PER_PAGE};
+use systems::{Access, System};
+
+/// What follows the name of a copy until it is whole.
+const PARTIAL: &str = ".partial";
+
+/// Copies the database in the file at `path` to a new file at `target` of so many pages of 4,096
+/// bytes. Others may read the file meanwhile, and not one sector of it is written; of format 1 it is
+/// copied in format 2. Both files are closed then.
+///
+/// The copy is made in a file of its own, which has the name of the target with `.partial` after it.
+/// It gets its name once it is whole, and replaces nothing. So at no moment is there anything at
+/// `target` but the whole copy. After an error nothing is left of it, as far as the system removes
+/// it. What the system has for it is told how far a large copy is.
+///
+/// `New` with `WrongSize`: the number of pages is not from 64 to 65,536; no file is opened. `File`:
+/// what `read_file` refuses of the file. `New`: `Exists`, where there is something of the name
+/// `target`, which is left as it is; `Device`, where the system does not make the file or name it, or
+/// a call on it fails; `Memory`, where an allocation failed. `Partial`: there is something of the name
+/// that the copy has until it is whole, which is left as it is. `Full`: the database has no room in so
+/// many pages; it names how many it wants at least.
+pub fn copy_file<Y: System>(
+    system: &mut Y,
+    alloc: Global,
+    path: &str,
+    target: &str,
+    pages: u32,
+) -> Result<(), FileCopyFault>
+    ensures { CopiesFile Y.Device.Device Y.state (Y.state system.old) path.now target.now pages result
+        (Y.state system.new) }
+{
+    if pages > MAX_PAGES {
+        return Err(FileCopyFault::New(CommandFault::WrongSize));
+    }
+    let Some(_pages) = page_count(SECTORS_PER_PAGE * pages) else {
+        return Err(FileCopyFault::New(CommandFault::WrongSize));
+    };
+    let device = match system.open(path, Access::Read) {
+        Ok(device) => device,
+        Err(fault) => return Err(FileCopyFault::File(CommandFault::from(fault))),
+    };
+    let (left, copied) = copy_beside(system, alloc, device, target, pages);
+    system.close(path, left);
+    copied
+}
+
+// Copies the database on a device to a new file, where nothing has its name, and hands the device
+// back.
+fn copy_beside<Y: System>(
+    system: &mut Y,
+    alloc: Global,
+    device: Y::Device,
+    target: &str,
+    pages: u32,
+) -> (Y::Device, Result<(), FileCopyFault>)
+    requires { pages ≤ MAX_PAGES }
+    ensures { CopiesBeside Y.Device.Device (Y.state system.old) (partial_path target.now)
+        target.now pages device result.1 result.0 (Y.state system.new) }
+{
+    let found = match system.has_name(target) {
+        Ok(found) => found,
+        Err(cause) => return (device, Err(FileCopyFault::New(CommandFault::Device(cause)))),
+    };
+    if found {
+        return (device, Err(FileCopyFault::New(CommandFault::Exists)));
+    }
+    match partial_name(alloc, target) {
+        Ok(partial) => copy_as(system, alloc, device, partial.as_str(), target, pages),
+        Err(_) => (device, Err(FileCopyFault::New(CommandFault::Memory))),
+    }
+}
+
+// The name that a copy has until it is whole. The only error is that an allocation failed.
+fn partial_name(alloc: Global, target: &str) -> Result<String, AllocError>
+    ensures { IfOk result (λ name. string_bytes name ≡ partial_path target.now) }
+{
+    let mut name = String::from_str(alloc, target)?;
+    name.push_str(PARTIAL)?;
+    Ok(name)
+}
+
+// Copies the database on a device to a new file, which has one name until it is whole and another
+// then, and hands the device back.
+fn copy_as<Y: System>(
+    system: &mut Y,
+    alloc: Global,
+    device: Y::Device,
+    partial: &str,
+    target: &str,
+    pages: u32,
+) -> (Y::Device, Result<(), FileCopyFault>)
+    requires size { pages ≤ MAX_PAGES }
+    requires names { target.now ≢ partial.now }
+    ensures { CopiesBeside Y.Device.Device (Y.state system.old) partial.now target.now pages device
+        result.1 result.0 (Y.state system.new) }
+{
+    let blank = match system.make(partial, pages) {
+        Ok(blank) => blank,
+        Err(fault) => return (device, Err(partial_fault(fault))),
+    };
+    let (left, copy, copied) = copy_with_progress(alloc, device, blank, system.copy_progress());
+    match copied {
+        Ok(()) => (left, rename_copy(system, partial, target, copy)),
+        Err(fault) => {
+            let _ = system.remove(partial, copy);
+            (left, Err(FileCopyFault::from(fault)))
+        }
+    }
+}
+
+// Copies the database on a device to another device, while its progress is told.
+fn copy_with_progress<D: JournalDevice, W: CopyProgress + Drop>(
+    alloc: Global,
+    device: D,
+    blank: D,
+    progress: W,
+) -> (D, D, Result<(), DatabaseCopyFault>)
+    ensures history { KeepsHistory (D.state device) (D.state result.0) }
+    ensures unwritten { (D.state device).faithful → KeepsContent (D.state device) (D.state result.0) }
+    ensures copies { (D.state device).faithful
+        → CopiesDatabase (D.state device) (D.state result.0) D.state result.2 blank result.1 }
+{
+    let mut progress = progress;
+    copy_database(alloc, device, blank, &mut progress)
+}
+
+// Why nothing was made under the name that a copy has until it is whole.
+fn partial_fault(fault: FileFault) -> FileCopyFault
+    ensures { result ≡ of_partial fault }
+{
+    match fault {
+        FileFault::Exists => FileCopyFault::Partial,
+        FileFault::Memory => FileCopyFault::New(CommandFault::Memory),
+        FileFault::Device(cause) => FileCopyFault::New(CommandFault::Device(cause)),
+    }
+}
+
+// Gives a copy that is whole its name, or takes it away.
+fn rename_copy<Y: System>(
+    system: &mut Y,
+    partial: &str,
+    target: &str,
+    copy: Y::Device,
+) -> Result<(), FileCopyFault>
+    ensures { Renames (Y.state system.old) partial.now target.now copy result (Y.state system.new) }
+{
+    match system.rename(partial, target, copy) {
+        Ok(()) => Ok(()),
+        Err((copy, fault)) => {
+            let _ = system.remove(partial, copy);
+            Err(FileCopyFault::New(CommandFault::from(fault)))
+        }
+    }
+}

@@ -1,0 +1,43 @@
+//! The program's command line: the words that it takes, the order that they give, and the texts that say so.
+//! Commands over a database that a path of a system names: it is made, copied, checked, read, run over and served, and its journal
+//! is turned on and off.
+//! What the program does for the orders of its command line: its output, its messages and its exit status.
+#![tactic(auto)]
+
+pub mod command;
+mod copy_command;
+mod copy_fault;
+mod describing;
+pub mod ending;
+mod error_reason;
+mod fault;
+mod file_copies;
+mod format;
+mod grammar;
+pub mod in_memory;
+mod journal_command;
+pub mod number;
+mod opened;
+mod printing;
+pub mod program;
+mod reading;
+mod run;
+pub mod running;
+pub mod runs;
+mod script;
+mod serve;
+mod switch_fault;
+mod switching;
+pub mod texts;
+pub mod usage;
+
+pub use copy_fault::FileCopyFault;
+pub use fault::CommandFault;
+pub use file_copies::copy_file;
+pub use format::format_file;
+pub use opened::CommandEnd;
+pub use reading::read_file;
+pub use run::{check_file, run_file};
+pub use serve::{Limits, serve_file, serve_on};
+pub use switch_fault::FileSwitchFault;
+pub use switching::switch_journal;

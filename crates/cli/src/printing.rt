@@ -1,0 +1,37 @@
+//! What the program writes to its standard output, and what it tells where that fails.
+
+ghost use Rattle.std.specs.Prelude.{◌≡◌, OnOk};
+ghost use Rattle.std.specs.Io.KnownBytes.{Appends};
+ghost use Rattle.cli.specs.Printing.{IsPrinted, Prints};
+
+use crate::ending::{Ending, Exit, ProgramFault, Subject, exit_with};
+use script_runs::sink::Sink;
+use script_runs::text_sink::TakesText;
+use std::io;
+use std::io::Write;
+
+/// Writes a text to `out`, and tells where it is not taken.
+pub(crate) fn print_for<K: TakesText, E: Write>(text: &str, out: &mut K, err: &mut E) -> Exit
+    ensures { Prints text.now result (K.held out.old) (K.held out.new)
+        (E.contents err.old) (E.contents err.new) }
+{
+    let about = Subject::Named("standard output");
+    exit_with(print_text(text, out), about, err)
+}
+
+/// Writes a text to `out`.
+pub(crate) fn print_text<K: TakesText>(text: &str, out: &mut K) -> Ending
+    ensures { IsPrinted text.now (K.held out.old) result (K.held out.new) }
+{
+    match write_text(text, out) {
+        Ok(()) => Ending::Done,
+        Err(_) => Ending::Fault(ProgramFault::Output),
+    }
+}
+
+fn write_text<K: TakesText>(text: &str, out: &mut K) -> io::Result<()>
+    ensures { OnOk result (Appends (K.held out.old) (K.held out.new) text.now) }
+{
+    out.print(text)?;
+    out.finish()
+}

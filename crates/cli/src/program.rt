@@ -1,0 +1,270 @@
+//! What the program does for a command: its output, its messages and its exit status.
+
+ghost use Rattle.std.specs.Prelude.{◌≡◌};
+ghost use Rattle.cli.specs.Program.{ending_of_server, place_subject, server_subject, Checks, DoesFormat, Formats, IsAnswered, IsPerformed, Serves};
+
+use crate::command::{Invocation, UsageFault, is_name};
+use crate::copy_command::copy;
+use crate::describing::describe;
+use crate::ending::{Ending, Exit, ProgramFault, Subject, exit_after, exit_with};
+use crate::fault::CommandFault;
+use crate::format::format_file;
+use crate::journal_command::switch;
+use crate::opened::CommandEnd;
+use crate::printing::{print_for, print_text};
+use crate::run::check_file;
+use crate::runs::{run_over_file, run_read_in_memory};
+use crate::serve::{Limits, serve_file};
+use crate::texts::{HELP, VERSION};
+use crate::usage::report_usage;
+use connections::listen::Listen;
+use connections::listener::Served;
+use script_runs::sink::Sink;
+use script_runs::text_sink::TakesText;
+use sector_device::Device;
+use server::decide::EventHandler;
+use sql_types::name::Name;
+use std::alloc::Global;
+use std::io::Write;
+use std::time::Duration;
+use systems::{ListenPlace, System};
+
+/// What `format` prints where it has made a database.
+const FORMATTED: &str = "ok FORMAT\n";
+
+/// What `check` prints where a database is whole.
+const CHECKED: &str = "ok CHECK\n";
+
+/// Does what a command asks for, with a server whose events `handler` decides, and answers the exit
+/// status: 0 where it was done; 1 after a fault, which is named on `err`, and after the server
+/// stopped; 2 after an invalid line of the script, whose number is on `err`. After the name of a
+/// fault `err` is told which file or place it is about, and why it came.
+///
+/// Where `out` fails, the fault is `Output`. A database that `format` made stays then, whole: it is
+/// made before `out` is told. Of a script that is run over a file, the answers that `out` took were
+/// given, and no line after them is run.
+///
+/// A script is read before the file of a database is opened, and that before a port or a socket is
+/// bound: so the first of them that fails is the one that is named. Where the file was of format 1
+/// and is of format 2 now, `err` is told so once it is opened; that `err` does not take this line is
+/// no fault. `serve` also tells on `err` where it listens, and how it ended.
+///
+/// `copy` writes nothing to the file either, and a copy is there only once it is whole. A copy that was
+/// made stays where `out` fails, and where it is not given the journal that was asked for.
+///
+/// `journal` gives a database a journal or takes it away, and the database stays the same at every
+/// moment. A file of format 1 cannot have one: the fault is `FirstFormat`.
+///
+/// `describe` writes nothing to the file. Where the database has no role of the name that is asked
+/// for, the fault is `NoRole`.
+///
+/// On a system that is faithful, the script and the database are those that the words name, and the
+/// connections are those that come to the place. However it ends, a file that was opened is closed
+/// and there as it was left, a place that was bound is given up, and nothing else of the system has
+/// changed.
+pub fn perform<Y: System, X: EventHandler + Drop, K: TakesText, E: Write>(
+    system: &mut Y,
+    alloc: Global,
+    handler: X,
+    order: &Invocation<'_>,
+    out: &mut K,
+    err: &mut E,
+) -> Exit
+    ensures { IsPerformed X Y.Device.Device K.Sink Y.Listener.Sink.Sink X.Reads Y.Listener.listening
+        Y.state (Y.state system.old) order.now result (Y.state system.new) out.old out.new
+        (E.contents err.old) (E.contents err.new) }
+{
+    match order {
+        Invocation::Format {
+            file,
+            pages,
+            admin,
+            journal,
+        } => format_for(system, alloc, *file, *pages, *admin, *journal, out, err),
+        Invocation::Copy {
+            file,
+            new,
+            pages,
+            journal,
+        } => copy(system, alloc, *file, *new, *pages, *journal, out, err),
+        Invocation::Journal { file, on } => switch(system, alloc, *file, *on, out, err),
+        Invocation::Run { file, script } => {
+            run_over_file(system, alloc, handler, *file, *script, out, err)
+        }
+        Invocation::RunMemory { admin, script } => {
+            run_read_in_memory(system, alloc, handler, *admin, *script, out, err)
+        }
+        Invocation::Serve {
+            file,
+            port,
+            connections,
+            idle,
+        } => serve(
+            system,
+            alloc,
+            handler,
+            *file,
+            ListenPlace::Port(*port),
+            limits(*connections, *idle),
+            err,
+        ),
+        Invocation::ServeSocket {
+            file,
+            socket,
+            connections,
+            idle,
+        } => serve(
+            system,
+            alloc,
+            handler,
+            *file,
+            ListenPlace::Socket(*socket),
+            limits(*connections, *idle),
+            err,
+        ),
+        Invocation::Check { file } => check(system, alloc, handler, *file, out, err),
+        Invocation::Describe { file, role, json } => {
+            describe(system, alloc, *file, *role, *json, out, err)
+        }
+        Invocation::Help => print_for(HELP, out, err),
+        Invocation::Version => print_for(VERSION, out, err),
+    }
+}
+
+// Makes a database in a new file, whose one role is the superuser `admin`, with a journal or without. A
+// name that no role can have is a fault of usage, and no file is made.
+fn format_for<Y: System, K: TakesText, E: Write>(
+    system: &mut Y,
+    alloc: Global,
+    file: &str,
+    pages: u32,
+    admin: &str,
+    journal: bool,
+    out: &mut K,
+    err: &mut E,
+) -> Exit
+    ensures { DoesFormat Y.Device.Device K.Sink (Y.state system.old) (Subject.Named file.entry)
+        file.now pages admin.now journal result (Y.state system.new) out.old out.new
+        (E.contents err.old) (E.contents err.new) }
+{
+    if !is_name(admin) {
+        return report_usage(UsageFault::Name(admin), err);
+    }
+    let about = Subject::Named(file);
+    let Ok(Some(admin)) = Name::from_str(alloc, admin) else {
+        return exit_with(Ending::Fault(ProgramFault::Memory), about, err);
+    };
+    exit_with(
+        format(system, alloc, file, pages, &admin, journal, out),
+        about,
+        err,
+    )
+}
+
+// Makes a database in a new file, and says so.
+fn format<Y: System, K: TakesText>(
+    system: &mut Y,
+    alloc: Global,
+    file: &str,
+    pages: u32,
+    admin: &Name,
+    journal: bool,
+    out: &mut K,
+) -> Ending
+    ensures { Formats Y.Device.Device (Y.state system.old) file.now pages admin.now journal
+        (K.held out.old) result (Y.state system.new) (K.held out.new) }
+{
+    let formatted = format_file(system, alloc, file, pages, admin, journal);
+    answer(formatted, FORMATTED, out)
+}
+
+// Checks the database in a file, and says that it is whole.
+fn check<Y: System, X: EventHandler + Drop, K: TakesText, E: Write>(
+    system: &mut Y,
+    alloc: Global,
+    handler: X,
+    file: &str,
+    out: &mut K,
+    err: &mut E,
+) -> Exit
+    ensures { Checks X Y.Device.Device (Y.state system.old) (Subject.Named file.entry) file.now
+        result (Y.state system.new) (K.held out.old) (K.held out.new) (E.contents err.old)
+        (E.contents err.new) }
+{
+    let CommandEnd { outcome, told } = check_file(system, alloc, handler, file, err);
+    let ending = answer(outcome, CHECKED, out);
+    exit_after(told, ending, Subject::Named(file), err)
+}
+
+// Writes the text that says that a command over a file was carried out, or answers its fault.
+fn answer<K: TakesText>(outcome: Result<(), CommandFault>, text: &str, out: &mut K) -> Ending
+    ensures { IsAnswered outcome text.now (K.held out.old) result (K.held out.new) }
+{
+    match outcome {
+        Ok(()) => print_text(text, out),
+        Err(fault) => Ending::Fault(ProgramFault::from(fault)),
+    }
+}
+
+// Serves connections at a place over the database in a file, and tells how that ended.
+fn serve<Y: System, X: EventHandler + Drop, E: Write>(
+    system: &mut Y,
+    alloc: Global,
+    handler: X,
+    file: &str,
+    place: ListenPlace<'_>,
+    limits: Limits,
+    err: &mut E,
+) -> Exit
+    ensures { Serves X Y.Device.Device Y.Listener.Sink.Sink X.Reads Y.Listener.listening
+        (Y.state system.old) (Subject.Named file.entry) file.now place.entry limits.connections
+        result (Y.state system.new) (E.contents err.old) (E.contents err.new) }
+{
+    let CommandEnd { outcome, told } = serve_file(system, alloc, handler, file, place, limits, err);
+    let about = subject_of_server(outcome, file, place);
+    exit_after(told, end_of_server(outcome), about, err)
+}
+
+// How a server over a file ended.
+fn end_of_server(outcome: Result<Served, CommandFault>) -> Ending
+    ensures { result ≡ ending_of_server outcome }
+{
+    match outcome {
+        Ok(served) => Ending::from(served),
+        Err(fault) => Ending::Fault(ProgramFault::from(fault)),
+    }
+}
+
+// What the end of a server is about: the file, where it was not opened, else the place.
+fn subject_of_server<'a>(
+    outcome: Result<Served, CommandFault>,
+    file: &'a str,
+    place: ListenPlace<'a>,
+) -> Subject<'a>
+    ensures { result ≡ server_subject (Subject.Named file.entry) place.entry outcome }
+{
+    match outcome {
+        Ok(_) | Err(CommandFault::Net(_)) => subject_of_place(place),
+        Err(_) => Subject::Named(file),
+    }
+}
+
+fn subject_of_place(place: ListenPlace<'_>) -> Subject<'_>
+    ensures { result ≡ place_subject place.entry }
+{
+    match place {
+        ListenPlace::Port(port) => Subject::Port(port),
+        ListenPlace::Socket(path) => Subject::Named(path),
+    }
+}
+
+// So many connections, each of which may be idle for so many seconds.
+fn limits(connections: u32, idle: Option<u32>) -> Limits
+    ensures { result.connections ≡ connections }
+{
+    let idle = match idle {
+        Some(seconds) => Some(Duration::from_secs(u64::from(seconds))),
+        None => None,
+    };
+    Limits { connections, idle }
+}

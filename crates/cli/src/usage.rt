@@ -1,0 +1,67 @@
+//! What the program tells where its words give no order, or where it cannot begin.
+
+ghost use Rattle.std.specs.Prelude.{◌≡◌, ◌≢◌, OnOk, IfSome};
+ghost use Rattle.std.specs.Io.KnownBytes.{Appends};
+ghost use Rattle.std.specs.IoError.{error_kind};
+ghost use Rattle.std.specs.declared.io.ErrorKind.TheVariants.{OutOfMemory};
+ghost use Rattle.sector_device.specs.SystemCause.{cause_of};
+ghost use Rattle.cli.specs.Usage.{usage_reason};
+ghost use Rattle.cli.specs.Ending.{Exits, HasTold};
+ghost use Rattle.cli.specs.Program.{usage_message, usage_status, usage_text};
+
+use crate::command::UsageFault;
+use crate::ending::{Ending, Exit, ProgramFault, Subject, exit_with};
+use crate::texts::USAGE;
+use sector_device::SystemCause;
+use std::io;
+use std::io::Write;
+
+/// The fault that an error of reading the program's words is: `Memory` where memory was refused,
+/// else `Encoding`.
+pub fn words_fault(error: &io::Error) -> UsageFault<'static>
+    ensures memory { error_kind error.now ≡ OutOfMemory → result ≡ UsageFault.Memory }
+    ensures other { error_kind error.now ≢ OutOfMemory → result ≡ UsageFault.Encoding }
+{
+    match error.kind() {
+        io::ErrorKind::OutOfMemory => UsageFault::Memory,
+        _ => UsageFault::Encoding,
+    }
+}
+
+/// Tells on `err` that the system refused what `about` names, before a database was opened: the
+/// fault is `Device`, and the exit status 1.
+pub fn report_fault<E: Write>(error: &io::Error, about: Subject<'_>, err: &mut E) -> Exit
+    ensures { Exits about.entry (Ending.Fault (ProgramFault.Device (cause_of (error_kind error.now))))
+        result (E.contents err.old) (E.contents err.new) }
+{
+    let fault = ProgramFault::Device(SystemCause::of(error));
+    exit_with(Ending::Fault(fault), about, err)
+}
+
+/// Tells on `err` what is wrong with the words and how the program is called; the exit status is 2.
+/// Where memory was refused that is told in its place; the status is 1.
+pub fn report_usage<E: Write>(fault: UsageFault<'_>, err: &mut E) -> Exit
+    ensures status { result.status ≡ usage_status fault.entry }
+    ensures told { IfSome (usage_text fault.entry) (λ text.
+        HasTold result text (E.contents err.old) (E.contents err.new)) }
+{
+    if let UsageFault::Memory = fault {
+        let about = Subject::Named("the command line");
+        return exit_with(Ending::Fault(ProgramFault::Memory), about, err);
+    }
+    Exit {
+        status: 2,
+        told: write_usage(&fault, err).is_ok(),
+    }
+}
+
+// Writes why the words are refused, how the program is called, and where its help is.
+fn write_usage<E: Write>(fault: &UsageFault<'_>, err: &mut E) -> io::Result<()>
+    ensures { OnOk result (IfSome (usage_reason fault.now)
+        (λ reason. Appends (E.contents err.old) (E.contents err.new) (usage_message reason))) }
+{
+    write!(
+        err,
+        "error: {fault}\n\nUsage: {USAGE}\n\nFor more information, try '--help'.\n"
+    )
+}

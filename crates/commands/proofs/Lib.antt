@@ -1,4 +1,0 @@
-pub mod BuiltCommands
-pub mod CommandLines
-pub mod GivenSo
-pub mod GivenWords

@@ -1,4 +1,0 @@
-pub mod CommandGrammar
-pub mod CommandLine
-pub mod Numbers
-pub mod Usage

@@ -1,6 +1,0 @@
-mod Earlier
-pub mod Lasting
-pub mod Machine
-pub mod ScriptEnds
-mod FaultMessages
-mod GivenJournals
