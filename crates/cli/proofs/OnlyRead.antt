@@ -9,11 +9,11 @@ use Rattle.store.specs.Readers.{HasFaultCause}
 use Rattle.store.specs.Records.{Records, Changes}
 use Rattle.store.specs.Store.{Contents, stored, KeepsHistory}
 use Rattle.cow_pages.specs.declared.open.OpenFault.{OpenFault as PagesFault}
-use Rattle.device_store.specs.declared.stores.DeviceStore.{DeviceStore}
-use Rattle.device_store.specs.Opening.{IsOpened, CannotOpen}
-use Rattle.device_store.specs.Reads.{OnlyLooksInto}
-use Rattle.device_store.specs.Stores.{state_under, store_state}
-use Rattle.device_store.proofs.Since.{history_since, content_since}
+use Rattle.journal_store.specs.declared.device_stores.DeviceStore.{DeviceStore}
+use Rattle.journal_store.specs.DeviceOpening.{IsOpened, CannotOpen}
+use Rattle.journal_store.specs.DeviceReads.{OnlyLooksInto}
+use Rattle.journal_store.specs.DeviceStores.{state_under, store_state}
+use Rattle.journal_store.proofs.Since.{history_since, content_since}
 use Rattle.stored_database.specs.Definitions.{Definitions}
 use Rattle.transactions.specs.Views.{applied_all}
 use Rattle.catalogue_loading.specs.Found.{Finds}

@@ -5,7 +5,7 @@ use Rattle.systems.specs.declared.place.ListenPlace.{ListenPlace}
 use Rattle.systems.specs.Places.{the_place}
 use Rattle.systems.specs.Systems.{HasDevice, IsOpen, IsSameBut, SystemState}
 use Rattle.abstract_database.specs.Runs.{ReadingRelation}
-use Rattle.device_store.specs.declared.stores.DeviceStore.{DeviceStore}
+use Rattle.journal_store.specs.declared.device_stores.DeviceStore.{DeviceStore}
 use Rattle.server.specs.declared.server.Server.{Server}
 use Rattle.script_runs.specs.declared.sink.Sink.{Ghosts as SinkGhosts}
 use Rattle.script_runs.specs.ScriptRun.{Known}

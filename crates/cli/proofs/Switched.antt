@@ -6,8 +6,8 @@ use Rattle.sector_device.specs.declared.device.Device.{Ghosts}
 use Rattle.store.specs.Store.{Contents}
 use Rattle.abstract_database.specs.Database.{Database}
 use Rattle.server.specs.Standing.{Stands, Means}
-use Rattle.device_store.specs.Images.{HasContents, records_on}
-use Rattle.journal_switches.specs.Faults.{KeepsContents, MayLeave}
+use Rattle.journal_store.specs.DeviceImages.{HasContents, records_on}
+use Rattle.journal_store.specs.Faults.{KeepsContents, MayLeave}
 use Rattle.device_databases.specs.Databases.{HoldsDatabase}
 use Rattle.cli.specs.Switching.{Switches, KeepsDatabase}
 

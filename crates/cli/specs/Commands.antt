@@ -3,7 +3,7 @@ use Rattle.std.specs.Prelude.{◌≡◌, ℕ, Bool, true, List, MatchResult}
 use Rattle.sector_device.specs.declared.device.Device.{Ghosts}
 use Rattle.systems.specs.Systems.{SystemState}
 use Rattle.abstract_database.specs.Runs.{ReadingRelation}
-use Rattle.device_store.specs.Stores.{store_state}
+use Rattle.journal_store.specs.DeviceStores.{store_state}
 use Rattle.script_runs.specs.declared.run.ScriptEnd.{ScriptEnd}
 use Rattle.script_runs.specs.declared.sink.Sink.{Ghosts as SinkGhosts}
 use Rattle.script_runs.specs.Closing.{LeavesNoSession}

@@ -2,8 +2,8 @@
 use Rattle.sector_device.specs.declared.system_cause.SystemCause.TheVariants.{Other}
 use Rattle.lives.specs.declared.fault.DatabaseFault.TheVariants.{Pages}
 use Rattle.store.specs.declared.fault.StoreFault.TheVariants as commit
-use Rattle.journal_switches.specs.declared.fault.SwitchFault.{SwitchFault}
-use Rattle.journal_switches.specs.declared.fault.SwitchFault.TheVariants as switch
+use Rattle.journal_store.specs.declared.switch_fault.SwitchFault.{SwitchFault}
+use Rattle.journal_store.specs.declared.switch_fault.SwitchFault.TheVariants as switch
 use Rattle.cli.specs.declared.switch_fault.FileSwitchFault.{FileSwitchFault}
 use Rattle.cli.specs.declared.switch_fault.FileSwitchFault.TheVariants.{File, FirstFormat, NoRoom, NoNumber}
 use Rattle.cli.specs.declared.fault.CommandFault.TheVariants as command

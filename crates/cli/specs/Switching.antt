@@ -5,9 +5,9 @@ use Rattle.sector_device.specs.declared.device.Device.{Ghosts}
 use Rattle.systems.specs.declared.access.Access.TheVariants.{Write}
 use Rattle.systems.specs.Systems.{SystemState}
 use Rattle.abstract_database.specs.Database.{Database}
-use Rattle.journal_switches.specs.declared.fault.SwitchFault.{SwitchFault}
-use Rattle.journal_switches.specs.TurningOn.{TurnsOn}
-use Rattle.journal_switches.specs.TurningOff.{TurnsOff}
+use Rattle.journal_store.specs.declared.switch_fault.SwitchFault.{SwitchFault}
+use Rattle.journal_store.specs.TurningOn.{TurnsOn}
+use Rattle.journal_store.specs.TurningOff.{TurnsOff}
 use Rattle.device_databases.specs.Databases.{HoldsDatabase, LeavesDatabase}
 use Rattle.cli.specs.declared.fault.CommandFault.{CommandFault}
 use Rattle.cli.specs.declared.switch_fault.FileSwitchFault.{FileSwitchFault}

@@ -4,7 +4,7 @@ ghost use Rattle.std.specs.Prelude.{◌≡◌};
 ghost use Rattle.cli.specs.Faults.{of_file, of_making, of_opening, of_path, of_records};
 
 use device_databases::{DatabaseFault, MakeFault};
-use device_store::OpenFault;
+use journal_store::OpenFault;
 use opening::OpeningFault;
 use sector_device::{FileFault, SystemCause};
 use store::{Fault, StoreFault};

@@ -5,7 +5,7 @@ ghost use Rattle.cli.specs.SwitchFaults.{of_switch};
 
 use crate::fault::CommandFault;
 use device_databases::DatabaseFault;
-use journal_switches::SwitchFault;
+use journal_store::SwitchFault;
 use sector_device::SystemCause;
 use store::StoreFault;
 

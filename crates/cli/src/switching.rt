@@ -4,9 +4,9 @@ ghost use Rattle.cli.specs.Switching.{Switches, SwitchesFile};
 
 use crate::fault::CommandFault;
 use crate::switch_fault::FileSwitchFault;
-use device_store::one_contents;
-use journal_store::JournalDevice;
-use journal_switches::{SwitchFault, turn_off, turn_on};
+use journal_store::{
+    JournalDevice, SwitchFault, image_has_one_contents as one_contents, turn_off, turn_on,
+};
 use sector_device::Device;
 use std::alloc::Global;
 use systems::{Access, System};

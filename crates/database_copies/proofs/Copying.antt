@@ -14,10 +14,10 @@ use Rattle.store.proofs.Reading.{cause_later}
 use Rattle.cow_pages.specs.declared.open.OpenFault.{OpenFault}
 use Rattle.cow_pages.specs.declared.open.OpenFault.TheVariants as pages
 use Rattle.journal_store.specs.ImageLaws.{has_plain}
-use Rattle.device_store.specs.declared.stores.DeviceStore.{DeviceStore}
-use Rattle.device_store.specs.Images.{HasContents}
-use Rattle.device_store.specs.Opening.{IsNamedFor, IsOpened}
-use Rattle.device_store.specs.Stores.{state_under, store_state}
+use Rattle.journal_store.specs.declared.device_stores.DeviceStore.{DeviceStore}
+use Rattle.journal_store.specs.DeviceImages.{HasContents}
+use Rattle.journal_store.specs.DeviceOpening.{IsNamedFor, IsOpened}
+use Rattle.journal_store.specs.DeviceStores.{state_under, store_state}
 use Rattle.sector_device.specs.declared.device.Device.{Ghosts}
 use Rattle.abstract_database.specs.Database.{Database}
 use Rattle.stored_database.specs.Records.{StandsFor}

@@ -8,7 +8,7 @@ use Rattle.store.specs.Records.{Changes}
 use Rattle.store.specs.Store.{Contents, StoreState}
 use Rattle.cow_pages.specs.declared.open.OpenFault.TheVariants as pages
 use Rattle.cow_pages.specs.Image.{first_fault, is_size}
-use Rattle.device_store.specs.Opening.{IsNamedFor}
+use Rattle.journal_store.specs.DeviceOpening.{IsNamedFor}
 use Rattle.abstract_database.specs.Database.{Database}
 use Rattle.stored_database.specs.Spellings.{Stands}
 use Rattle.migration.specs.Migrated.{in_second}

@@ -3,7 +3,7 @@
 ghost use Rattle.std.specs.Prelude.{◌≡◌};
 
 use device_copies::DeviceCopyFault;
-use device_store::OpenFault;
+use journal_store::OpenFault;
 use store::Fault;
 
 /// Why a database was not copied.

@@ -7,10 +7,10 @@ use Rattle.sector_device.specs.Device.{DeviceState, IsLeft, timeline}
 use Rattle.sector_device.specs.declared.device.Device.{Ghosts}
 use Rattle.store.specs.Records.{Records}
 use Rattle.store.specs.Store.{KeepsHistory, stored}
-use Rattle.device_store.specs.declared.stores.DeviceStore.{DeviceStore}
-use Rattle.device_store.specs.Reads.{faithful_under, present_on}
-use Rattle.device_store.specs.StoreLaws.{content_has, settled_on}
-use Rattle.device_store.specs.Stores.{device_of, state_under as state_below, store_state}
+use Rattle.journal_store.specs.declared.device_stores.DeviceStore.{DeviceStore}
+use Rattle.journal_store.specs.DeviceReads.{faithful_under, present_on}
+use Rattle.journal_store.specs.DeviceStoreLaws.{content_has, settled_on}
+use Rattle.journal_store.specs.DeviceStores.{device_of, state_under as state_below, store_state}
 use Rattle.abstract_database.specs.Database.{Database}
 use Rattle.abstract_database.specs.Runs.{ReadingRelation, Standing, IsFoundAt, At}
 use Rattle.stored_database.specs.Records.{StandsFor}

@@ -12,15 +12,15 @@ use Rattle.store.specs.declared.fault.StoreFault.TheVariants as commit
 use Rattle.store.specs.Store.{Contents, stored, KeepsHistory, OnlyReads, IsUnchanged, HasDeviceCause}
 use Rattle.cow_pages.specs.declared.open.OpenFault.{OpenFault as PagesFault}
 use Rattle.cow_pages.specs.Held.{KeepsContent}
-use Rattle.device_store.specs.declared.stores.DeviceStore.{DeviceStore}
+use Rattle.journal_store.specs.declared.device_stores.DeviceStore.{DeviceStore}
 use Rattle.kv_store.specs.ContentLaws.{same_parts}
 use Rattle.journal_store.specs.ImageLaws.{one_contents}
-use Rattle.device_store.specs.Images.{IsReadAs}
-use Rattle.device_store.specs.Opening.{IsOpened as IsStoreOpened, CannotOpen}
-use Rattle.device_store.specs.Reads.{OnlyLooksInto, faithful_under}
-use Rattle.device_store.specs.StoreLaws.{settled_on}
-use Rattle.device_store.specs.Stores.{state_under, store_state}
-use Rattle.device_store.proofs.Since.{history_since, content_since}
+use Rattle.journal_store.specs.DeviceImages.{IsReadAs}
+use Rattle.journal_store.specs.DeviceOpening.{IsOpened as IsStoreOpened, CannotOpen}
+use Rattle.journal_store.specs.DeviceReads.{OnlyLooksInto, faithful_under}
+use Rattle.journal_store.specs.DeviceStoreLaws.{settled_on}
+use Rattle.journal_store.specs.DeviceStores.{state_under, store_state}
+use Rattle.journal_store.proofs.Since.{history_since, content_since}
 use Rattle.abstract_database.specs.Database.{Database}
 use Rattle.server.specs.declared.server.Server.{Server}
 use Rattle.server.specs.Standing.{Stands, Means, at_start}

@@ -5,7 +5,7 @@ use Rattle.sector_device.specs.declared.device.Device.{Ghosts}
 use Rattle.sql_types.specs.declared.answer.Answer.{Answer}
 use Rattle.sql_types.specs.declared.event.Event.{Event}
 use Rattle.store.specs.Store.{StoreState}
-use Rattle.device_store.specs.Stores.{store_state}
+use Rattle.journal_store.specs.DeviceStores.{store_state}
 use Rattle.abstract_database.specs.Runs.{ReadingRelation}
 use Rattle.server.specs.declared.server.Server.{Server}
 use Rattle.script_runs.specs.declared.run.ScriptEnd.{ScriptEnd}

@@ -7,7 +7,7 @@ use Rattle.sector_device.specs.declared.device.Device.{Ghosts}
 use Rattle.sql_types.specs.declared.answer.Answer.{Answer}
 use Rattle.sql_types.specs.declared.event.Event.{Event}
 use Rattle.store.specs.Store.{StoreState}
-use Rattle.device_store.specs.declared.stores.DeviceStore.{DeviceStore}
+use Rattle.journal_store.specs.declared.device_stores.DeviceStore.{DeviceStore}
 use Rattle.abstract_database.specs.Runs.{ReadingRelation, Standing}
 use Rattle.server.specs.declared.server.Server.{Server}
 use Rattle.lives.specs.Lives.{LeavesFound}

@@ -5,7 +5,7 @@ use Rattle.sector_device.specs.Timeline.{LeavesOnly}
 use Rattle.sector_device.specs.Device.{DeviceState, Image, KeepsHistory}
 use Rattle.cow_pages.specs.Held.{KeepsContent}
 use Rattle.store.specs.Store.{StoreState, Contents, stored}
-use Rattle.device_store.specs.Images.{HasContents}
+use Rattle.journal_store.specs.DeviceImages.{HasContents}
 use Rattle.abstract_database.specs.Database.{Database}
 use Rattle.server.specs.Standing.{Stands}
 pub use Rattle.lives.specs.OnDevice.{records_on, LeavesDatabase}

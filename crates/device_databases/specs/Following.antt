@@ -2,7 +2,7 @@
 use Rattle.std.specs.Prelude.{◌≡◌, ℕ, List, [], ◌∷◌, Option}
 use Rattle.sector_device.specs.declared.device.Device.{Ghosts}
 use Rattle.store.specs.Store.{Contents}
-use Rattle.device_store.specs.Stores.{store_state}
+use Rattle.journal_store.specs.DeviceStores.{store_state}
 use Rattle.abstract_database.specs.Runs.{ReadingRelation, Standing}
 use Rattle.lives.specs.Lives.{IsNoLife}
 use Rattle.lives.specs.OnDevice.{records_on}

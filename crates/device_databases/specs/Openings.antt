@@ -8,9 +8,9 @@ use Rattle.cow_pages.specs.declared.open.OpenFault.TheVariants as pages
 use Rattle.store.specs.declared.fault.Fault.TheVariants as read
 use Rattle.store.specs.declared.fault.StoreFault.TheVariants as commit
 use Rattle.store.specs.Store.{Contents}
-use Rattle.device_store.specs.declared.stores.DeviceStore.{DeviceStore}
-use Rattle.device_store.specs.Opening.{IsNamedFor}
-use Rattle.device_store.specs.Stores.{device_of, state_under as state_below, store_state}
+use Rattle.journal_store.specs.declared.device_stores.DeviceStore.{DeviceStore}
+use Rattle.journal_store.specs.DeviceOpening.{IsNamedFor}
+use Rattle.journal_store.specs.DeviceStores.{device_of, state_under as state_below, store_state}
 use Rattle.abstract_database.specs.Database.{Database}
 use Rattle.server.specs.declared.server.Server.{Server}
 use Rattle.server.specs.Standing.{Represents, at_start}

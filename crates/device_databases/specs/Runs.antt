@@ -2,8 +2,8 @@
 use Rattle.std.specs.Prelude.{◌≡◌, ◌↔◌, ℕ, List, true, Option}
 use Rattle.sector_device.specs.declared.device.Device.{Ghosts}
 use Rattle.store.specs.Store.{KeepsHistory}
-use Rattle.device_store.specs.declared.stores.DeviceStore.{DeviceStore}
-use Rattle.device_store.specs.Stores.{store_state}
+use Rattle.journal_store.specs.declared.device_stores.DeviceStore.{DeviceStore}
+use Rattle.journal_store.specs.DeviceStores.{store_state}
 use Rattle.abstract_database.specs.Runs.{ReadingRelation}
 use Rattle.server.specs.declared.server.Server.{Server}
 use Rattle.script_runs.specs.declared.run.ScriptEnd.{ScriptEnd}

@@ -1,11 +1,10 @@
 //! Opening a database on a device.
 
 ghost use Rattle.std.specs.Prelude.{◌≡◌, ◌≤◌, false, IfOk};
-ghost use Rattle.device_store.specs.Stores.{store_state};
+ghost use Rattle.journal_store.specs.DeviceStores.{store_state};
 ghost use Rattle.device_databases.specs.Openings.{OpensOn, is_first};
 
-use device_store::{DeviceStore, MAX_CACHE_PAGES};
-use journal_store::JournalDevice;
+use journal_store::{DeviceStore, JournalDevice, MAX_CACHE_PAGES};
 use lives::DatabaseFault;
 use opening::open;
 use sector_device::Device;

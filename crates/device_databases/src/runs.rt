@@ -4,8 +4,7 @@ ghost use Rattle.device_databases.specs.Runs.{RunsScriptFrom, ServesFrom};
 
 use connections::listen::Listen;
 use connections::listener::{Served, serve_listener};
-use device_store::DeviceStore;
-use journal_store::JournalDevice;
+use journal_store::{DeviceStore, JournalDevice};
 use script_runs::run::{ScriptEnd, run_script};
 use script_runs::text_sink::TakesText;
 use sector_device::Device;

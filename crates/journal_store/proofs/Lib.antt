@@ -10,3 +10,16 @@ pub mod Counted
 pub mod Clearing
 pub mod Formatted
 pub mod Guarding
+pub mod DeviceReading
+pub mod Journaled
+pub mod Walking
+pub mod Committing
+pub mod DeviceOpened
+pub mod Since
+pub mod Beginning
+pub mod Emptied
+pub mod Ended
+pub mod SwitchJournaled
+pub mod Kept
+pub mod Rid
+pub mod TurningOn

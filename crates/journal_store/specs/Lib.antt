@@ -10,3 +10,13 @@ pub mod WriteProtected
 pub mod Room
 pub mod Formatting
 pub mod Clearing
+pub mod DeviceImages
+pub mod DeviceStores
+pub mod DeviceReads
+pub mod DeviceStoreLaws
+pub mod DeviceOpening
+pub mod Beginning
+pub mod Emptying
+pub mod Faults
+pub mod TurningOff
+pub mod TurningOn

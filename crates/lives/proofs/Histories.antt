@@ -12,7 +12,7 @@ use Rattle.sector_device.proofs.Histories.{after_more}
 use Rattle.sql_types.specs.declared.answer.Answer.{Answer}
 use Rattle.store.specs.Records.{Records}
 use Rattle.store.specs.Store.{Contents}
-use Rattle.device_store.specs.Images.{IsReadAs}
+use Rattle.journal_store.specs.DeviceImages.{IsReadAs}
 use Rattle.abstract_database.specs.Database.{Database}
 use Rattle.abstract_database.specs.Machine.{Event as MachineEvent, Machine}
 use Rattle.abstract_database.specs.Runs.{TheText, ReadingRelation, Counts, At, IsStep, by_transition, for_memory, for_space, for_number, for_device, IsBrought, under_way_after}

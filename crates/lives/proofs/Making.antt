@@ -6,8 +6,8 @@ use Rattle.cow_pages.specs.declared.open.OpenFault.{OpenFault}
 use Rattle.cow_pages.specs.declared.open.OpenFault.TheVariants.{WrongSize, NotADatabase, Damaged, Device, Memory}
 use Rattle.cow_pages.specs.Image.{first_fault}
 use Rattle.cow_pages.specs.Held.{KeepsContent}
-use Rattle.device_store.specs.Images.{IsReadAs, HasContents}
-use Rattle.device_store.specs.Opening.{IsNamedFor}
+use Rattle.journal_store.specs.DeviceImages.{IsReadAs, HasContents}
+use Rattle.journal_store.specs.DeviceOpening.{IsNamedFor}
 use Rattle.abstract_database.specs.Database.{Database}
 use Rattle.server.specs.Standing.{Stands}
 use Rattle.lives.specs.declared.fault.DatabaseFault.TheVariants.{Pages}

@@ -6,7 +6,7 @@ use Rattle.store.specs.Store.{Contents}
 use Rattle.cow_pages.specs.declared.open.OpenFault.TheVariants as image
 use Rattle.cow_pages.specs.Image.{first_fault}
 use Rattle.cow_pages.specs.Held.{KeepsContent}
-use Rattle.device_store.specs.Images.{HasContents}
+use Rattle.journal_store.specs.DeviceImages.{HasContents}
 use Rattle.abstract_database.specs.Database.{Database}
 use Rattle.server.specs.Standing.{Stands}
 use Rattle.lives.specs.declared.fault.DatabaseFault.{DatabaseFault}

@@ -1,6 +1,6 @@
 //! Why no database was opened on a device.
 
-use device_store::OpenFault;
+use journal_store::OpenFault;
 use opening::OpeningFault;
 
 /// Why no database was opened on a device, and so no life began.

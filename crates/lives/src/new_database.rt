@@ -7,7 +7,7 @@ ghost use Rattle.lives.specs.Lives.{standing_over, LeavesFound};
 ghost use Rattle.lives.specs.OnDevice.{records_on};
 ghost use Rattle.lives.specs.NewDatabase.{IsNone, IsNoneOr, Makes, IsLeftOf};
 
-use device_store::one_contents;
+use journal_store::image_has_one_contents as one_contents;
 use sector_device::Device;
 
 /// After a stop at any moment while a new database is made, as `make_database` makes one on a blank

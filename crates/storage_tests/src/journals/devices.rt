@@ -1,7 +1,7 @@
 //! Devices of a test, and what they hold.
 
 use crate::journals::logged::LoggedDevice;
-use journal_switches::{SwitchFault, turn_off, turn_on};
+use journal_store::{SwitchFault, turn_off, turn_on};
 use kv_store::OpenFault;
 use sector_device::{Device, MemDevice, WriteProtected};
 use std::alloc::Global;

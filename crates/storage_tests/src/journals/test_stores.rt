@@ -9,7 +9,7 @@ use crate::journals::tally::TestTally;
 use crate::stores::devices::format;
 use crate::stores::map_calls::{commit, look_up};
 use anyhow::{Result, bail};
-use device_store::DeviceStore;
+use journal_store::DeviceStore;
 use kv_store::{MAX_CACHE_PAGES, OpenFault, PageStore};
 use sector_device::{MemDevice, WriteProtected};
 use std::alloc::Global;

@@ -7,7 +7,7 @@ use crate::stops::kinds::Kind;
 use crate::stops::talks::Talk;
 use crate::stops::work::Attempt;
 use crate::stores::{SMALL_PAGES, new_device};
-use device_store::{DeviceStore, MAX_CACHE_PAGES};
+use journal_store::{DeviceStore, MAX_CACHE_PAGES};
 use sector_device::{MemDevice, WriteProtected};
 use sql_types::answer::Answer;
 use sql_types::event::Event;

@@ -1,5 +1,5 @@
 use Rattle.std.proofs.Common.{◌≡◌, ◌∙◌, ap, subst}
-use Rattle.device_store.specs.Stores.{device_of}
+use Rattle.journal_store.specs.DeviceStores.{device_of}
 use Rattle.device_databases.specs.Openings.{device_under}
 use Rattle.cli.specs.Files.{ChangesDevice}
 use Rattle.cli.proofs.Changes.{closed_again}

@@ -1,5 +1,5 @@
 use Rattle.std.proofs.Common.{ℕ, Result, inl, inr, subst}
-use Rattle.journal_switches.specs.declared.fault.SwitchFault.{SwitchFault}
+use Rattle.journal_store.specs.declared.switch_fault.SwitchFault.{SwitchFault}
 use Rattle.cli.specs.Switching.{Switches}
 use Rattle.cli.proofs.Changes.{closed_again}
 use Rattle.cli.proofs.Switched.{stays_switched}

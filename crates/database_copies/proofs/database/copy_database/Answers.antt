@@ -2,8 +2,8 @@ use Rattle.std.proofs.Common.{sym, subst}
 use Rattle.sector_device.specs.Device.{KeepsHistory as DeviceHistory}
 use Rattle.cow_pages.specs.Held.{KeepsContent}
 use Rattle.store.specs.Store.{stored}
-use Rattle.device_store.specs.Stores.{state_under, store_state}
-use Rattle.device_store.proofs.Since.{history_since, content_since}
+use Rattle.journal_store.specs.DeviceStores.{state_under, store_state}
+use Rattle.journal_store.proofs.Since.{history_since, content_since}
 use Rattle.database_copies.specs.Databases.{CopiesDatabase}
 use Rattle.database_copies.proofs.Copying.{copies_database, failed_from, refused_pages}
 use Rattle.database_copies.proofs.database.copy_database.Goals as goal

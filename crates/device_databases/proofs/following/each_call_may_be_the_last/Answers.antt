@@ -1,5 +1,5 @@
 use Rattle.std.proofs.Common.{◌/◌, ℕ, subst}
-use Rattle.device_store.specs.Images.{IsReadAs}
+use Rattle.journal_store.specs.DeviceImages.{IsReadAs}
 use Rattle.device_databases.proofs.following.each_call_may_be_the_last.Goals as goal
 
 pub returns : goal.returns

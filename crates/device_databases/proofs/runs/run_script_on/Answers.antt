@@ -1,5 +1,5 @@
 use Rattle.std.proofs.Common.{◌∙◌, ap, sym, subst}
-use Rattle.device_store.specs.Stores.{device_of, store_state}
+use Rattle.journal_store.specs.DeviceStores.{device_of, store_state}
 use Rattle.script_runs.specs.ScriptRun.{lines_of}
 use Rattle.device_databases.specs.Answered.{IsOfScript, LivesFrom}
 use Rattle.device_databases.proofs.Living.{script_life}

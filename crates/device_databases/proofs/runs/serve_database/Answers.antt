@@ -1,5 +1,5 @@
 use Rattle.std.proofs.Common.{◌∙◌, ap, sym, subst}
-use Rattle.device_store.specs.Stores.{device_of, store_state}
+use Rattle.journal_store.specs.DeviceStores.{device_of, store_state}
 use Rattle.device_databases.specs.Answered.{IsOfListener, LivesFrom}
 use Rattle.device_databases.proofs.Living.{connections_life}
 use Rattle.device_databases.proofs.runs.serve_database.Goals as goal

@@ -1,5 +1,0 @@
-use Rattle.journal_store.specs.ImageLaws.{one_contents}
-use Rattle.device_store.proofs.laws.one_contents.Goals as goal
-
-pub returns : goal.returns
-returns c = one_contents

@@ -1,5 +1,0 @@
-pub mod Beginning
-pub mod Emptying
-pub mod Faults
-pub mod TurningOff
-pub mod TurningOn
