@@ -17,10 +17,10 @@ use Rattle.journal_store.proofs.Since.{history_since, content_since}
 use Rattle.stored_database.specs.Definitions.{Definitions}
 use Rattle.transactions.specs.Views.{applied_all}
 use Rattle.catalogue_loading.specs.Found.{Finds}
-use Rattle.migration.specs.Respelled.{AreRespelling, RespellsFrom}
-use Rattle.migration.specs.declared.fault.OpeningFault.TheVariants as opening
-use Rattle.opening.specs.Openings.{AreOfDatabase}
-use Rattle.opening.proofs.Reading.{under_lists}
+use Rattle.recovery.specs.Respelled.{AreRespelling, RespellsFrom}
+use Rattle.recovery.specs.declared.fault.OpeningFault.TheVariants as opening
+use Rattle.recovery.specs.Openings.{AreOfDatabase}
+use Rattle.recovery.proofs.Reading.{under_lists}
 use Rattle.lives.specs.declared.fault.DatabaseFault.TheVariants as database
 use Rattle.device_databases.specs.Databases.{IsUnwritten}
 use Rattle.lives.proofs.Opening.{device_cause}

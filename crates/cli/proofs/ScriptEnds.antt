@@ -16,10 +16,10 @@ use Rattle.stored_database.specs.Records.{StandsFor}
 use Rattle.stored_database.specs.Spellings.{spelled_in_second}
 use Rattle.server.specs.declared.server.Server.{Server}
 use Rattle.server.specs.Standing.{Represents, at_start}
-use Rattle.migration.specs.declared.fault.OpeningFault.{OpeningFault}
-use Rattle.migration.specs.declared.fault.OpeningFault.TheVariants.{Read, Commit}
+use Rattle.recovery.specs.declared.fault.OpeningFault.{OpeningFault}
+use Rattle.recovery.specs.declared.fault.OpeningFault.TheVariants.{Read, Commit}
 use Rattle.store.specs.declared.fault.Fault.TheVariants as read
-use Rattle.opening.specs.Openings.{HasLooked, IsOpened, OnlyLooks}
+use Rattle.recovery.specs.Openings.{HasLooked, IsOpened, OnlyLooks}
 use Rattle.script_runs.specs.Closing.{StandsWithinLimit}
 use Rattle.script_runs.specs.declared.sink.Sink.{Ghosts as SinkGhosts}
 use Rattle.cli.specs.declared.ending.Ending.{Ending}

@@ -3,7 +3,7 @@ use Rattle.std.specs.Prelude.{◌≡◌, ◌++◌, ℕ, Bool, true, List, [], co
 use Rattle.std.specs.Io.KnownBytes.{Appends}
 use Rattle.sector_device.specs.declared.system_cause.SystemCause.TheVariants.{Other}
 use Rattle.sector_device.specs.SystemCause.{cause_text}
-use Rattle.migration.specs.declared.fault.OpeningFault.{OpeningFault}
+use Rattle.recovery.specs.declared.fault.OpeningFault.{OpeningFault}
 use Rattle.wire.specs.AnswerText.{newline}
 use Rattle.script_runs.specs.declared.run.ScriptEnd.{ScriptEnd}
 use Rattle.script_runs.specs.declared.run.ScriptEnd.TheVariants as end

@@ -5,8 +5,8 @@ use Rattle.sector_device.specs.declared.system_cause.SystemCause.TheVariants.{No
 use Rattle.store.specs.declared.fault.Fault.TheVariants as read
 use Rattle.store.specs.declared.fault.StoreFault.TheVariants as commit
 use Rattle.cow_pages.specs.declared.open.OpenFault.TheVariants as pages
-use Rattle.migration.specs.declared.fault.OpeningFault.{OpeningFault}
-use Rattle.migration.specs.declared.fault.OpeningFault.TheVariants.{Read, Commit}
+use Rattle.recovery.specs.declared.fault.OpeningFault.{OpeningFault}
+use Rattle.recovery.specs.declared.fault.OpeningFault.TheVariants.{Read, Commit}
 use Rattle.systems.specs.declared.fault.OpenPathFault.{OpenPathFault}
 use Rattle.systems.specs.declared.fault.OpenPathFault.TheVariants as path
 use Rattle.lives.specs.declared.fault.DatabaseFault.{DatabaseFault}

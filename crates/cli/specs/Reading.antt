@@ -14,7 +14,7 @@ use Rattle.stored_database.specs.Spellings.{spelled_in_second, Stands}
 use Rattle.lives.specs.declared.fault.DatabaseFault.{DatabaseFault}
 use Rattle.lives.specs.declared.fault.DatabaseFault.TheVariants.{Pages, Records}
 use Rattle.lives.specs.OnDevice.{IsOfDevice}
-use Rattle.migration.specs.declared.fault.OpeningFault.TheVariants as opening
+use Rattle.recovery.specs.declared.fault.OpeningFault.TheVariants as opening
 use Rattle.device_databases.specs.Databases.{HoldsDatabase, IsUnwritten}
 use Rattle.device_databases.specs.Openings.{StandsIn}
 use Rattle.cli.specs.declared.fault.CommandFault.{CommandFault}

@@ -4,8 +4,8 @@ use Rattle.sql_types.specs.declared.answer.Answer.{Answer}
 use Rattle.sql_types.specs.declared.answer.Answer.TheVariants.{Refused}
 use Rattle.sql_types.specs.declared.event.Event.{Event}
 use Rattle.sql_types.specs.declared.state.SqlState.TheVariants.{OutOfMemory}
-use Rattle.migration.specs.declared.fault.OpeningFault.{OpeningFault}
-use Rattle.migration.specs.declared.fault.OpeningFault.TheVariants.{Read}
+use Rattle.recovery.specs.declared.fault.OpeningFault.{OpeningFault}
+use Rattle.recovery.specs.declared.fault.OpeningFault.TheVariants.{Read}
 use Rattle.store.specs.declared.fault.Fault.TheVariants.{Damaged}
 use Rattle.store.specs.declared.memory.MemStore.{MemStore}
 use Rattle.store.specs.Memory.{new_state}
@@ -18,7 +18,7 @@ use Rattle.abstract_database.specs.Runs.{TheText, ReadingRelation, IsTransition,
 use Rattle.stored_database.specs.Spellings.{Stands}
 use Rattle.server.specs.declared.server.Server.{Server}
 use Rattle.server.specs.Standing.{Represents, at_start, events_of}
-use Rattle.opening.specs.Openings.{HasLooked, HasOpeningCause, IsOpened, KeepsDatabase, OnlyLooks}
+use Rattle.recovery.specs.Openings.{HasLooked, HasOpeningCause, IsOpened, KeepsDatabase, OnlyLooks}
 use Rattle.script_runs.specs.declared.run.ScriptEnd.{ScriptEnd}
 use Rattle.script_runs.specs.Closing.{LeavesNoSession}
 use Rattle.script_runs.specs.declared.run.ScriptEnd.TheVariants as end

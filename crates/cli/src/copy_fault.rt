@@ -6,7 +6,7 @@ ghost use Rattle.cli.specs.CopyFaults.{of_copy};
 use crate::fault::CommandFault;
 use database_copies::DatabaseCopyFault;
 use device_databases::DatabaseFault;
-use opening::OpeningFault;
+use recovery::OpeningFault;
 use sector_device::SystemCause;
 
 /// Why the database in a file was not copied to a new file.

@@ -6,7 +6,7 @@ ghost use Rattle.cli.specs.Ending.{fault_name, fault_message, reason_text, subje
 
 use crate::fault::CommandFault;
 use connections::listener::Served;
-use opening::OpeningFault;
+use recovery::OpeningFault;
 use script_runs::run::ScriptEnd;
 use sector_device::SystemCause;
 use std::error::Error;

@@ -5,7 +5,7 @@ ghost use Rattle.cli.specs.Faults.{of_file, of_making, of_opening, of_path, of_r
 
 use device_databases::{DatabaseFault, MakeFault};
 use journal_store::OpenFault;
-use opening::OpeningFault;
+use recovery::OpeningFault;
 use sector_device::{FileFault, SystemCause};
 use store::{Fault, StoreFault};
 use systems::OpenPathFault;

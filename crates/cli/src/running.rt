@@ -6,7 +6,7 @@ ghost use Rattle.store.specs.Store.{KeepsHistory};
 ghost use Rattle.cli.specs.Running.{RunsOver, RunsOverNew};
 
 use crate::ending::{Ending, ProgramFault};
-use opening::open;
+use recovery::open;
 use script_runs::run::run_script;
 use script_runs::text_sink::TakesText;
 use server::decide::EventHandler;

@@ -23,7 +23,7 @@ use Rattle.abstract_database.specs.Database.{Database}
 use Rattle.stored_database.specs.Records.{StandsFor}
 use Rattle.stored_database.specs.Spellings.{Stands, spelled_in_second}
 use Rattle.transactions.specs.Views.{applied_all}
-use Rattle.migration.specs.Migrated.{in_second}
+use Rattle.recovery.specs.Migrated.{in_second}
 use Rattle.copying.specs.Copying.{HasOutsized, behind_mark, whole}
 use Rattle.device_copies.specs.declared.fault.DeviceCopyFault.{DeviceCopyFault as RecordsFault}
 use Rattle.device_copies.specs.declared.fault.DeviceCopyFault.TheVariants as records

@@ -12,8 +12,8 @@ use Rattle.stored_database.specs.Records.{Shows}
 use Rattle.stored_database.specs.Spellings.{spelled_in_second, Stands}
 use Rattle.transactions.specs.Views.{applied_all}
 use Rattle.catalogue_loading.specs.Found.{Finds}
-use Rattle.migration.specs.Respelled.{AreRespelling, RespellsFrom}
-use Rattle.opening.specs.Openings.{AreOfDatabase}
+use Rattle.recovery.specs.Respelled.{AreRespelling, RespellsFrom}
+use Rattle.recovery.specs.Openings.{AreOfDatabase}
 use Rattle.database_copies.specs.Databases.{IsRead}
 
 -- records under the lists are the same records in the second spelling

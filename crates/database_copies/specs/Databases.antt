@@ -11,8 +11,8 @@ use Rattle.cow_pages.specs.Image.{first_fault, is_size}
 use Rattle.journal_store.specs.DeviceOpening.{IsNamedFor}
 use Rattle.abstract_database.specs.Database.{Database}
 use Rattle.stored_database.specs.Spellings.{Stands}
-use Rattle.migration.specs.Migrated.{in_second}
-use Rattle.migration.specs.Respelled.{AreRespelling}
+use Rattle.recovery.specs.Migrated.{in_second}
+use Rattle.recovery.specs.Respelled.{AreRespelling}
 use Rattle.device_copies.specs.declared.fault.DeviceCopyFault.{DeviceCopyFault as RecordsFault}
 use Rattle.device_copies.specs.declared.fault.DeviceCopyFault.TheVariants as records
 use Rattle.device_copies.specs.Copies.{CopiesAll}

@@ -7,8 +7,7 @@ ghost use Rattle.abstract_database.specs.Database.{Database};
 ghost use Rattle.stored_database.specs.Spellings.{Stands};
 ghost use Rattle.database_copies.specs.Databases.{IsRead};
 
-use migration::respelled_lists;
-use opening::read_under;
+use recovery::{read_under, respelled_lists};
 use sql_types::items::Items;
 use std::alloc::Global;
 use store::{Batch, Fault, Store};

@@ -16,7 +16,7 @@ use Rattle.abstract_database.specs.Runs.{ReadingRelation, Standing, IsFoundAt, A
 use Rattle.stored_database.specs.Records.{StandsFor}
 use Rattle.server.specs.declared.server.Server.{Server}
 use Rattle.server.specs.Standing.{Means, Represents, at_start}
-use Rattle.opening.specs.Openings.{IsNumberAfter}
+use Rattle.recovery.specs.Openings.{IsNumberAfter}
 use Rattle.lives.specs.Lives.{IsFoundLeft, LeavesFound, IsLife, EndsAt}
 use Rattle.lives.specs.OnDevice.{IsNumberOf, AreCountedOn}
 use Rattle.lives.proofs.Histories.{one_meaning}

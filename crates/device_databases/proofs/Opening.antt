@@ -24,9 +24,9 @@ use Rattle.journal_store.proofs.Since.{history_since, content_since}
 use Rattle.abstract_database.specs.Database.{Database}
 use Rattle.server.specs.declared.server.Server.{Server}
 use Rattle.server.specs.Standing.{Stands, Means, at_start}
-use Rattle.migration.specs.declared.fault.OpeningFault.{OpeningFault}
-use Rattle.migration.specs.declared.fault.OpeningFault.TheVariants.{Read, Commit}
-use Rattle.opening.specs.Openings.{IsOpened as IsServerOpened, IsNumberAfter, HasOpeningCause, KeepsDatabase, OnlyLooks, failed_after_opening}
+use Rattle.recovery.specs.declared.fault.OpeningFault.{OpeningFault}
+use Rattle.recovery.specs.declared.fault.OpeningFault.TheVariants.{Read, Commit}
+use Rattle.recovery.specs.Openings.{IsOpened as IsServerOpened, IsNumberAfter, HasOpeningCause, KeepsDatabase, OnlyLooks, failed_after_opening}
 use Rattle.script_runs.specs.Closing.{StandsWithinLimit}
 use Rattle.device_databases.specs.declared.database.Opened.{Opened}
 use Rattle.lives.specs.OnDevice.{IsOfDevice}

@@ -17,7 +17,7 @@ use Rattle.server.specs.Standing.{Represents, at_start}
 use Rattle.lives.specs.declared.fault.DatabaseFault.{DatabaseFault}
 use Rattle.lives.specs.declared.fault.DatabaseFault.TheVariants.{Pages, Records}
 use Rattle.lives.specs.OnDevice.{IsOfDevice}
-use Rattle.migration.specs.declared.fault.OpeningFault.TheVariants.{Read, Commit}
+use Rattle.recovery.specs.declared.fault.OpeningFault.TheVariants.{Read, Commit}
 use Rattle.device_databases.specs.declared.database.Opened.{Opened}
 use Rattle.device_databases.specs.Databases.{HoldsDatabase, HoldsFirstSpelling, IsUnwritten, KeepsRecords, LeavesAsBefore, LeavesDatabase, MeansNone, records_on}
 

@@ -6,7 +6,7 @@ ghost use Rattle.device_databases.specs.Openings.{OpensOn, is_first};
 
 use journal_store::{DeviceStore, JournalDevice, MAX_CACHE_PAGES};
 use lives::DatabaseFault;
-use opening::open;
+use recovery::open;
 use sector_device::Device;
 use server::decide::EventHandler;
 use server::server::Server;

@@ -1,7 +1,7 @@
 //! Why no database was opened on a device.
 
 use journal_store::OpenFault;
-use opening::OpeningFault;
+use recovery::OpeningFault;
 
 /// Why no database was opened on a device, and so no life began.
 #[derive(Clone, Copy, PartialEq, Eq, Drop)]

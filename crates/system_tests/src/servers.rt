@@ -4,7 +4,7 @@
 use crate::answers::text_of_answers;
 use connections::listen::Listen;
 use connections::listener::{Served, serve_listener};
-use opening::{OpeningFault, Refused, open};
+use recovery::{OpeningFault, Refused, open};
 use server::server::Server;
 use sessions::SessionHandler;
 use sql_types::event::Event;

@@ -1,7 +1,7 @@
 //! What went otherwise than expected, or why a test ends before its work is done.
 
 use kv_store::OpenFault;
-use opening::OpeningFault;
+use recovery::OpeningFault;
 use sector_device::DeviceFault;
 use std::alloc::{AllocError, AllocFailed};
 use std::io;

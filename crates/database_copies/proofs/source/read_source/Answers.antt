@@ -3,8 +3,8 @@ use Rattle.store.specs.Records.{Records, Changes}
 use Rattle.store.specs.Store.{stored}
 use Rattle.transactions.specs.Views.{applied_all}
 use Rattle.catalogue_loading.specs.Found.{Finds}
-use Rattle.migration.specs.Respelled.{AreRespelling}
-use Rattle.opening.specs.Openings.{AreOfDatabase}
+use Rattle.recovery.specs.Respelled.{AreRespelling}
+use Rattle.recovery.specs.Openings.{AreOfDatabase}
 use Rattle.database_copies.specs.Databases.{IsRead}
 use Rattle.database_copies.proofs.Reading.{all_there, no_lists, none_there}
 use Rattle.database_copies.proofs.source.read_source.Goals as goal

@@ -1,7 +1,7 @@
 use Rattle.std.proofs.Common.{◌∙◌, ap, sym, subst}
 use Rattle.storage_sizes.specs.declared.record_format.RecordFormat.{RecordFormat}
 use Rattle.std.specs.Prelude.{Ok}
-use Rattle.opening.specs.Openings.{OnlyLooks}
+use Rattle.recovery.specs.Openings.{OnlyLooks}
 use Rattle.lives.specs.declared.fault.DatabaseFault.TheVariants.{Records}
 use Rattle.device_databases.specs.Openings.{IsRefused, is_first}
 use Rattle.device_databases.proofs.Opening.{opened_on, refused_pages, refused_records}

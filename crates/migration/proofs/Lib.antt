@@ -1,4 +1,0 @@
-mod Parts
-mod Placing
-pub mod Migrating
-pub mod Ending

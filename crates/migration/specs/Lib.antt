@@ -1,2 +1,0 @@
-pub mod Respelled
-pub mod Migrated

@@ -1,3 +1,0 @@
-mod Faults
-pub mod Reading
-pub mod Outcomes

@@ -1,0 +1,4 @@
+pub mod Respelled
+pub mod Migrated
+pub mod Openings
+pub mod Read

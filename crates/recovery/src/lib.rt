@@ -1,0 +1,16 @@
+//! How a store of the first spelling becomes one of the second.
+//! How a server is opened over a store.
+#![tactic(auto)]
+
+mod checks;
+mod commits;
+mod fault;
+mod lists;
+mod opening;
+mod places;
+
+pub use checks::read_under;
+pub use commits::{commit_respelled, migrate};
+pub use fault::OpeningFault;
+pub use lists::{respelled_lists, respelling};
+pub use opening::{Refused, open};
