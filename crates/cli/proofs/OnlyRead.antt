@@ -21,10 +21,10 @@ use Rattle.recovery.specs.Respelled.{AreRespelling, RespellsFrom}
 use Rattle.recovery.specs.declared.fault.OpeningFault.TheVariants as opening
 use Rattle.recovery.specs.Openings.{AreOfDatabase}
 use Rattle.recovery.proofs.Reading.{under_lists}
-use Rattle.lives.specs.declared.fault.DatabaseFault.TheVariants as database
-use Rattle.device_databases.specs.Databases.{IsUnwritten}
-use Rattle.lives.proofs.Opening.{device_cause}
-use Rattle.device_databases.proofs.Opening.{refused_pages}
+use Rattle.databases.specs.declared.fault.DatabaseFault.TheVariants as database
+use Rattle.databases.specs.Databases.{IsUnwritten}
+use Rattle.databases.proofs.Opening.{device_cause}
+use Rattle.databases.proofs.DeviceOpening.{refused_pages}
 use Rattle.cli.specs.Reading.{AreDefinitionsOf, HasDefinitions, HasFault, ReadsOn}
 
 -- ---- what was read of a store

@@ -11,8 +11,8 @@ use Rattle.script_runs.specs.declared.sink.Sink.{Ghosts as SinkGhosts}
 use Rattle.script_runs.specs.ScriptRun.{Known}
 use Rattle.connections.specs.declared.listener.Served.{Served}
 use Rattle.connections.specs.Listening.{Listening}
-use Rattle.device_databases.specs.declared.database.Opened.{Opened}
-use Rattle.device_databases.specs.Openings.{device_under}
+use Rattle.databases.specs.declared.database.Opened.{Opened}
+use Rattle.databases.specs.Openings.{device_under}
 use Rattle.cli.specs.declared.fault.CommandFault.{CommandFault}
 use Rattle.cli.specs.declared.fault.CommandFault.TheVariants.{Exists, InUse, Memory, Device, WrongSize, NotADatabase, Damaged, Full, Number, Net, Output}
 use Rattle.cli.specs.Files.{ChangesDevice, IsOpenedAt}

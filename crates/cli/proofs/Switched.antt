@@ -8,7 +8,7 @@ use Rattle.abstract_database.specs.Database.{Database}
 use Rattle.server.specs.Standing.{Stands, Means}
 use Rattle.journal_store.specs.DeviceImages.{HasContents, records_on}
 use Rattle.journal_store.specs.Faults.{KeepsContents, MayLeave}
-use Rattle.device_databases.specs.Databases.{HoldsDatabase}
+use Rattle.databases.specs.Databases.{HoldsDatabase}
 use Rattle.cli.specs.Switching.{Switches, KeepsDatabase}
 
 -- an image has one contents at most

@@ -6,9 +6,9 @@ use Rattle.sector_device.specs.declared.system_cause.SystemCause.{SystemCause}
 use Rattle.systems.specs.Systems.{SystemState}
 use Rattle.cow_pages.specs.Image.{is_size}
 use Rattle.abstract_database.specs.Lists.{TheName}
-use Rattle.device_databases.specs.declared.making.MakeFault.{MakeFault}
-use Rattle.device_databases.specs.declared.making.MakeFault.TheVariants.{Memory, Device, WrongSize}
-use Rattle.device_databases.specs.Making.{Makes}
+use Rattle.databases.specs.declared.making.MakeFault.{MakeFault}
+use Rattle.databases.specs.declared.making.MakeFault.TheVariants.{Memory, Device, WrongSize}
+use Rattle.databases.specs.Making.{Makes}
 use Rattle.cli.specs.Faults.{of_making}
 use Rattle.cli.specs.Formatting.{IsTakenAway, IsUnformatted}
 

@@ -8,9 +8,9 @@ use Rattle.script_runs.specs.declared.run.ScriptEnd.{ScriptEnd}
 use Rattle.script_runs.specs.declared.sink.Sink.{Ghosts as SinkGhosts}
 use Rattle.script_runs.specs.Closing.{LeavesNoSession}
 use Rattle.script_runs.specs.ScriptRun.{Known}
-use Rattle.device_databases.specs.declared.database.Opened.{Opened}
-use Rattle.device_databases.specs.Openings.{IsOpenedOn, device_under}
-use Rattle.device_databases.specs.Runs.{RunsScriptFrom}
+use Rattle.databases.specs.declared.database.Opened.{Opened}
+use Rattle.databases.specs.Openings.{IsOpenedOn, device_under}
+use Rattle.databases.specs.Runs.{RunsScriptFrom}
 use Rattle.cli.specs.declared.fault.CommandFault.{CommandFault}
 use Rattle.cli.specs.declared.opened.CommandEnd.{CommandEnd}
 use Rattle.cli.specs.Files.{ChangesDevice, IsUnopened}

@@ -9,7 +9,7 @@ use Rattle.systems.specs.Systems.{HasDevice, IsNamed, IsOpen, IsReadable, IsSame
 use Rattle.cow_pages.specs.Held.{KeepsContent}
 use Rattle.database_copies.specs.declared.fault.DatabaseCopyFault.{DatabaseCopyFault}
 use Rattle.database_copies.specs.Databases.{CopiesDatabase}
-use Rattle.device_databases.specs.Databases.{IsUnwritten}
+use Rattle.databases.specs.Databases.{IsUnwritten}
 use Rattle.cli.specs.declared.fault.CommandFault.{CommandFault}
 use Rattle.cli.specs.declared.fault.CommandFault.TheVariants as command
 use Rattle.cli.specs.declared.copy_fault.FileCopyFault.{FileCopyFault}

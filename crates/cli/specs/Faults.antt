@@ -9,10 +9,10 @@ use Rattle.recovery.specs.declared.fault.OpeningFault.{OpeningFault}
 use Rattle.recovery.specs.declared.fault.OpeningFault.TheVariants.{Read, Commit}
 use Rattle.systems.specs.declared.fault.OpenPathFault.{OpenPathFault}
 use Rattle.systems.specs.declared.fault.OpenPathFault.TheVariants as path
-use Rattle.lives.specs.declared.fault.DatabaseFault.{DatabaseFault}
-use Rattle.lives.specs.declared.fault.DatabaseFault.TheVariants.{Pages, Records}
-use Rattle.device_databases.specs.declared.making.MakeFault.{MakeFault}
-use Rattle.device_databases.specs.declared.making.MakeFault.TheVariants as made
+use Rattle.databases.specs.declared.fault.DatabaseFault.{DatabaseFault}
+use Rattle.databases.specs.declared.fault.DatabaseFault.TheVariants.{Pages, Records}
+use Rattle.databases.specs.declared.making.MakeFault.{MakeFault}
+use Rattle.databases.specs.declared.making.MakeFault.TheVariants as made
 use Rattle.cli.specs.declared.fault.CommandFault.{CommandFault}
 use Rattle.cli.specs.declared.fault.CommandFault.TheVariants.{Exists, InUse, Memory, Device, WrongSize, NotADatabase, Damaged, Full, Number}
 

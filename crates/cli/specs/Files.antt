@@ -6,9 +6,9 @@ use Rattle.systems.specs.declared.fault.OpenPathFault.TheVariants.{Missing, InUs
 use Rattle.systems.specs.declared.access.Access.{Access}
 use Rattle.systems.specs.declared.access.Access.TheVariants.{Write}
 use Rattle.systems.specs.Systems.{SystemState, HasDevice, IsHeldFrom, IsOpen, IsReadable, IsSame, IsSameBut, IsUnnamed, Rose}
-use Rattle.device_databases.specs.declared.database.Opened.{Opened}
-use Rattle.lives.specs.declared.fault.DatabaseFault.{DatabaseFault}
-use Rattle.device_databases.specs.Openings.{IsOpenedOn, IsRefused}
+use Rattle.databases.specs.declared.database.Opened.{Opened}
+use Rattle.databases.specs.declared.fault.DatabaseFault.{DatabaseFault}
+use Rattle.databases.specs.Openings.{IsOpenedOn, IsRefused}
 use Rattle.cli.specs.declared.fault.CommandFault.{CommandFault}
 use Rattle.cli.specs.Faults.{of_opening, of_path}
 

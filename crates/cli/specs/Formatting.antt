@@ -7,8 +7,8 @@ use Rattle.systems.specs.Systems.{HasDevice, HoldsZeros, IsNamed, IsSame, IsSame
 use Rattle.cow_pages.specs.Formatting.{IsBlank}
 use Rattle.cow_pages.specs.Image.{is_size}
 use Rattle.abstract_database.specs.Lists.{TheName}
-use Rattle.device_databases.specs.declared.making.MakeFault.{MakeFault}
-use Rattle.device_databases.specs.Making.{IsMade, Makes}
+use Rattle.databases.specs.declared.making.MakeFault.{MakeFault}
+use Rattle.databases.specs.Making.{IsMade, Makes}
 use Rattle.cli.specs.declared.fault.CommandFault.{CommandFault}
 use Rattle.cli.specs.declared.fault.CommandFault.TheVariants.{WrongSize}
 use Rattle.cli.specs.Faults.{of_file, of_making}

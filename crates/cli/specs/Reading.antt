@@ -11,12 +11,12 @@ use Rattle.abstract_database.specs.Database.{Database}
 use Rattle.stored_database.specs.Definitions.{Definitions}
 use Rattle.stored_database.specs.Records.{Shows}
 use Rattle.stored_database.specs.Spellings.{spelled_in_second, Stands}
-use Rattle.lives.specs.declared.fault.DatabaseFault.{DatabaseFault}
-use Rattle.lives.specs.declared.fault.DatabaseFault.TheVariants.{Pages, Records}
-use Rattle.lives.specs.OnDevice.{IsOfDevice}
+use Rattle.databases.specs.declared.fault.DatabaseFault.{DatabaseFault}
+use Rattle.databases.specs.declared.fault.DatabaseFault.TheVariants.{Pages, Records}
+use Rattle.databases.specs.OnDevice.{IsOfDevice}
 use Rattle.recovery.specs.declared.fault.OpeningFault.TheVariants as opening
-use Rattle.device_databases.specs.Databases.{HoldsDatabase, IsUnwritten}
-use Rattle.device_databases.specs.Openings.{StandsIn}
+use Rattle.databases.specs.Databases.{HoldsDatabase, IsUnwritten}
+use Rattle.databases.specs.Openings.{StandsIn}
 use Rattle.cli.specs.declared.fault.CommandFault.{CommandFault}
 use Rattle.cli.specs.Faults.{of_opening}
 use Rattle.cli.specs.Files.{IsNotOpened, ReadsDevice}

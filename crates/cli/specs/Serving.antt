@@ -13,8 +13,8 @@ use Rattle.script_runs.specs.declared.sink.Sink.{Ghosts as SinkGhosts}
 use Rattle.script_runs.specs.ScriptRun.{Known}
 use Rattle.connections.specs.declared.listener.Served.{Served}
 use Rattle.connections.specs.Listening.{Listening}
-use Rattle.device_databases.specs.Openings.{device_under}
-use Rattle.device_databases.specs.Runs.{ServesFrom}
+use Rattle.databases.specs.Openings.{device_under}
+use Rattle.databases.specs.Runs.{ServesFrom}
 use Rattle.cli.specs.declared.fault.CommandFault.{CommandFault}
 use Rattle.cli.specs.declared.fault.CommandFault.TheVariants.{Net, Output}
 use Rattle.cli.specs.declared.opened.CommandEnd.{CommandEnd}

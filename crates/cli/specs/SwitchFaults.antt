@@ -1,6 +1,6 @@
 -- Why the journal of the database in a file was not turned on or off, by why a call below failed.
 use Rattle.sector_device.specs.declared.system_cause.SystemCause.TheVariants.{Other}
-use Rattle.lives.specs.declared.fault.DatabaseFault.TheVariants.{Pages}
+use Rattle.databases.specs.declared.fault.DatabaseFault.TheVariants.{Pages}
 use Rattle.store.specs.declared.fault.StoreFault.TheVariants as commit
 use Rattle.journal_store.specs.declared.switch_fault.SwitchFault.{SwitchFault}
 use Rattle.journal_store.specs.declared.switch_fault.SwitchFault.TheVariants as switch

@@ -8,7 +8,7 @@ use Rattle.abstract_database.specs.Database.{Database}
 use Rattle.journal_store.specs.declared.switch_fault.SwitchFault.{SwitchFault}
 use Rattle.journal_store.specs.TurningOn.{TurnsOn}
 use Rattle.journal_store.specs.TurningOff.{TurnsOff}
-use Rattle.device_databases.specs.Databases.{HoldsDatabase, LeavesDatabase}
+use Rattle.databases.specs.Databases.{HoldsDatabase, LeavesDatabase}
 use Rattle.cli.specs.declared.fault.CommandFault.{CommandFault}
 use Rattle.cli.specs.declared.switch_fault.FileSwitchFault.{FileSwitchFault}
 use Rattle.cli.specs.declared.switch_fault.FileSwitchFault.TheVariants.{File}

@@ -5,7 +5,7 @@ ghost use Rattle.cli.specs.CopyFaults.{of_copy};
 
 use crate::fault::CommandFault;
 use database_copies::DatabaseCopyFault;
-use device_databases::DatabaseFault;
+use databases::DatabaseFault;
 use recovery::OpeningFault;
 use sector_device::SystemCause;
 

@@ -3,7 +3,7 @@
 ghost use Rattle.std.specs.Prelude.{◌≡◌};
 ghost use Rattle.cli.specs.Faults.{of_file, of_making, of_opening, of_path, of_records};
 
-use device_databases::{DatabaseFault, MakeFault};
+use databases::{DatabaseFault, MakeFault};
 use journal_store::OpenFault;
 use recovery::OpeningFault;
 use sector_device::{FileFault, SystemCause};

@@ -6,7 +6,7 @@ ghost use Rattle.cli.specs.Files.{OpensAt};
 ghost use Rattle.cli.specs.Migrations.{TellsMigration, migration_text};
 
 use crate::fault::CommandFault;
-use device_databases::{Opened, open_database};
+use databases::{Opened, open_database};
 use journal_store::{DeviceStore, MAX_CACHE_PAGES};
 use sector_device::Device;
 use server::decide::EventHandler;

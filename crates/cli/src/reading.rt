@@ -6,7 +6,7 @@ ghost use Rattle.cli.specs.Reading.{AreDefinitionsOf, ReadsFile, ReadsOn};
 
 use crate::fault::CommandFault;
 use catalogue::definitions::Catalogue;
-use device_databases::DatabaseFault;
+use databases::DatabaseFault;
 use journal_store::{DeviceStore, JournalDevice};
 use recovery::{OpeningFault, read_under, respelled_lists};
 use sector_device::Device;

@@ -3,7 +3,7 @@
 ghost use Rattle.cli.specs.Commands.{ChecksFile, RunsFile};
 
 use crate::opened::{CommandEnd, open_database_in, tell_migration};
-use device_databases::run_script_on;
+use databases::run_script_on;
 use script_runs::run::ScriptEnd;
 use script_runs::text_sink::TakesText;
 use server::decide::EventHandler;

@@ -8,7 +8,7 @@ use crate::fault::CommandFault;
 use crate::opened::{CommandEnd, open_database_in, tell_migration};
 use connections::listen::Listen;
 use connections::listener::Served;
-use device_databases::serve_database;
+use databases::serve_database;
 use journal_store::{DeviceStore, JournalDevice};
 use script_runs::sink::Sink;
 use sector_device::Device;

@@ -4,7 +4,7 @@ ghost use Rattle.std.specs.Prelude.{◌≡◌};
 ghost use Rattle.cli.specs.SwitchFaults.{of_switch};
 
 use crate::fault::CommandFault;
-use device_databases::DatabaseFault;
+use databases::DatabaseFault;
 use journal_store::SwitchFault;
 use sector_device::SystemCause;
 use store::StoreFault;

@@ -28,7 +28,7 @@ use Rattle.copying.specs.Copying.{HasOutsized, behind_mark, whole}
 use Rattle.device_copies.specs.declared.fault.DeviceCopyFault.{DeviceCopyFault as RecordsFault}
 use Rattle.device_copies.specs.declared.fault.DeviceCopyFault.TheVariants as records
 use Rattle.device_copies.specs.Copies.{CopiesAll, CopiesTo, HasSourceCause, IsCopied}
-use Rattle.device_databases.specs.Databases.{HoldsDatabase, MeansNone}
+use Rattle.databases.specs.Databases.{HoldsDatabase, MeansNone}
 use Rattle.database_copies.specs.declared.fault.DatabaseCopyFault.{DatabaseCopyFault}
 use Rattle.database_copies.specs.declared.fault.DatabaseCopyFault.TheVariants.{Pages, Read, Memory, WrongSize, Full, Device}
 use Rattle.database_copies.specs.Databases.{Copies, CopiesDatabase, CopiesRead, CopiesStore, HasReadCause, IsCopyOf, IsRead, fault_of_copy, told_of}

@@ -16,7 +16,7 @@ use Rattle.recovery.specs.Respelled.{AreRespelling}
 use Rattle.device_copies.specs.declared.fault.DeviceCopyFault.{DeviceCopyFault as RecordsFault}
 use Rattle.device_copies.specs.declared.fault.DeviceCopyFault.TheVariants as records
 use Rattle.device_copies.specs.Copies.{CopiesAll}
-use Rattle.device_databases.specs.Databases.{HoldsDatabase, MeansDatabase, MeansNone}
+use Rattle.databases.specs.Databases.{HoldsDatabase, MeansDatabase, MeansNone}
 use Rattle.database_copies.specs.declared.fault.DatabaseCopyFault.{DatabaseCopyFault}
 use Rattle.database_copies.specs.declared.fault.DatabaseCopyFault.TheVariants.{Pages, Read, Memory, WrongSize, Full, Device}
 

@@ -6,7 +6,7 @@ use crate::files::{names_of, text_of};
 use crate::reports::{report, report_count};
 use crate::servers::{answered_by, open_server};
 use crate::stores::{PAGES, new_device, new_in_memory};
-use lives::live;
+use databases::live;
 use sector_device::{MemDevice, WriteProtected};
 use sessions::SessionHandler;
 use sql_types::answer::Answer;

@@ -1,6 +1,6 @@
 use Rattle.std.proofs.Common.{sym, subst, Ok, Err}
 use Rattle.recovery.specs.declared.fault.OpeningFault.TheVariants.{Read}
-use Rattle.lives.specs.declared.fault.DatabaseFault.TheVariants.{Records}
+use Rattle.databases.specs.declared.fault.DatabaseFault.TheVariants.{Records}
 use Rattle.cli.specs.Reading.{ReadsOn}
 use Rattle.cli.proofs.OnlyRead.{read_definitions_on, unread_on}
 use Rattle.cli.proofs.reading.read_definitions.Goals as goal

@@ -1,6 +1,6 @@
 use Rattle.std.proofs.Common.{Result, inr, subst}
 use Rattle.stored_database.specs.Definitions.{Definitions}
-use Rattle.lives.specs.declared.fault.DatabaseFault.{DatabaseFault}
+use Rattle.databases.specs.declared.fault.DatabaseFault.{DatabaseFault}
 use Rattle.cli.specs.Reading.{ReadsOn}
 use Rattle.cli.proofs.Changes.{released_again}
 use Rattle.cli.proofs.reading.read_file.Goals as goal

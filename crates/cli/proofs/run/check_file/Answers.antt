@@ -1,6 +1,6 @@
 use Rattle.std.proofs.Common.{◌≡◌, ◌∙◌, ap, subst}
 use Rattle.journal_store.specs.DeviceStores.{device_of}
-use Rattle.device_databases.specs.Openings.{device_under}
+use Rattle.databases.specs.Openings.{device_under}
 use Rattle.cli.specs.Files.{ChangesDevice}
 use Rattle.cli.proofs.Changes.{closed_again}
 use Rattle.cli.proofs.run.check_file.Goals as goal

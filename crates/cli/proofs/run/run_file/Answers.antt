@@ -1,4 +1,4 @@
-use Rattle.device_databases.proofs.Opening.{none_open}
+use Rattle.databases.proofs.DeviceOpening.{none_open}
 use Rattle.cli.proofs.Changes.{closed_again}
 use Rattle.cli.proofs.run.run_file.Goals as goal
 

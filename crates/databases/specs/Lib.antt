@@ -1,0 +1,12 @@
+pub mod Following
+pub mod Lives
+pub mod NewDatabase
+pub mod OnDevice
+pub mod Stopping
+pub mod Answered
+pub mod Databases
+pub mod DeviceFollowing
+pub mod Making
+pub mod Openings
+pub mod Runs
+pub mod Told

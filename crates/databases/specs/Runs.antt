@@ -1,0 +1,46 @@
+-- What a script and the connections of a listener do over a database on a device.
+use Rattle.std.specs.Prelude.{◌≡◌, ◌↔◌, ℕ, List, true, Option}
+use Rattle.sector_device.specs.declared.device.Device.{Ghosts}
+use Rattle.store.specs.Store.{KeepsHistory}
+use Rattle.journal_store.specs.declared.device_stores.DeviceStore.{DeviceStore}
+use Rattle.journal_store.specs.DeviceStores.{store_state}
+use Rattle.abstract_database.specs.Runs.{ReadingRelation}
+use Rattle.server.specs.declared.server.Server.{Server}
+use Rattle.script_runs.specs.declared.run.ScriptEnd.{ScriptEnd}
+use Rattle.script_runs.specs.Closing.{StandsWithinLimit, LeavesNoSession}
+use Rattle.script_runs.specs.declared.sink.Sink.{Ghosts as SinkGhosts}
+use Rattle.script_runs.specs.ScriptRun.{IsScriptRun, lines_of}
+use Rattle.connections.specs.declared.listener.Served.{Served}
+use Rattle.connections.specs.declared.listener.Served.TheVariants.{Stopped}
+use Rattle.connections.specs.Connection.{HasRun}
+use Rattle.connections.specs.Listening.{Listening}
+use Rattle.connections.specs.Listener.{ServesAtMost}
+use Rattle.databases.specs.Answered.{IsOfListener, IsOfScript, LivesFrom}
+use Rattle.databases.specs.Openings.{device_under}
+
+-- ---- a script
+
+-- The lines of a script were run from this server on, and its device is left; no session is open, unless the server has stopped. The run
+-- is a life of the database
+pub record RunsScriptFrom {D : Type 0} (g : Ghosts D) {X K : Type 0} (k : SinkGhosts K) (Reads : ReadingRelation) (opened : Server (DeviceStore D g) X) (script : List ℕ) (before : K) (end : ScriptEnd) (left : D) (after : K) : Type 0 where
+  pub last : Server (DeviceStore D g) X
+  pub history : KeepsHistory (store_state opened.store) (store_state last.store)
+  pub ran : IsScriptRun Reads store_state k opened (lines_of script) before end last after
+  pub closed : StandsWithinLimit store_state opened → LeavesNoSession store_state last
+  pub left_is : left ≡ device_under last
+  pub life : LivesFrom g Reads opened (IsOfScript Reads store_state k opened last before ran) (g.state left)
+
+-- ---- connections
+
+-- The connections that came to a listener were served from this server on, so many at most, and its device is left; no session is
+-- open, unless the server has stopped. A server that had stopped before serves none. The run is a life of the database
+pub record ServesFrom {D : Type 0} (g : Ghosts D) {X K : Type 0} (k : SinkGhosts K) (Reads : ReadingRelation) (asked : ℕ) (opened : Server (DeviceStore D g) X) (before : Option Listening) (served : Served) (left : D) (after : Option Listening) : Type 0 where
+  pub last : Server (DeviceStore D g) X
+  pub history : KeepsHistory (store_state opened.store) (store_state last.store)
+  pub serves : ServesAtMost Reads store_state k asked opened before served last after
+  pub ran : StandsWithinLimit store_state opened → HasRun Reads store_state opened last
+  pub stopped : (served ≡ Stopped) ↔ (last.stopped ≡ true)
+  pub refused : opened.stopped ≡ true → last ≡ opened
+  pub closed : (store_state opened.store).sound → LeavesNoSession store_state opened → LeavesNoSession store_state last
+  pub left_is : left ≡ device_under last
+  pub life : LivesFrom g Reads opened (IsOfListener Reads store_state k opened last before serves) (g.state left)

@@ -1,0 +1,57 @@
+//! Runs over a device that follow each other, each stopped at any moment.
+
+ghost use Rattle.std.specs.Prelude.{◌≡◌, ◌≤◌, ℕ, List, Option, Some, take};
+ghost use Rattle.sector_device.specs.Device.{Image, IsLeft};
+ghost use Rattle.sector_device.specs.History.{MayLeave};
+ghost use Rattle.sector_device.specs.HistoryDevice.{calls_of, history_device_state};
+ghost use Rattle.store.specs.Store.{Contents};
+ghost use Rattle.script_runs.specs.Telling.{Told};
+ghost use Rattle.abstract_database.specs.Runs.{Standing};
+ghost use Rattle.databases.specs.Lives.{LeavesFound};
+ghost use Rattle.databases.specs.OnDevice.{records_on};
+ghost use Rattle.databases.specs.Stopping.{StopsAt, IsDoneAt, is_left_by};
+ghost use Rattle.databases.specs.Answered.{Answered, IsLived};
+ghost use Rattle.databases.specs.DeviceFollowing.{Run, AreStopped, GoOn, IsAnsweredIn};
+ghost use Rattle.databases.specs.Told.{IsTold};
+
+use connections::listen::Listen;
+use script_runs::text_sink::TakesText;
+use sector_device::{Device, HistoryDevice};
+use server::decide::EventHandler;
+
+/// Scripts that are run and connections that are served over the databases of devices are lives that
+/// follow each other without end, in any order, and so are openings that migrate or are refused. A
+/// stop may come at any moment of each, as in `lives_follow_stops`: where the first device holds what
+/// some server may leave, and each later one what the stop of the run before it may have left, each
+/// run is over the database after the events that were done then, or over the one that the event
+/// under way would bring, and over no other.
+pub fn runs_follow_stops<D: Device, X: EventHandler, K: TakesText, L: Listen>(first: &D)
+    ensures { (runs : List (Run D.Device X K.Sink L.Sink.Sink X.Reads)) (s : Standing)
+        → LeavesFound s (records_on (D.state first.now))
+        → AreStopped (records_on (D.state first.now)).left runs → GoOn s runs }
+{}
+
+/// What was told is there afterwards: an answer that a script or a connection was told at a moment up
+/// to the stop of the run is of an event that was done then, so that the next run goes on from what
+/// the event led to.
+pub fn told_answers_stay<D: Device, X: EventHandler, K: TakesText, L: Listen>()
+    ensures { (run : Run D.Device X K.Sink L.Sink.Sink X.Reads) (last : Standing) (it : Answered)
+        (answered : IsAnsweredIn run.did it)
+        (life : IsLived X.Reads last it (D.state run.begin) (D.state run.end))
+        (stop : ℕ) (next : Standing) → StopsAt last life.0 (Some stop) next
+        → (place : ℕ) (t : Told) → IsTold run.did it answered place t
+        → t.moment ≤ stop → IsDoneAt life.0 stop place next }
+{}
+
+/// On a device that keeps its history each call may be the last before a stop. Where the next device
+/// has only images that may be left after so many calls, the records that it may hold are among what
+/// a stop at that moment leaves, as `runs_follow_stops` asks.
+pub fn each_call_may_be_the_last(device: &HistoryDevice, next: &HistoryDevice)
+    ensures { (stop : ℕ) → stop ≤ (history_device_state device.now).moment
+        → (history_device_state next.now).sectors ≡ (history_device_state device.now).sectors
+        → ((image : Image) → IsLeft (history_device_state next.now) image
+        → MayLeave (history_device_state device.now).sectors
+        (take stop (calls_of device.now)) image)
+        → (x : Option Contents) → (records_on (history_device_state next.now)).left x
+        → is_left_by (Some stop) (records_on (history_device_state device.now)) x }
+{}

@@ -1,0 +1,52 @@
+//! Runs over a database on a device: of a script, and of the connections of a listener.
+
+ghost use Rattle.databases.specs.Runs.{RunsScriptFrom, ServesFrom};
+
+use connections::listen::Listen;
+use connections::listener::{Served, serve_listener};
+use journal_store::{DeviceStore, JournalDevice};
+use script_runs::run::{ScriptEnd, run_script};
+use script_runs::text_sink::TakesText;
+use sector_device::Device;
+use server::decide::EventHandler;
+use server::server::Server;
+use std::alloc::Global;
+use stored_database::one_database;
+
+/// Runs a script over a database that was opened on a device: each answer is told once its event is
+/// carried out, before the next line is read. However the script ends, the sessions that are still open are then closed,
+/// unless the server has stopped, and the device is handed back.
+pub fn run_script_on<D: JournalDevice, X: EventHandler + Drop, K: TakesText>(
+    alloc: Global,
+    server: Server<DeviceStore<D>, X>,
+    script: &str,
+    sink: &mut K,
+) -> (D, ScriptEnd)
+    ensures { RunsScriptFrom D.Device K.Sink X.Reads server script.now sink.old result.1 result.0
+        sink.new }
+{
+    one_database();
+    let mut server = server;
+    let end = run_script(alloc, &mut server, script, sink);
+    (server.into_store().into_device(), end)
+}
+
+/// Serves the connections that come to a listener over a database that was opened on a device, so
+/// many at most, in their order, each to its end before the next is taken, and hands the device
+/// back: each event that is run is one that the bytes of a connection spell, or closes a session
+/// that a connection has left open. Between two connections no session is open. Once the server has
+/// stopped, no further connection is taken, and where it had stopped before, none at all.
+pub fn serve_database<D: JournalDevice, X: EventHandler + Drop, L: Listen>(
+    alloc: Global,
+    server: Server<DeviceStore<D>, X>,
+    listener: &mut L,
+    connections: u32,
+) -> (D, Served)
+    ensures { ServesFrom D.Device L.Sink.Sink X.Reads connections server
+        (L.listening listener.old) result.1 result.0 (L.listening listener.new) }
+{
+    one_database();
+    let mut server = server;
+    let served = serve_listener(alloc, &mut server, listener, connections);
+    (server.into_store().into_device(), served)
+}

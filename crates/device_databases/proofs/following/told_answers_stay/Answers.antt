@@ -1,9 +1,0 @@
-use Rattle.lives.specs.OnDevice.{records_on}
-use Rattle.lives.proofs.GoingOn.{told_done}
-use Rattle.device_databases.proofs.Telling.{has_moment}
-use Rattle.device_databases.proofs.following.told_answers_stay.Goals as goal
-
-pub returns : goal.returns
-returns g c = λ run last it answered life stop next stops place t told up.
-    told_done g.X.EventHandler.Reads last (records_on (g.D.Device.state run.begin)) (records_on (g.D.Device.state run.end)) it.events it.answers it.moments life.0 stop next stops place t.moment
-    (has_moment run.begin run.end run.did it answered place t told) up
