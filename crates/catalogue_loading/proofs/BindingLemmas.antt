@@ -10,9 +10,9 @@ use Rattle.stored_database.specs.RecordFormat.{policy_prefix, policy_record}
 use Rattle.stored_database.proofs.Lists.{into_right}
 use Rattle.catalogue.specs.declared.policy.CataloguePolicy.{CataloguePolicy}
 use Rattle.catalogue.specs.Policies.{HasConditions, IsBoundPolicy, BindsPolicy, policies_in}
-use Rattle.catalogue_records.specs.Clauses.{IsPolicyAlone}
-use Rattle.catalogue_records.specs.Walks.{AreHeld}
-use Rattle.catalogue_records.proofs.Loading.{each_append}
+use Rattle.catalogue_loading.specs.Clauses.{IsPolicyAlone}
+use Rattle.catalogue_loading.specs.Walks.{AreHeld}
+use Rattle.catalogue_loading.proofs.Loading.{each_append}
 use Rattle.catalogue_loading.specs.Held.{AreBoundPolicies}
 
 module _ (scope : List Table) (policies : List Policy) where

@@ -14,8 +14,8 @@ use Rattle.stored_database.proofs.Lists.{into_map, of_map}
 use Rattle.stored_database.proofs.Validity.{whole_roles, stored_memberships, whole_table, whole_policy, stored_table, stored_descriptors, stored_policies}
 use Rattle.catalogue.specs.Catalogues.{AreInOrder}
 use Rattle.catalogue.proofs.ValidDefinitions.{have_conditions}
-use Rattle.catalogue_records.specs.Clauses.{HasUtf8}
-use Rattle.catalogue_records.specs.Parts.{IsTableAlone}
+use Rattle.catalogue_loading.specs.Clauses.{HasUtf8}
+use Rattle.catalogue_loading.specs.RecordParts.{IsTableAlone}
 use Rattle.catalogue_loading.specs.Held.{HasHeldParts, alone, AreHeldDefinitions, HasNoOrphan}
 use Rattle.catalogue_loading.specs.Recorded.{AreRecorded}
 

@@ -3,7 +3,7 @@ use Rattle.std.proofs.Common.{◌≡◌, ℕ, List, Result, Ok, Err}
 use Rattle.store.specs.declared.fault.Fault.{Fault}
 use Rattle.store.specs.declared.fault.Fault.TheVariants.{Memory, Device, Damaged}
 use Rattle.store.specs.Records.{Record, Records}
-use Rattle.catalogue_records.specs.Walks.{AreHeld, LoadsItems}
+use Rattle.catalogue_loading.specs.Walks.{AreHeld, LoadsItems}
 use Rattle.catalogue_loading.specs.Found.{Finds, FindsAs}
 
 -- where the one needs the other, a fault in looking for the other is a fault of the one

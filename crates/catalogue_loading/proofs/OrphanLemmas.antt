@@ -9,8 +9,8 @@ use Rattle.stored_database.specs.Records.{Define, is_orphan}
 use Rattle.stored_database.proofs.AllRecords.{none_there, of_where}
 use Rattle.stored_database.proofs.Prefixes.{no_definitions}
 use Rattle.stored_database.proofs.Spelled.{where_none}
-use Rattle.catalogue_records.specs.Checks.{ChecksRecords, IsNoOrphan}
-use Rattle.catalogue_records.proofs.Orphan.{no_orphan}
+use Rattle.catalogue_loading.specs.RecordChecks.{ChecksRecords, IsNoOrphan}
+use Rattle.catalogue_loading.proofs.Orphan.{no_orphan}
 use Rattle.catalogue.specs.declared.definitions.CatalogueParts.{CatalogueParts}
 use Rattle.catalogue.specs.Catalogues.{definitions_of}
 use Rattle.catalogue_loading.specs.Found.{Finds, FindsAs}

@@ -15,9 +15,9 @@ use Rattle.stored_database.proofs.KeyOrder.{descriptor_order, policy_order, held
 use Rattle.stored_database.proofs.Lists.{same_items, of_map, into_right}
 use Rattle.stored_database.proofs.Tables.{one_table}
 use Rattle.catalogue.specs.Tables.{HasOrderedParts}
-use Rattle.catalogue_records.specs.Parts.{IsTableAlone}
-use Rattle.catalogue_records.specs.Walks.{AreHeld}
-use Rattle.catalogue_records.proofs.Loading.{each_append}
+use Rattle.catalogue_loading.specs.RecordParts.{IsTableAlone}
+use Rattle.catalogue_loading.specs.Walks.{AreHeld}
+use Rattle.catalogue_loading.proofs.Loading.{each_append}
 use Rattle.catalogue_loading.specs.Found.{Finds}
 use Rattle.catalogue_loading.specs.Held.{AreHeldPolicies, HasHeldParts, alone, IsHeldTable, AreHeldOf, AreHeldTables}
 use Rattle.catalogue_loading.proofs.Finding.{fault_found}

@@ -12,9 +12,9 @@ use Rattle.stored_database.specs.Items.{IsStoredMembership, IsStoredDescriptor}
 use Rattle.stored_database.specs.Records.{is_orphan}
 use Rattle.catalogue.specs.declared.policy.CataloguePolicy.{CataloguePolicy}
 use Rattle.catalogue.specs.Policies.{scope_of, HasConditions, IsBoundPolicy, policies_in}
-use Rattle.catalogue_records.specs.Clauses.{IsPolicyAlone}
-use Rattle.catalogue_records.specs.Parts.{IsTableAlone}
-use Rattle.catalogue_records.specs.Walks.{AreHeld}
+use Rattle.catalogue_loading.specs.Clauses.{IsPolicyAlone}
+use Rattle.catalogue_loading.specs.RecordParts.{IsTableAlone}
+use Rattle.catalogue_loading.specs.Walks.{AreHeld}
 
 -- ---- tables
 

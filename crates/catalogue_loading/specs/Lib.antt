@@ -1,3 +1,13 @@
+pub mod Decoding
+pub mod Walks
+pub mod Parties
+pub mod RecordParts
+pub mod Clauses
+pub mod RecordChecks
+pub mod Orphans
+pub mod ValidityChecks
+pub mod ValidityParts
 pub mod Found
 pub mod Held
 pub mod Recorded
+pub mod RowChecks

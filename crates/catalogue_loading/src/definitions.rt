@@ -8,10 +8,12 @@ ghost use Rattle.catalogue_loading.specs.Found.{FindsAs};
 ghost use Rattle.catalogue_loading.specs.Held.{AreHeldDefinitions};
 ghost use Rattle.catalogue_loading.specs.Recorded.{ReadsDefinitions};
 
+use crate::membership_records::MembershipReader;
 use crate::orphans::check_orphans;
+use crate::role_records::RoleReader;
 use crate::tables::read_tables;
+use crate::walk::load_items;
 use catalogue::definitions::{Catalogue, CatalogueParts};
-use catalogue_records::{MembershipReader, RoleReader, load_items};
 use std::alloc::{AllocError, Global};
 use store::{Fault, Map};
 

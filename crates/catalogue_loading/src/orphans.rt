@@ -7,9 +7,10 @@ ghost use Rattle.stored_database.specs.Definitions.{ids_of};
 ghost use Rattle.catalogue_loading.specs.Found.{Finds};
 ghost use Rattle.catalogue_loading.specs.Held.{HasNoOrphan};
 
+use crate::orphan_records::{OrphanTest, Orphans, no_orphan_is_left};
+use crate::record_checks::check_records;
 use catalogue::numbers::table_ids;
 use catalogue::table::TableDefinition;
-use catalogue_records::{OrphanTest, Orphans, check_records, no_orphan_is_left};
 use std::alloc::Global;
 use store::{Fault, Map};
 

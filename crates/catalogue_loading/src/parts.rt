@@ -7,12 +7,14 @@ ghost use Rattle.abstract_database.specs.Whole.{Each};
 ghost use Rattle.stored_database.specs.Items.{IsStoredDescriptor};
 ghost use Rattle.stored_database.specs.RecordFormat.{descriptor_prefix, descriptor_record};
 ghost use Rattle.catalogue.specs.Policies.{scope_of, IsBoundPolicy, policies_in};
-ghost use Rattle.catalogue_records.specs.Walks.{LoadsItems};
+ghost use Rattle.catalogue_loading.specs.Walks.{LoadsItems};
 ghost use Rattle.catalogue_loading.specs.Found.{FindsAs};
 ghost use Rattle.catalogue_loading.specs.Held.{AreHeldPolicies, BindsPolicies};
 
+use crate::descriptor_records::DescriptorReader;
+use crate::policy_records::PolicyReader;
+use crate::walk::load_items;
 use catalogue::policy::{CataloguePolicy, bind_policy};
-use catalogue_records::{DescriptorReader, PolicyReader, load_items};
 use sql_ast::columns::Columns;
 use sql_ast::policy::Policy;
 use sql_ast::privilege::Descriptor;

@@ -7,8 +7,9 @@ ghost use Rattle.catalogue_loading.specs.Found.{Finds};
 ghost use Rattle.catalogue_loading.specs.Held.{AreHeldOf, AreHeldTables, IsHeldTable};
 
 use crate::parts::{read_descriptors, read_policies};
+use crate::table_records::{TableReader, TableRecord};
+use crate::walk::load_items;
 use catalogue::table::{TableDefinition, TableParts};
-use catalogue_records::{TableReader, TableRecord, load_items};
 use sql_types::items::Items;
 use std::alloc::Global;
 use store::{Fault, Map};

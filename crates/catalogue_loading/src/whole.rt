@@ -6,8 +6,8 @@ ghost use Rattle.store.specs.Readers.{HasRead};
 ghost use Rattle.catalogue_loading.specs.Recorded.{LoadsCatalogue};
 
 use crate::definitions::read_definitions;
+use crate::validity::are_valid;
 use catalogue::definitions::Catalogue;
-use catalogue_checks::are_valid;
 use expr_parser::laws::one_answer;
 use std::alloc::{AllocError, Global};
 use store::{Fault, Map};

@@ -4,7 +4,7 @@ use Rattle.store.specs.declared.fault.Fault.{Fault}
 use Rattle.store.specs.declared.fault.Fault.TheVariants.{Memory, Device, Damaged}
 use Rattle.store.specs.Records.{Records}
 use Rattle.stored_database.specs.Definitions.{Definitions}
-use Rattle.stored_rows.specs.Checks.{ChecksRows}
+use Rattle.catalogue_loading.specs.RowChecks.{ChecksRows}
 use Rattle.catalogue_loading.specs.Found.{Finds}
 use Rattle.recovery.specs.Openings.{AreOfDatabase}
 

@@ -17,7 +17,7 @@ use Rattle.stored_database.proofs.Lists.{into_map, first_of_each, rest_of_each}
 use Rattle.stored_database.proofs.AllRecords.{of_where}
 use Rattle.stored_database.proofs.AllSizes.{records_sized}
 use Rattle.stored_database.proofs.Placing.{ordered_places}
-use Rattle.catalogue_records.specs.Walks.{AreHeld, LoadsItems}
+use Rattle.catalogue_loading.specs.Walks.{AreHeld, LoadsItems}
 use Rattle.entry_differences.specs.Differences.{differences, applied_in_turn}
 use Rattle.entry_differences.specs.Additions.{HaveRecordSizes}
 use Rattle.entry_differences.proofs.DifferenceLemmas.{ordered_in_turn, part_leads_to, elsewhere, all_pass, each_passes}

@@ -8,10 +8,9 @@ ghost use Rattle.transactions.specs.Views.{applied_all};
 ghost use Rattle.recovery.specs.Openings.{AreOfDatabase};
 
 use catalogue::definitions::Catalogue;
-use catalogue_loading::load;
+use catalogue_loading::{check_rows, load};
 use std::alloc::Global;
 use store::{Batch, Fault, Map, Store};
-use stored_rows::check_rows;
 use transactions::View;
 
 /// The definitions of the database that the records of a map stand for under lists of changes, each

@@ -10,7 +10,7 @@ ghost use Rattle.entry_differences.specs.Differences.{differences, applied_in_tu
 ghost use Rattle.recovery.specs.Respelled.{HasRoom, with_its_place, Respells, RespellsFrom};
 
 use crate::places::{RecordReader, placed_entries};
-use catalogue_records::load_items;
+use catalogue_loading::load_items;
 use entry_differences::push_differences;
 use sql_types::items::Items;
 use std::alloc::Global;

@@ -3,10 +3,10 @@
 ghost use Rattle.std.specs.Prelude.{◌≡◌, ◌≢◌, Err, IfOk, map, take, drop};
 ghost use Rattle.std.specs.List.{AllByRecursion};
 ghost use Rattle.store.specs.Records.{Record};
-ghost use Rattle.catalogue_records.specs.Decoding.{Decodes};
+ghost use Rattle.catalogue_loading.specs.Decoding.{Decodes};
 ghost use Rattle.recovery.specs.Respelled.{HasRoom, IsAnything, with_its_place};
 
-use catalogue_records::ItemReader;
+use catalogue_loading::ItemReader;
 use std::alloc::{AllocError, Global};
 use store::{Entry, Fault, MAX_KEY_LENGTH, MAX_VALUE_LENGTH};
 

@@ -29,7 +29,7 @@ use catalogue::change::SchemaChange;
 use catalogue::definitions::Catalogue;
 use catalogue::effect::Effect;
 use catalogue::staged::Staged;
-use catalogue_loading::load;
+use catalogue_loading::{check_rows, load};
 use md5::{Digest, Md5};
 use schema_statements::{
     alter_table, create_role, create_table, drop_role, drop_table, grant, grant_role, revoke,
@@ -43,7 +43,6 @@ use sql_types::state::SqlState;
 use sql_types::try_copy::TryCopy;
 use std::alloc::{AllocError, Global};
 use store::{Batch, Fault, MemStore, StatementError, Store};
-use stored_rows::check_rows;
 
 /// The superuser of a new database.
 const ADMIN: &str = "r0";

@@ -5,11 +5,10 @@ use crate::records::database::put_database;
 use crate::told::Told;
 use anyhow::Result;
 use catalogue::definitions::Catalogue;
-use catalogue_loading::load;
+use catalogue_loading::{check_rows, load};
 use sql_types::try_copy::TryCopy;
 use std::alloc::{AllocError, Global};
 use store::{Batch, Entry, Fault, MAX_KEY_LENGTH, MAX_VALUE_LENGTH, MemStore, Store};
-use stored_rows::check_rows;
 
 /// Whether records stand for a database.
 #[derive(Clone, Copy)]

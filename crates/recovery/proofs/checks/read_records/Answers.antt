@@ -1,7 +1,7 @@
 use Rattle.std.proofs.Common.{subst, Err}
 use Rattle.store.specs.Records.{Records}
 use Rattle.stored_database.specs.Records.{Define}
-use Rattle.stored_rows.specs.Checks.{ChecksRows}
+use Rattle.catalogue_loading.specs.RowChecks.{ChecksRows}
 use Rattle.recovery.proofs.Faults.{fault_of_rows}
 use Rattle.recovery.proofs.checks.read_records.Goals as goal
 

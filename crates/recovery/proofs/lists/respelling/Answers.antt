@@ -1,6 +1,6 @@
 use Rattle.std.proofs.Common.{[], ◌∷◌, sym, subst}
 use Rattle.store.specs.Records.{Record, Records}
-use Rattle.catalogue_records.specs.Walks.{AreHeld}
+use Rattle.catalogue_loading.specs.Walks.{AreHeld}
 use Rattle.recovery.specs.Respelled.{IsAnything}
 use Rattle.recovery.proofs.Placing.{fault_of_reading, places_respell}
 use Rattle.recovery.proofs.lists.respelling.Goals as goal

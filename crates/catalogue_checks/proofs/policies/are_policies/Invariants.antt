@@ -1,7 +1,0 @@
-use Rattle.std.specs.Prelude.{take}
-use Rattle.abstract_database.specs.Whole.{Each}
-use Rattle.catalogue_checks.specs.Parts.{IsPolicy}
-use Rattle.catalogue_checks.proofs.policies.are_policies.Given as goal
-
-abbrev pub invariant-loop-policy : goal.invariant-loop-policy
-invariant-loop-policy l = Each (λ p. IsPolicy l.catalogue.roles p.policy) (take l.policy-index l.policies)

@@ -1,0 +1,14 @@
+use Rattle.catalogue_loading.proofs.PrivilegeRecords.{public_only, role_is_granted, no_grantee}
+use Rattle.catalogue_loading.proofs.descriptor_records.grantee_at.Goals as goal
+
+pub returns-in-Some : goal.returns-in-Some
+returns-in-Some c = (record { valid = tt; spelled = c.in-Some.ensures }, public_only c.args.bytes.now c.in-Some.rest.now c.in-Some.ensures)
+
+pub returns-in-Ok : goal.returns-in-Ok
+returns-in-Ok c = (
+  record { valid = c.in-Ok.ensures.0.valid; spelled = c.in-Ok.ensures.0.spelled },
+  role_is_granted c.args.bytes.now c.in-Ok.name c.in-Ok.rest.now c.in_default.ensures c.in-Ok.ensures.1,
+)
+
+pub returns-in-Err : goal.returns-in-Err
+returns-in-Err c = no_grantee c.args.bytes.now c.in-Err.fault c.in_default.ensures c.in-Err.ensures

@@ -1,6 +1,0 @@
-use Rattle.std.proofs.Common.{◌≡◌, take}
-use Rattle.catalogue_records.proofs.tables.decode_key.Given as goal
-
--- the indices so far are in the key
-abbrev pub invariant-loop-index : goal.invariant-loop-index
-invariant-loop-index l = l.key ≡ take l.index-index l.indices

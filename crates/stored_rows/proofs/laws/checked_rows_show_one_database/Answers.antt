@@ -1,5 +1,0 @@
-use Rattle.stored_rows.proofs.Checked.{stands_for_one}
-use Rattle.stored_rows.proofs.laws.checked_rows_show_one_database.Goals as goal
-
-pub returns : goal.returns
-returns c = stands_for_one c.one_database.ensures
