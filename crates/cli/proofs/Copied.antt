@@ -9,7 +9,7 @@ use Rattle.sector_device.specs.declared.open_file.FileFault.TheVariants as file
 use Rattle.sector_device.specs.declared.system_cause.SystemCause.{SystemCause}
 use Rattle.systems.specs.Systems.{Absent, Free, Shared, Reading, At, HasDevice, IsNamed, IsOpen, IsReadable, IsReading, IsSame, IsSameBut, IsSameButBoth, IsUnnamed, Rose, SystemState}
 use Rattle.cow_pages.proofs.Reading.{reads_none}
-use Rattle.database_copies.specs.declared.fault.DatabaseCopyFault.{DatabaseCopyFault}
+use Rattle.copies.specs.declared.database_copy_fault.DatabaseCopyFault.{DatabaseCopyFault}
 use Rattle.databases.specs.Databases.{IsUnwritten}
 use Rattle.cli.specs.declared.copy_fault.FileCopyFault.{FileCopyFault}
 use Rattle.cli.specs.declared.copy_fault.FileCopyFault.TheVariants.{New}

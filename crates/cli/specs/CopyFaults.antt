@@ -2,8 +2,8 @@
 use Rattle.sector_device.specs.declared.open_file.FileFault.{FileFault}
 use Rattle.sector_device.specs.declared.open_file.FileFault.TheVariants as file
 use Rattle.sector_device.specs.declared.system_cause.SystemCause.TheVariants.{Other}
-use Rattle.database_copies.specs.declared.fault.DatabaseCopyFault.{DatabaseCopyFault}
-use Rattle.database_copies.specs.declared.fault.DatabaseCopyFault.TheVariants as copy
+use Rattle.copies.specs.declared.database_copy_fault.DatabaseCopyFault.{DatabaseCopyFault}
+use Rattle.copies.specs.declared.database_copy_fault.DatabaseCopyFault.TheVariants as copy
 use Rattle.databases.specs.declared.fault.DatabaseFault.TheVariants.{Pages}
 use Rattle.recovery.specs.declared.fault.OpeningFault.TheVariants.{Read}
 use Rattle.cli.specs.declared.copy_fault.FileCopyFault.{FileCopyFault}

@@ -7,8 +7,8 @@ use Rattle.systems.specs.declared.access.Access.TheVariants.{Read}
 use Rattle.systems.specs.Places.{ThePlace}
 use Rattle.systems.specs.Systems.{HasDevice, IsNamed, IsOpen, IsReadable, IsSame, IsSameBut, IsSameButBoth, IsUnnamed, Rose, SystemState}
 use Rattle.cow_pages.specs.Held.{KeepsContent}
-use Rattle.database_copies.specs.declared.fault.DatabaseCopyFault.{DatabaseCopyFault}
-use Rattle.database_copies.specs.Databases.{CopiesDatabase}
+use Rattle.copies.specs.declared.database_copy_fault.DatabaseCopyFault.{DatabaseCopyFault}
+use Rattle.copies.specs.DatabaseCopies.{CopiesDatabase}
 use Rattle.databases.specs.Databases.{IsUnwritten}
 use Rattle.cli.specs.declared.fault.CommandFault.{CommandFault}
 use Rattle.cli.specs.declared.fault.CommandFault.TheVariants as command

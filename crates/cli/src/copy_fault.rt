@@ -4,7 +4,7 @@ ghost use Rattle.std.specs.Prelude.{◌≡◌};
 ghost use Rattle.cli.specs.CopyFaults.{of_copy};
 
 use crate::fault::CommandFault;
-use database_copies::DatabaseCopyFault;
+use copies::DatabaseCopyFault;
 use databases::DatabaseFault;
 use recovery::OpeningFault;
 use sector_device::SystemCause;

@@ -3,14 +3,14 @@
 ghost use Rattle.std.specs.Prelude.{◌≡◌, ◌≢◌, ◌≤◌, IfOk, string_bytes};
 ghost use Rattle.sector_device.specs.Device.{KeepsHistory};
 ghost use Rattle.cow_pages.specs.Held.{KeepsContent};
-ghost use Rattle.database_copies.specs.Databases.{CopiesDatabase};
+ghost use Rattle.copies.specs.DatabaseCopies.{CopiesDatabase};
 ghost use Rattle.cli.specs.CopyFaults.{of_partial};
 ghost use Rattle.cli.specs.Copying.{CopiesBeside, CopiesFile, Renames, partial_path};
 
 use crate::copy_fault::FileCopyFault;
 use crate::fault::CommandFault;
+use copies::{DatabaseCopyFault, copy_database};
 use cow_pages::page_count;
-use database_copies::{DatabaseCopyFault, copy_database};
 use journal_store::JournalDevice;
 use sector_device::{CopyProgress, Device, FileFault};
 use std::alloc::{AllocError, Global};

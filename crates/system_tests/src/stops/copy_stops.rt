@@ -7,7 +7,7 @@ use crate::stops::servers::find_on;
 use crate::stops::tallies::Tests;
 use crate::stops::work::{Attempt, Work, hinder_each};
 use crate::stores::SMALL_PAGES;
-use database_copies::{DatabaseCopyFault, copy_database};
+use copies::{DatabaseCopyFault, copy_database};
 use sector_device::{MemDevice, Unwatched, WriteProtected};
 use std::alloc::Global;
 

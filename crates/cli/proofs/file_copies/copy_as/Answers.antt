@@ -1,7 +1,7 @@
 use Rattle.std.proofs.Common.{Result, Err, Ok, arith, inl, inr, refl, subst, sym}
 use Rattle.systems.specs.Systems.{IsUnnamed, Rose}
-use Rattle.database_copies.specs.declared.fault.DatabaseCopyFault.{DatabaseCopyFault}
-use Rattle.database_copies.specs.Databases.{CopiesDatabase}
+use Rattle.copies.specs.declared.database_copy_fault.DatabaseCopyFault.{DatabaseCopyFault}
+use Rattle.copies.specs.DatabaseCopies.{CopiesDatabase}
 use Rattle.cli.specs.declared.copy_fault.FileCopyFault.{FileCopyFault}
 use Rattle.cli.specs.Copying.{IsTried, StandsAgainstCopy}
 use Rattle.cli.proofs.Blank.{blank_of_zeros}

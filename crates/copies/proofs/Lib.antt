@@ -1,0 +1,9 @@
+pub mod Taken
+pub mod Copied
+pub mod Progress
+pub mod NoDatabase
+pub mod Beginning
+pub mod DeviceCopied
+pub mod Counted
+pub mod Reading
+pub mod Copying

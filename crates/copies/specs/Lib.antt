@@ -1,0 +1,4 @@
+pub mod RecordCopies
+pub mod DeviceCopies
+pub mod Wanted
+pub mod DatabaseCopies

@@ -1,0 +1,82 @@
+//! A copy of the database on a device.
+
+ghost use Rattle.std.specs.Prelude.{◌≡◌, IfErr};
+ghost use Rattle.sector_device.specs.Device.{KeepsHistory as DeviceHistory};
+ghost use Rattle.store.specs.Store.{KeepsHistory, stored};
+ghost use Rattle.cow_pages.specs.Held.{KeepsContent};
+ghost use Rattle.copies.specs.DatabaseCopies.{CopiesDatabase, CopiesStore, HasReadCause, told_of};
+
+use crate::database_copy_fault::DatabaseCopyFault;
+use crate::marks::copied_records_stand;
+use crate::source::read_source;
+use crate::under::copy_under;
+use journal_store::{DeviceStore, JournalDevice};
+use sector_device::{CopyProgress, Device};
+use std::alloc::Global;
+use store::Store;
+
+/// Copies the database on a device to another device, of 64 to 65,536 whole pages, in the current spelling, and hands
+/// both back. The source may be of either spelling, with a journal or without; it is only read, and all its definitions
+/// and rows are checked before anything is written. What was on the device of the copy before is lost.
+///
+/// After `Ok` each image that a stop leaves of the copy has exactly the source's records, and stands for the same
+/// database. On a device that was blank, as a new one of zeros is, a stop at any moment leaves no contents, or records that
+/// stand for no database, or the whole copy; and after each fault but `Device` it leaves no whole copy.
+///
+/// `Pages`, `Read`: no database is on the source, or its device failed. `WrongSize`: the device of the copy has another size;
+/// nothing was written. `Full`: no room is left on it; it names how many pages a copy wants at least. `Device`: it failed.
+/// `Memory`: an allocation failed.
+///
+/// The progress is told now and then how far a large copy is.
+pub fn copy_database<D: JournalDevice, E: Device, W: CopyProgress>(
+    alloc: Global,
+    source: D,
+    target: E,
+    progress: &mut W,
+) -> (D, E, Result<(), DatabaseCopyFault>)
+    ensures history { DeviceHistory (D.state source) (D.state result.0) }
+    ensures unwritten { (D.state source).faithful → KeepsContent (D.state source) (D.state result.0) }
+    ensures copies { (D.state source).faithful
+        → CopiesDatabase (D.state source) (D.state result.0) E.state result.2 target result.1 }
+{
+    let mut store = match DeviceStore::open(alloc, source) {
+        Ok(store) => store,
+        Err((source, fault)) => return (source, target, Err(DatabaseCopyFault::Pages(fault))),
+    };
+    let (target, copied) = copy_store(alloc, &mut store, target, progress);
+    (store.into_device(), target, copied)
+}
+
+// Copies the database that the contents of a store stand for to a device.
+fn copy_store<S: Store, E: Device, W: CopyProgress>(
+    alloc: Global,
+    store: &mut S,
+    target: E,
+    progress: &mut W,
+) -> (E, Result<(), DatabaseCopyFault>)
+    ensures preserved { S.preserved store.old store.new }
+    ensures history { KeepsHistory (S.state store.old) (S.state store.new) }
+    ensures copies { (S.state store.old).sound
+        → CopiesStore (stored (S.state store.old)) E.state result.1 target result.0 }
+    ensures cause { IfErr result.1 (λ fault. HasReadCause fault (S.state store.old) (S.state store.new)) }
+{
+    copied_records_stand();
+    let lists = match read_source(alloc, store) {
+        Ok(lists) => lists,
+        Err(fault) => return (target, Err(DatabaseCopyFault::Read(fault))),
+    };
+    let (target, copied) = copy_under(alloc, store, lists.as_slice(), target, progress);
+    (target, told(copied))
+}
+
+// What a copy of records answered.
+fn told(
+    copied: Result<(), crate::device_copy_fault::DeviceCopyFault>,
+) -> Result<(), DatabaseCopyFault>
+    ensures { result ≡ told_of copied }
+{
+    match copied {
+        Ok(()) => Ok(()),
+        Err(fault) => Err(DatabaseCopyFault::from(fault)),
+    }
+}

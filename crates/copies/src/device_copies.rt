@@ -1,0 +1,83 @@
+//! A copy of records to a device.
+
+ghost use Rattle.std.specs.Prelude.{◌≡◌, IfErr};
+ghost use Rattle.store.specs.Store.{OnlyReads};
+ghost use Rattle.copies.specs.RecordCopies.{HasOutsized, behind_mark};
+ghost use Rattle.copies.specs.DeviceCopies.{CopiesTo, HasSourceCause, told_of};
+
+use crate::device_copy_fault::DeviceCopyFault;
+use crate::marked::marked_store;
+use crate::record_copies::copy_records;
+use crate::wanted::no_room_fault;
+use kv_store::{Fault, Map, StoreFault, sound_images};
+use sector_device::{CopyProgress, Device};
+use std::alloc::Global;
+use storage_sizes::SECTORS_PER_PAGE;
+
+/// Copies the records of a map to a device of 64 to 65,536 whole pages, in the current spelling: those
+/// behind the mark of a copy, which of a database are all. What was on the device before is lost. The map is only read.
+///
+/// After `Ok` each image that a stop leaves of the device has exactly these records. On a device that is
+/// blank, as a new one of zeros is, a stop at any moment leaves no contents, or records with the mark of a copy, which
+/// stand for no database, or all records and no mark; and after each fault but `Device` it leaves no database.
+///
+/// `Source`: a read of the map failed. `Damaged`: a record of it has a size that no store takes, which no record of a
+/// database has. `WrongSize`: the device has another size; nothing was written. `Full`: a commit found no room on the
+/// device; it names how many pages a copy wants at least: those of leaves that are full, and never fewer than one more than
+/// the device has. The records are read once more for it. `Device`: the device failed. `Memory`: an allocation failed.
+///
+/// The progress is told how far a large copy is, as `copy_records` does.
+pub fn copy_to_device<M: Map, D: Device, W: CopyProgress>(
+    alloc: Global,
+    source: &mut M,
+    target: D,
+    progress: &mut W,
+) -> (D, Result<(), DeviceCopyFault>)
+    ensures preserved { M.preserved source.old source.new }
+    ensures reads { OnlyReads (M.state source.old) (M.state source.new) }
+    ensures copies { (M.state source.old).sound
+        → CopiesTo D.state (M.state source.old).map result.1 target result.0 }
+    ensures cause { IfErr result.1 (λ fault. HasSourceCause fault (M.state source.old) (M.state source.new)) }
+    ensures damaged { (M.state source.old).sound → IfErr result.1 (λ fault. fault ≡ DeviceCopyFault.Damaged
+        → HasOutsized (behind_mark (M.state source.old).map)) }
+{
+    let pages = target.sectors() / SECTORS_PER_PAGE;
+    let mut store = match marked_store(alloc, target) {
+        Ok(store) => store,
+        Err((target, fault)) => return (target, Err(fault)),
+    };
+    let copied = copy_records(alloc, source, &mut store, progress);
+    sound_images(&store);
+    let no_room = no_room_fault(source, pages, copied);
+    (store.into_device(), told(copied, no_room))
+}
+
+// What a copy of records answered, with the fault where the target had no room.
+fn told(
+    copied: Result<(), crate::record_copy_fault::RecordCopyFault>,
+    no_room: DeviceCopyFault,
+) -> Result<(), DeviceCopyFault>
+    ensures { result ≡ told_of no_room copied }
+{
+    match copied {
+        Ok(()) => Ok(()),
+        Err(crate::record_copy_fault::RecordCopyFault::Read(Fault::Memory)) => Err(
+            DeviceCopyFault::Memory,
+        ),
+        Err(crate::record_copy_fault::RecordCopyFault::Read(Fault::Device)) => Err(
+            DeviceCopyFault::Source,
+        ),
+        Err(crate::record_copy_fault::RecordCopyFault::Read(Fault::Damaged)) => Err(
+            DeviceCopyFault::Damaged,
+        ),
+        Err(crate::record_copy_fault::RecordCopyFault::Write(StoreFault::Memory)) => Err(
+            DeviceCopyFault::Memory,
+        ),
+        Err(
+            crate::record_copy_fault::RecordCopyFault::Write(StoreFault::Full | StoreFault::Number),
+        ) => Err(no_room),
+        Err(crate::record_copy_fault::RecordCopyFault::Write(StoreFault::Device)) => Err(
+            DeviceCopyFault::Device,
+        ),
+    }
+}

@@ -1,0 +1,27 @@
+//! Copies of the records of a map, in a store that is marked until it has all of them.
+//! Copies of a database's records in a new store on a device.
+//! Copies of the database on a device to another device.
+#![tactic(auto)]
+
+mod database_copies;
+mod database_copy_fault;
+mod device_copies;
+mod device_copy_fault;
+mod mark;
+mod marked;
+mod marks;
+mod record_copies;
+mod record_copy_fault;
+mod source;
+mod taking;
+mod under;
+mod wanted;
+
+pub use database_copies::copy_database;
+pub use database_copy_fault::DatabaseCopyFault;
+pub use device_copies::copy_to_device;
+pub use device_copy_fault::DeviceCopyFault;
+pub use mark::mark_of_a_copy;
+pub use marks::{copied_records_stand, marked_records_stand_for_nothing};
+pub use record_copies::copy_records;
+pub use record_copy_fault::RecordCopyFault;

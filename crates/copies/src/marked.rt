@@ -1,0 +1,57 @@
+//! A new store that has the mark of a copy alone.
+
+ghost use Rattle.std.specs.Prelude.{◌≡◌, IfErr, IfOk};
+ghost use Rattle.copies.specs.DeviceCopies.{Begins, Marks, told_opening};
+
+use crate::device_copy_fault::DeviceCopyFault;
+use crate::mark::mark_of_a_copy;
+use cow_pages::page_count;
+use kv_store::{FormatFault, OpenFault, PageStore};
+use sector_device::Device;
+use std::alloc::Global;
+
+/// Makes a store of the mark alone on a device, and opens it. A refusal hands the device back.
+pub(crate) fn marked_store<D: Device>(
+    alloc: Global,
+    target: D,
+) -> Result<PageStore<D>, (D, DeviceCopyFault)>
+    ensures { Begins D.Device target result }
+{
+    let mut target = target;
+    match mark_device(alloc, &mut target) {
+        Ok(()) => {}
+        Err(fault) => return Err((target, fault)),
+    }
+    match PageStore::open(alloc, target) {
+        Ok(store) => Ok(store),
+        Err((target, fault)) => Err((target, fault_of_opening(fault))),
+    }
+}
+
+// Why a store that has just been made is not opened: its device failed, unless memory was refused.
+fn fault_of_opening(fault: OpenFault) -> DeviceCopyFault
+    ensures { result ≡ told_opening fault }
+{
+    match fault {
+        OpenFault::Memory => DeviceCopyFault::Memory,
+        OpenFault::WrongSize | OpenFault::NotADatabase | OpenFault::Damaged | OpenFault::Device =>
+            DeviceCopyFault::Device,
+    }
+}
+
+// Makes a store of the mark alone on a device.
+fn mark_device<D: Device>(alloc: Global, target: &mut D) -> Result<(), DeviceCopyFault>
+    ensures { Marks D.Device result target.old target.new }
+{
+    let Some(_pages) = page_count(target.sectors()) else {
+        return Err(DeviceCopyFault::WrongSize);
+    };
+    let Ok(mark) = mark_of_a_copy(alloc) else {
+        return Err(DeviceCopyFault::Memory);
+    };
+    match PageStore::format(alloc, target, &mark) {
+        Ok(()) => Ok(()),
+        Err(FormatFault::Memory) => Err(DeviceCopyFault::Memory),
+        Err(FormatFault::Device) => Err(DeviceCopyFault::Device),
+    }
+}

@@ -1,4 +1,0 @@
-pub mod NoDatabase
-pub mod Beginning
-pub mod Copied
-pub mod Counted
