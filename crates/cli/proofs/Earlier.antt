@@ -7,9 +7,9 @@ use Rattle.systems.specs.declared.fault.OpenPathFault.TheVariants.{Missing, InUs
 use Rattle.systems.specs.declared.access.Access.TheVariants.{Write}
 use Rattle.systems.specs.Systems.{At, IsHeldFrom, IsSame, SystemState, is_shared}
 use Rattle.abstract_database.specs.Runs.{ReadingRelation}
-use Rattle.script_runs.specs.declared.run.ScriptEnd.{ScriptEnd}
-use Rattle.script_runs.specs.declared.sink.Sink.{Ghosts as SinkGhosts}
-use Rattle.script_runs.specs.ScriptRun.{Known}
+use Rattle.wire.specs.declared.script_run.ScriptEnd.{ScriptEnd}
+use Rattle.wire.specs.declared.sink.Sink.{Ghosts as SinkGhosts}
+use Rattle.wire.specs.ScriptRun.{Known}
 use Rattle.cli.specs.declared.fault.CommandFault.{CommandFault}
 use Rattle.cli.specs.Commands.{IsFileNotRun, IsFileOpened, IsFileRun}
 use Rattle.cli.specs.Files.{ChangesDevice, IsUnopened, StandsAt}

@@ -13,10 +13,10 @@ use Rattle.abstract_database.specs.Machine.{Machine, Event, Transition}
 use Rattle.abstract_database.specs.Runs.{TheText, ReadingRelation, Counts, Rises, NoneFalls, IsStep, by_transition, for_memory, for_space, for_number, for_device, RanBy, Stops, At, Happens}
 use Rattle.server.specs.declared.server.Server.{Server}
 use Rattle.server.specs.Standing.{Represents, at_start, events_of, stops_of}
-use Rattle.script_runs.specs.declared.run.ScriptEnd.{ScriptEnd}
-use Rattle.script_runs.specs.declared.run.ScriptEnd.TheVariants as end
-use Rattle.script_runs.specs.declared.sink.Sink.{Ghosts as SinkGhosts}
-use Rattle.script_runs.specs.ScriptRun.{Known, Writes, EndsAfter, EndsAsLines, EndsAt, IsScriptRun, lines_of}
+use Rattle.wire.specs.declared.script_run.ScriptEnd.{ScriptEnd}
+use Rattle.wire.specs.declared.script_run.ScriptEnd.TheVariants as end
+use Rattle.wire.specs.declared.sink.Sink.{Ghosts as SinkGhosts}
+use Rattle.wire.specs.ScriptRun.{Known, Writes, EndsAfter, EndsAsLines, EndsAt, IsScriptRun, lines_of}
 use Rattle.cli.specs.Running.{IsAnswered, by_machine, refused_memory, PrintsRun}
 use Rattle.cli.proofs.Lasting.{transition_lasts}
 

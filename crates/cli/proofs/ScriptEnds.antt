@@ -20,8 +20,8 @@ use Rattle.recovery.specs.declared.fault.OpeningFault.{OpeningFault}
 use Rattle.recovery.specs.declared.fault.OpeningFault.TheVariants.{Read, Commit}
 use Rattle.store.specs.declared.fault.Fault.TheVariants as read
 use Rattle.recovery.specs.Openings.{HasLooked, IsOpened, OnlyLooks}
-use Rattle.script_runs.specs.Closing.{StandsWithinLimit}
-use Rattle.script_runs.specs.declared.sink.Sink.{Ghosts as SinkGhosts}
+use Rattle.wire.specs.Closing.{StandsWithinLimit}
+use Rattle.wire.specs.declared.sink.Sink.{Ghosts as SinkGhosts}
 use Rattle.cli.specs.declared.ending.Ending.{Ending}
 use Rattle.cli.specs.declared.ending.Ending.TheVariants as ending
 use Rattle.cli.specs.declared.ending.ProgramFault.TheVariants as fault

@@ -7,10 +7,10 @@ use Rattle.systems.specs.Systems.{HasDevice, IsOpen, IsSameBut, SystemState}
 use Rattle.abstract_database.specs.Runs.{ReadingRelation}
 use Rattle.journal_store.specs.declared.device_stores.DeviceStore.{DeviceStore}
 use Rattle.server.specs.declared.server.Server.{Server}
-use Rattle.script_runs.specs.declared.sink.Sink.{Ghosts as SinkGhosts}
-use Rattle.script_runs.specs.ScriptRun.{Known}
-use Rattle.connections.specs.declared.listener.Served.{Served}
-use Rattle.connections.specs.Listening.{Listening}
+use Rattle.wire.specs.declared.sink.Sink.{Ghosts as SinkGhosts}
+use Rattle.wire.specs.ScriptRun.{Known}
+use Rattle.wire.specs.declared.listener.Served.{Served}
+use Rattle.wire.specs.Listening.{Listening}
 use Rattle.databases.specs.declared.database.Opened.{Opened}
 use Rattle.databases.specs.Openings.{device_under}
 use Rattle.cli.specs.declared.fault.CommandFault.{CommandFault}

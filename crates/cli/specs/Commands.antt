@@ -4,10 +4,10 @@ use Rattle.sector_device.specs.declared.device.Device.{Ghosts}
 use Rattle.systems.specs.Systems.{SystemState}
 use Rattle.abstract_database.specs.Runs.{ReadingRelation}
 use Rattle.journal_store.specs.DeviceStores.{store_state}
-use Rattle.script_runs.specs.declared.run.ScriptEnd.{ScriptEnd}
-use Rattle.script_runs.specs.declared.sink.Sink.{Ghosts as SinkGhosts}
-use Rattle.script_runs.specs.Closing.{LeavesNoSession}
-use Rattle.script_runs.specs.ScriptRun.{Known}
+use Rattle.wire.specs.declared.script_run.ScriptEnd.{ScriptEnd}
+use Rattle.wire.specs.declared.sink.Sink.{Ghosts as SinkGhosts}
+use Rattle.wire.specs.Closing.{LeavesNoSession}
+use Rattle.wire.specs.ScriptRun.{Known}
 use Rattle.databases.specs.declared.database.Opened.{Opened}
 use Rattle.databases.specs.Openings.{IsOpenedOn, device_under}
 use Rattle.databases.specs.Runs.{RunsScriptFrom}

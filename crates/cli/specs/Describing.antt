@@ -5,7 +5,7 @@ use Rattle.sector_device.specs.declared.device.Device.{Ghosts}
 use Rattle.abstract_database.specs.Lists.{TheName}
 use Rattle.stored_database.specs.Definitions.{Definitions}
 use Rattle.description_texts.specs.Descriptions.{HasAskedFor, HasNone, asked_name}
-use Rattle.script_runs.specs.ScriptRun.{Known}
+use Rattle.wire.specs.ScriptRun.{Known}
 use Rattle.systems.specs.Systems.{SystemState}
 use Rattle.cli.specs.declared.fault.CommandFault.{CommandFault}
 use Rattle.cli.specs.Reading.{ReadsFile}

@@ -5,11 +5,11 @@ use Rattle.sector_device.specs.declared.system_cause.SystemCause.TheVariants.{Ot
 use Rattle.sector_device.specs.SystemCause.{cause_text}
 use Rattle.recovery.specs.declared.fault.OpeningFault.{OpeningFault}
 use Rattle.wire.specs.AnswerText.{newline}
-use Rattle.script_runs.specs.declared.run.ScriptEnd.{ScriptEnd}
-use Rattle.script_runs.specs.declared.run.ScriptEnd.TheVariants as end
-use Rattle.script_runs.specs.ScriptRun.{Known}
-use Rattle.connections.specs.declared.listener.Served.{Served}
-use Rattle.connections.specs.declared.listener.Served.TheVariants as served
+use Rattle.wire.specs.declared.script_run.ScriptEnd.{ScriptEnd}
+use Rattle.wire.specs.declared.script_run.ScriptEnd.TheVariants as end
+use Rattle.wire.specs.ScriptRun.{Known}
+use Rattle.wire.specs.declared.listener.Served.{Served}
+use Rattle.wire.specs.declared.listener.Served.TheVariants as served
 use Rattle.cli.specs.declared.fault.CommandFault.{CommandFault}
 use Rattle.cli.specs.declared.fault.CommandFault.TheVariants as command
 use Rattle.cli.specs.Faults.{of_records}

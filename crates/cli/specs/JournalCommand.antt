@@ -2,7 +2,7 @@
 use Rattle.std.specs.Prelude.{◌≡◌, ℕ, Bool, List, codes, Result, Ok, Err}
 use Rattle.std.specs.Borrow.{Bor}
 use Rattle.sector_device.specs.declared.device.Device.{Ghosts}
-use Rattle.script_runs.specs.ScriptRun.{Known}
+use Rattle.wire.specs.ScriptRun.{Known}
 use Rattle.systems.specs.Systems.{SystemState}
 use Rattle.cli.specs.declared.switch_fault.FileSwitchFault.{FileSwitchFault}
 use Rattle.cli.specs.declared.switch_fault.FileSwitchFault.TheVariants as switch

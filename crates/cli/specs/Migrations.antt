@@ -1,7 +1,7 @@
 -- What standard error is told of a file that was migrated as it was opened.
 use Rattle.std.specs.Prelude.{◌≡◌, ◌++◌, ℕ, Bool, true, false, List, codes}
 use Rattle.std.specs.Io.KnownBytes.{Appends}
-use Rattle.script_runs.specs.ScriptRun.{Known}
+use Rattle.wire.specs.ScriptRun.{Known}
 
 -- that a file was migrated
 abbrev pub migration_text : List ℕ → List ℕ

@@ -1,7 +1,7 @@
 -- A text that the program prints.
 use Rattle.std.specs.Prelude.{◌≡◌, ◌⊎◌, ℕ, List}
 use Rattle.std.specs.Io.KnownBytes.{Appends}
-use Rattle.script_runs.specs.ScriptRun.{Known}
+use Rattle.wire.specs.ScriptRun.{Known}
 use Rattle.cli.specs.declared.ending.ProgramFault.TheVariants as fault
 use Rattle.cli.specs.declared.ending.Ending.{Ending}
 use Rattle.cli.specs.declared.ending.Ending.TheVariants as ending

@@ -4,12 +4,12 @@ use Rattle.std.specs.Option.{option_map}
 use Rattle.sql_types.specs.Name.{IsName}
 use Rattle.abstract_database.specs.Lists.{TheName}
 use Rattle.abstract_database.specs.Runs.{ReadingRelation}
-use Rattle.script_runs.specs.declared.sink.Sink.{Ghosts as SinkGhosts}
-use Rattle.script_runs.specs.ScriptRun.{Known}
+use Rattle.wire.specs.declared.sink.Sink.{Ghosts as SinkGhosts}
+use Rattle.wire.specs.ScriptRun.{Known}
 use Rattle.sector_device.specs.declared.device.Device.{Ghosts}
-use Rattle.script_runs.specs.declared.run.ScriptEnd.{ScriptEnd}
-use Rattle.connections.specs.declared.listener.Served.{Served}
-use Rattle.connections.specs.Listening.{Listening}
+use Rattle.wire.specs.declared.script_run.ScriptEnd.{ScriptEnd}
+use Rattle.wire.specs.declared.listener.Served.{Served}
+use Rattle.wire.specs.Listening.{Listening}
 use Rattle.cli.specs.declared.command.Invocation.{Invocation}
 use Rattle.cli.specs.declared.command.Invocation.TheVariants as order
 use Rattle.cli.specs.declared.command.UsageFault.{UsageFault}

@@ -19,12 +19,12 @@ use Rattle.stored_database.specs.Spellings.{Stands}
 use Rattle.server.specs.declared.server.Server.{Server}
 use Rattle.server.specs.Standing.{Represents, at_start, events_of}
 use Rattle.recovery.specs.Openings.{HasLooked, HasOpeningCause, IsOpened, KeepsDatabase, OnlyLooks}
-use Rattle.script_runs.specs.declared.run.ScriptEnd.{ScriptEnd}
-use Rattle.script_runs.specs.Closing.{LeavesNoSession}
-use Rattle.script_runs.specs.declared.run.ScriptEnd.TheVariants as end
-use Rattle.script_runs.specs.declared.sink.Sink.{Ghosts as SinkGhosts}
-use Rattle.script_runs.specs.SessionNames.{Names}
-use Rattle.script_runs.specs.ScriptRun.{Known, Requests, Writes, EndsAfter, IsScriptRun, lines_of}
+use Rattle.wire.specs.declared.script_run.ScriptEnd.{ScriptEnd}
+use Rattle.wire.specs.Closing.{LeavesNoSession}
+use Rattle.wire.specs.declared.script_run.ScriptEnd.TheVariants as end
+use Rattle.wire.specs.declared.sink.Sink.{Ghosts as SinkGhosts}
+use Rattle.wire.specs.SessionNames.{Names}
+use Rattle.wire.specs.ScriptRun.{Known, Requests, Writes, EndsAfter, IsScriptRun, lines_of}
 use Rattle.cli.specs.declared.ending.ProgramFault.TheVariants as fault
 use Rattle.cli.specs.declared.ending.Ending.{Ending}
 use Rattle.cli.specs.declared.ending.Ending.TheVariants as ending

@@ -10,12 +10,12 @@ use crate::journal_command::switch_fault;
 use crate::printing::print_text;
 use crate::switch_fault::FileSwitchFault;
 use crate::switching::switch_journal;
-use script_runs::sink::Sink;
-use script_runs::text_sink::TakesText;
 use sector_device::Device;
 use std::alloc::Global;
 use std::io::Write;
 use systems::System;
+use wire::sink::Sink;
+use wire::text_sink::TakesText;
 
 /// What `copy` prints where it has copied a database.
 const COPIED: &str = "ok COPY\n";

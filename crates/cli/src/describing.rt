@@ -10,12 +10,12 @@ use crate::printing::print_text;
 use crate::reading::read_file;
 use catalogue::definitions::Catalogue;
 use description_texts::description;
-use script_runs::sink::Sink;
-use script_runs::text_sink::TakesText;
 use sector_device::Device;
 use std::alloc::Global;
 use std::io::Write;
 use systems::System;
+use wire::sink::Sink;
+use wire::text_sink::TakesText;
 
 /// Prints the description of the database in a file, or of one of its roles, or tells why not.
 pub(crate) fn describe<Y: System, K: TakesText, E: Write>(

@@ -5,13 +5,13 @@ ghost use Rattle.std.specs.Io.KnownBytes.{Appends};
 ghost use Rattle.cli.specs.Ending.{fault_name, fault_message, reason_text, subject_text, bad_line_message, ending_message, exit_status, ending_of, fault_of, fault_of_command, ending_of_serving, done_message, stopped_message, ExitsAfter, HasTold, OwesNothing};
 
 use crate::fault::CommandFault;
-use connections::listener::Served;
 use recovery::OpeningFault;
-use script_runs::run::ScriptEnd;
 use sector_device::SystemCause;
 use std::error::Error;
 use std::io::Write;
 use std::{fmt, io};
+use wire::listener::Served;
+use wire::script_run::ScriptEnd;
 
 /// Why a script was not run.
 #[derive(Clone, Copy, Debug, PartialEq, Eq)]

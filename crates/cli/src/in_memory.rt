@@ -6,15 +6,15 @@ ghost use Rattle.cli.specs.Program.{IsPerformed};
 use crate::command::Invocation;
 use crate::ending::Exit;
 use crate::program::perform;
-use connections::frame_sink::FrameSink;
-use connections::listen::Listen;
-use script_runs::sink::Sink;
-use script_runs::text_sink::TakesText;
 use sector_device::{Device, HistoryDevice, WriteProtected};
 use server::decide::EventHandler;
 use std::alloc::Global;
 use std::io::Write;
 use systems::{MemListener, MemSystem};
+use wire::frame_sink::FrameSink;
+use wire::listen::Listen;
+use wire::sink::Sink;
+use wire::text_sink::TakesText;
 
 /// Does what an order asks for over a system in memory, as `perform` does. That system is faithful,
 /// so what `perform` promises of a faithful system is promised here with no premise.

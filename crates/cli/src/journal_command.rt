@@ -7,12 +7,12 @@ use crate::ending::{Ending, Exit, ProgramFault, Subject, exit_with};
 use crate::printing::print_text;
 use crate::switch_fault::FileSwitchFault;
 use crate::switching::switch_journal;
-use script_runs::sink::Sink;
-use script_runs::text_sink::TakesText;
 use sector_device::Device;
 use std::alloc::Global;
 use std::io::Write;
 use systems::System;
+use wire::sink::Sink;
+use wire::text_sink::TakesText;
 
 /// What `journal` prints where it has turned a journal on or off, or found it so.
 const SWITCHED: &str = "ok JOURNAL\n";

@@ -5,10 +5,10 @@ ghost use Rattle.std.specs.Io.KnownBytes.{Appends};
 ghost use Rattle.cli.specs.Printing.{IsPrinted, Prints};
 
 use crate::ending::{Ending, Exit, ProgramFault, Subject, exit_with};
-use script_runs::sink::Sink;
-use script_runs::text_sink::TakesText;
 use std::io;
 use std::io::Write;
+use wire::sink::Sink;
+use wire::text_sink::TakesText;
 
 /// Writes a text to `out`, and tells where it is not taken.
 pub(crate) fn print_for<K: TakesText, E: Write>(text: &str, out: &mut K, err: &mut E) -> Exit

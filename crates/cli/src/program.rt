@@ -17,10 +17,6 @@ use crate::runs::{run_over_file, run_read_in_memory};
 use crate::serve::{Limits, serve_file};
 use crate::texts::{HELP, VERSION};
 use crate::usage::report_usage;
-use connections::listen::Listen;
-use connections::listener::Served;
-use script_runs::sink::Sink;
-use script_runs::text_sink::TakesText;
 use sector_device::Device;
 use server::decide::EventHandler;
 use sql_types::name::Name;
@@ -28,6 +24,10 @@ use std::alloc::Global;
 use std::io::Write;
 use std::time::Duration;
 use systems::{ListenPlace, System};
+use wire::listen::Listen;
+use wire::listener::Served;
+use wire::sink::Sink;
+use wire::text_sink::TakesText;
 
 /// What `format` prints where it has made a database.
 const FORMATTED: &str = "ok FORMAT\n";

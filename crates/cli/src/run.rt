@@ -4,12 +4,12 @@ ghost use Rattle.cli.specs.Commands.{ChecksFile, RunsFile};
 
 use crate::opened::{CommandEnd, open_database_in, tell_migration};
 use databases::run_script_on;
-use script_runs::run::ScriptEnd;
-use script_runs::text_sink::TakesText;
 use server::decide::EventHandler;
 use std::alloc::Global;
 use std::io::Write;
 use systems::System;
+use wire::script_run::ScriptEnd;
+use wire::text_sink::TakesText;
 
 /// Checks the database in the file at `path`, with all of its definitions and all of its rows. No
 /// event is decided, and nothing is written of a file of format 2. The file is closed then.

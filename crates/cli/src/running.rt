@@ -7,13 +7,13 @@ ghost use Rattle.cli.specs.Running.{RunsOver, RunsOverNew};
 
 use crate::ending::{Ending, ProgramFault};
 use recovery::open;
-use script_runs::run::run_script;
-use script_runs::text_sink::TakesText;
 use server::decide::EventHandler;
 use sql_types::name::Name;
 use std::alloc::Global;
 use store::{MemStore, Store};
 use stored_database::{new_records_stand_for_a_new_database, one_database};
+use wire::script_run::run_script;
+use wire::text_sink::TakesText;
 
 /// How the run of a script ended, and the store after it.
 #[derive(Drop)]

@@ -12,9 +12,6 @@ use crate::run::run_file;
 use crate::running::run_in_memory;
 use crate::script::{not_utf8, read_by, read_script};
 use crate::usage::report_usage;
-use script_runs::run::ScriptEnd;
-use script_runs::sink::Sink;
-use script_runs::text_sink::TakesText;
 use sector_device::Device;
 use server::decide::EventHandler;
 use sql_types::name::Name;
@@ -23,6 +20,9 @@ use std::io;
 use std::io::Write;
 use std::str::from_utf8;
 use systems::System;
+use wire::script_run::ScriptEnd;
+use wire::sink::Sink;
+use wire::text_sink::TakesText;
 
 /// Reads a script and runs it over the database in a file.
 pub(crate) fn run_over_file<Y: System, X: EventHandler + Drop, K: TakesText, E: Write>(

@@ -6,11 +6,8 @@ ghost use Rattle.cli.specs.Serving.{ServesFile, ServesAt, ServesOn, listening_te
 
 use crate::fault::CommandFault;
 use crate::opened::{CommandEnd, open_database_in, tell_migration};
-use connections::listen::Listen;
-use connections::listener::Served;
 use databases::serve_database;
 use journal_store::{DeviceStore, JournalDevice};
-use script_runs::sink::Sink;
 use sector_device::Device;
 use server::decide::EventHandler;
 use server::server::Server;
@@ -19,6 +16,9 @@ use std::io;
 use std::io::Write;
 use std::time::Duration;
 use systems::{ListenPlace, System};
+use wire::listen::Listen;
+use wire::listener::Served;
+use wire::sink::Sink;
 
 /// How much a server serves.
 #[derive(Clone, Copy)]

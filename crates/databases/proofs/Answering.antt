@@ -10,17 +10,17 @@ use Rattle.server.specs.Standing.{Represents}
 use Rattle.databases.specs.Lives.{StepsAt, RunsAt}
 use Rattle.databases.proofs.Living.{steps_more, steps_run, steps_sound}
 use Rattle.databases.proofs.Joining.{runs_at, runs_joined, runs_none}
-use Rattle.script_runs.specs.declared.run.ScriptEnd.{ScriptEnd}
-use Rattle.script_runs.specs.declared.run.ScriptEnd.TheVariants as script
-use Rattle.script_runs.specs.declared.sink.Sink.{Ghosts}
-use Rattle.script_runs.specs.Closing.{closing_events, closed_answers, StandsWithinLimit, Closes, LeavesNoSession}
-use Rattle.script_runs.specs.Telling.{Told, answers_of, TellsAll, TellsEach, TellsSome}
-use Rattle.script_runs.specs.ScriptRun.{IsScriptRun, TellsTo}
-use Rattle.connections.specs.declared.connection.End.{End}
-use Rattle.connections.specs.declared.connection.End.TheVariants as connection
-use Rattle.connections.specs.Connection.{AnswersUntaken, InputState, IsServed, IsConnection}
-use Rattle.connections.specs.Listening.{Listening}
-use Rattle.connections.specs.Listener.{Connection, ServesEach}
+use Rattle.wire.specs.declared.script_run.ScriptEnd.{ScriptEnd}
+use Rattle.wire.specs.declared.script_run.ScriptEnd.TheVariants as script
+use Rattle.wire.specs.declared.sink.Sink.{Ghosts}
+use Rattle.wire.specs.Closing.{closing_events, closed_answers, StandsWithinLimit, Closes, LeavesNoSession}
+use Rattle.wire.specs.Telling.{Told, answers_of, TellsAll, TellsEach, TellsSome}
+use Rattle.wire.specs.ScriptRun.{IsScriptRun, TellsTo}
+use Rattle.wire.specs.declared.connection.End.{End}
+use Rattle.wire.specs.declared.connection.End.TheVariants as connection
+use Rattle.wire.specs.Connection.{AnswersUntaken, InputState, IsServed, IsConnection}
+use Rattle.wire.specs.Listening.{Listening}
+use Rattle.wire.specs.Listener.{Connection, ServesEach}
 use Rattle.databases.specs.Answered.{Answered, nothing_answered, and_then, moments_of, each_told, some_told, closing_of, closed_of, ClosesAll, of_lines, IsOfScript, of_untaken, of_bytes, IsOfConnection, IsOfEach}
 
 module _ {S X : Type 0} (Reads : ReadingRelation) (state : S → StoreState) where

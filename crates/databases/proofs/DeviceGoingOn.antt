@@ -4,7 +4,7 @@ use Rattle.sector_device.specs.Device.{DeviceState, IsLeft}
 use Rattle.sector_device.specs.declared.device.Device.{Ghosts}
 use Rattle.store.specs.Store.{Contents}
 use Rattle.abstract_database.specs.Runs.{ReadingRelation, Standing}
-use Rattle.script_runs.specs.declared.sink.Sink.{Ghosts as SinkGhosts}
+use Rattle.wire.specs.declared.sink.Sink.{Ghosts as SinkGhosts}
 use Rattle.databases.specs.Lives.{IsFoundLeft, LeavesFound, IsNoLife}
 use Rattle.databases.specs.Stopping.{is_left_by, IsWithin}
 use Rattle.databases.proofs.GoingOn.{none_at, stopped_at}

@@ -20,12 +20,12 @@ use Rattle.recovery.specs.Openings.{IsNumberAfter}
 use Rattle.databases.specs.Lives.{IsFoundLeft, LeavesFound, IsLife, EndsAt}
 use Rattle.databases.specs.OnDevice.{IsNumberOf, AreCountedOn}
 use Rattle.databases.proofs.Histories.{one_meaning}
-use Rattle.script_runs.specs.declared.run.ScriptEnd.{ScriptEnd}
-use Rattle.script_runs.specs.declared.sink.Sink.{Ghosts as SinkGhosts}
-use Rattle.script_runs.specs.Closing.{StandsWithinLimit}
-use Rattle.script_runs.specs.ScriptRun.{IsScriptRun}
-use Rattle.connections.specs.Listening.{Listening}
-use Rattle.connections.specs.Listener.{Connection, ServesEach}
+use Rattle.wire.specs.declared.script_run.ScriptEnd.{ScriptEnd}
+use Rattle.wire.specs.declared.sink.Sink.{Ghosts as SinkGhosts}
+use Rattle.wire.specs.Closing.{StandsWithinLimit}
+use Rattle.wire.specs.ScriptRun.{IsScriptRun}
+use Rattle.wire.specs.Listening.{Listening}
+use Rattle.wire.specs.Listener.{Connection, ServesEach}
 use Rattle.databases.proofs.Living.{ends_at, leaves_found, until_first}
 use Rattle.databases.specs.declared.database.Opened.{Opened}
 use Rattle.databases.specs.Answered.{Answered, IsLived, IsOfEach, IsOfScript, LivesFrom}

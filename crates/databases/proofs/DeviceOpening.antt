@@ -27,7 +27,7 @@ use Rattle.server.specs.Standing.{Stands, Means, at_start}
 use Rattle.recovery.specs.declared.fault.OpeningFault.{OpeningFault}
 use Rattle.recovery.specs.declared.fault.OpeningFault.TheVariants.{Read, Commit}
 use Rattle.recovery.specs.Openings.{IsOpened as IsServerOpened, IsNumberAfter, HasOpeningCause, KeepsDatabase, OnlyLooks, failed_after_opening}
-use Rattle.script_runs.specs.Closing.{StandsWithinLimit}
+use Rattle.wire.specs.Closing.{StandsWithinLimit}
 use Rattle.databases.specs.declared.database.Opened.{Opened}
 use Rattle.databases.specs.OnDevice.{IsOfDevice}
 use Rattle.databases.proofs.Opening.{device_of_pages, failed_for, leaves_database, reading_leaves}

@@ -8,16 +8,16 @@ use Rattle.store.specs.Store.{StoreState}
 use Rattle.journal_store.specs.DeviceStores.{store_state}
 use Rattle.abstract_database.specs.Runs.{ReadingRelation}
 use Rattle.server.specs.declared.server.Server.{Server}
-use Rattle.script_runs.specs.declared.run.ScriptEnd.{ScriptEnd}
-use Rattle.script_runs.specs.declared.run.ScriptEnd.TheVariants as script
-use Rattle.script_runs.specs.declared.sink.Sink.{Ghosts as SinkGhosts}
-use Rattle.script_runs.specs.Telling.{Told}
-use Rattle.script_runs.specs.ScriptRun.{TellsTo}
-use Rattle.connections.specs.declared.connection.End.{End}
-use Rattle.connections.specs.declared.connection.End.TheVariants as connection
-use Rattle.connections.specs.Connection.{AnswersUntaken, InputState, IsServed}
-use Rattle.connections.specs.Listening.{Listening}
-use Rattle.connections.specs.Listener.{Connection, ServesEach}
+use Rattle.wire.specs.declared.script_run.ScriptEnd.{ScriptEnd}
+use Rattle.wire.specs.declared.script_run.ScriptEnd.TheVariants as script
+use Rattle.wire.specs.declared.sink.Sink.{Ghosts as SinkGhosts}
+use Rattle.wire.specs.Telling.{Told}
+use Rattle.wire.specs.ScriptRun.{TellsTo}
+use Rattle.wire.specs.declared.connection.End.{End}
+use Rattle.wire.specs.declared.connection.End.TheVariants as connection
+use Rattle.wire.specs.Connection.{AnswersUntaken, InputState, IsServed}
+use Rattle.wire.specs.Listening.{Listening}
+use Rattle.wire.specs.Listener.{Connection, ServesEach}
 use Rattle.databases.specs.Answered.{Answered, moments_of, of_lines, of_untaken, of_bytes, IsOfEach}
 use Rattle.databases.specs.DeviceFollowing.{Did, ran_script, served_connections, opened_none, IsAnsweredIn}
 use Rattle.databases.specs.Told.{told_in_lines, told_of_untaken, told_in_bytes, IsToldInEach, IsTold}

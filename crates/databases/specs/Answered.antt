@@ -12,18 +12,18 @@ use Rattle.abstract_database.specs.Runs.{ReadingRelation, Standing}
 use Rattle.server.specs.declared.server.Server.{Server}
 use Rattle.databases.specs.Lives.{LeavesFound}
 use Rattle.databases.specs.OnDevice.{records_on, IsLifeOn}
-use Rattle.script_runs.specs.declared.run.ScriptEnd.{ScriptEnd}
-use Rattle.script_runs.specs.declared.run.ScriptEnd.TheVariants as script
-use Rattle.script_runs.specs.declared.sink.Sink.{Ghosts as SinkGhosts}
-use Rattle.script_runs.specs.Closing.{Sessions, closing_events, closed_answers}
-use Rattle.script_runs.specs.Telling.{Told, answers_of, TellsEach, TellsSome}
-use Rattle.script_runs.specs.ScriptRun.{IsScriptRun, TellsTo}
-use Rattle.connections.specs.declared.connection.End.{End}
-use Rattle.connections.specs.declared.connection.End.TheVariants as connection
-use Rattle.connections.specs.declared.listener.Served.{Served}
-use Rattle.connections.specs.Connection.{AnswersUntaken, InputState, IsServed, IsConnection}
-use Rattle.connections.specs.Listening.{Listening}
-use Rattle.connections.specs.Listener.{Connection, ServesEach, ServesAtMost}
+use Rattle.wire.specs.declared.script_run.ScriptEnd.{ScriptEnd}
+use Rattle.wire.specs.declared.script_run.ScriptEnd.TheVariants as script
+use Rattle.wire.specs.declared.sink.Sink.{Ghosts as SinkGhosts}
+use Rattle.wire.specs.Closing.{Sessions, closing_events, closed_answers}
+use Rattle.wire.specs.Telling.{Told, answers_of, TellsEach, TellsSome}
+use Rattle.wire.specs.ScriptRun.{IsScriptRun, TellsTo}
+use Rattle.wire.specs.declared.connection.End.{End}
+use Rattle.wire.specs.declared.connection.End.TheVariants as connection
+use Rattle.wire.specs.declared.listener.Served.{Served}
+use Rattle.wire.specs.Connection.{AnswersUntaken, InputState, IsServed, IsConnection}
+use Rattle.wire.specs.Listening.{Listening}
+use Rattle.wire.specs.Listener.{Connection, ServesEach, ServesAtMost}
 use Rattle.databases.specs.declared.database.Opened.{Opened}
 use Rattle.databases.specs.Openings.{IsOpenedOn}
 

@@ -7,10 +7,10 @@ use Rattle.abstract_database.specs.Runs.{ReadingRelation, Standing}
 use Rattle.databases.specs.Lives.{IsNoLife}
 use Rattle.databases.specs.OnDevice.{records_on}
 use Rattle.databases.specs.Stopping.{is_left_by, IsWithin, StopsAt}
-use Rattle.script_runs.specs.declared.run.ScriptEnd.{ScriptEnd}
-use Rattle.script_runs.specs.declared.sink.Sink.{Ghosts as SinkGhosts}
-use Rattle.connections.specs.declared.listener.Served.{Served}
-use Rattle.connections.specs.Listening.{Listening}
+use Rattle.wire.specs.declared.script_run.ScriptEnd.{ScriptEnd}
+use Rattle.wire.specs.declared.sink.Sink.{Ghosts as SinkGhosts}
+use Rattle.wire.specs.declared.listener.Served.{Served}
+use Rattle.wire.specs.Listening.{Listening}
 use Rattle.databases.specs.declared.database.Opened.{Opened}
 use Rattle.databases.specs.declared.fault.DatabaseFault.{DatabaseFault}
 use Rattle.databases.specs.Openings.{IsOpenedOn, IsRefused}

@@ -6,15 +6,15 @@ use Rattle.journal_store.specs.declared.device_stores.DeviceStore.{DeviceStore}
 use Rattle.journal_store.specs.DeviceStores.{store_state}
 use Rattle.abstract_database.specs.Runs.{ReadingRelation}
 use Rattle.server.specs.declared.server.Server.{Server}
-use Rattle.script_runs.specs.declared.run.ScriptEnd.{ScriptEnd}
-use Rattle.script_runs.specs.Closing.{StandsWithinLimit, LeavesNoSession}
-use Rattle.script_runs.specs.declared.sink.Sink.{Ghosts as SinkGhosts}
-use Rattle.script_runs.specs.ScriptRun.{IsScriptRun, lines_of}
-use Rattle.connections.specs.declared.listener.Served.{Served}
-use Rattle.connections.specs.declared.listener.Served.TheVariants.{Stopped}
-use Rattle.connections.specs.Connection.{HasRun}
-use Rattle.connections.specs.Listening.{Listening}
-use Rattle.connections.specs.Listener.{ServesAtMost}
+use Rattle.wire.specs.declared.script_run.ScriptEnd.{ScriptEnd}
+use Rattle.wire.specs.Closing.{StandsWithinLimit, LeavesNoSession}
+use Rattle.wire.specs.declared.sink.Sink.{Ghosts as SinkGhosts}
+use Rattle.wire.specs.ScriptRun.{IsScriptRun, lines_of}
+use Rattle.wire.specs.declared.listener.Served.{Served}
+use Rattle.wire.specs.declared.listener.Served.TheVariants.{Stopped}
+use Rattle.wire.specs.Connection.{HasRun}
+use Rattle.wire.specs.Listening.{Listening}
+use Rattle.wire.specs.Listener.{ServesAtMost}
 use Rattle.databases.specs.Answered.{IsOfListener, IsOfScript, LivesFrom}
 use Rattle.databases.specs.Openings.{device_under}
 

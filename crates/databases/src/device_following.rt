@@ -5,7 +5,7 @@ ghost use Rattle.sector_device.specs.Device.{Image, IsLeft};
 ghost use Rattle.sector_device.specs.History.{MayLeave};
 ghost use Rattle.sector_device.specs.HistoryDevice.{calls_of, history_device_state};
 ghost use Rattle.store.specs.Store.{Contents};
-ghost use Rattle.script_runs.specs.Telling.{Told};
+ghost use Rattle.wire.specs.Telling.{Told};
 ghost use Rattle.abstract_database.specs.Runs.{Standing};
 ghost use Rattle.databases.specs.Lives.{LeavesFound};
 ghost use Rattle.databases.specs.OnDevice.{records_on};
@@ -14,10 +14,10 @@ ghost use Rattle.databases.specs.Answered.{Answered, IsLived};
 ghost use Rattle.databases.specs.DeviceFollowing.{Run, AreStopped, GoOn, IsAnsweredIn};
 ghost use Rattle.databases.specs.Told.{IsTold};
 
-use connections::listen::Listen;
-use script_runs::text_sink::TakesText;
 use sector_device::{Device, HistoryDevice};
 use server::decide::EventHandler;
+use wire::listen::Listen;
+use wire::text_sink::TakesText;
 
 /// Scripts that are run and connections that are served over the databases of devices are lives that
 /// follow each other without end, in any order, and so are openings that migrate or are refused. A

@@ -2,16 +2,16 @@
 
 ghost use Rattle.databases.specs.Runs.{RunsScriptFrom, ServesFrom};
 
-use connections::listen::Listen;
-use connections::listener::{Served, serve_listener};
 use journal_store::{DeviceStore, JournalDevice};
-use script_runs::run::{ScriptEnd, run_script};
-use script_runs::text_sink::TakesText;
 use sector_device::Device;
 use server::decide::EventHandler;
 use server::server::Server;
 use std::alloc::Global;
 use stored_database::one_database;
+use wire::listen::Listen;
+use wire::listener::{Served, serve_listener};
+use wire::script_run::{ScriptEnd, run_script};
+use wire::text_sink::TakesText;
 
 /// Runs a script over a database that was opened on a device: each answer is told once its event is
 /// carried out, before the next line is read. However the script ends, the sessions that are still open are then closed,

@@ -7,13 +7,13 @@ use cli::program::perform;
 use cli::runs::run_for;
 use cli::usage::{report_fault, report_usage, words_fault};
 use real_system::{NULL_DEVICE, RealSystem};
-use script_runs::text_sink::TextSink;
 use sessions::SessionHandler;
 use statements::Statements;
 use std::alloc::Global;
 use std::io::{BufWriter, LineWriter, Read};
 use std::process::ExitCode;
 use std::{env, io};
+use wire::text_sink::TextSink;
 
 /// The administrator of the database that a script on standard input runs over.
 const ADMIN: &str = "root";

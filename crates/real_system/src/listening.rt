@@ -5,7 +5,6 @@ ghost use Rattle.systems.specs.Places.{the_place, IsOfKind};
 
 use crate::socket::bind_socket;
 use crate::streams::SystemStream;
-use connections::system_listener::Accept;
 use std::fs::File;
 use std::io;
 use std::net::{Ipv4Addr, Net, SocketAddr, TcpListener, TcpStream};
@@ -13,6 +12,7 @@ use std::os::unix::net::UnixListener;
 use std::rt::Files;
 use std::time::Duration;
 use systems::ListenPlace;
+use wire::system_listener::Accept;
 
 /// A port of 127.0.0.1, or a socket that has a name among the files of this machine.
 #[derive(Drop)]

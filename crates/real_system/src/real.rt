@@ -6,15 +6,15 @@ use crate::new_files::{is_there, make_file, rename_new};
 use crate::progress::PrintedProgress;
 use crate::socket::{FileId, file_at, remove_made};
 use crate::streams::StandardStreams;
-use connections::system_listener::SystemListener;
 use sector_device::{FileDevice, FileFault, SystemCause, SystemFile, WriteProtected};
 use std::alloc::Global;
-use std::fs::{self, File};
-use std::io;
+use std::fs::File;
 use std::net::{Net, TcpListener, TcpStream};
 use std::rt::Files;
 use std::time::{Clock, Duration};
+use std::{fs, io};
 use systems::{Access, ListenPlace, OpenPathFault, System, TextFault};
+use wire::system_listener::SystemListener;
 
 /// The files, the ports and the sockets of a machine. No contract can know what they do, so none
 /// promises anything here: `faithful` is met by no system of a machine. That this one does what

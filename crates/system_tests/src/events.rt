@@ -1,10 +1,10 @@
 //! The events that scripts request.
 
-use script_runs::line::{Line, read_line};
 use sql_types::event::Event;
 use sql_types::text::Text;
 use std::alloc::{AllocError, Global};
 use std::io;
+use wire::script_line::{Line, read_line};
 
 /// The events that the lines of a script request, all of which are valid. Its sessions have the numbers 1, 2 and so on, in the
 /// order in which they are named.

@@ -4,13 +4,13 @@
 use crate::frames::{bytes_of, text_of_frames};
 use crate::servers::serve_over;
 use crate::stores::{StoreKind, new_in_memory, new_in_pages};
-use connections::listen::Listen;
-use connections::listener::Served;
-use connections::system_listener::SystemListener;
 use std::alloc::Global;
 use std::io;
 use std::io::{Read, Write};
 use std::net::{Ipv4Addr, Shutdown, SocketAddr, TcpListener, TcpStream};
+use wire::listen::Listen;
+use wire::listener::Served;
+use wire::system_listener::SystemListener;
 
 /// What a client is sent back, as text, that sends the bytes of each line and then no more to a listener with a server over a new
 /// database. Where the listener did not serve the one connection, that is told in a last line.

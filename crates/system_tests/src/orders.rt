@@ -3,12 +3,12 @@
 use cli::command::Invocation;
 use cli::program::perform;
 use real_system::RealSystem;
-use script_runs::text_sink::TextSink;
 use sessions::SessionHandler;
 use statements::Statements;
 use std::alloc::{AllocError, Global};
 use std::io;
 use std::io::Write;
+use wire::text_sink::TextSink;
 
 /// What the program prints for an order: first on standard output, then the exit status, then on standard error.
 pub fn printed_for_order(

@@ -2,8 +2,6 @@
 //! without a server's.
 
 use crate::answers::text_of_answers;
-use connections::listen::Listen;
-use connections::listener::{Served, serve_listener};
 use recovery::{OpeningFault, Refused, open};
 use server::server::Server;
 use sessions::SessionHandler;
@@ -12,6 +10,8 @@ use statements::Statements;
 use std::alloc::Global;
 use std::io;
 use store::Store;
+use wire::listen::Listen;
+use wire::listener::{Served, serve_listener};
 
 /// A server over a store.
 pub type ServerOver<S> = Server<S, SessionHandler<Statements>>;

@@ -5,7 +5,6 @@ use cli::running::run_script_over;
 use cli::runs::run_for;
 use cow_pages::page_count;
 use kv_store::PageStore;
-use script_runs::text_sink::TextSink;
 use sector_device::{Device, MemDevice};
 use sessions::SessionHandler;
 use sql_types::name::Name;
@@ -14,6 +13,7 @@ use std::alloc::Global;
 use std::io;
 use std::io::Write;
 use store::{Entry, MemStore, Store};
+use wire::text_sink::TextSink;
 
 /// The name of the superuser of each new database.
 pub const ADMIN: &str = "root";

@@ -2,9 +2,9 @@
 use Rattle.std.specs.Prelude.{ℕ, List, [], ◌∷◌, ◌++◌, Option, Some, None}
 use Rattle.std.specs.declared.alloc.Global.{Global}
 use Rattle.std.specs.declared.vec.Vec.{Vec}
-use Rattle.connections.specs.Answers.{Known}
-use Rattle.connections.specs.Listening.{Line, line_of}
-use Rattle.connections.specs.declared.frame_sink.FrameSink.{FrameSink}
+use Rattle.wire.specs.Answers.{Known}
+use Rattle.wire.specs.Listening.{Line, line_of}
+use Rattle.wire.specs.declared.frame_sink.FrameSink.{FrameSink}
 use Rattle.systems.specs.declared.listener.Clients.{Clients}
 use Rattle.systems.specs.declared.listener.Clients.TheVariants as clients
 use Rattle.systems.specs.declared.listener.MemReader.{MemReader}

@@ -2,16 +2,16 @@
 
 ghost use Rattle.std.specs.Prelude.{◌≡◌, [], Some, IfOk};
 ghost use Rattle.systems.specs.Clients.{coming_lines, closed_lines};
-ghost use Rattle.connections.specs.Listening.{Listening};
+ghost use Rattle.wire.specs.Listening.{Listening};
 
-use connections::frame_sink::FrameSink;
-use connections::listen::Listen;
-use script_runs::sink::Sink;
 use std::alloc::{AllocError, Global};
 use std::collections::VecDeque;
 use std::io::ErrorKind;
 use std::{io, mem};
+use wire::frame_sink::FrameSink;
 use wire::input::{CountedReader, Input};
+use wire::listen::Listen;
+use wire::sink::Sink;
 
 /// The connections that were closed, the last of them first: what each has left to read, and what
 /// it was told.

@@ -7,12 +7,12 @@ ghost use Rattle.systems.specs.Systems.{At, Absent, SystemState, HasDevice, IsHe
 use crate::access::Access;
 use crate::fault::{OpenPathFault, TextFault};
 use crate::place::ListenPlace;
-use connections::listen::Listen;
 use journal_store::JournalDevice;
 use sector_device::{CopyProgress, Device, FileFault, SystemCause};
 use std::alloc::Global;
 use std::time::Duration;
 use storage_sizes::{MAX_PAGES, SECTORS_PER_PAGE};
+use wire::listen::Listen;
 
 /// What names the devices, the texts and the listeners of a program.
 ///

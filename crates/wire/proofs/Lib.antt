@@ -1,4 +1,4 @@
-pub mod Numbers
+pub mod FrameNumbers
 pub mod Counting
 pub mod NextFrames
 pub mod Streams
@@ -6,3 +6,15 @@ pub mod EventFrames
 pub mod FramesBack
 pub mod AnswerFrames
 pub mod Sinks
+pub mod Lines
+pub mod Names
+pub mod Told
+pub mod Running
+pub mod Closings
+pub mod Limits
+pub mod Readings
+pub mod Answered
+pub mod Serving
+pub mod Connecting
+pub mod Listening
+mod Recorded

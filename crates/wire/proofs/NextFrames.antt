@@ -5,7 +5,7 @@ use Rattle.std.proofs.lemmas.Bool.{cases_lt, cases_Bool}
 use Rattle.std.proofs.lemmas.Bool.Decides.{nat_tests}
 use Rattle.std.proofs.lemmas.List.{take-append-le, drop-append-le, get_or_append_left, length-append, length-drop}
 use Rattle.std.specs.Int.{w32, from_be_bytes}
-use Rattle.wire.proofs.Numbers.{number_append}
+use Rattle.wire.proofs.FrameNumbers.{number_append}
 use Rattle.sql_types.specs.declared.event.Event.{Event}
 use Rattle.sql_types.specs.declared.event.Event.TheVariants.{Open, Statement, Close}
 use Rattle.wire.specs.Frame.{NextFrame, incomplete, bad, whole, whole_if, is_length, next_frame, frame_of_kind}

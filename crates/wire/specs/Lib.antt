@@ -5,3 +5,13 @@ pub mod AnswerFrames
 pub mod AnswerText
 pub mod Sinks
 pub mod Counts
+pub mod ScriptLine
+pub mod SessionNames
+pub mod Closing
+pub mod Telling
+pub mod ScriptRun
+pub mod Answers
+pub mod Connection
+pub mod Listening
+pub mod Listener
+pub mod Numbers

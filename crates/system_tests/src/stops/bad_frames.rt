@@ -6,11 +6,11 @@ use crate::stops::kinds::Kind;
 use crate::stops::places::PlaceStep;
 use crate::stops::tallies::Tests;
 use crate::stores::new_in_memory;
-use connections::connection::{End, serve_connection};
-use connections::frame_sink::FrameSink;
 use std::alloc::Global;
 use std::io;
 use std::io::Read;
+use wire::connection::{End, serve_connection};
+use wire::frame_sink::FrameSink;
 use wire::input::CountedReader;
 
 /// A length past the longest, a kind that there is not, a close with a byte too many, and a login that is not UTF-8.

@@ -1,6 +1,6 @@
 use Rattle.std.proofs.Common.{◌∙◌, ap, sym, subst}
 use Rattle.journal_store.specs.DeviceStores.{device_of, store_state}
-use Rattle.script_runs.specs.ScriptRun.{lines_of}
+use Rattle.wire.specs.ScriptRun.{lines_of}
 use Rattle.databases.specs.Answered.{IsOfScript, LivesFrom}
 use Rattle.databases.proofs.DeviceLiving.{script_life}
 use Rattle.databases.proofs.runs.run_script_on.Goals as goal

@@ -1,5 +1,0 @@
-pub mod Answers
-pub mod Connection
-pub mod Listening
-pub mod Listener
-pub mod Numbers
