@@ -182,10 +182,10 @@ module _ (users : UserNames) (tables : List Source) (conditions : List TypedTerm
       (subst (λ (g : Formulas). GuardNeverFails (row_guard users g.existing)) (sym is.guard) infallible)
 
   rest_infallible : (index : ℕ) (sources : List Source) (targets : List Target) (lists : List (List Row)) → AreOver index sources targets → AreSourcesInfallible users sources → AreGuardsInfallible (sources_of targets lists)
-  rest_infallible index sources [] lists an infallible = tt
-  rest_infallible index [] (t ∷ targets) lists an infallible = absurd a
-  rest_infallible index (s ∷ sources) (t ∷ targets) [] an infallible = tt
-  rest_infallible index (s ∷ sources) (t ∷ targets) (rows ∷ more) an infallible = (sees_infallible s t a.0 infallible.0, rest_infallible (index + 1) sources targets more a.2 infallible.1)
+  rest_infallible index sources [] lists a infallible = tt
+  rest_infallible index [] (t ∷ targets) lists a infallible = absurd a
+  rest_infallible index (s ∷ sources) (t ∷ targets) [] a infallible = tt
+  rest_infallible index (s ∷ sources) (t ∷ targets) (rows ∷ more) a infallible = (sees_infallible s t a.0 infallible.0, rest_infallible (index + 1) sources targets more a.2 infallible.1)
 
   one_more_infallible : (before : List QuerySource) (x : QuerySource) → AreGuardsInfallible before → GuardNeverFails x.guard → AreGuardsInfallible (before ++ x ∷ [])
   one_more_infallible [] x all infallible = (infallible, tt)
