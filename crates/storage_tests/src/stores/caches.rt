@@ -22,7 +22,7 @@ impl Callee for PageCache {
                 fill(call.alloc, call.second, &mut bytes)?;
                 self.put(page, &bytes);
             }
-            "forget" => self.forget(page),
+            "forget" => self.invalidate(page),
             "get" => answer_held(self, call, out),
             _ => bail!("no call of a cache"),
         }
