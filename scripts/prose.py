@@ -10,8 +10,7 @@ A line for each, with its file and line:
 - a line of over 300 columns outside tables;
 - the first command of the README.md at the top, where over 25 lines come before it;
 - a README.md of a crate that has over 40 lines, and a crate without one;
-- a name of the table RETIRED below, which the code has no more;
-- a word of the table INVENTED below, unless it stands in backticks or as the name of a crate in a link. There it is the code's.
+- a name of the table RETIRED below, which the code has no more.
 
 Nothing within ``` is looked at. The last line is a count; the status is 1 where something was listed.
 """
@@ -34,17 +33,24 @@ RETIRED = {
     'tightness': 'precedence', 'draft': 'scratch', 'memory_trials': 'memory_tests', r'(?:image|array|store)_trials': 'storage_tests',
     r'grammar_tests|row_trials': 'statement_tests', r'(?:catalogue|definition)_trials|definition_tests': 'statement_tests',
     'feed_trials': 'feed_tests',
-}
-# Words of this project's own, for which the field has better ones.
-INVENTED = {
-    r'deeds?': 'action', r'deciders?': 'event handler', r'gather(?:ing|ed|s)?': 'output of a SELECT', r'readings': 'what texts are parsed as',
-    r'strays?': 'orphan record', r'quiet': 'infallible', r'write slot': 'writer lock', r'trials?': 'test', r'want of memory': 'refused memory',
-    r'stored database': 'record encoding', r'seen statements?': 'visibility', r'row outcomes?': 'effect',
+    # words of the code that were renamed
+    r'deeds?|deed_for': 'decision', r'deciders?': 'event handler', 'write slot': 'writer lock', 'askers?': 'requester',
+    r'strays|stray (?:records?|rows?)|straytest|strayrowtest|no_stray\w*': 'orphan',
+    r'quiet (?:conditions?|guards?|expressions?)|are_quiet|is_guard_quiet': 'infallible',
+    r'(?:first|second) spellings?|spellings? of (?:the )?records': 'record format',
+    'foundrows': 'collected rows', 'listedrows': 'unsorted rows', 'keyedrows': 'sorted rows', 'keptrows': 'top rows',
+    'besidedevice|write_beside': 'write_protected', 'copywatch|watch_copy': 'CopyProgress', 'regranted|regranting': 'descriptor edit',
+    'agreefor': 'SameVisibleRows', 'lookalike': 'SameApparentRows', 'allalike': 'SameApparentRowsForLogin',
+    'seealike': 'MachinesAlikeForStatement', 'isalikefor': 'MachinesAlikeForSession',
+    # crates that are part of another one; some of the names are files in it, and plain words where no backticks are around them
+    'journal_chain|journal_records|sector_journal': 'journal', 'device_store|journal_switches': 'journal_store',
+    r'(?:role|table)_statements(?!\.rt)|(?:policy|privilege)_statements': 'schema_statements',
+    'session_server|file_commands': 'cli', 'device_databases|`lives`': 'databases', '`opening`|`migration`': 'recovery',
+    'catalogue_records|catalogue_checks|stored_rows': 'catalogue_loading',
+    r'(?:device|database)_copies(?!\.rt)|`copying`': 'copies', 'script_runs|`connections`': 'wire',
 }
 
 CODE = re.compile(r'(`+)(.+?)\1', re.S)
-NAMED = re.compile(r'\[\w+\]')      # the name of a crate, or of a page
-LINK_TARGET = re.compile(r'(?<=\])\([^)]*\)')
 LINK = re.compile(r'\[([^]]*)\]\([^)]*\)')
 # After a full stop, or what closes behind one, comes a new sentence; `..` stands for more of the same, and ends none.
 END = re.compile(r'(?:(?<!\.)\.|[?!])[)"\'*]*\s+')
@@ -120,18 +126,11 @@ def long_lines(lines):
             yield Finding('long line', number, f'{len(line)} columns')
 
 
-def words_of(table, text):
-    """The words of a table that a text has, each with the one to use."""
-    for word, better in table.items():
-        for found in re.finditer(rf'(?<!\w)(?:{word})(?!\w)', text, re.IGNORECASE):
-            yield f'{found[0]}: say {better}'
-
-
 def retired_words(lines):
     for number, line in open_lines(lines):
-        prose = NAMED.sub('', CODE.sub('', LINK_TARGET.sub('', line)))
-        for found in [*words_of(RETIRED, line), *words_of(INVENTED, prose)]:
-            yield Finding('retired word', number, found)
+        for word, better in RETIRED.items():
+            for found in re.finditer(rf'(?<!\w)(?:{word})(?!\w)', line, re.IGNORECASE):
+                yield Finding('retired word', number, f'{found[0]}: say {better}')
 
 
 def late_command(lines):
