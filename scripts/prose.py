@@ -51,6 +51,7 @@ RETIRED = {
 }
 
 CODE = re.compile(r'(`+)(.+?)\1', re.S)
+LINK_TARGET = re.compile(r'(?<=\])\([^)]*\)')
 LINK = re.compile(r'\[([^]]*)\]\([^)]*\)')
 # After a full stop, or what closes behind one, comes a new sentence; `..` stands for more of the same, and ends none.
 END = re.compile(r'(?:(?<!\.)\.|[?!])[)"\'*]*\s+')
@@ -128,8 +129,9 @@ def long_lines(lines):
 
 def retired_words(lines):
     for number, line in open_lines(lines):
+        text = LINK_TARGET.sub('', line)
         for word, better in RETIRED.items():
-            for found in re.finditer(rf'(?<!\w)(?:{word})(?!\w)', line, re.IGNORECASE):
+            for found in re.finditer(rf'(?<!\w)(?:{word})(?!\w)', text, re.IGNORECASE):
                 yield Finding('retired word', number, f'{found[0]}: say {better}')
 
 
