@@ -160,7 +160,7 @@ def wrong_carriers(code, page, text):
             continue
         parts = name.split('::')
         if any(part not in code.words[crate] for part in parts):
-            if all(part in code.all_words for part in parts):       # else it is told as one that nothing has
+            if not is_telling(name) or all(part in code.all_words for part in parts):       # else `missing` tells it
                 yield Finding(page, line, f'{crate} has no {name}')
             continue
         named = [function for function in code.functions if function.crate == crate and function.name == parts[-1]
