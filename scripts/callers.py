@@ -58,6 +58,7 @@ class Code:
     def __init__(self):
         self.files = [sources.File(path) for path in sources.paths(TOP)]
         self.functions = [function for file in self.files for function in file.functions]
+        self.laws = sources.laws_of(self.functions) | {function for function in self.functions if path_of(function) in LAWS}
         self.crates = {file.crate for file in self.files}
         self.words = collections.defaultdict(set)       # all that is written in each crate and in the scripts, comments apart
         for path in sources.all_paths(TOP):
@@ -78,7 +79,7 @@ class Code:
         """What only such a function calls has no caller either."""
         files = {file.path: file for file in self.files}
         rest = dict(self.callers)
-        while gone := [function for function in rest if not rest[function] and not is_law(function)]:
+        while gone := [function for function in rest if not rest[function] and function not in self.laws]:
             names = set()
             for function in gone:
                 names |= set(re.findall(r'\w+', files[function.path].body[function.start:function.end]))
@@ -90,7 +91,7 @@ class Code:
 
     def is_called(self, function):
         """Whether the program calls a function, or need not."""
-        return bool(self.callers[function] - TESTS) or is_law(function) or function.crate in TESTS \
+        return bool(self.callers[function] - TESTS) or function in self.laws or function.crate in TESTS \
             or f'{function.crate}::{function.owner}' in FOR_TESTS
 
 
@@ -98,13 +99,9 @@ def path_of(function):
     return '::'.join(part for part in (function.crate, function.owner, function.name) if part)
 
 
-def is_law(function):
-    return function.is_law or path_of(function) in LAWS
-
-
 def uncalled(code):
     for function, callers in code.callers.items():
-        if not callers and not is_law(function):
+        if not callers and function not in code.laws:
             yield Finding(function.path, function.line, f'nothing names the public function {path_of(function)}')
 
 

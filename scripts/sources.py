@@ -16,10 +16,11 @@ COMMENT_OR_TEXT = re.compile(r'//[^\n]*|b?"(?:[^"\\]|\\.)*"|b?\'(?:[^\'\\\n]|\\.
 
 BRACE = re.compile(r'[{}]')
 BODY_OR_END = re.compile(r'[{;]')
-# A law that follows from others names them and does nothing else.
-LAW_CALLS = re.compile(r'\s*(?:\w+(?:::\w+)*\(\w*\);\s*)*$')
+# What a law may have in its body: it names other laws, or what is thrown away. LAW_CALL finds the former.
+LAW_BODY = re.compile(r'\s*(?:(?:(?:\w+::)*\w+\([\w&., ]*\)|let _\w* = [^;{]*);\s*)*$')
+LAW_CALL = re.compile(r'(?:^|;)\s*(?:\w+::)*(\w+)\([\w&., ]*\)(?=;)')
 
-Function = collections.namedtuple('Function', 'crate path line name owner is_public is_law has_self start end')
+Function = collections.namedtuple('Function', 'crate path line name owner is_public laws has_self start end')
 
 
 def paths(top):
@@ -123,10 +124,11 @@ class File:
             opening = BODY_OR_END.search(self.body, found.end())
             end = closing(self.body, opening.start()) if opening[0] == '{' else opening.end()
             head, body = self.body[found.end():opening.start()], self.body[opening.start() + 1:end - 1]
-            is_law = opening[0] == '{' and '->' not in head and '&mut' not in head and LAW_CALLS.match(body) is not None
+            may_be = opening[0] == '{' and '->' not in head and '&mut' not in head and LAW_BODY.match(body)
+            laws = tuple(LAW_CALL.findall(body)) if may_be else None
             owner = next((owner for at, owner in reversed(owners) if at < found.start()), None) if found[1] else None
             yield Function(self.crate, self.path, self.body.count('\n', 0, found.start()) + 1, found[3], owner, found[2] == 'pub ',
-                           is_law, re.search(r'\bself\b', head) is not None, found.start(), end)
+                           laws, re.search(r'\bself\b', head) is not None, found.start(), end)
 
     def without(self, function):
         """Forgets the body of a function, which names nothing any more."""
@@ -161,6 +163,16 @@ class File:
             if is_there and path[-1] in (module, function.crate) and re.search(rf'\b{name}::{function.name}\b', text):
                 return True
         return re.search(rf'\b(?:{function.crate}|crate|{module})(?:::\w+)*::{function.name}\b', text) is not None
+
+
+def laws_of(functions):
+    """Functions without a body that does anything: their contracts are facts. They answer nothing, and name no more than other laws.
+    The field `laws` of any other function is None."""
+    may_be = [function for function in functions if function.laws is not None]
+    names, before = {function.name for function in may_be}, None
+    while names != before:
+        before, names = names, {function.name for function in may_be if names.issuperset(function.laws)}
+    return {function for function in may_be if function.name in names and names.issuperset(function.laws)}
 
 
 def owner_of(head):
