@@ -9,27 +9,7 @@ work="${1:-$(mktemp -d /var/tmp/guarddb-catalogue.XXXX)}"
 rounds="${2:-15}"
 mkdir -p "$work/crates/catalogue_bench/src"
 cd "$work"
-[ -d .git ] || git init -q .
-python3 - "$top" <<'PROGRAM'
-# The crates below catalogue_loading, with what was built of them.
-import os, shutil, sys
-top = sys.argv[1]
-lines = [line.strip() for line in open(f"{top}/crates.txt") if ":" in line and not line.startswith("#")]
-below = {line.split(":")[0]: line.split(":")[1].split() for line in lines}
-wanted, left = set(), ["catalogue_loading"]
-while left:
-    name = left.pop()
-    if name in below and name not in wanted:
-        wanted.add(name)
-        left += below[name]
-for name in wanted:
-    if not os.path.isdir(f"crates/{name}"):
-        shutil.copytree(f"{top}/crates/{name}", f"crates/{name}")
-with open("crates.txt", "w") as out:
-    out.writelines(line + "\n" for line in lines if line.split(":")[0] in wanted)
-    names = " ".join(name for name in below if name in wanted)
-    out.write(f"catalogue_bench: {names} anyhow\n")
-PROGRAM
+python3 "$top/benchmarks/scratch.py" "$top" catalogue_bench catalogue_loading
 cat > crates/catalogue_bench/src/main.rt <<'PROGRAM'
 //! Times the reading of a catalogue: microseconds of each of the rounds that are asked for.
 #![tactic(auto)]

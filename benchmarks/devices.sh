@@ -7,13 +7,11 @@ set -euo pipefail
 top="$(dirname "$(dirname "$(readlink -f "$0")")")"
 work="${1:-$(mktemp -d /var/tmp/guarddb-devices.XXXX)}"
 rounds="${2:-15}"
-mkdir -p "$work/crates/bench/src"
+mkdir -p "$work/crates/devices_bench/src"
 cd "$work"
-[ -d .git ] || git init -q .
-cp -r "$top/crates/storage_sizes" "$top/crates/sector_device" crates/
-printf 'storage_sizes:\nsector_device: storage_sizes thiserror\nbench: sector_device anyhow\n' > crates.txt
-cat > crates/bench/src/main.rt <<'PROGRAM'
-//! Times the device over a file: `bench writes PATH` or `bench reads PATH`.
+python3 "$top/benchmarks/scratch.py" "$top" devices_bench sector_device
+cat > crates/devices_bench/src/main.rt <<'PROGRAM'
+//! Times the device over a file: `devices_bench writes PATH` or `devices_bench reads PATH`.
 #![tactic(auto)]
 
 use anyhow::{Result, bail};
@@ -108,8 +106,8 @@ int main(int argc, char **argv) {
 }
 PROGRAM
 cc -O2 -o pread pread.c
-(cd crates/bench && rt run -- writes "$work/first.db" >build.log 2>&1) || { cat crates/bench/build.log; exit 1; }
-bench=crates/bench/out/bench
+(cd crates/devices_bench && rt run -- writes "$work/first.db" >build.log 2>&1) || { cat crates/devices_bench/build.log; exit 1; }
+bench=crates/devices_bench/out/devices_bench
 for _ in $(seq "$rounds"); do
   rm -f w.db d.bin
   $bench writes w.db | sed 's/writes true/new_device/'

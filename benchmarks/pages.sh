@@ -16,12 +16,7 @@ rounds="${2:-9}"
 mkdir -p "$work/crates/pages_bench/src"
 work="$(readlink -f "$work")"
 cd "$work"
-[ -d .git ] || git init -q .
-for crate in storage_sizes sector_device page_roots page_allocator page_cache pages cow_pages; do
-  cp -r "$top/crates/$crate" crates/
-done
-grep -E '^(storage_sizes|sector_device|page_roots|page_allocator|page_cache|pages|cow_pages):' "$top/crates.txt" > crates.txt
-echo 'pages_bench: sector_device cow_pages anyhow' >> crates.txt
+python3 "$top/benchmarks/scratch.py" "$top" pages_bench cow_pages
 cat > crates/pages_bench/src/main.rt <<'PROGRAM'
 //! Counts and times commits: `pages_bench counts`, `pages_bench make PATH`, or `pages_bench commits PATH RUN`.
 #![tactic(auto)]

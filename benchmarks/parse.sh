@@ -12,13 +12,7 @@ rounds="${2:-15}"
 statements="${3:-100000}"
 mkdir -p "$work/crates/parse_bench/src"
 cd "$work"
-[ -d .git ] || git init -q .
-crates='storage_sizes sql_types sql_lexer sql_ast expr_parser sql_grammar sql_commands sql_parser'
-for crate in $crates; do
-  [ -d "crates/$crate" ] || cp -r "$top/crates/$crate" crates/
-done
-grep -E "^(${crates// /|}):" "$top/crates.txt" > crates.txt
-echo 'parse_bench: sql_parser' >> crates.txt
+python3 "$top/benchmarks/scratch.py" "$top" parse_bench sql_parser
 cat > crates/parse_bench/src/main.rt <<'PROGRAM'
 //! Parses each line of standard input, and prints how many lines are statements and how many are not.
 #![tactic(auto)]

@@ -8,14 +8,10 @@ set -euo pipefail
 top="${TOP:-$(dirname "$(dirname "$(readlink -f "$0")")")}"
 work="${1:-$(mktemp -d /var/tmp/guarddb-row-view.XXXX)}"
 rounds="${2:-15}"
-mkdir -p "$work/crates/bench/src"
+mkdir -p "$work/crates/rows_bench/src"
 cd "$work"
-[ -d .git ] || git init -q .
-for crate in storage_sizes sql_types sql_ast row_codec; do
-  cp -r "$top/crates/$crate" crates/
-done
-printf 'storage_sizes:\nsql_types:\nsql_ast: storage_sizes sql_types\nrow_codec: storage_sizes sql_types sql_ast byteorder\nbench: sql_types sql_ast row_codec anyhow\n' > crates.txt
-cat > crates/bench/src/main.rt <<'PROGRAM'
+python3 "$top/benchmarks/scratch.py" "$top" rows_bench row_codec
+cat > crates/rows_bench/src/main.rt <<'PROGRAM'
 //! Views a million rows (k BIGINT PRIMARY KEY, x BIGINT, s TEXT, o TEXT) and adds up x.
 #![tactic(auto)]
 
@@ -230,9 +226,9 @@ fn main() {
 }
 PROGRAM
 rustc -O -o rows rows.rs
-(cd crates/bench && rt run > build.log 2>&1) || { cat crates/bench/build.log; exit 1; }
+(cd crates/rows_bench && rt run > build.log 2>&1) || { cat crates/rows_bench/build.log; exit 1; }
 for _ in $(seq "$rounds"); do
-  ./crates/bench/out/bench
+  ./crates/rows_bench/out/rows_bench
   ./rows
 done | tee rounds.txt
 python3 - <<'PROGRAM'

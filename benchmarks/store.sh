@@ -20,27 +20,7 @@ rounds="${2:-9}"
 mkdir -p "$work/crates/store_bench/src"
 work="$(readlink -f "$work")"
 cd "$work"
-[ -d .git ] || git init -q .
-python3 - "$top" <<'PROGRAM'
-# The crates below the stores, with what was built of them.
-import os, shutil, sys
-top = sys.argv[1]
-lines = [line.strip() for line in open(f"{top}/crates.txt") if ":" in line and not line.startswith("#")]
-below = {line.split(":")[0]: line.split(":")[1].split() for line in lines}
-wanted, left = set(), ["device_store"]
-while left:
-    name = left.pop()
-    if name in below and name not in wanted:
-        wanted.add(name)
-        left += below[name]
-for name in wanted:
-    if not os.path.isdir(f"crates/{name}"):
-        shutil.copytree(f"{top}/crates/{name}", f"crates/{name}")
-with open("crates.txt", "w") as out:
-    out.writelines(line + "\n" for line in lines if line.split(":")[0] in wanted)
-    names = " ".join(name for name in below if name in wanted)
-    out.write(f"store_bench: {names} anyhow\n")
-PROGRAM
+python3 "$top/benchmarks/scratch.py" "$top" store_bench journal_store
 cat > crates/store_bench/src/main.rt <<'PROGRAM'
 //! Counts and times a store: `store_bench counts`, `store_bench make PATH`, `store_bench journal PATH`, `store_bench commits PATH RUN`,
 //! `store_bench reads PATH`, or `store_bench puts PATH`.

@@ -10,12 +10,7 @@ work="${1:-$(mktemp -d /var/tmp/guarddb-tree.XXXX)}"
 rounds="${2:-15}"
 mkdir -p "$work/crates/tree_bench/src"
 cd "$work"
-[ -d .git ] || git init -q .
-for crate in storage_sizes page_nodes pages page_tree; do
-  cp -r "$top/crates/$crate" crates/
-done
-grep -E '^(storage_sizes|page_nodes|pages|page_tree):' "$top/crates.txt" > crates.txt
-echo 'tree_bench: storage_sizes page_nodes pages page_tree anyhow' >> crates.txt
+python3 "$top/benchmarks/scratch.py" "$top" tree_bench page_tree
 cat > crates/tree_bench/src/main.rt <<'PROGRAM'
 //! Times the tree: `tree_bench times`, or `tree_bench pages COUNT`.
 #![tactic(auto)]
