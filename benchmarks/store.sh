@@ -61,10 +61,9 @@ cat > crates/store_bench/src/rows.rt <<'PROGRAM'
 //! Rows, and stores of them.
 use anyhow::{Result, bail};
 use cow_pages::page_count;
-use device_store::DeviceStore;
-use journal_store::JournalStore;
+use journal_store::{DeviceStore, JournalStore};
 use kv_store::{Batch, Entry, MAX_CACHE_PAGES, Map, PageStore, Store};
-use sector_device::{Device, Guarded};
+use sector_device::{Device, WriteProtected};
 use std::alloc::Global;
 use store::Cursor;
 
@@ -112,12 +111,12 @@ fn key_of(number: u32, order: Order) -> [u8; 16] {
 }
 
 /// A store on a device, with a journal or without.
-pub type BenchStore<D> = DeviceStore<Guarded<D>>;
+pub type BenchStore<D> = DeviceStore<WriteProtected<D>>;
 
 /// A new store of one row on a device whose content is lost, with a journal or without.
 pub fn new_store<D: Device + Drop>(
     alloc: Global,
-    mut device: Guarded<D>,
+    mut device: WriteProtected<D>,
     has_journal: bool,
 ) -> Result<BenchStore<D>> {
     if page_count(device.sectors()).is_none() {
@@ -138,7 +137,7 @@ pub fn new_store<D: Device + Drop>(
 }
 
 /// The store on a device.
-pub fn opened<D: Device + Drop>(alloc: Global, device: Guarded<D>) -> Result<BenchStore<D>> {
+pub fn opened<D: Device + Drop>(alloc: Global, device: WriteProtected<D>) -> Result<BenchStore<D>> {
     match DeviceStore::open_with(alloc, device, MAX_CACHE_PAGES) {
         Ok(store) => Ok(store),
         Err(_) => bail!("the store was not opened"),
@@ -254,21 +253,21 @@ use crate::rows::{
 };
 use anyhow::{Result, bail};
 use kv_store::Store;
-use sector_device::{FileDevice, Guarded};
+use sector_device::{FileDevice, WriteProtected};
 use std::time::Instant;
 
 const FILE_PAGES: u32 = 16_384;
 
 /// Makes a file with all rows, with a journal or without.
 pub fn make(rt: &HostRuntime, path: &str, has_journal: bool) -> Result<()> {
-    let device = Guarded::new(FileDevice::make(rt, path, FILE_PAGES)?);
+    let device = WriteProtected::new(FileDevice::make(rt, path, FILE_PAGES)?);
     let mut store = new_store(rt.alloc(), device, has_journal)?;
     put_rows(rt.alloc(), &mut store, Order::Random)
 }
 
 /// Times commits of one changed row each.
 pub fn time_commits(rt: &HostRuntime, path: &str, run: u32) -> Result<()> {
-    let mut store = opened(rt.alloc(), Guarded::new(FileDevice::open(rt, path)?))?;
+    let mut store = opened(rt.alloc(), WriteProtected::new(FileDevice::open(rt, path)?))?;
     scan_rows(rt.alloc(), &mut store)?;
     let number = store.number();
     let start = Instant::now(rt)?;
@@ -285,7 +284,7 @@ pub fn time_commits(rt: &HostRuntime, path: &str, run: u32) -> Result<()> {
 
 /// Times gets and a scan, after a scan.
 pub fn time_reads(rt: &HostRuntime, path: &str) -> Result<()> {
-    let mut store = opened(rt.alloc(), Guarded::new(FileDevice::open(rt, path)?))?;
+    let mut store = opened(rt.alloc(), WriteProtected::new(FileDevice::open(rt, path)?))?;
     let all = scan_rows(rt.alloc(), &mut store)?;
     let start = Instant::now(rt)?;
     let values = get_rows(rt.alloc(), &mut store)?;
@@ -304,7 +303,7 @@ pub fn time_reads(rt: &HostRuntime, path: &str) -> Result<()> {
 
 /// Times puts into a new file.
 pub fn time_puts(rt: &HostRuntime, path: &str) -> Result<()> {
-    let device = Guarded::new(FileDevice::make(rt, path, FILE_PAGES)?);
+    let device = WriteProtected::new(FileDevice::make(rt, path, FILE_PAGES)?);
     let mut store = new_store(rt.alloc(), device, false)?;
     let start = Instant::now(rt)?;
     put_rows(rt.alloc(), &mut store, Order::Random)?;
@@ -319,7 +318,7 @@ use crate::rows::{BenchStore, Order, ROWS, change_row, new_store, put_rows, remo
 use anyhow::{Result, bail};
 use cow_pages::{CowPages, PAGE_SIZE};
 use page_nodes::{NodeKind, kind_of};
-use sector_device::{Device, DeviceFault, Guarded, MemDevice, SECTOR_SIZE};
+use sector_device::{Device, DeviceFault, WriteProtected, MemDevice, SECTOR_SIZE};
 
 const MEMORY_PAGES: u32 = 16_384;
 
@@ -410,7 +409,7 @@ fn leaves_of<D: Device + Drop>(rt: &HostRuntime, store: BenchStore<D>) -> Result
 
 /// Prints the counts of so many commits of one changed row each.
 fn print_commits(rt: &HostRuntime, has_journal: bool, commits: u32) -> Result<()> {
-    let device = Guarded::new(Counting::new(MemDevice::new(rt.alloc(), MEMORY_PAGES)?));
+    let device = WriteProtected::new(Counting::new(MemDevice::new(rt.alloc(), MEMORY_PAGES)?));
     let mut store = new_store(rt.alloc(), device, has_journal)?;
     put_rows(rt.alloc(), &mut store, Order::Random)?;
     let (pages, sectors, syncs) = store.device().device().counts();
@@ -427,7 +426,7 @@ fn print_commits(rt: &HostRuntime, has_journal: bool, commits: u32) -> Result<()
 
 /// The leaves of rows that were put in this order.
 fn leaves_after(rt: &HostRuntime, order: Order) -> Result<u32> {
-    let device = Guarded::new(MemDevice::new(rt.alloc(), MEMORY_PAGES)?);
+    let device = WriteProtected::new(MemDevice::new(rt.alloc(), MEMORY_PAGES)?);
     let mut store = new_store(rt.alloc(), device, false)?;
     put_rows(rt.alloc(), &mut store, order)?;
     leaves_of(rt, store)
@@ -435,7 +434,7 @@ fn leaves_after(rt: &HostRuntime, order: Order) -> Result<u32> {
 
 /// The leaves of the rows that are left where nine of ten were removed.
 fn leaves_after_removals(rt: &HostRuntime, order: Order) -> Result<u32> {
-    let device = Guarded::new(MemDevice::new(rt.alloc(), MEMORY_PAGES)?);
+    let device = WriteProtected::new(MemDevice::new(rt.alloc(), MEMORY_PAGES)?);
     let mut store = new_store(rt.alloc(), device, false)?;
     put_rows(rt.alloc(), &mut store, order)?;
     remove_rows(rt.alloc(), &mut store, order)?;

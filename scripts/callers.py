@@ -7,7 +7,7 @@ A line for each finding, with its file and line; the last line is a count, and t
 
 - a public function of crates/*/src that no file names but where it is defined. Nothing has to call a law, whose contract is a fact:
   a function whose body is empty or only names other laws, or one of LAWS;
-- a function, type, definition or path in backticks, in README.md, docs/*.md and crates/*/README.md, that is not there;
+- a function, type, definition or path in backticks, in a page, that is not there;
 - a public function that such a page names, while nothing in the program calls it: tests are no callers here.
 
 Names are told by their form, without types. So a method counts as called where any method of its name is. A word of one part in
@@ -178,8 +178,9 @@ def uncalled_names(code, page, lines):
 
 
 def pages():
-    yield os.path.join(TOP, 'README.md')
-    yield from sorted(glob.glob(os.path.join(TOP, 'docs', '*.md')) + glob.glob(os.path.join(TOP, 'crates', '*', 'README.md')))
+    """The paths of the pages: those at the top, those of docs/ and packaging/, and the README.md of each crate."""
+    for folder in ('', 'docs', 'packaging', 'crates/*'):
+        yield from sorted(glob.glob(os.path.join(TOP, folder, '*.md')))
 
 
 def main():
