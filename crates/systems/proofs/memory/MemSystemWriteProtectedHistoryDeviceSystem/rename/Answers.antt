@@ -3,7 +3,7 @@ use Rattle.systems.specs.declared.entries.Content.TheVariants as content
 use Rattle.systems.specs.declared.entries.NamedContent.{NamedContent}
 use Rattle.systems.specs.Entries.{content_of, device_in, is_something, text_in}
 use Rattle.systems.proofs.Renaming.{free_is_other}
-use Rattle.systems.proofs.memory.MemSystemGuardedHistoryDeviceSystem.rename.Goals as goal
+use Rattle.systems.proofs.memory.MemSystemWriteProtectedHistoryDeviceSystem.rename.Goals as goal
 
 pub rename_open-requires-clause-open : goal.rename_open-requires-clause-open
 rename_open-requires-clause-open c =
