@@ -70,7 +70,7 @@ module _ (once : ReadsOnce ReadsText) (whole : (records : Records) (db : Databas
   opened number login d e all = record {
     sessions = refl;
     holder = refl;
-    alike = record { session = refl; opened_for = λ s h. cc; stopped = refl; writer = refl; committed = all; seen = all };
+    alike = record { session = refl; opened_for = λ s h. cc; stopped = refl; slot = refl; committed = all; seen = all };
   }
 
   pub opened_alike : {S T X Y : Type 0} (state : S → StoreState) (other_state : T → StoreState) → opened_servers_are_alike S T X Y state other_state
