@@ -410,8 +410,8 @@ class Store(Table):
             return [parts], Held(self.held.number + 1, after, 3, root, end, waiting)
         return pages, Held(max(self.held.number, root + 1), after, 3, root + 1)
 
-    def spelling(self):
-        assert not self.has_failed, "nothing promises the spelling"
+    def record_format(self):
+        assert not self.has_failed, "nothing promises the record format"
         return "first" if self.held.form == 1 else "second"
 
     def number(self):
@@ -674,7 +674,7 @@ def random_batches(drawn):
 
 ROLE = "01726f6f74"  # the key of the role root, whose value is 03
 NEW = "device:64:6669727374:76616c7565"  # a new store of the record first, value
-FIRST = [NEW, "turn:1:11:3"]  # the same in the first spelling
+FIRST = [NEW, "turn:1:11:3"]  # the same in record format 1
 GETS = ["get:%08x" % number for number in range(20)]
 TWENTY = ["rise:0:20:1000*07", "commit"]
 
@@ -717,9 +717,9 @@ def lines_of_memory():
     yield from ["", "# A new database has one role", "memory:root scan get:%s get:%s00" % (ROLE, ROLE)]
     yield "# Batches change a store in memory"
     yield from laid_out("memory:root", ["remove:" + ROLE, "commit", "scan", *random_batches(7)])
-    yield "# Records are of the second spelling, and stay of it"
-    yield "memory:root spelling put:03:0f commit spelling put:0103:8f remove:03 migrate spelling scan put:02:80 commit spelling scan"
-    yield "memory:root migrate spelling scan migrate spelling scan"
+    yield "# Records are of record format 2, and stay of it"
+    yield "memory:root record_format put:03:0f commit record_format put:0103:8f remove:03 migrate record_format scan put:02:80 commit record_format scan"
+    yield "memory:root migrate record_format scan migrate record_format scan"
 
 
 def lines_of_devices():
@@ -741,15 +741,15 @@ def lines_of_devices():
     yield from laid_out("open:256", [word for first in range(0, 2000, 500)
                                      for word in ["rise:%d:%d:32*07" % (first, first + 500), "commit"]] + ["scan"])
     yield from ["pages:leaves:20:21", "open:256 scan"]
-    yield from ["# A new store is of the second spelling, and stays of it", NEW]
-    yield "open:256 spelling put:03:0f commit spelling number migrate spelling number scan"
-    yield from ["restart:synced", "open:256 spelling number scan get:6669727374"]
-    yield from ["# Records of the first spelling stay of it until they are migrated, and an empty batch makes them of the second", *FIRST]
-    yield "open:256 spelling put:03:0f commit spelling number migrate spelling number migrate spelling number scan"
-    yield "open:256 spelling number put:0103:8f commit spelling number scan"
-    yield from ["restart:synced", "open:256 spelling number scan get:6669727374", *FIRST]
-    yield "open:256 put:0103:8f remove:6669727374 migrate spelling number scan"
-    yield from ["restart:synced", "open:256 spelling number scan"]
+    yield from ["# A new store is of record format 2, and stays of it", NEW]
+    yield "open:256 record_format put:03:0f commit record_format number migrate record_format number scan"
+    yield from ["restart:synced", "open:256 record_format number scan get:6669727374"]
+    yield from ["# Records of record format 1 stay of it until they are migrated, and an empty batch makes them of record format 2", *FIRST]
+    yield "open:256 record_format put:03:0f commit record_format number migrate record_format number migrate record_format number scan"
+    yield "open:256 record_format number put:0103:8f commit record_format number scan"
+    yield from ["restart:synced", "open:256 record_format number scan get:6669727374", *FIRST]
+    yield "open:256 put:0103:8f remove:6669727374 migrate record_format number scan"
+    yield from ["restart:synced", "open:256 record_format number scan"]
     yield from ["# A store whose root is of format 0, one of format 3, and one of format 9", NEW, "turn:1:11:2", "open:256"]
     yield from [NEW, "turn:1:11:1", "open:256", NEW, "turn:1:11:11", "open:256"]
     for what, place in CHANGED_BYTES:
@@ -782,7 +782,7 @@ def lines_of_stops():
 
 
 JOURNALED = "journaled:64:6669727374:76616c7565"  # the same as NEW, with a journal
-AGAIN = "open:256 number scan spelling"
+AGAIN = "open:256 number scan record_format"
 
 
 def put_each(first, count, size, byte):
@@ -792,12 +792,12 @@ def put_each(first, count, size, byte):
 
 def lines_of_journals():
     yield from ["", "# A store with a journal: of commits of one row six are records, and the seventh is made in the pages with them", JOURNALED]
-    yield from laid_out("open:256", ["number"] + put_each(1, 9, 10, 7) + ["scan", "get:00000001", "get:00000009", "spelling"])
+    yield from laid_out("open:256", ["number"] + put_each(1, 9, 10, 7) + ["scan", "get:00000001", "get:00000009", "record_format"])
     yield from ["restart:synced", AGAIN, "open:1 scan get:00000009 get:0000000a"]
     yield from ["# Records of two parts and of three, a removal, and batches that change nothing", JOURNALED]
     yield from laid_out("open:1", ["put:61:600*07", "commit", "number", "get:61", "put:62:1200*08", "commit", "number", "remove:61", "commit",
                                    "number", "get:61", "scan", "remove:63", "commit", "number", "commit", "migrate", "number", "put:64:01",
-                                   "migrate", "number", "spelling", "scan"])
+                                   "migrate", "number", "record_format", "scan"])
     yield from ["restart:synced", AGAIN, "# A batch that is longer than the journal goes into the pages, with all that waits", JOURNALED]
     yield from laid_out("open:256", put_each(40, 2, 10, 7) + ["rise:0:20:400*07", "commit", "number", "put:00000003:09", "commit", "number", "scan"])
     yield from ["restart:synced", AGAIN]

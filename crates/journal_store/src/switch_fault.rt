@@ -10,7 +10,7 @@ pub enum SwitchFault {
     #[error("the device was not opened")]
     Unopened(OpenFault),
     /// The records are of the first spelling: they must be migrated before there can be a journal.
-    #[error("the records are of the first record_format")]
+    #[error("the records are of record format 1")]
     NotMigrated,
     /// A commit was refused, or the device failed.
     #[error("nothing was committed")]

@@ -171,7 +171,7 @@ pub fn find_and_end(
 fn format_of(store: &StoreOnDevice) -> u32 {
     match (store, store.record_format()) {
         (DeviceStore::Journaled(_), _) => 3,
-        (DeviceStore::Pages(_), RecordFormat::First) => 1,
+        (DeviceStore::Pages(_), RecordFormat::V1) => 1,
         (DeviceStore::Pages(_), RecordFormat::V2) => 2,
     }
 }
