@@ -16,6 +16,7 @@ import re
 import socket
 import struct
 import time
+import warnings
 
 OPEN, STATEMENT, CLOSE, ANSWER = 1, 2, 3, 4     # the kinds of frames
 MAX_TEXT = 131067                               # bytes that one frame carries
@@ -25,6 +26,14 @@ ESCAPED = {'\\': '\\', 't': '\t', 'n': '\n', 'r': '\r'}
 boolean = {'t': True, 'f': False}.__getitem__
 QUOTED = r''''[^']*'?|"[^"]*"?|--[^\n\r]*'''     # a text, a quoted name or a comment, also an unfinished one
 PLACEHOLDER = re.compile(rf'({QUOTED})|\?')
+# Words that are no keywords here. Directly behind a table's name each is its alias, and what it means elsewhere is left out.
+TAKEN = {
+    'LEFT': 'there are no outer joins, and this one is an inner join', 'RIGHT': 'there are no outer joins, and this one is an inner join',
+    'FULL': 'there are no outer joins, and this one is an inner join', 'NATURAL': 'there are no natural joins',
+    'OFFSET': 'no rows are skipped', 'FETCH': 'LIMIT alone bounds the number of rows', 'HAVING': 'there are no groups',
+    'TABLESAMPLE': 'all rows are read'}
+ANY_TAKEN = re.compile(rf"\b({'|'.join(TAKEN)})\b", re.IGNORECASE)
+TOKEN = re.compile(rf'({QUOTED})|[^\W\d][\w$]*|[^\s\w]|\d+')
 LEAST, GREATEST = -2 ** 63, 2 ** 63 - 1         # of BIGINT
 Done = collections.namedtuple('Done', 'tag count warning')      # such as ('INSERT', 3, None), ('GRANT', None, '01007')
 Code = collections.namedtuple('Code', 'name meaning')
@@ -74,6 +83,24 @@ class Refused(Exception):
 
     def __str__(self):
         return described(self.code)
+
+
+class TakenForAlias(UserWarning):
+    """A statement has a word that the server takes for an alias, where other databases have a keyword."""
+
+
+def taken_for_aliases(statement):
+    """What is to be said of each word of a SELECT that the server takes for the alias of a table: it stands directly behind the
+    table's name, and means something else in other databases."""
+    if not ANY_TAKEN.search(statement):
+        return []
+    tokens = [found[0] for found in TOKEN.finditer(statement) if not found[0].startswith('--')]
+    words, told = [token.upper() for token in tokens], []
+    for at in range(3, len(words)):
+        is_table = words[at - 2] in ('FROM', 'JOIN', ',') and (tokens[at - 1][0] == '"' or tokens[at - 1][0].isalpha())
+        if words[0] == 'SELECT' and words[at] in TAKEN and is_table and words[at + 1:at + 2] != ['.']:
+            told.append(f'{words[at]} is taken for an alias of the table {tokens[at - 1]}: {TAKEN[words[at]]}')
+    return told
 
 
 def described(code):
@@ -171,8 +198,11 @@ class Session(ClosedAtItsEnd):
     def ask(self, statement, *types, values=None):
         """Runs a statement. Gives a list of rows, each a list of fields, or else a Done. A field is None for null, else a str.
         `types`, such as int and boolean, are for the first columns, in order: each gets the str of a field that is not null.
-        `values`, if given, replace the placeholders of the statement, as in `filled`."""
+        `values`, if given, replace the placeholders of the statement, as in `filled`. Before it is sent a TakenForAlias warns of
+        each word that the server takes for an alias."""
         text = statement if values is None else filled(statement, values)
+        for told in taken_for_aliases(text):
+            warnings.warn(told, TakenForAlias, stacklevel=2)
         return read_answer(self.connection.exchange(STATEMENT, self.number, text), types)
 
     def close(self):

@@ -24,10 +24,13 @@ import time
 import guarddb
 from shell_display import command_at, first_word, heads, in_columns, in_lines, is_blank, names_in, open_quote, shown, split, width
 from shell_help import HELP, KEYWORDS, explained, forms
-from shell_place import CONNECTION, NO_READER, OWN, REFUSED, End, Fault, Place, cause, say, signals_held, warn
+from shell_hints import told, warn_of_aliases
+from shell_place import (CONNECTION, NO_READER, OWN, REFUSED, End, Fault, Place, cause, end_by, open_standard_streams, say,
+                         signals_held, warn)
 from shell_typing import line_editing, readline
 
 PATIENCE = 3                                    # seconds after which it is said that an open is not answered yet
+SYNTAX = '42601'
 KEEP_BLOCK = ('53100', '53200', '58030')        # refusals that leave a block as it was
 WORD = re.compile(r'"((?:[^"]|"")*)"|\S+')
 LIST_COMMAND = re.compile(r'\\(d\w*\+?|l\+?|z)')
@@ -37,6 +40,7 @@ NO_CATALOGUE = 'There is no catalogue to ask: no statement lists tables, roles o
 NO_SESSION = r'No session is open: \c ROLE opens one.'
 NOTHING_TYPED = 'Nothing is typed so far.'
 NOT_RUN = '\nThe rest of the line was not run.'
+WITH_A_DOT = r'Commands begin with \; \? lists them.'
 GOES_ON = 'This line belongs to the statement typed so far. Ctrl-C discards that, Ctrl-D leaves.'
 
 
@@ -131,6 +135,8 @@ class Shell:
     def take(self, line, is_typed=False):
         """Takes a line, with its newline: runs the statements that end in it, keeps what is behind them, and runs the command at
         its end."""
+        if line.startswith('.') and self.text == '':
+            raise Fault(REFUSED, WITH_A_DOT)        # as no statement begins
         line = self.quote + line        # only a quote goes on over the end of a line, so the text before it is not cut again
         begin = command_at(line)
         first, *others = split(line[:begin])
@@ -181,9 +187,14 @@ class Shell:
         try:
             answer = self.answered(guarddb.read_answer, text)
         except Fault as fault:
-            opened.follow(statement, fault.__cause__.code)
+            code = fault.__cause__.code
+            opened.follow(statement, code)
+            if code == SYNTAX:
+                raise Fault(fault.status, fault.text + told(statement)) from fault.__cause__
+            warn_of_aliases(statement)
             raise
         opened.follow(statement, answer)
+        warn_of_aliases(statement)
         self.names.update(name for name in names_in(statement) if name.upper() not in KEYWORDS)
         self.show(answer, text, statement)
         if self.is_timed:
@@ -421,21 +432,6 @@ def program():
     return os.environ.get('GUARDDB') or (os.path.normpath(beside) if os.path.exists(beside) else 'guarddb')
 
 
-def open_standard_streams():
-    """Opens the null device for each closed standard stream, so that no other file takes its number; gives their names."""
-    closed = []
-    for number, name in enumerate(('input', 'output', 'error')):
-        try:
-            os.fstat(number)
-        except OSError:
-            os.open(os.devnull, os.O_RDWR)
-            closed.append(name)
-    sys.stdout, sys.stderr = (stream or open(os.devnull, 'w', encoding='utf-8') for stream in (sys.stdout, sys.stderr))
-    for stream in (sys.stdout, sys.stderr):
-        stream.reconfigure(errors='backslashreplace')       # for characters that the terminal lacks
-    return closed
-
-
 def check_streams(given, closed):
     is_read = not given.runs or (run_given_file, '-') in given.runs
     if 'output' in closed or 'input' in closed and is_read:
@@ -467,12 +463,6 @@ def run_shell(given):
         shell.tell_blocks()
     finally:
         shell.leave()
-
-
-def end_by(number):
-    """Ends the process by a signal, so that the caller sees this."""
-    signal.signal(number, signal.SIG_DFL)
-    os.kill(os.getpid(), number)
 
 
 def main():

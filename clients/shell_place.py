@@ -1,4 +1,4 @@
-"""The server of clients/shell.py, and its faults."""
+"""The server of clients/shell.py, its streams, and its faults."""
 import contextlib
 import os
 import re
@@ -44,6 +44,27 @@ def warn(text):
 
 def cause(fault):
     return getattr(fault, 'strerror', None) or str(fault).rstrip('.')
+
+
+def open_standard_streams():
+    """Opens the null device for each closed standard stream, so that no other file takes its number; gives their names."""
+    closed = []
+    for number, name in enumerate(('input', 'output', 'error')):
+        try:
+            os.fstat(number)
+        except OSError:
+            os.open(os.devnull, os.O_RDWR)
+            closed.append(name)
+    sys.stdout, sys.stderr = (stream or open(os.devnull, 'w', encoding='utf-8') for stream in (sys.stdout, sys.stderr))
+    for stream in (sys.stdout, sys.stderr):
+        stream.reconfigure(errors='backslashreplace')       # for characters that the terminal lacks
+    return closed
+
+
+def end_by(number):
+    """Ends the process by a signal, so that the caller sees this."""
+    signal.signal(number, signal.SIG_DFL)
+    os.kill(os.getpid(), number)
 
 
 @contextlib.contextmanager

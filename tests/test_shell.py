@@ -28,6 +28,7 @@ from program import PROGRAM, TOP, free_port, make_database, served
 import guarddb
 import shell_display
 import shell_help
+import shell_hints
 from shell import Shell
 
 SHELL = os.path.join(TOP, 'clients', 'shell.py')
@@ -273,6 +274,35 @@ class Texts(unittest.TestCase):
             words = re.findall(r'\bb"([a-z_]+)"', file.read())
         self.assertEqual([word.lower() for word in shell_help.KEYWORDS], sorted(words))
 
+    def test_what_is_left_out_is_that_of_the_page(self):
+        """Each line of the page that has words of its own is here under its topic, with these words."""
+        with open(os.path.join(TOP, 'docs', 'sql.md'), encoding='utf-8') as file:
+            part = re.search(r'\n## What is left out\n(.*?)\n## ', file.read(), re.S)[1]
+        expected = {}
+        for topic, rows in re.findall(r'^\*\*(.*?)\*\*\n\n(.*?)\n(?=\n|\Z)', part, re.M | re.S):
+            for row in re.findall(r'^\| (?!Left out|---)(.*) \|$', rows, re.M):
+                line, example = re.split(r'(?<!\\) \| ', row, maxsplit=1)
+                words = re.findall(r'\b[A-Z_]{2,}\b', line.replace('`', '') + ' ' + re.sub('`[^`]*`', '', example))
+                expected.setdefault(topic, {})[line] = {*words} - {*shell_help.KEYWORDS}
+        found = shell_hints.topics()
+        self.assertEqual([*found], [*expected])
+        for topic, lines in found.items():
+            with self.subTest(topic):
+                named = {line: words for line, words in expected[topic].items() if words}
+                self.assertLessEqual({*named}, {line for line, _ in lines})
+                for line, words in lines:
+                    self.assertLessEqual(expected[topic][line], {*words}, line)
+
+    def test_what_is_left_out(self):
+        for statement, lines in [
+            ('SELECT x FROM t WHERE x in (1)', ['IN, BETWEEN, LIKE, ILIKE, regular expressions']), ("SELECT 'IN', \"in\" -- in", []),
+            ('SELECT sum(x) FROM t GROUP BY o', ['aggregates, but for `count(*)` as the whole list', 'DISTINCT, GROUP BY, HAVING, windows']),
+            ('CREATE TABLE u (k INT DEFAULT 5)', ['other types', 'other constraints, and names for them']),
+            ('INSERT INTO t VALUES (DEFAULT)', ['DEFAULT']), ('CREATE USER ann', ['USER and GROUP']), ('COMIT', []), ('', []),
+        ]:
+            with self.subTest(statement):
+                self.assertEqual(shell_hints.left_out(statement), lines)
+
     def test_next_words(self):
         for words, expected in [(['create'], ['POLICY', 'ROLE', 'TABLE']), (['ALTER'], ['TABLE']), (['drop', 'role'], []),
                                 (['nothing'], [])]:
@@ -424,6 +454,30 @@ class Batch(InAFolder):
             for script, expected in scripts:
                 with self.subTest(script[:40]):
                     self.assertEqual(self.run_script(script, str(port)), expected)
+
+    def test_words_that_are_aliases(self):
+        """The answer is the server's, and a warning says what a word was taken for."""
+        self.run_shell('root', 'CREATE TABLE u (k BIGINT PRIMARY KEY)')
+        told = 'WARNING:  LEFT is taken for an alias of the table t: there are no outer joins, and this one is an inner join\n'
+        self.tells(self.run_shell('root', 'SELECT o FROM t LEFT JOIN u ON true'), 0, ' o\n---\n(0 rows)\n', told)
+        refused = shell_help.explained('42703') + '\n'
+        self.tells(self.run_shell('root', 'SELECT t.o FROM t LEFT JOIN u ON true'), 3, '', told + refused)
+        self.tells(self.run_shell('root', 'SELECT k FROM t AS left WHERE left.k = 1'), 0, ' k\n---\n 1\n(1 row)\n', '')
+
+    def test_words_that_are_left_out(self):
+        lines = '\nLEFT OUT:  IN, BETWEEN, LIKE, ILIKE, regular expressions\n'
+        self.tells(self.run_shell('root', 'SELECT k FROM t WHERE k IN (1)'), 3, '', shell_help.explained('42601') + lines)
+        self.tells(self.run_shell('root', 'SELECT likes FROM t'), 3, '', shell_help.explained('42703') + '\n')
+
+    def test_a_line_that_begins_with_a_dot(self):
+        told = 'Commands begin with \\; \\? lists them.\n'
+        self.assertEqual(self.run_script(b'SELECT 1;\n.tables\nSELECT 2;'), (3, ' 1\n---\n 1\n(1 row)\n', f'line 2: {told}'))
+        with self.terminal(self.path, 'root') as terminal:
+            terminal.until('root=> ')
+            self.assertEqual(terminal.answer('.schema\r', 'root=> '), f'.schema\n{told}')
+            self.assertIn('(1 row)', terminal.answer('SELECT 1;\r', 'root=> '))
+            terminal.type(CONTROL_D)
+            self.assertEqual(terminal.end(), 0)
 
     def test_an_open_block_is_rolled_back_at_the_end(self):
         lost = 'WARNING:  the open block of root is rolled back\n'
