@@ -97,7 +97,7 @@ def taken_for_aliases(statement):
     tokens = [found[0] for found in TOKEN.finditer(statement) if not found[0].startswith('--')]
     words, told = [token.upper() for token in tokens], []
     for at in range(3, len(words)):
-        is_table = words[at - 2] in ('FROM', 'JOIN', ',') and (tokens[at - 1][0] == '"' or tokens[at - 1][0].isalpha())
+        is_table = words[at - 2] in ('FROM', 'JOIN', ',') and (tokens[at - 1][0] in '"_' or tokens[at - 1][0].isalpha())
         if words[0] == 'SELECT' and words[at] in TAKEN and is_table and words[at + 1:at + 2] != ['.']:
             told.append(f'{words[at]} is taken for an alias of the table {tokens[at - 1]}: {TAKEN[words[at]]}')
     return told

@@ -9,6 +9,7 @@ import sys
 TESTS = os.path.dirname(os.path.abspath(__file__))
 TOP = os.path.dirname(TESTS)
 PROGRAM = os.path.abspath(os.environ.get('GUARDDB') or os.path.join(TESTS, 'fake_guarddb.py'))
+PATIENCE = 300      # seconds that a test waits for what is to come, which on a busy machine takes long
 IS_FAKE = not os.environ.get('GUARDDB')
 sys.stderr.write(f'The program is {PROGRAM}{", since GUARDDB names none" if IS_FAKE else ""}.\n')
 
@@ -45,7 +46,7 @@ def served(path, connections=1, socket_path=None, idle=None):
                               stdout=subprocess.DEVNULL, stderr=subprocess.PIPE)
     try:
         yield place
-        _, messages = server.communicate(timeout=20)
+        _, messages = server.communicate(timeout=PATIENCE)
         assert server.returncode == 0, (server.returncode, messages.decode())
     finally:
         if server.poll() is None:

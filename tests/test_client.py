@@ -18,6 +18,7 @@ import sys
 import tempfile
 import threading
 import unittest
+import warnings
 
 from program import TOP, make_database, served
 import guarddb
@@ -62,7 +63,7 @@ class Peer:
                 pass
 
     def __enter__(self):
-        return guarddb.connect(self.port, timeout=20)
+        return guarddb.connect(self.port, timeout=300)
 
     def __exit__(self, *_):
         self.thread.join()
@@ -310,6 +311,41 @@ class Values(unittest.TestCase):
                 guarddb.filled(statement, values)
 
 
+class Aliases(unittest.TestCase):
+    """Words that the server takes for the alias of a table."""
+
+    def test_which_words_are_taken(self):
+        left = 'LEFT is taken for an alias of the table t: there are no outer joins, and this one is an inner join'
+        for statement, expected in [
+            ('SELECT x FROM t LEFT JOIN u ON k = y', [left]), ('select x from t\n-- FROM\nleft join u on true', [left]),
+            ('SELECT x FROM t OFFSET', ['OFFSET is taken for an alias of the table t: no rows are skipped']),
+            ('SELECT 1 FROM a, "b c" FULL', [
+                'FULL is taken for an alias of the table "b c": there are no outer joins, and this one is an inner join']),
+            ('SELECT x FROM t JOIN my_1 NATURAL ON true', ['NATURAL is taken for an alias of the table my_1: there are no natural joins']),
+            ('SELECT x FROM t FETCH, u HAVING', [
+                'FETCH is taken for an alias of the table t: LIMIT alone bounds the number of rows',
+                'HAVING is taken for an alias of the table u: there are no groups']),
+            ('SELECT x FROM t AS left', []), ('SELECT x FROM t "left"', []), ('SELECT left FROM t', []), ('SELECT x FROM left', []),
+            ('SELECT x FROM t JOIN u ON t.left', []), ("SELECT 'FROM t LEFT' FROM t", []), ('DELETE FROM t left', []), ('', []),
+        ]:
+            with self.subTest(statement):
+                self.assertEqual(guarddb.taken_for_aliases(statement), expected)
+
+    def test_a_warning_comes_before_the_answer(self):
+        """As an error it comes in place of the answer, and nothing is sent."""
+        sent = frames(1, b'ok OPEN\n') + frames(1, b'rows 0\n') + frames(1, b'rows 1\n1\n')
+        with Peer(sent) as connection, connection:
+            session = connection.open('root')
+            with self.assertWarns(guarddb.TakenForAlias) as found:
+                self.assertEqual(session.ask('SELECT x FROM t RIGHT JOIN u ON true'), [])
+            self.assertEqual(found.filename, __file__)
+            with warnings.catch_warnings():
+                warnings.simplefilter('error', guarddb.TakenForAlias)
+                with self.assertRaises(guarddb.TakenForAlias):
+                    session.ask('SELECT x FROM t RIGHT JOIN u ON true')
+            self.assertEqual(session.ask('SELECT 1'), [['1']])
+
+
 class Codes(unittest.TestCase):
     def test_the_table_is_that_of_the_page(self):
         with open(os.path.join(TOP, 'docs', 'sql.md'), encoding='utf-8') as file:
@@ -350,7 +386,7 @@ class OverADatabase(unittest.TestCase):
             return [self.played(port, *conversation) for conversation in conversations]
 
     def played(self, port, sent, size):
-        with guarddb.connect(port, wait=10, timeout=20) as connection:
+        with guarddb.connect(port, wait=300, timeout=300) as connection:
             try:
                 for cut in range(0, len(sent), size):
                     connection.socket.sendall(sent[cut:cut + size])
@@ -364,7 +400,7 @@ class Server(OverADatabase):
     """A server, event by event and byte by byte."""
 
     def test_sessions(self):
-        with served(self.path) as port, guarddb.connect(port, wait=10, timeout=20) as connection:
+        with served(self.path) as port, guarddb.connect(port, wait=300, timeout=300) as connection:
             root = connection.open('root')
             self.assertEqual(root.ask('CREATE ROLE ann LOGIN'), Done('CREATE ROLE', None, None))
             root.ask('CREATE TABLE t (k BIGINT PRIMARY KEY, s BOOLEAN, o TEXT)')
@@ -383,20 +419,20 @@ class Server(OverADatabase):
 
     def test_a_connection_that_ends_rolls_back(self):
         with served(self.path, connections=3) as port:
-            with guarddb.connect(port, wait=10, timeout=20) as connection:
+            with guarddb.connect(port, wait=300, timeout=300) as connection:
                 root = connection.open('root')
                 root.ask('CREATE TABLE t (k BIGINT PRIMARY KEY)')
                 root.ask('BEGIN')
                 root.ask('INSERT INTO t VALUES (1)')
             for count in (1, 2):
-                with guarddb.connect(port, timeout=20) as connection, connection.open('root') as root:
+                with guarddb.connect(port, timeout=300) as connection, connection.open('root') as root:
                     self.assertEqual(root.ask('INSERT INTO t VALUES (%s)' % count).count, 1)
                     self.assertEqual(root.ask('SELECT count(*) FROM t', int), [[count]])
-        with served(self.path) as port, guarddb.connect(port, wait=10, timeout=20) as connection:
+        with served(self.path) as port, guarddb.connect(port, wait=300, timeout=300) as connection:
             self.assertEqual(connection.open('root').ask('SELECT k FROM t', int), [[1], [2]])
 
     def test_large_answers(self):
-        with served(self.path) as port, guarddb.connect(port, wait=10, timeout=20) as connection:
+        with served(self.path) as port, guarddb.connect(port, wait=300, timeout=300) as connection:
             root = connection.open('root')
             root.ask('CREATE TABLE t (k BIGINT PRIMARY KEY, o TEXT)')
             root.ask("INSERT INTO t VALUES (1, ''), (2, ''), (3, ''), (4, ''), (5, ''), (6, ''), (7, ''), (8, '')")
@@ -411,7 +447,7 @@ class Server(OverADatabase):
     def test_values(self):
         """Values come back as they were, and one with a quote is a text like others."""
         generator, values = random.Random(6), Values('value')
-        with served(self.path) as port, guarddb.connect(port, wait=10, timeout=20) as connection:
+        with served(self.path) as port, guarddb.connect(port, wait=300, timeout=300) as connection:
             root = connection.open('root')
             root.ask('CREATE TABLE t (k BIGINT PRIMARY KEY, x BIGINT, s BOOLEAN, o TEXT)')
             rows = [[guarddb.LEAST, guarddb.GREATEST, True, "'); DROP TABLE t; --"], [-1, guarddb.LEAST, None, '\\N']]
@@ -429,7 +465,7 @@ class Server(OverADatabase):
             self.assertEqual(root.ask('SELECT k FROM t WHERE o = ?', values=["' OR true --"]), [])
 
     def test_names_in_quotes(self):
-        with served(self.path) as port, guarddb.connect(port, wait=10, timeout=20) as connection:
+        with served(self.path) as port, guarddb.connect(port, wait=300, timeout=300) as connection:
             root = connection.open('root')
             for login in ('n' * 63, '\u00e9' * 31, 'x"; DROP TABLE t; --', "it's\n?", 'Ann', 'select'):
                 name = guarddb.quoted_name(login)
@@ -439,7 +475,7 @@ class Server(OverADatabase):
                 root.ask(f'DROP ROLE {name}')
 
     def test_values_that_are_not_sent(self):
-        with served(self.path) as port, guarddb.connect(port, wait=10, timeout=20) as connection:
+        with served(self.path) as port, guarddb.connect(port, wait=300, timeout=300) as connection:
             root = connection.open('root')
             for statement, values in [('SELECT ?', ['\0']), ('SELECT ?', [2 ** 63]), ('SELECT ?', ['\ud800']), ('SELECT ?', []),
                                       ('SELECT 1', [1])]:
@@ -452,7 +488,7 @@ class Server(OverADatabase):
             self.assertEqual(root.ask("SELECT '?'"), [['?']])
 
     def test_limits(self):
-        with served(self.path) as port, guarddb.connect(port, wait=10, timeout=20) as connection:
+        with served(self.path) as port, guarddb.connect(port, wait=300, timeout=300) as connection:
             root = connection.open('root')
             self.assertEqual(root.ask('SELECT 1' + ' ' * 65528), [['1']])
             self.refuses('54000', root.ask, 'SELECT 1' + ' ' * 65529)
@@ -482,7 +518,7 @@ class Server(OverADatabase):
             self.plays((opening + bytes.fromhex('00000004') + frame(2, 7, b'CREATE TABLE t (k BIGINT PRIMARY KEY)'), WHOLE))
         except ConnectionError:
             pass
-        with served(self.path) as port, guarddb.connect(port, wait=10, timeout=20) as connection:
+        with served(self.path) as port, guarddb.connect(port, wait=300, timeout=300) as connection:
             self.refuses('42P01', connection.open('root').ask, 'SELECT * FROM t')
 
     def test_a_frame_that_is_cut_by_the_end(self):
@@ -494,9 +530,9 @@ class Server(OverADatabase):
     def test_clients_that_wait_at_once(self):
         """They are served in the order in which they came, none is passed over, and each is told its own answers alone."""
         with served(self.path, connections=4) as port:
-            with guarddb.connect(port, wait=10, timeout=20) as connection:
+            with guarddb.connect(port, wait=300, timeout=300) as connection:
                 connection.open('root').ask('CREATE TABLE t (k BIGINT PRIMARY KEY)')
-                waiting = [socket.create_connection(('127.0.0.1', port), timeout=20) for _ in range(3)]
+                waiting = [socket.create_connection(('127.0.0.1', port), timeout=300) for _ in range(3)]
                 for number, stream in enumerate(waiting, start=1):
                     insert = frame(2, number, b'INSERT INTO t VALUES (%d)' % number)
                     stream.sendall(frame(1, number, b'root') + insert + frame(2, number, b'SELECT k FROM t'))
@@ -512,12 +548,12 @@ class Server(OverADatabase):
     def test_a_client_that_goes_away(self):
         """It ends its connection and nothing else."""
         with served(self.path, connections=2) as port:
-            with guarddb.connect(port, wait=10, timeout=20) as connection:
+            with guarddb.connect(port, wait=300, timeout=300) as connection:
                 root = connection.open('root')
                 root.ask('CREATE TABLE t (k BIGINT PRIMARY KEY)')
                 connection.socket.setsockopt(socket.SOL_SOCKET, socket.SO_LINGER, struct.pack('ii', 1, 0))
                 connection.socket.sendall(frame(2, root.number, b'SELECT * FROM t') * 2000)
-            with guarddb.connect(port, timeout=20) as connection, connection.open('root') as root:
+            with guarddb.connect(port, timeout=300) as connection, connection.open('root') as root:
                 self.assertEqual(root.ask('SELECT * FROM t'), [])
 
 
@@ -528,7 +564,7 @@ class Page(OverADatabase):
         with open(os.path.join(TOP, 'docs', 'clients.md'), encoding='utf-8') as file:
             blocks = re.findall(r'```\n(>>> .*?)```', file.read(), re.S)
         with served(self.path) as port:
-            text = '\n'.join(blocks).replace('connect(5433, timeout=20)', f'connect({port}, timeout=20, wait=10)')
+            text = '\n'.join(blocks).replace('connect(5433, timeout=20)', f'connect({port}, timeout=300, wait=300)')
             examples = doctest.DocTestParser().get_doctest(text, {}, 'clients.md', None, None)
             self.assertGreater(len(examples.examples), 10)
             told = []
@@ -564,7 +600,7 @@ class Protocol(OverADatabase):
         with open(os.path.join(TOP, 'docs', 'protocol.md'), encoding='utf-8') as file:
             example, = re.findall(r'```python\n(.*?)```', file.read(), re.S)
         with served(self.path) as port, contextlib.redirect_stdout(io.StringIO()) as printed:
-            exec(example.replace('connect(5433)', f'connect({port}, wait=10, timeout=20)'), {})
+            exec(example.replace('connect(5433)', f'connect({port}, wait=300, timeout=300)'), {})
         self.assertEqual(printed.getvalue(), re.search(r'print\(.*?# (.*\n)', example)[1])
 
     def test_the_bad_frames(self):

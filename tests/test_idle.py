@@ -67,11 +67,11 @@ class Idle(unittest.TestCase):
         return None, os.path.join(self.folder, 'at')
 
     def test_half_a_frame_and_no_more(self):
-        with served(self.path) as place, guarddb.connect(place, wait=10, timeout=20) as connection:
+        with served(self.path) as place, guarddb.connect(place, wait=300, timeout=300) as connection:
             connection.open('root').ask('CREATE TABLE t (k BIGINT PRIMARY KEY)')
         for socket_path in self.places():
             with self.subTest(socket_path), served(self.path, 2, socket_path, idle=1) as place:
-                first = guarddb.connect(place, wait=10, timeout=20)
+                first = guarddb.connect(place, wait=300, timeout=300)
                 root = first.open('root')
                 root.ask('BEGIN')
                 root.ask('INSERT INTO t VALUES (1)')
@@ -84,7 +84,7 @@ class Idle(unittest.TestCase):
                     first.close()
 
     def test_a_client_that_reads_nothing(self):
-        with served(self.path) as place, guarddb.connect(place, wait=10, timeout=20) as connection:
+        with served(self.path) as place, guarddb.connect(place, wait=300, timeout=300) as connection:
             root = connection.open('root')
             root.ask('CREATE TABLE t (k BIGINT PRIMARY KEY, o TEXT)')
             root.ask('INSERT INTO t VALUES ' + ', '.join(f"({k}, '{'o' * 1000}')" for k in range(20)))
@@ -98,7 +98,7 @@ class Idle(unittest.TestCase):
                 first.close()
 
     def test_a_client_that_is_slow(self):
-        with served(self.path, idle=1) as place, guarddb.connect(place, wait=10, timeout=20) as connection:
+        with served(self.path, idle=1) as place, guarddb.connect(place, wait=300, timeout=300) as connection:
             connection.open('root')
             for byte in BEGIN[:6]:
                 connection.socket.sendall(bytes([byte]))
@@ -108,7 +108,7 @@ class Idle(unittest.TestCase):
 
     def test_without_a_limit(self):
         with served(self.path, 2) as place:
-            with guarddb.connect(place, wait=10, timeout=20) as first:
+            with guarddb.connect(place, wait=300, timeout=300) as first:
                 first.open('root')
                 first.socket.sendall(BEGIN[:7])
                 with guarddb.connect(place, timeout=3) as second, self.assertRaises(TimeoutError):
@@ -129,7 +129,7 @@ class Descriptors(unittest.TestCase):
     def waits(self, server, port, clients):
         """A client whose connection the server has no descriptor for, once another one has gone."""
         limit = 1 + max(int(number) for number in os.listdir(f'/proc/{server.pid}/fd'))
-        with guarddb.connect(port, timeout=20) as first:
+        with guarddb.connect(port, timeout=300) as first:
             first.open('root')
             client = clients.enter_context(contextlib.closing(guarddb.connect(port, timeout=60)))
             resource.prlimit(server.pid, resource.RLIMIT_NOFILE, (limit, self.most))

@@ -32,8 +32,10 @@ import shell_hints
 from shell import Shell
 
 SHELL = os.path.join(TOP, 'clients', 'shell.py')
-PATIENCE = 60       # seconds that a test waits for what is to come
+PATIENCE = 300      # seconds that a test waits for what is to come, which on a busy machine takes long
+LOOKS = 20          # at a program that sleeps at each of them, a tenth of a second apart
 CONTROL_C, CONTROL_D = '\x03', '\x04'
+NOT_YET = 'No answer yet: a server takes one connection at a time, and another may be open. Ctrl-C gives up.\n'
 NOT_KNOWN = 'the connection is closed, and it is not known whether this was carried out.'
 NO_END = 'The statement does not end: it is already longer than a frame can carry.'
 LETTERS = 'aé日한\u1112\u1161\u11ab🙂\u0301 \'"\\\\\n\r\t\x1b\u202e\u200d-;NUL|'
@@ -45,9 +47,15 @@ def environment(folder):
             'LC_ALL': 'C.UTF-8', 'TMPDIR': folder, 'BASH_SILENCE_DEPRECATION_WARNING': '1'}
 
 
+def told(text):
+    """A text without the line that tells of a slow answer, as on a busy machine each may be."""
+    return text.replace(NOT_YET if isinstance(text, str) else NOT_YET.encode(), text[:0])
+
+
 class Terminal:
-    """A program in a terminal of its own, with what it has shown."""
-    def __init__(self, words, folder, columns=200):
+    """A program in a terminal of its own, with what it has shown, but for what tells of a slow answer."""
+    def __init__(self, words, folder, columns=200, tells_all=False):
+        self.told = str if tells_all else told
         self.pid, self.file = pty.fork()
         if self.pid == 0:
             os.chdir(folder)
@@ -67,7 +75,7 @@ class Terminal:
 
     def text(self):
         found = re.sub(rb'\x1b\[\?2004[hl]\r?', b'', self.bytes).decode(errors='replace')
-        return found.replace('\r\n', '\n')
+        return self.told(found.replace('\r\n', '\n'))
 
     def read(self, seconds):
         """Reads what is shown within some time; False at the end."""
@@ -81,15 +89,22 @@ class Terminal:
         return piece != b''
 
     def interrupt(self):
-        """Types Ctrl-C, and again if nothing comes of it: Python forgets one that comes just before it reads a key."""
-        since = len(self.text())
-        for _ in range(PATIENCE):
-            self.type(CONTROL_C)
-            end = time.monotonic() + 1
-            while time.monotonic() < end:
-                if len(self.text()) > since:
-                    return
-                self.read(0.1)
+        """Types Ctrl-C, and again where the program sleeps and nothing came of it: Python forgets one that comes just before it
+        reads a key."""
+        since, end, asleep = len(self.text()), time.monotonic() + PATIENCE, LOOKS
+        while len(self.text()) <= since:
+            if asleep == LOOKS:
+                self.type(CONTROL_C)
+                asleep = 0
+            if time.monotonic() > end:
+                raise AssertionError(f'nothing comes of Ctrl-C; the screen is\n{self.text()}')
+            self.read(0.1)
+            asleep = asleep + 1 if self.is_asleep() else 0
+
+    def is_asleep(self):
+        """Whether the program that has the terminal waits. One that has something to do and no processor does not."""
+        with open(f'/proc/{os.tcgetpgrp(self.file)}/stat', encoding='utf-8') as file:
+            return file.read().rpartition(') ')[2].startswith('S')
 
     def until(self, text, since=0):
         """Reads until the screen ends with a text; what was shown from `since` on."""
@@ -345,14 +360,16 @@ class InAFolder(unittest.TestCase):
         streams = {'stdin': subprocess.DEVNULL, 'stdout': subprocess.PIPE, 'stderr': subprocess.PIPE, **streams}
         if 'input' in streams:
             del streams['stdin']
-        return subprocess.run(self.words(*words), encoding='utf-8', env=environment(self.folder), cwd=self.folder,
+        done = subprocess.run(self.words(*words), encoding='utf-8', env=environment(self.folder), cwd=self.folder,
                               timeout=PATIENCE, **streams)
+        done.stderr = done.stderr and told(done.stderr)
+        return done
 
     def tells(self, done, status, out, err):
-        self.assertEqual((done.returncode, done.stdout, done.stderr), (status, out, err))
+        self.assertEqual((done.returncode, done.stdout, done.stderr and told(done.stderr)), (status, out, err))
 
-    def terminal(self, *words, columns=200):
-        return Terminal(self.words(*words), self.folder, columns)
+    def terminal(self, *words, **more):
+        return Terminal(self.words(*words), self.folder, **more)
 
     def is_left_alone(self):
         """No folder of a server is left, and the file is not in use."""
@@ -420,7 +437,7 @@ class Batch(InAFolder):
     def run_script(self, script, place=None):
         done = subprocess.run(self.words(place or self.path, 'root'), input=script, capture_output=True,
                               env=environment(self.folder), timeout=PATIENCE)
-        return done.returncode, done.stdout.decode(), done.stderr.decode()
+        return done.returncode, done.stdout.decode(), told(done.stderr.decode())
 
     def test_scripts(self):
         one, in_lines = ' 1\n---\n 1\n(1 row)\n', '-[ 1 ]-----\n1 | 1\n(1 row)\n'
@@ -458,10 +475,10 @@ class Batch(InAFolder):
     def test_words_that_are_aliases(self):
         """The answer is the server's, and a warning says what a word was taken for."""
         self.run_shell('root', 'CREATE TABLE u (k BIGINT PRIMARY KEY)')
-        told = 'WARNING:  LEFT is taken for an alias of the table t: there are no outer joins, and this one is an inner join\n'
-        self.tells(self.run_shell('root', 'SELECT o FROM t LEFT JOIN u ON true'), 0, ' o\n---\n(0 rows)\n', told)
+        text_told = 'WARNING:  LEFT is taken for an alias of the table t: there are no outer joins, and this one is an inner join\n'
+        self.tells(self.run_shell('root', 'SELECT o FROM t LEFT JOIN u ON true'), 0, ' o\n---\n(0 rows)\n', text_told)
         refused = shell_help.explained('42703') + '\n'
-        self.tells(self.run_shell('root', 'SELECT t.o FROM t LEFT JOIN u ON true'), 3, '', told + refused)
+        self.tells(self.run_shell('root', 'SELECT t.o FROM t LEFT JOIN u ON true'), 3, '', text_told + refused)
         self.tells(self.run_shell('root', 'SELECT k FROM t AS left WHERE left.k = 1'), 0, ' k\n---\n 1\n(1 row)\n', '')
 
     def test_words_that_are_left_out(self):
@@ -470,11 +487,11 @@ class Batch(InAFolder):
         self.tells(self.run_shell('root', 'SELECT likes FROM t'), 3, '', shell_help.explained('42703') + '\n')
 
     def test_a_line_that_begins_with_a_dot(self):
-        told = 'Commands begin with \\; \\? lists them.\n'
-        self.assertEqual(self.run_script(b'SELECT 1;\n.tables\nSELECT 2;'), (3, ' 1\n---\n 1\n(1 row)\n', f'line 2: {told}'))
+        text_told = 'Commands begin with \\; \\? lists them.\n'
+        self.assertEqual(self.run_script(b'SELECT 1;\n.tables\nSELECT 2;'), (3, ' 1\n---\n 1\n(1 row)\n', f'line 2: {text_told}'))
         with self.terminal(self.path, 'root') as terminal:
             terminal.until('root=> ')
-            self.assertEqual(terminal.answer('.schema\r', 'root=> '), f'.schema\n{told}')
+            self.assertEqual(terminal.answer('.schema\r', 'root=> '), f'.schema\n{text_told}')
             self.assertIn('(1 row)', terminal.answer('SELECT 1;\r', 'root=> '))
             terminal.type(CONTROL_D)
             self.assertEqual(terminal.end(), 0)
@@ -507,8 +524,8 @@ class Batch(InAFolder):
         write('d.sql', '\\i d.sql')
         self.tells(self.run_shell('root', '\\i a.sql', 'COMMIT'), 0, ' k\n---\n 1\n 2\n(2 rows)\nCOMMIT\n',
                    'WARNING:  ' + guarddb.described('25P01') + '\n')
-        told = f"b.sql: line 3: c.sql: line 2: {shell_help.explained('42601')}\n"
-        self.tells(self.run_shell('root', '\\i b.sql'), 3, 'BEGIN\n', told)
+        text_told = f"b.sql: line 3: c.sql: line 2: {shell_help.explained('42601')}\n"
+        self.tells(self.run_shell('root', '\\i b.sql'), 3, 'BEGIN\n', text_told)
         done = self.run_shell('root', '\\i d.sql')
         self.assertEqual((done.returncode, done.stdout), (1, ''))
         self.assertNotIn('Traceback', done.stderr)
@@ -558,7 +575,7 @@ class Batch(InAFolder):
         done = subprocess.run(self.words('-A', self.path, 'root', '-c', "INSERT INTO t VALUES (3, 'a\tb\\'); SELECT * FROM t",
                                          '-c', 'SELECT k FROM t WHERE k = 9', '-c', "SELECT ''"),
                               capture_output=True, env=environment(self.folder), timeout=PATIENCE)
-        self.assertEqual((done.returncode, done.stdout, done.stderr), (0, b'1\ta\n2\t\\N\n3\ta\\tb\\\\\n\n', b''))
+        self.assertEqual((done.returncode, done.stdout, told(done.stderr)), (0, b'1\ta\n2\t\\N\n3\ta\\tb\\\\\n\n', b''))
 
     def test_other_words(self):
         for words in ([], ['root', '-c'], ['--timeout', '0'], ['--timeout', 'nan'], ['a', 'b'], ['--nothing']):
@@ -590,9 +607,9 @@ class Faults(InAFolder):
                 words = ['sh', '-c', f'exec "$@" {redirections}', 'sh', *self.words(self.path, 'root', '-c', text)]
                 done = subprocess.run(words, stdin=subprocess.DEVNULL, capture_output=True, env=environment(self.folder),
                                       timeout=PATIENCE)
-                told = b'' if '1' not in closed or '2' in closed else b'Standard output is closed.\n'
+                fault = b'' if '1' not in closed or '2' in closed else b'Standard output is closed.\n'
                 out = b'' if '1' in closed else b'INSERT 1\nDELETE 1\n'
-                self.assertEqual((done.returncode, done.stdout, done.stderr), (1 if '1' in closed else 0, out, told))
+                self.assertEqual((done.returncode, done.stdout, told(done.stderr)), (1 if '1' in closed else 0, out, fault))
         done = subprocess.run(['sh', '-c', 'exec "$@" <&-', 'sh', *self.words(self.path, 'root')], capture_output=True,
                               env=environment(self.folder), timeout=PATIENCE)
         self.assertEqual((done.returncode, done.stdout, done.stderr), (1, b'', b'Standard input is closed.\n'))
@@ -621,7 +638,7 @@ class Faults(InAFolder):
                                  stdin=subprocess.DEVNULL, stdout=subprocess.PIPE, stderr=subprocess.PIPE)
         self.assertEqual(shell.stdout.readline().split(), [b't.k', b'|', b'u.o'])
         shell.stdout.close()
-        self.assertEqual((shell.stderr.read(), shell.wait(PATIENCE)), (b'', -signal.SIGPIPE))
+        self.assertEqual((told(shell.stderr.read()), shell.wait(PATIENCE)), (b'', -signal.SIGPIPE))
         shell.stderr.close()
         self.is_left_alone()
 
@@ -632,7 +649,7 @@ class Faults(InAFolder):
             self.tells(self.run_shell('root', 'SELEC', stderr=full), 3, '', None)
 
     def test_a_file_in_use(self):
-        with served(self.path) as port, guarddb.connect(port, wait=10, timeout=20):
+        with served(self.path) as port, guarddb.connect(port, wait=PATIENCE, timeout=PATIENCE):
             done = self.run_shell('root', 'SELECT 1')
         hint = ': another program has it open. If that is a server, give its port or its socket.\n'
         self.assertEqual((done.returncode, done.stdout), (2, ''))
@@ -652,12 +669,12 @@ class Faults(InAFolder):
         with socket.socket(socket.AF_UNIX) as left:     # a socket whose server is gone
             left.bind(path)
         port = str(free_port())
-        for place, told in [(port, f'No server answers at {port}: Connection refused.\n'),
+        for place, text_told in [(port, f'No server answers at {port}: Connection refused.\n'),
                             (path, f'No server answers at {path}: Connection refused.\n'),
                             ('none', 'none is not a port, a socket or a file: No such file or directory.\n'
                              'HINT:  Start its server, or make a new database: guarddb format none --pages 64 --admin ROLE\n')]:
             with self.subTest(place):
-                self.tells(self.run_shell('root', 'SELECT 1', place=place), 2, '', told)
+                self.tells(self.run_shell('root', 'SELECT 1', place=place), 2, '', text_told)
 
     def test_a_folder_whose_path_is_too_long_for_a_socket(self):
         folder = os.path.join(self.folder, 'x' * 100)
@@ -769,7 +786,7 @@ class Faults(InAFolder):
         os.kill(self.server_of(shell.pid), signal.SIGKILL)
         out, err = shell.communicate(b'COMMIT;\nSELECT 1;\n', timeout=PATIENCE)
         self.assertEqual((shell.returncode, out), (2, b''))
-        self.assertEqual(err, f'line 2: The server went away: {NOT_KNOWN}\n'.encode())
+        self.assertEqual(told(err), f'line 2: The server went away: {NOT_KNOWN}\n'.encode())
         self.is_left_alone()
 
     def server_of(self, pid):
@@ -780,7 +797,7 @@ class Faults(InAFolder):
 
     def test_control_c_while_an_answer_is_awaited(self):
         """In a terminal the shell goes on, and a program is ended by the signal."""
-        with silent_server() as port, self.terminal(str(port)) as terminal:
+        with silent_server() as port, self.terminal(str(port), tells_all=True) as terminal:
             terminal.until('\n=> ')
             terminal.type('\\c root\r')
             terminal.until('Ctrl-C gives up.\n')
@@ -806,7 +823,8 @@ class Faults(InAFolder):
                 shell.stdin.flush()
                 self.assertEqual(shell.stdout.readline() + shell.stdout.readline(), b'BEGIN\nINSERT 1\n')
                 shell.send_signal(number)
-                self.assertEqual((*shell.communicate(timeout=PATIENCE), shell.returncode), (b'', b'', status))
+                out, err = shell.communicate(timeout=PATIENCE)
+                self.assertEqual((out, told(err), shell.returncode), (b'', b'', status))
                 self.is_left_alone()
         self.assertIn('(2 rows)', self.run_shell('root', 'SELECT * FROM t').stdout)
 
@@ -899,7 +917,7 @@ class Keys(InAFolder):
     def test_a_history_that_is_not_kept(self):
         """With an empty path silently, and with one at which there can be no file with a word about it."""
         absent = os.path.join(self.folder, 'none', 'history')
-        for path, told in [('', ''), (absent, f'The lines typed here are not kept: {absent}: No such file or directory.\n')]:
+        for path, text_told in [('', ''), (absent, f'The lines typed here are not kept: {absent}: No such file or directory.\n')]:
             words = ['env', f'GUARDDB_HISTORY={path}', *self.words(self.path, 'root')]
             with Terminal(words, self.folder) as terminal:
                 terminal.until('root=> ')
@@ -907,7 +925,7 @@ class Keys(InAFolder):
                 since = len(terminal.text())
                 terminal.type(CONTROL_D)
                 self.assertEqual(terminal.end(), 0)
-                self.assertEqual(terminal.text()[since:].lstrip('\n'), told)
+                self.assertEqual(terminal.text()[since:].lstrip('\n'), text_told)
         self.assertFalse(os.path.exists(os.path.join(self.folder, 'history')))
 
     def test_a_paste(self):
@@ -929,8 +947,8 @@ class Keys(InAFolder):
             os.kill(Faults.server_of(self, terminal.pid), signal.SIGKILL)
             terminal.type('\x1b[200~SELECT 1;\rSELECT 2;\x1b[201~\r')
             since = len(terminal.text())
-            told = f'The server went away: {NOT_KNOWN} \\c ROLE connects again.\nThe lines behind it were not run.\n=> '
-            self.assertTrue(terminal.until('\n=> ', since).endswith(told), terminal.text())
+            text_told = f'The server went away: {NOT_KNOWN} \\c ROLE connects again.\nThe lines behind it were not run.\n=> '
+            self.assertTrue(terminal.until('\n=> ', since).endswith(text_told), terminal.text())
 
     def test_words_without_a_backslash(self):
         """On the first line of a statement they are commands, also with a `;`, and on another one a warning says what they are."""
