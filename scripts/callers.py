@@ -18,6 +18,7 @@ import collections
 import glob
 import os
 import re
+import shutil
 import sys
 
 import prose
@@ -52,6 +53,13 @@ PROVED = re.compile(r'^- ((?:`[\w:]+`(?:, | and )?)+)', re.M)
 Finding = collections.namedtuple('Finding', 'place line what')
 
 
+def kit_crates():
+    """The names of the kit's crates."""
+    kit = os.path.dirname(os.path.dirname(os.path.realpath(shutil.which('rt') or '/opt/rattle/bin/rt')))
+    place = os.path.join(kit, 'rlibs')
+    return {name.removesuffix('.rlib') for name in os.listdir(place)} if os.path.isdir(place) else set()
+
+
 class Code:
     """What crates/ defines and calls."""
 
@@ -67,7 +75,7 @@ class Code:
         for path in glob.glob(os.path.join(TOP, 'crates', '*', 'data', '*')):
             stem = os.path.basename(path).split('.')[0]
             self.words[path.split(os.sep)[-3]] |= {stem, re.sub(r'\d+', 'N', stem)}
-        self.all_words = set.union(self.crates, *self.words.values())
+        self.all_words = set.union(self.crates, kit_crates(), *self.words.values())
         self.callers = {function: self.callers_of(function) for function in self.functions if function.is_public}
         self.forget_callers_that_nothing_calls()
 

@@ -3,8 +3,7 @@
 ghost use Rattle.std.specs.Prelude.{◌≡◌, map};
 ghost use Rattle.sql_types.specs.declared.value.Truth.TheVariants as truth;
 ghost use Rattle.expressions.specs.Rows.{names_of, value_on};
-ghost use Rattle.abstract_database.specs.Expressions.{all_of};
-ghost use Rattle.guards.specs.Truths.{is_met, is_true, truth_in, and_truth, or_truth, and_all, or_any};
+ghost use Rattle.guards.specs.Truths.{is_true, truth_in, and_truth, or_truth, and_all, or_any};
 
 use crate::at_once::truth_at_once;
 use expressions::eval::{Users, eval};
@@ -58,21 +57,6 @@ fn truth_on<R: RowView>(condition: &Typed, row: &R, users: &Users<'_>) -> Result
         Some(truth) => Ok(truth),
         None => Ok(eval(condition, row, users)?.truth()),
     }
-}
-
-/// Whether all conditions are true on a row, in order: behind a false one none is evaluated.
-///
-/// It is refused as the first evaluation that fails ([`eval`]).
-pub fn are_met<R: RowView>(
-    conditions: &[Typed],
-    row: &R,
-    users: &Users<'_>,
-) -> Result<bool, SqlState>
-    ensures { result
-        ≡ is_met (all_of (map (value_on (R.cell row.now) (names_of users.now)) conditions.now)) }
-{
-    let truth = are_all_met(Truth::True, conditions, row, users)?;
-    Ok(is_true(truth))
 }
 
 /// A truth AND all conditions on a row, in order: behind what is false no condition is evaluated. So conditions may be

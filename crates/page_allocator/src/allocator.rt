@@ -74,13 +74,6 @@ impl PageAllocator {
         self.free
     }
 
-    /// Whether this is a page of the device that is taken. Page 0 always is.
-    pub fn is_taken(&self, page: PageNo) -> bool
-        ensures { IsTrue result ↔ IsTaken self.now page }
-    {
-        (page as usize) < self.places.len() && self.places[page as usize] >= self.free
-    }
-
     /// Takes a free page, any of them. `Full` comes exactly where each page from 1 on is taken, and
     /// then nothing has changed. So where the pages that are taken are those in the reach of two
     /// roots, the page is in neither reach, and `Full` comes exactly where each page from 1 on is in
