@@ -1,12 +1,14 @@
-//! What all layers of the storage agree on: sizes, each with its unit, how records are spelled, and the
-//! order of their keys.
+//! What all layers of the storage agree on: sizes, each with its unit, the kinds of records and how they are
+//! spelled, and the order of their keys.
 #![tactic(auto)]
 
 mod key_order;
 mod record_format;
+mod record_kind;
 
 pub use key_order::{comes_before, is_same_key};
 pub use record_format::RecordFormat;
+pub use record_kind::RecordKind;
 
 /// The bytes of a sector, which a device writes whole or not at all.
 pub const SECTOR_SIZE: usize = 512;
