@@ -12,13 +12,13 @@ mod start;
 pub use cell::{CellView, NodeKind, cell_at, is_less, push_cell};
 pub use merge::LeafMerge;
 pub use offsets::{IndexedPage, PageView};
-pub use page::{first_child, first_of, fits, kind_of, node_kind, one_node, write_node};
+pub use page::{first_child, fits, kind_of, node_kind, one_node, write_node};
 pub use scratch::{
     Cut, CutPlace, Edit, append_cells, cells_end, cut_for, edit_cells, middle, push_payload,
     skip_key,
 };
 pub use search::{
-    Branch, CellPosition, Pair, Turn, child_for, child_of, entry_from, pair_for, seek, seek_on,
-    turn_for, value_in,
+    Branch, CellPosition, Pair, Turn, child_for, child_of, pair_for, seek, seek_on, turn_for,
+    value_in,
 };
 pub use storage_sizes::PAGE_SIZE;

@@ -54,18 +54,6 @@ pub fn kind_of(bytes: &[u8; PAGE_SIZE]) -> Option<NodeKind>
     }
 }
 
-/// The bytes of the child before the first cell: four in an inner node, none in a leaf.
-pub fn first_of<'a>(bytes: &'a [u8; PAGE_SIZE], kind: NodeKind) -> &'a [u8]
-    ensures size { IsFirst kind result.now }
-    ensures first { (first : List ℕ) (cells : List Entry)
-        → IsNode kind first cells bytes.now → result.now ≡ first }
-{
-    match kind {
-        NodeKind::Leaf => &bytes[4..4],
-        NodeKind::Inner => &bytes[4..8],
-    }
-}
-
 /// The child of an inner node before its first cell.
 pub fn first_child(bytes: &[u8; PAGE_SIZE]) -> u32
     ensures { (first : List ℕ) (cells : List Entry)

@@ -94,7 +94,7 @@ pub fn seek_on(
 }
 
 /// The first entry of a leaf at or after a key. None: the page is no leaf. Some(None): the leaf has no such entry.
-pub fn entry_from<'a>(page: PageView<'a>, key: &[u8]) -> Option<Option<CellView<'a>>>
+fn entry_from<'a>(page: PageView<'a>, key: &[u8]) -> Option<Option<CellView<'a>>>
     ensures { (first : List ℕ) (cells : List Entry) → IsNode NodeKind.Leaf first cells (bytes_of page.entry)
         → MatchOption result ⊥ (λ found. IsLent (first_at key.now cells) found) }
 {

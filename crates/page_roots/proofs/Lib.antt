@@ -2,6 +2,5 @@ pub mod Numbers
 pub mod Spelled
 pub mod Reading
 pub mod Choosing
-pub mod Maps
 pub mod Claiming
 pub mod Reaching

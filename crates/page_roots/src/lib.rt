@@ -15,9 +15,7 @@ pub use choice::choose;
 pub use fields::MAX_MAP_PAGES;
 pub use format::Format;
 pub use laws::{chosen_root_law, reach_law, root_spelling_law};
-pub use map_page::{
-    ENTRIES_PER_MAP_PAGE, entry_place, put_map_page, read_map_page, write_map_page,
-};
+pub use map_page::{ENTRIES_PER_MAP_PAGE, put_map_page, read_map_page, write_map_page};
 pub use reach::is_sound_reach;
 pub use root::Root;
 pub use sector::{RootSector, empty_sector, has_magic, read_root};

@@ -1,6 +1,6 @@
-//! Map pages, and the place of the entry of a logical page.
-ghost use Rattle.std.specs.Prelude.{◌≡◌, ◌+◌, ◌*◌, ◌<◌, ◌≤◌, ℕ, List, All, length, slice_index};
-ghost use Rattle.page_roots.specs.MapPage.{entries_in, map_page_bytes, map_of};
+//! Map pages.
+ghost use Rattle.std.specs.Prelude.{◌≡◌, length};
+ghost use Rattle.page_roots.specs.MapPage.{entries_in, map_page_bytes};
 
 use crate::fields::read_numbers;
 use byteorder::{BigEndian, ByteOrder};
@@ -36,21 +36,4 @@ pub fn write_map_page(entries: &[u32]) -> [u8; PAGE_SIZE]
     let mut bytes = [0; PAGE_SIZE];
     put_map_page(entries, &mut bytes);
     bytes
-}
-
-/// The place of the entry of a logical page: the index of its map page among those of the root, and
-/// its own index there.
-pub fn entry_place(logical_page: usize) -> (usize, usize)
-    ensures place { ENTRIES_PER_MAP_PAGE * result.0 + result.1 ≡ logical_page }
-    ensures inside { result.1 < ENTRIES_PER_MAP_PAGE }
-    // That entry of that map page is the entry of the logical page in the map of the root.
-    ensures entry { (page : ℕ → List ℕ) (maps : List ℕ)
-        → All (λ p. PAGE_SIZE ≤ length (page p)) maps → result.0 < length maps
-        → slice_index (map_of page maps) logical_page
-        ≡ slice_index (entries_in (page (slice_index maps result.0))) result.1 }
-{
-    (
-        logical_page / ENTRIES_PER_MAP_PAGE,
-        logical_page % ENTRIES_PER_MAP_PAGE,
-    )
 }
