@@ -100,27 +100,6 @@ fn is_grantable(by_superuser: bool, is_superuser: bool, is_administered: bool) -
     by_superuser || !is_superuser && is_administered
 }
 
-/// Whether a role may grant and take memberships of another one: a superuser may those of each role, another role those of
-/// the roles that are no superusers and that it has the admin option for, itself or as one of the roles that it is in.
-/// Time grows in proportion to the roles and memberships, as far as names hash apart. `AllocError` comes only where memory
-/// was refused.
-pub fn may_grant_role(
-    alloc: Global,
-    roles: &[Role],
-    memberships: &[Membership],
-    role: &Name,
-    granted: &Name,
-) -> Result<bool, AllocError>
-    ensures { IfOk result (λ may. may ≡ may_grant (database_of roles.now memberships.now) role.now granted.now) }
-{
-    let administered = administered(alloc, memberships, role)?;
-    Ok(is_grantable(
-        is_superuser(roles, role),
-        is_superuser(roles, granted),
-        administered.contains(granted),
-    ))
-}
-
 /// Whether each of these may be granted.
 fn are_grantable(
     by_superuser: bool,
@@ -137,7 +116,9 @@ fn are_grantable(
     ))
 }
 
-/// Whether a role may grant and take memberships of each of these.
+/// Whether a role may grant and take memberships of each of these: a superuser may those of each role, another role those of
+/// the roles that are no superusers and that it has the admin option for, itself or as one of the roles that it is in.
+/// Time grows in proportion to the roles, the memberships and these, as far as names hash apart.
 fn may_grant_all(
     alloc: Global,
     roles: &[Role],

@@ -17,9 +17,9 @@ use sql_types::state::{Refusal, SqlState};
 use std::alloc::Global;
 
 /// Grants each of the statement's roles to each of its members, in memberships that rise by role and member. It is refused
-/// with 42704 where a name is no role's, else with 42501 where the current role may not grant one of the roles
-/// ([`may_grant_role`](crate::may_grant_role)), else with 0LP01 where a role would be granted to itself or to a role that it is in, and with
-/// 53200 where memory was refused; a refusal leaves the memberships as they were. Granted again, a membership keeps its
+/// with 42704 where a name is no role's, else with 42501 where the current role may not grant one of the roles, as a superuser
+/// may each and another role those that are no superusers and that it has the admin option for, else with 0LP01 where a role
+/// would be granted to itself or to a role that it is in, and with 53200 where memory was refused; a refusal leaves the memberships as they were. Granted again, a membership keeps its
 /// admin option or is given one. Time grows in proportion to the roles, the memberships, the names (as far as these hash
 /// apart; they are sorted too) and the memberships that are made.
 pub fn grant_roles(

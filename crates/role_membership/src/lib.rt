@@ -13,9 +13,9 @@ mod merging;
 mod revoking;
 mod role_set;
 
-pub use checks::{is_superuser, may_grant_role};
+pub use checks::is_superuser;
 pub use granting::grant_roles;
-pub use members::{closure, is_member, would_circle};
+pub use members::{closure, is_member};
 pub use memberships::{Memberships, memberships_rise};
 pub use revoking::revoke_roles;
 pub use role_set::RoleSet;

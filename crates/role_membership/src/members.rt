@@ -62,17 +62,3 @@ pub fn is_member(
     let roles = closure(alloc, memberships, role)?;
     Ok(roles.contains(of))
 }
-
-/// Whether granting the role to this member would make a circle: whether the role is in the member, as it is where both are
-/// the same. `AllocError` comes only where memory was refused.
-pub fn would_circle(
-    alloc: Global,
-    memberships: &Memberships,
-    role: &Name,
-    member: &Name,
-) -> Result<bool, AllocError>
-    ensures chains { IfOk result (λ found. IsTrue found ↔ IsIn memberships.now role.now member.now) }
-    ensures test { IfOk result (λ found. found ≡ is_in memberships.now role.now member.now) }
-{
-    is_member(alloc, memberships, role, member)
-}

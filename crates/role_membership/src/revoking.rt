@@ -72,7 +72,7 @@ fn take_from_members(
 
 /// Takes the statement's roles from its members, or with ADMIN OPTION FOR the admin option alone; CASCADE and RESTRICT
 /// change nothing. It is refused with 42704 where a name is no role's, else with 42501 where the current role may not grant
-/// one of the roles ([`may_grant_role`](crate::may_grant_role)), and with 53200 where memory was refused; a refusal leaves the memberships as
+/// one of the roles, as GRANT asks, and with 53200 where memory was refused; a refusal leaves the memberships as
 /// they were. A membership that is not there is passed over. Time and memory grow in proportion to the roles, memberships
 /// and names, as far as names hash apart.
 pub fn revoke_roles(

@@ -3,7 +3,7 @@
 use crate::told::Told;
 use catalogue::definitions::Catalogue;
 use planner::plan_rows;
-use role_membership::{may_grant_role, would_circle};
+use schema_statements::grant_role;
 use sql_ast::statement::{
     DatabaseStatement, DefiningStatement, GrantRole, RowStatement, Statement,
 };
@@ -11,6 +11,7 @@ use sql_parser::parse::parse;
 use sql_types::name::Name;
 use sql_types::state::{Refusal, SqlState};
 use std::alloc::Global;
+use store::StatementError;
 
 /// Tells whether a role may issue the statement of a text.
 pub fn put_asked(alloc: Global, catalogue: &Catalogue, role: &Name, text: &str, out: &mut Told) {
@@ -55,28 +56,16 @@ fn may_use_rows(
     Ok(())
 }
 
-/// Whether a role may grant the first role of a GRANT to its first member, if no circle comes of it.
+/// Whether a role may issue a GRANT of roles.
 fn may_grant(
     alloc: Global,
     catalogue: &Catalogue,
     role: &Name,
     granting: &GrantRole,
 ) -> Result<(), Refusal> {
-    let memberships = catalogue.memberships();
-    let (Some(granted), Some(member)) = (granting.roles.get(0), granting.members.get(0)) else {
-        return Ok(());
-    };
-    if !may_grant_role(
-        alloc,
-        catalogue.roles(),
-        memberships.as_slice(),
-        role,
-        granted,
-    )? {
-        return Err(Refusal(SqlState::InsufficientPrivilege));
+    match grant_role(alloc, catalogue, role, granting) {
+        Ok(_) => Ok(()),
+        Err(StatementError::Refused(state)) => Err(Refusal(state)),
+        Err(StatementError::Failed(_)) => Err(Refusal(SqlState::OutOfMemory)),
     }
-    if would_circle(alloc, memberships, granted, member)? {
-        return Err(Refusal(SqlState::InvalidGrantOperation));
-    }
-    Ok(())
 }
