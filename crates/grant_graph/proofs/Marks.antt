@@ -1,7 +1,6 @@
 -- Marks of descriptors, and what becomes of a list by them.
-use Rattle.std.proofs.Common.{◌≡◌, ◌<◌, ◌≤◌, ◌+◌, ◌++◌, ◌&&◌, ◌||◌, ℕ, zero, suc, Bool, true, false, cond, List, [], ◌∷◌, Option, Some, None, bytes_eq, nat_eq, map, take, drop, length, get_or, refl, sym, ap, ◌∙◌, inl, inr, arith, Ordering, Less, Equal, Greater, is_eq, nat_cmp, add-one}
-use Rattle.std.proofs.Math.ListN.{set}
-use Rattle.std.specs.List.{list_any, SwappedAt}
+use Rattle.std.proofs.Common.{◌≡◌, ◌<◌, ◌≤◌, ◌+◌, ◌++◌, ◌&&◌, ◌||◌, ℕ, Bool, true, false, cond, List, [], ◌∷◌, Option, Some, None, bytes_eq, nat_eq, take, refl, sym, ap, ◌∙◌, inl, inr, arith, Ordering, Less, Equal, Greater, is_eq, nat_cmp}
+use Rattle.std.specs.List.{list_any}
 use Rattle.std.specs.Ordering.{ordering_then}
 use Rattle.std.specs.Option.{option_cmp, option_eq}
 use Rattle.std.specs.Cmp.{nat_cmp_is, Equal-is}
@@ -10,13 +9,10 @@ use Rattle.std.proofs.lemmas.Bool.{and_parts, eq-eqb, eqb-true}
 use Rattle.std.proofs.lemmas.List.Folds.{list_any-append}
 use Rattle.std.proofs.lemmas.Cmp.{nat_list_eq_equiv}
 use Rattle.std.proofs.lemmas.Map.Text.{is_eq-slice_cmp}
-use Rattle.std.proofs.lemmas.Option.{slice_get_cases}
-use Rattle.std.proofs.lemmas.List.{get_or-map, get_or-drop, take_all, drop_all, append-nil}
-use Rattle.std.proofs.lemmas.List.Filters.{FiltersInPlace, FiltersInPlace-more_no, FiltersInPlace-more_swap}
 use Rattle.indexmap.specs.IndexSet.{insert_key}
 use Rattle.role_membership.proofs.Names.{same_tests}
 use Rattle.sql_ast.specs.declared.privilege.Descriptor.{Descriptor}
-use Rattle.abstract_database.specs.Lists.{TheName, change_where, name_cmp}
+use Rattle.abstract_database.specs.Lists.{TheName, name_cmp}
 use Rattle.abstract_database.specs.Database.{action_number, grantor_name, grantee_name}
 use Rattle.abstract_database.specs.Privileges.{covers, same_key, is_named_in, takes, is_taken_by}
 use Rattle.abstract_database.proofs.ListLemmas.{bytes_same}
@@ -195,63 +191,3 @@ taken_by_key named d keys own whole is is_whole have =
     ap (λ (b : Bool). b || list_any (same_lent_key whole) keys) (named_by_key named d keys own is have)
     ∙ ap (λ (b : Bool). is_named_in named d || b) (named_by_key named (record d { column = None }) keys whole is_whole have)
     ∙ sym (taken_is named d)
-
--- ---- changed and kept by marks
-
-module _ (test : Descriptor → Bool) (f : Descriptor → Descriptor) where
-  pub change_read : (ds : List Descriptor) (i : ℕ) (d : Descriptor) → get_or (change_where test f (take i ds) ++ drop i ds) i d ≡ get_or ds i d
-  change_read [] zero d = refl
-  change_read [] (suc i) d = refl
-  change_read (x ∷ xs) zero d = refl
-  change_read (x ∷ xs) (suc i) d = change_read xs i d
-
-  changed_next : (ds : List Descriptor) (i : ℕ) (y : Descriptor) → i < length ds → y ≡ get_or ds i y → set (change_where test f (take i ds) ++ drop i ds) i (cond (test y) (f y) y) ≡ change_where test f (take (suc i) ds) ++ drop (suc i) ds
-  changed_next [] i y lt is = absurd (omega (arith, lt))
-  changed_next (x ∷ xs) zero y lt is = ap (λ (z : Descriptor). cond (test z) (f z) z ∷ xs) is
-  changed_next (x ∷ xs) (suc i) y lt is = ap (λ (l : List Descriptor). cond (test x) (f x) x ∷ l) (changed_next xs i y (omega (arith, lt)) is)
-
-  left_next : (ds : List Descriptor) (i : ℕ) (y : Descriptor) → i < length ds → y ≡ get_or ds i y → test y ≡ false → change_where test f (take i ds) ++ drop i ds ≡ change_where test f (take (suc i) ds) ++ drop (suc i) ds
-  left_next [] i y lt is e = absurd (omega (arith, lt))
-  left_next (x ∷ xs) zero y lt is e = ap (λ (b : Bool). cond b (f x) x ∷ xs) (sym (ap test (sym is) ∙ e))
-  left_next (x ∷ xs) (suc i) y lt is e = ap (λ (l : List Descriptor). cond (test x) (f x) x ∷ l) (left_next xs i y (omega (arith, lt)) is e)
-
-  pub change_marked : (ds : List Descriptor) (i : ℕ) (y : Descriptor) → i < length ds → y ≡ get_or ds i y → test y ≡ true → set (change_where test f (take i ds) ++ drop i ds) i (f y) ≡ change_where test f (take (i + 1) ds) ++ drop (i + 1) ds
-  change_marked ds i y lt is e = rw (add-one i) (ap (λ (b : Bool). set (change_where test f (take i ds) ++ drop i ds) i (cond b (f y) y)) (sym e) ∙ changed_next ds i y lt is)
-
-  pub leave_unmarked : (ds : List Descriptor) (i : ℕ) (y : Descriptor) → i < length ds → y ≡ get_or ds i y → test y ≡ false → change_where test f (take i ds) ++ drop i ds ≡ change_where test f (take (i + 1) ds) ++ drop (i + 1) ds
-  leave_unmarked ds i y lt is e = rw (add-one i) (left_next ds i y lt is e)
-
-module _ (test : Descriptor → Bool) (ds : List Descriptor) (marks : List Bool) (is : marks ≡ map test ds) where
-  -- a mark is the test of its descriptor
-  pub mark_of : (i : ℕ) (d : Descriptor) → i < length ds → get_or marks i false ≡ test (get_or ds i d)
-  mark_of i d lt = ap (λ (l : List Bool). get_or l i false) is ∙ get_or-map test ds i d false lt
-
-  -- an element, its mark and its test
-  pub element_of : (i : ℕ) → i < length ds → (x : Descriptor) × (x ≡ get_or ds i x) × (get_or marks i false ≡ test x)
-  element_of i lt = elim ((slice_get_cases ds i).1) [
-    | inl there ↦ (there.0, sym there.3, mark_of i there.0 lt ∙ ap test there.3)
-    | inr past ↦ absurd (omega (arith, lt, past.0))
-  ]
-
-  module _ (ys : List Descriptor) (k i : ℕ) (so_far : FiltersInPlace test ds ys k i) (lt : i < length ys) where
-    here : (x : Descriptor) → get_or ys i x ≡ get_or ds i x
-    here x =
-        let at : i + 0 ≡ i = omega arith in
-        sym (ap (λ (j : ℕ). get_or ys j x) at) ∙ sym (get_or-drop i ys 0 x) ∙ ap (λ (l : List Descriptor). get_or l 0 x) so_far.rest ∙ get_or-drop i ds 0 x ∙ ap (λ (j : ℕ). get_or ds j x) at
-
-    element : (x : Descriptor) × (x ≡ get_or ys i x) × (get_or marks i false ≡ test x)
-    element = elim ((slice_get_cases ys i).1) [
-      | inl there ↦
-          let is_x = there.3 in
-          (there.0, sym is_x, mark_of i there.0 (omega (arith, lt, so_far.long)) ∙ ap test (sym (here there.0) ∙ is_x))
-      | inr past ↦ absurd (omega (arith, lt, past.0))
-    ]
-
-    pub keep_marked_one : (zs : List Descriptor) → get_or marks i false ≡ true → SwappedAt ys zs k i → FiltersInPlace test ds zs (k + 1) (i + 1)
-    keep_marked_one zs mark swapped = FiltersInPlace-more_swap so_far lt (sym element.2 ∙ mark) element.1 swapped
-
-    pub pass_unmarked : get_or marks i false ≡ false → FiltersInPlace test ds ys k (i + 1)
-    pass_unmarked mark = FiltersInPlace-more_no so_far lt (sym element.2 ∙ mark) element.1
-
-pub change_all : (test : Descriptor → Bool) (f : Descriptor → Descriptor) (ds : List Descriptor) (i : ℕ) → length ds ≤ i → change_where test f (take i ds) ++ drop i ds ≡ change_where test f ds
-change_all test f ds i le = ap (λ (l : List Descriptor). change_where test f l ++ drop i ds) (take_all i ds le) ∙ ap (λ (l : List Descriptor). change_where test f ds ++ l) (drop_all i ds le) ∙ append-nil (change_where test f ds)

@@ -1,6 +1,6 @@
 //! By whom a role grants and revokes. PostgreSQL (manual, GRANT) picks any role that has the grant option; here the choice is
 //! fixed: the owner, the role itself, the least name.
-ghost use Rattle.std.specs.Prelude.{◌≡◌, ◌≤◌, ◌&&◌, ◌||◌, [], ◌∷◌, bytes_eq, filter, IfOk};
+ghost use Rattle.std.specs.Prelude.{◌≡◌, ◌≤◌, ◌&&◌, ◌||◌, [], ◌∷◌, bytes_eq, filter};
 ghost use Rattle.std.specs.List.{list_any};
 ghost use Rattle.std.specs.Option.{option_map};
 ghost use Rattle.std.specs.Ordering.{is_lt};
@@ -12,11 +12,10 @@ ghost use Rattle.grant_graph.specs.Keys.{now_of};
 ghost use Rattle.grant_graph.specs.Acting.{database_of, table_of, lent_names, least_with};
 
 use crate::keys::action_number;
-use role_membership::{Memberships, RoleSet, closure, is_superuser};
+use role_membership::{Memberships, RoleSet, is_superuser};
 use sql_ast::privilege::{Descriptor, Grantee, Privilege};
 use sql_ast::role::Role;
 use sql_types::name::Name;
-use std::alloc::{AllocError, Global};
 
 /// The roles of a database, their memberships, and its privilege descriptors.
 #[derive(Clone, Copy)]
@@ -147,26 +146,10 @@ fn least_holder<'a>(
     best
 }
 
-/// Who grants and revokes this privilege on a table where this role does: the owner, where the role is a superuser or is in the
-/// owner; else the role itself, where it holds a grant option for the privilege, by one on the whole table or on its column;
-/// else the least in byte order of the roles that it is in and that hold one; else nobody. Time grows in proportion to the roles, memberships and descriptors, as far as names
-/// hash apart. `AllocError` comes only where memory was refused.
-pub fn acting_grantor<'a>(
-    alloc: Global,
-    grants: Grants<'a>,
-    role: &'a Name,
-    table: &Name,
-    owner: &'a Name,
-    privilege: Privilege,
-) -> Result<Option<&'a Name>, AllocError>
-    ensures { IfOk result (λ by. option_map now_of by
-        ≡ grantor_of (database_of grants.entry) role.now (table_of table.now owner.now) privilege) }
-{
-    let roles = closure(alloc, grants.memberships, role)?;
-    Ok(acting_grantor_among(grants, &roles, role, table, owner, privilege))
-}
-
-/// The same, where the roles that the role is in are known.
+/// Who grants and revokes this privilege on a table where this role does, which is in these roles: the owner, where the role
+/// is a superuser or is in the owner; else the role itself, where it holds a grant option for the privilege, by one on the
+/// whole table or on its column; else the least in byte order of the roles that it is in and that hold one; else nobody.
+/// Time grows in proportion to the roles and descriptors, as far as names hash apart.
 pub fn acting_grantor_among<'a>(
     grants: Grants<'a>,
     roles: &RoleSet<'_>,

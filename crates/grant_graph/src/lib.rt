@@ -9,9 +9,9 @@ mod marking;
 mod revoking;
 mod supports;
 
-pub use acting::{Grants, acting_grantor, acting_grantor_among, covers};
+pub use acting::{Grants, acting_grantor_among, covers};
 pub use granting::grant;
 pub use keys::action_number;
 pub use marking::without;
-pub use revoking::{RevocationMarks, RevokeMode, revocation, revoke};
+pub use revoking::{RevocationMarks, RevokeMode, revocation};
 pub use supports::all_supported;

@@ -1,7 +1,7 @@
 //! Marks, one for each descriptor of a list.
-ghost use Rattle.std.specs.Prelude.{◌≡◌, length, Bool, List, map, filter, IfOk};
-ghost use Rattle.abstract_database.specs.Lists.{change_where, drop_where};
-ghost use Rattle.abstract_database.specs.Privileges.{is_named_in, is_taken_by, without_option};
+ghost use Rattle.std.specs.Prelude.{◌≡◌, List, map, IfOk};
+ghost use Rattle.abstract_database.specs.Lists.{drop_where};
+ghost use Rattle.abstract_database.specs.Privileges.{is_named_in, is_taken_by};
 ghost use Rattle.sql_ast.specs.declared.privilege.Descriptor.{Descriptor as TheDescriptor};
 ghost use Rattle.grant_graph.specs.Marking.{HaveKeysOf};
 
@@ -68,33 +68,4 @@ pub fn without(
         }
     }
     Ok(left)
-}
-
-/// Takes the grant option from the descriptors that have a mark.
-pub(crate) fn clear_options(descriptors: &mut [Descriptor], marks: &[bool])
-    requires { length marks.now ≡ length descriptors.old }
-    ensures { (test : TheDescriptor → Bool) → marks.now ≡ map test descriptors.old
-        → descriptors.new ≡ change_where test without_option descriptors.old }
-{
-    for index in 0..marks.len() {
-        if marks[index] {
-            descriptors[index].grantable = false;
-        }
-    }
-}
-
-/// Keeps the descriptors that have a mark, in their order.
-pub(crate) fn keep_marked(descriptors: &mut Vec<Descriptor>, marks: &[bool])
-    requires { length marks.now ≡ length descriptors.old.items }
-    ensures { (test : TheDescriptor → Bool) → marks.now ≡ map test descriptors.old.items
-        → descriptors.new.items ≡ filter test descriptors.old.items }
-{
-    let mut kept = 0;
-    for index in 0..marks.len() {
-        if marks[index] {
-            descriptors.swap(kept, index);
-            kept += 1;
-        }
-    }
-    descriptors.truncate(kept);
 }

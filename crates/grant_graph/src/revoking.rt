@@ -1,11 +1,10 @@
 //! REVOKE of privileges (SQL:2016 Foundation, 12.7; PostgreSQL manual, REVOKE).
-ghost use Rattle.std.specs.Prelude.{◌≡◌, ◌⊎◌, ◌↔◌, ◌&&◌, ◌||◌, Bool, false, not, map, filter, length, Ok, Err, OnOk, IfOk, IfErr, OnErr, IsTrue};
-ghost use Rattle.sql_ast.specs.declared.privilege.Descriptor.{Descriptor as TheDescriptor};
+ghost use Rattle.std.specs.Prelude.{◌≡◌, ◌⊎◌, ◌↔◌, ◌&&◌, ◌||◌, false, not, length, Err, IfOk, IfErr, IsTrue};
 ghost use Rattle.sql_types.specs.declared.state.SqlState.TheVariants.{OutOfMemory};
 ghost use Rattle.abstract_database.specs.Privileges.{revoked, is_cascade as cascades};
-ghost use Rattle.grant_graph.specs.Revoking.{Stay, Loses, Takes, in_place, is_grant_option_for};
+ghost use Rattle.grant_graph.specs.Revoking.{Stay, Loses, Takes, is_grant_option_for};
 
-use crate::marking::{clear_options, keep_marked, mark_named};
+use crate::marking::mark_named;
 use crate::supports::reached;
 use sql_ast::privilege::Descriptor;
 use sql_ast::statement::DropBehavior;
@@ -99,25 +98,6 @@ fn is_refused(
     !is_cascade(behavior) && loses(reached, named, grant_option_for)
 }
 
-/// Takes the options of those that are named, if options are taken, and then keeps those that stay.
-fn take_away(
-    descriptors: &mut Vec<Descriptor>,
-    named: &[bool],
-    staying: &[bool],
-    grant_option_for: bool,
-)
-    requires named { length named.now ≡ length descriptors.old.items }
-    requires staying { length staying.now ≡ length descriptors.old.items }
-    ensures { (test stays : TheDescriptor → Bool) → named.now ≡ map test descriptors.old.items
-        → staying.now ≡ map stays (in_place grant_option_for test descriptors.old.items)
-        → descriptors.new.items ≡ filter stays (in_place grant_option_for test descriptors.old.items) }
-{
-    if grant_option_for {
-        clear_options(descriptors.as_mut_slice(), named);
-    }
-    keep_marked(descriptors, staying);
-}
-
 /// What a REVOKE takes of descriptors: marks of those that the named ones take, and of those that stay.
 #[derive(Drop)]
 pub struct RevocationMarks {
@@ -127,7 +107,11 @@ pub struct RevocationMarks {
     pub staying: Vec<bool>,
 }
 
-/// What the REVOKE of [`revoke`] takes of these descriptors, and when it is refused.
+/// What a REVOKE of the named descriptors takes, or of their grant options alone. With CASCADE each descriptor goes that no
+/// chain of supports leads to any more. One that is named on the whole table takes also what its grantor granted its
+/// grantee on the columns; one that is named on a column takes that alone. Without CASCADE it is refused with 2B000 where
+/// there is a descriptor that nothing supports, and with 53200 where memory was refused. A named descriptor that is not
+/// there is passed over. Time and memory grow in proportion to the descriptors, as far as names hash apart.
 pub fn revocation(
     alloc: Global,
     descriptors: &[Descriptor],
@@ -157,33 +141,4 @@ pub fn revocation(
         return Err(Refusal(SqlState::DependentPrivileges));
     }
     Ok(RevocationMarks { named, staying })
-}
-
-/// Takes the named descriptors away, or their grant options alone, and then, with CASCADE, each descriptor that
-/// no chain of supports leads to any more. One that is named on the whole table takes also what its grantor granted its
-/// grantee on the columns; one that is named on a column takes that alone. Without CASCADE it is refused with 2B000 where
-/// there is a descriptor that nothing supports, and with 53200 where memory was refused; a refusal leaves the descriptors
-/// as they were. A named descriptor that is not there is passed over. Time and memory grow in proportion to the
-/// descriptors, as far as names hash apart.
-pub fn revoke(
-    alloc: Global,
-    descriptors: &mut Vec<Descriptor>,
-    named: &[Descriptor],
-    taken: RevokeMode,
-    behavior: Option<DropBehavior>,
-) -> Result<(), Refusal>
-    ensures revoked { OnOk result (revoked (is_grant_option_for taken) behavior named.now descriptors.old.items
-        ≡ Ok descriptors.new.items) }
-    ensures refused { IfErr result (λ e. (e.0 ≡ OutOfMemory)
-        ⊎ (revoked (is_grant_option_for taken) behavior named.now descriptors.old.items ≡ Err e.0)) }
-    ensures unchanged { OnErr result (descriptors.new.items ≡ descriptors.old.items) }
-{
-    let taking = revocation(alloc, descriptors.as_slice(), named, taken, behavior)?;
-    take_away(
-        descriptors,
-        taking.named.as_slice(),
-        taking.staying.as_slice(),
-        is_grant_option_for(taken),
-    );
-    Ok(())
 }
