@@ -14,23 +14,20 @@ use catalogue_loading::load_items;
 use entry_differences::push_differences;
 use sql_types::items::Items;
 use std::alloc::Global;
-use storage_sizes::RecordFormat;
+use storage_sizes::{RecordFormat, RecordKind};
 use store::{Batch, Entry, Fault, Map, Store};
-
-/// The byte with which the key of a privilege descriptor's record begins.
-const DESCRIPTOR: u8 = 4;
 
 /// The changes that spell records of the first spelling in the second: each privilege descriptor
 /// goes, and comes with a place; no other record changes. The map is only read.
 ///
 /// Memory: an allocation failed. Device: the map answered it. Damaged: a descriptor's record has no
 /// room for a place, so the records stand for no database.
-pub fn respelling<M: Map>(alloc: Global, map: &mut M) -> Result<Batch, Fault>
+fn respelling<M: Map>(alloc: Global, map: &mut M) -> Result<Batch, Fault>
     ensures preserved { M.preserved map.old map.new }
     ensures read { HasRead result (M.state map.old) (M.state map.new) }
     ensures spelled { (M.state map.old).sound → Respells result (M.state map.old).map }
 {
-    let removed = match load_items(alloc, map, &[DESCRIPTOR], &RecordReader) {
+    let removed = match load_items(alloc, map, &[RecordKind::Descriptor as u8], &RecordReader) {
         Ok(removed) => removed,
         Err(fault) => return Err(fault),
     };
