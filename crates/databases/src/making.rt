@@ -14,10 +14,8 @@ use kv_store::{Entry, FormatFault, PageStore};
 use sector_device::Device;
 use sql_types::name::Name;
 use std::alloc::{AllocError, Global};
+use storage_sizes::RecordKind;
 use stored_database::new_records_stand_for_a_new_database;
-
-/// The byte with which the key of a role's record begins.
-const ROLE: u8 = 1;
 
 /// The value of the record of a role that is a superuser (1) and may log in (2).
 const SUPERUSER_WITH_LOGIN: u8 = 3;
@@ -97,7 +95,7 @@ fn record_of_admin(alloc: Global, admin: &Name) -> Result<Entry, AllocError>
     ensures key { IfOk result (λ entry. IsKeySize entry.0) }
     ensures value { IfOk result (λ entry. length entry.1 ≤ max_value_length) }
 {
-    let mut key = Vec::from_slice(alloc, &[ROLE])?;
+    let mut key = Vec::from_slice(alloc, &[RecordKind::Role as u8])?;
     key.extend_from_slice(admin.as_str().as_bytes())?;
     let value = Vec::from_slice(alloc, &[SUPERUSER_WITH_LOGIN])?;
     Ok(Entry::from_parts(key, value))
