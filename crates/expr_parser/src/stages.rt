@@ -12,8 +12,8 @@ use sql_lexer::token::{Token, TokenKind};
 use sql_types::state::{Refusal, SqlState};
 use std::alloc::{AllocError, Global};
 
-/// The most bytes that a text may have.
-pub const MAX_TEXT_LENGTH: usize = 65536;
+/// The most bytes that a text which is parsed may have: a statement, or a condition that is stored.
+pub const MAX_STATEMENT_LENGTH: usize = 65536;
 
 /// The greatest depth that an expression may have: a leaf has depth 1, an operator one more than
 /// its deepest operand, and parentheses add none.
@@ -96,7 +96,7 @@ fn parse_tokens<G: Grammar>(
 pub fn parse_text<G: Grammar>(alloc: Global, text: &str) -> Result<G::Value, Refusal>
     ensures { Parses (G.Means text.now) G.IsWithinDepth text.now result }
 {
-    if text.len() > MAX_TEXT_LENGTH {
+    if text.len() > MAX_STATEMENT_LENGTH {
         return Err(Refusal(SqlState::ProgramLimitExceeded));
     }
     let tokens = lexer::tokens(alloc, text)?;
