@@ -5,9 +5,7 @@ ghost use Rattle.store.specs.Memory.{admin_record};
 use crate::Change;
 use sql_types::name::Name;
 use std::alloc::{AllocError, Global};
-
-/// The byte with which the key of a role's record begins.
-const ROLE: u8 = 1;
+use storage_sizes::RecordKind;
 
 /// The value of the record of a role that is a superuser (1) and may log in (2).
 const SUPERUSER_WITH_LOGIN: u8 = 3;
@@ -17,7 +15,7 @@ pub fn put_admin(alloc: Global, admin: &Name) -> Result<Change, AllocError>
     ensures { IfOk result (λ change.
         change ≡ ((admin_record admin.now).0, Some (admin_record admin.now).1)) }
 {
-    let mut key = Vec::from_slice(alloc, &[ROLE])?;
+    let mut key = Vec::from_slice(alloc, &[RecordKind::Role as u8])?;
     key.extend_from_slice(admin.as_str().as_bytes())?;
     Change::put(alloc, &key, &[SUPERUSER_WITH_LOGIN])
 }
