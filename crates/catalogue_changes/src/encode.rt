@@ -3,6 +3,7 @@
 
 ghost use Rattle.std.specs.Prelude.{◌≡◌, ◌≢◌, ◌≤◌, ◌<◌, ◌^◌, [], ◌∷◌, ◌++◌, flat_map, length, Err, IfOk, IfSome, MatchOption, OnOk};
 ghost use Rattle.byteorder.specs.Endian.{big_bytes};
+ghost use Rattle.storage_sizes.specs.Kinds.{kind_byte};
 ghost use Rattle.stored_database.specs.RecordFormat.{ended, flag, place_byte, type_number, column_bytes, layout_bytes, role_flags, role_record, membership_record, table_record, descriptor_record, policy_record, kind_number, command_number, roles_bytes, clause_bytes};
 ghost use Rattle.stored_database.specs.Entries.{IsRecordSize};
 ghost use Rattle.catalogue_changes.specs.Sizes.{FitsRecord, HasPlace, HasCountableRoles, HasShortText};
@@ -10,31 +11,21 @@ ghost use Rattle.catalogue_changes.specs.Sizes.{FitsRecord, HasPlace, HasCountab
 use byteorder::{BigEndian, ByteOrder};
 use catalogue::order::{action_number, grantee_name, grantor_name};
 use catalogue::table::TableDefinition;
+use row_codec::table_prefix;
 use sql_ast::columns::{Column, ColumnType, Columns};
 use sql_ast::policy::{Policy, PolicyClause, PolicyCommand, PolicyKind, PolicyRoles};
 use sql_ast::privilege::Descriptor;
 use sql_ast::role::{Membership, Role, RoleAttributes};
 use sql_types::name::Name;
 use std::alloc::{AllocError, Global};
-use storage_sizes::{MAX_KEY_LENGTH, MAX_VALUE_LENGTH};
+use storage_sizes::{MAX_KEY_LENGTH, MAX_VALUE_LENGTH, RecordKind};
 use store::{Entry, Fault};
-
-/// The byte with which the key of a role's record begins.
-const ROLE: u8 = 1;
-/// The byte with which the key of a membership's record begins.
-const MEMBERSHIP: u8 = 2;
-/// The byte with which the key of a table's record begins.
-const TABLE: u8 = 3;
-/// The byte with which the key of a privilege descriptor's record begins.
-const DESCRIPTOR: u8 = 4;
-/// The byte with which the key of a policy's record begins.
-const POLICY: u8 = 5;
 
 /// The most roles of a policy, which a byte counts.
 const MAX_POLICY_ROLES: usize = 255;
 
-/// The most bytes of a condition, which two bytes count.
-const MAX_TEXT_LENGTH: usize = 65_535;
+/// The most bytes of a condition in its record, which two bytes count.
+const MAX_STORED_TEXT_LENGTH: usize = 65_535;
 
 /// The record of a role. The only error is that an allocation failed.
 pub fn role_entry(alloc: Global, role: &Role) -> Result<Entry, AllocError>
@@ -42,7 +33,7 @@ pub fn role_entry(alloc: Global, role: &Role) -> Result<Entry, AllocError>
     ensures size { IfOk result (λ entry. IsRecordSize entry) }
 {
     let name = role.name.as_str();
-    let mut key = Vec::from_slice(alloc, &[ROLE])?;
+    let mut key = Vec::from_slice(alloc, &[RecordKind::Role as u8])?;
     key.extend_from_slice(name.as_bytes())?;
     let value = Vec::from_slice(alloc, &[flags_of(&role.attributes)])?;
     Ok(Entry::from_parts(key, value))
@@ -55,7 +46,7 @@ pub fn membership_entry(alloc: Global, membership: &Membership) -> Result<Entry,
 {
     let role = membership.role.as_str();
     let member = membership.member.as_str();
-    let mut key = Vec::from_slice(alloc, &[MEMBERSHIP])?;
+    let mut key = Vec::from_slice(alloc, &[RecordKind::Membership as u8])?;
     push_ended(&mut key, role)?;
     push_ended(&mut key, member)?;
     let value = Vec::from_slice(alloc, &[flag(membership.admin, 1)])?;
@@ -70,7 +61,7 @@ pub fn table_entry(alloc: Global, table: &TableDefinition) -> Result<Entry, Faul
     ensures undamaged { IsRecordSize (table_record table.now) → result ≢ Err Fault.Damaged }
     ensures no_device { result ≢ Err Fault.Device }
 {
-    let mut key = Vec::from_slice(alloc, &[TABLE])?;
+    let mut key = Vec::from_slice(alloc, &[RecordKind::Table as u8])?;
     key.extend_from_slice(table.name().as_str().as_bytes())?;
     let flags = flag(table.row_security(), 1) + flag(table.forced(), 2);
     let mut value = number_bytes(alloc, table.id())?;
@@ -93,7 +84,7 @@ pub fn descriptor_entry(alloc: Global, table: u32, descriptor: &Descriptor) -> R
     let Some(place) = place_of(descriptor.column) else {
         return Err(Fault::Damaged);
     };
-    let mut key = table_key(alloc, DESCRIPTOR, table)?;
+    let mut key = table_key(alloc, RecordKind::Descriptor, table)?;
     key.push(action_number(descriptor.action))?;
     key.push(place)?;
     push_ended(&mut key, grantor_name(&descriptor.grantor))?;
@@ -112,7 +103,7 @@ pub fn policy_entry(alloc: Global, table: u32, policy: &Policy) -> Result<Entry,
         → result ≢ Err Fault.Damaged }
     ensures no_device { result ≢ Err Fault.Device }
 {
-    let mut key = table_key(alloc, POLICY, table)?;
+    let mut key = table_key(alloc, RecordKind::Policy, table)?;
     key.extend_from_slice(policy.name.as_str().as_bytes())?;
     let mut value = Vec::from_slice(
         alloc,
@@ -153,16 +144,14 @@ fn place_of(column: Option<usize>) -> Option<u8>
 }
 
 // The front of the keys of a kind that belong to one table: the byte of the kind and the number.
-fn table_key(alloc: Global, kind: u8, table: u32) -> Result<Vec<u8>, AllocError>
-    ensures { IfOk result (λ key. key.items ≡ kind ∷ big_bytes 4 table) }
+fn table_key(alloc: Global, kind: RecordKind, table: u32) -> Result<Vec<u8>, AllocError>
+    ensures { IfOk result (λ key. key.items ≡ kind_byte kind ∷ big_bytes 4 table) }
 {
-    let mut bytes = [kind; 5];
-    BigEndian::write_u32(&mut bytes[1..], table);
-    Vec::from_slice(alloc, &bytes)
+    Vec::from_slice(alloc, &table_prefix(kind, table))
 }
 
 // Appends a name and the zero byte that ends it.
-pub(crate) fn push_ended(out: &mut Vec<u8>, name: &str) -> Result<(), AllocError>
+fn push_ended(out: &mut Vec<u8>, name: &str) -> Result<(), AllocError>
     ensures { OnOk result (out.new.items ≡ out.old.items ++ ended name.now) }
 {
     out.extend_from_slice(name.as_bytes())?;
@@ -171,7 +160,7 @@ pub(crate) fn push_ended(out: &mut Vec<u8>, name: &str) -> Result<(), AllocError
 }
 
 // A bit of a sum: the amount where it is set.
-pub(crate) fn flag(set: bool, amount: u8) -> u8
+fn flag(set: bool, amount: u8) -> u8
     ensures flag { result ≡ flag set amount }
     ensures most { result ≤ amount }
 {
@@ -248,7 +237,7 @@ fn push_clause(out: &mut Vec<u8>, clause: &Option<PolicyClause>) -> Result<(), F
         }
         Some(clause) => {
             let text = clause.text.as_str();
-            if text.len() > MAX_TEXT_LENGTH {
+            if text.len() > MAX_STORED_TEXT_LENGTH {
                 return Err(Fault::Damaged);
             }
             out.push(1)?;

@@ -2,6 +2,7 @@
 
 ghost use Rattle.std.specs.Prelude.{◌≡◌, ◌≢◌, ◌<◌, ◌^◌, ℕ, Bool, List, [], ◌∷◌, ◌++◌, MatchOption, IfSome};
 ghost use Rattle.byteorder.specs.Endian.{big_bytes};
+ghost use Rattle.storage_sizes.specs.Kinds.{kind_byte};
 ghost use Rattle.sql_types.specs.Domain.{IsText};
 ghost use Rattle.sql_types.specs.Name.{IsUtf8Name};
 ghost use Rattle.stored_database.specs.RecordFormat.{bit, ended};
@@ -12,6 +13,7 @@ use sql_ast::columns::ColumnType;
 use sql_types::name::Name;
 use sql_types::value::ValueRef;
 use std::alloc::Global;
+use storage_sizes::RecordKind;
 use store::Fault;
 
 /// The name that all of these bytes are. Memory: an allocation failed. Damaged: they are no name.
@@ -118,10 +120,10 @@ pub fn after<'a>(prefix: &[u8], bytes: &'a [u8]) -> Option<&'a [u8]>
 
 /// The bytes after the byte of a kind and the number of a table, or `None` where a key does not begin
 /// with them.
-pub fn after_table(kind: u8, id: u32, key: &[u8]) -> Option<&[u8]>
+pub fn after_table(kind: RecordKind, id: u32, key: &[u8]) -> Option<&[u8]>
     ensures { MatchOption result
-        ((rest : List ℕ) → key.now ≡ kind ∷ big_bytes 4 id ++ rest → ⊥)
-        (λ rest. key.now ≡ kind ∷ big_bytes 4 id ++ rest.now) }
+        ((rest : List ℕ) → key.now ≡ kind_byte kind ∷ big_bytes 4 id ++ rest → ⊥)
+        (λ rest. key.now ≡ kind_byte kind ∷ big_bytes 4 id ++ rest.now) }
 {
     after(&table_prefix(kind, id), key)
 }

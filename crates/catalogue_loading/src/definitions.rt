@@ -15,12 +15,8 @@ use crate::tables::read_tables;
 use crate::walk::load_items;
 use catalogue::definitions::{Catalogue, CatalogueParts};
 use std::alloc::{AllocError, Global};
+use storage_sizes::RecordKind;
 use store::{Fault, Map};
-
-/// The byte with which the key of a role's record begins.
-const ROLE: u8 = 1;
-/// The byte with which the key of a membership's record begins.
-const MEMBERSHIP: u8 = 2;
 
 /// The definitions of a database, read from the records of a map, with the conditions of policies
 /// bound to the columns of their tables. Each record is read once and each policy parsed once; then
@@ -58,11 +54,16 @@ fn read_parts<M: Map>(alloc: Global, map: &mut M) -> Result<CatalogueParts, Faul
     ensures found { (M.state map.old).sound
         → FindsAs definitions_of (AreHeldDefinitions (M.state map.old).map) result }
 {
-    let roles = match load_items(alloc, map, &[ROLE], &RoleReader) {
+    let roles = match load_items(alloc, map, &[RecordKind::Role as u8], &RoleReader) {
         Ok(roles) => roles,
         Err(fault) => return Err(fault),
     };
-    let memberships = match load_items(alloc, map, &[MEMBERSHIP], &MembershipReader) {
+    let memberships = match load_items(
+        alloc,
+        map,
+        &[RecordKind::Membership as u8],
+        &MembershipReader,
+    ) {
         Ok(memberships) => memberships,
         Err(fault) => return Err(fault),
     };

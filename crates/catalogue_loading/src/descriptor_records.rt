@@ -16,10 +16,8 @@ use sql_ast::privilege::{Action, Descriptor, Grantee, Grantor};
 use sql_types::name::Name;
 use sql_types::try_copy::TryCopy;
 use std::alloc::Global;
+use storage_sizes::RecordKind;
 use store::{Entry, Fault};
-
-/// The byte with which the key of a descriptor's record begins.
-const DESCRIPTOR: u8 = 4;
 
 /// The place of the last column that a table may have.
 const LAST_PLACE: u8 = 16;
@@ -46,7 +44,7 @@ impl<'a> DescriptorReader<'a> {
     pub fn prefix(&self) -> [u8; 5]
         ensures { result ≡ descriptor_prefix self.now.id }
     {
-        table_prefix(DESCRIPTOR, self.id)
+        table_prefix(RecordKind::Descriptor, self.id)
     }
 }
 
@@ -145,7 +143,7 @@ fn decode_descriptor(
 ) -> Result<Descriptor, Fault>
     ensures { Decodes (IsStoredDescriptor table.now) (descriptor_record id) entry.now result }
 {
-    let Some(rest) = after_table(DESCRIPTOR, id, entry.key()) else {
+    let Some(rest) = after_table(RecordKind::Descriptor, id, entry.key()) else {
         return Err(Fault::Damaged);
     };
     let Some((number, placed)) = rest.split_first() else {

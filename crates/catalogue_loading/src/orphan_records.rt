@@ -4,6 +4,7 @@
 ghost use Rattle.std.specs.Prelude.{◌≡◌, ◌∷◌, [], ℕ, List, false};
 ghost use Rattle.std.specs.List.{list_any};
 ghost use Rattle.byteorder.specs.Endian.{big_bytes};
+ghost use Rattle.storage_sizes.specs.Kinds.{kind_byte};
 ghost use Rattle.store.specs.Records.{Records, entries_where, has_prefix};
 ghost use Rattle.stored_database.specs.Records.{is_key_of, is_row_key_of, is_orphan, is_orphan_row};
 ghost use Rattle.stored_database.specs.RecordFormat.{rows_prefix};
@@ -11,6 +12,7 @@ ghost use Rattle.catalogue_loading.specs.RecordChecks.{AllPass, IsNoOrphan, IsNo
 
 use crate::record_checks::RecordTest;
 use row_codec::table_prefix;
+use storage_sizes::RecordKind;
 use store::{EntryRef, begins_with};
 
 /// Which orphans are looked for.
@@ -49,16 +51,16 @@ impl<'a> RecordTest for OrphanTest<'a> {
 fn is_orphan(ids: &[u32], key: &[u8]) -> bool
     ensures { result ≡ is_orphan ids.now key.now }
 {
-    if is_of_kind(1, key) {
+    if is_of_kind(RecordKind::Role as u8, key) {
         return false;
     }
-    if is_of_kind(2, key) {
+    if is_of_kind(RecordKind::Membership as u8, key) {
         return false;
     }
-    if is_of_kind(3, key) {
+    if is_of_kind(RecordKind::Table as u8, key) {
         return false;
     }
-    if is_of_kind(6, key) {
+    if is_of_kind(RecordKind::Row as u8, key) {
         return false;
     }
     !is_of_a_table(ids, key)
@@ -75,14 +77,14 @@ fn is_of_a_table(ids: &[u32], key: &[u8]) -> bool
 fn is_orphan_row(ids: &[u32], key: &[u8]) -> bool
     ensures { result ≡ is_orphan_row ids.now key.now }
 {
-    is_of_kind(6, key) && !is_row_of_a_table(ids, key)
+    is_of_kind(RecordKind::Row as u8, key) && !is_row_of_a_table(ids, key)
 }
 
 // Whether a key is that of a row of the table of one of these numbers.
 fn is_row_of_a_table(ids: &[u32], key: &[u8]) -> bool
     ensures { result ≡ list_any (is_row_key_of key.now) ids.now }
 {
-    ids.iter().any(|id| is_of_table(6, *id, key))
+    ids.iter().any(|id| is_of_table(RecordKind::Row, *id, key))
 }
 
 // Whether a key begins with the byte of this kind.
@@ -99,12 +101,12 @@ fn is_of_kind(kind: u8, key: &[u8]) -> bool
 fn is_key_of(key: &[u8], id: u32) -> bool
     ensures { result ≡ is_key_of key.now id }
 {
-    is_of_table(4, id, key) || is_of_table(5, id, key)
+    is_of_table(RecordKind::Descriptor, id, key) || is_of_table(RecordKind::Policy, id, key)
 }
 
 // Whether a key begins with the byte of this kind and the number of this table.
-fn is_of_table(kind: u8, id: u32, key: &[u8]) -> bool
-    ensures { result ≡ has_prefix (kind ∷ big_bytes 4 id) key.now }
+fn is_of_table(kind: RecordKind, id: u32, key: &[u8]) -> bool
+    ensures { result ≡ has_prefix (kind_byte kind ∷ big_bytes 4 id) key.now }
 {
     begins_with(key, &table_prefix(kind, id))
 }

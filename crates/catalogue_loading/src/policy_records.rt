@@ -18,10 +18,8 @@ use sql_ast::policy::{Policy, PolicyCommand, PolicyKind, PolicyRoles};
 use sql_types::name::Name;
 use sql_types::try_copy::TryCopy;
 use std::alloc::Global;
+use storage_sizes::RecordKind;
 use store::{Entry, Fault, MAX_VALUE_LENGTH};
-
-/// The byte with which the key of a policy's record begins.
-const POLICY: u8 = 5;
 
 /// The reader of the records of the policies of one table.
 #[derive(Drop)]
@@ -45,7 +43,7 @@ impl<'a> PolicyReader<'a> {
     pub fn prefix(&self) -> [u8; 5]
         ensures { result ≡ policy_prefix self.now.id }
     {
-        table_prefix(POLICY, self.id)
+        table_prefix(RecordKind::Policy, self.id)
     }
 }
 
@@ -113,7 +111,7 @@ fn roles_at(alloc: Global, bytes: &[u8]) -> Result<(PolicyRoles, &[u8]), Fault>
 fn decode_policy(alloc: Global, id: u32, table: &Name, entry: &Entry) -> Result<Policy, Fault>
     ensures { Decodes (IsPolicyAlone table.now) (policy_record id) entry.now result }
 {
-    let Some(name) = after_table(POLICY, id, entry.key()) else {
+    let Some(name) = after_table(RecordKind::Policy, id, entry.key()) else {
         return Err(Fault::Damaged);
     };
     if entry.value().len() > MAX_VALUE_LENGTH {

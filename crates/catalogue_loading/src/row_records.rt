@@ -14,10 +14,8 @@ use crate::bytes::after_table;
 use crate::record_checks::RecordTest;
 use row_codec::{table_prefix, view};
 use sql_ast::columns::Columns;
+use storage_sizes::RecordKind;
 use store::EntryRef;
-
-/// The byte with which the keys of all rows begin.
-const ROW: u8 = 6;
 
 /// The test of the records of the rows of one table.
 #[derive(Drop)]
@@ -41,7 +39,7 @@ impl<'a> RowTest<'a> {
     pub fn prefix(&self) -> [u8; 5]
         ensures { result ≡ row_prefix self.now.id }
     {
-        table_prefix(ROW, self.id)
+        table_prefix(RecordKind::Row, self.id)
     }
 }
 
@@ -60,7 +58,7 @@ impl<'a> RecordTest for RowTest<'a> {
 fn is_row(id: u32, columns: &Columns, key: &[u8], value: &[u8]) -> bool
     ensures { IsTrue result ↔ IsRowRecord id columns.now (key.now, value.now) }
 {
-    match after_table(ROW, id, key) {
+    match after_table(RecordKind::Row, id, key) {
         Some(rest) => view(columns, rest, value).is_some(),
         None => false,
     }

@@ -15,10 +15,8 @@ use crate::row_records::RowTest;
 use catalogue::numbers::table_ids;
 use catalogue::table::TableDefinition;
 use std::alloc::Global;
+use storage_sizes::RecordKind;
 use store::{Fault, Map};
-
-/// The byte with which the keys of all rows begin.
-const ROW: u8 = 6;
 
 /// Whether each record of a row of these tables is that of a row which its table may hold. Memory:
 /// an allocation failed. Device: the map answered it. Damaged: one of the records is not.
@@ -67,5 +65,5 @@ pub(crate) fn check_orphans<M: Map>(
         orphans: Orphans::OfRows,
         ids: ids.as_slice(),
     };
-    check_records(map, &[ROW], &test)
+    check_records(map, &[RecordKind::Row as u8], &test)
 }

@@ -12,10 +12,8 @@ use crate::walk::load_items;
 use catalogue::table::{TableDefinition, TableParts};
 use sql_types::items::Items;
 use std::alloc::Global;
+use storage_sizes::RecordKind;
 use store::{Fault, Map};
-
-/// The byte with which the key of a table's record begins.
-const TABLE: u8 = 3;
 
 /// The tables. Memory: an allocation failed. Device: the map answered it. Damaged: one of the
 /// records spells no table, or one of those of its descriptors and policies none of them.
@@ -28,7 +26,7 @@ pub(crate) fn read_tables<M: Map>(
     ensures found { (M.state map.old).sound
         → Finds (AreHeldTables (M.state map.old).map) result }
 {
-    match load_items(alloc, map, &[TABLE], &TableReader) {
+    match load_items(alloc, map, &[RecordKind::Table as u8], &TableReader) {
         Ok(records) => read_each(alloc, map, records),
         Err(fault) => Err(fault),
     }

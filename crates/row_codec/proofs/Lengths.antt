@@ -1,5 +1,5 @@
 -- How long the bytes of a row are.
-use Rattle.std.proofs.Common.{◌≡◌, ℕ, ◌+◌, Bool, true, false, nat_eq, sum, List, [], ◌∷◌, map, length, refl, ap, ◌∙◌, arith, length-append, if◌then◌else◌}
+use Rattle.std.proofs.Common.{◌≡◌, ◌≤◌, ℕ, ◌+◌, Bool, true, false, nat_eq, sum, List, [], ◌∷◌, map, length, refl, ap, ◌∙◌, arith, length-append, if◌then◌else◌}
 use Rattle.std.specs.List.{list_any}
 use Rattle.std.proofs.lemmas.List.Sums.{sum_by-cons}
 use Rattle.sql_types.specs.declared.value.Value.{Value}
@@ -7,7 +7,7 @@ use Rattle.sql_types.specs.declared.value.Value.TheVariants.{Null, Int, Text, Bo
 use Rattle.sql_ast.specs.Layout.{Layout}
 use Rattle.row_codec.specs.Cells.{key_cell, value_cell}
 use Rattle.sql_types.specs.Row.{Row, value_at}
-use Rattle.sql_ast.specs.Rows.{key_size, record_size, record_size_from, key_cell_size, value_cell_size}
+use Rattle.sql_ast.specs.Rows.{KeepsLimits, key_size, record_size, record_size_from, key_cell_size, value_cell_size}
 use Rattle.row_codec.specs.Rows.{key_bytes, value_bytes, row_key, row_value}
 
 key_cell_long : (v : Value) → length (key_cell v) ≡ key_cell_size v
@@ -45,3 +45,7 @@ others_long key index (v ∷ row) =
 -- and so are the other columns
 pub row_value_long : (layout : Layout) (row : Row) → length (row_value layout row) ≡ record_size layout.key row
 row_value_long layout row = others_long layout.key 0 row
+
+-- the value of a row that keeps to the limits is one that a store takes
+pub value_size : (layout : Layout) (row : Row) → KeepsLimits layout row → length (row_value layout row) ≤ 1200
+value_size layout row h = let others = h.others in omega (arith, others, row_value_long layout row)

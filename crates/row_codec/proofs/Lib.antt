@@ -1,5 +1,6 @@
 pub mod Layouts
 pub mod Lengths
+pub mod LentValues
 pub mod Order
 pub mod Plain
 pub mod Reading

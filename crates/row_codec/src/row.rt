@@ -9,7 +9,7 @@ ghost use Rattle.row_codec.specs.Rows.{row_key, row_value, value_bytes, Spells};
 ghost use Rattle.row_codec.specs.InPlace.{row_of, IsKeySpelled, HasKeyOf, AreOthersSpelled, SameKey};
 
 use crate::cell::{key_cell_at, value_cell_at};
-use crate::encode::is_in_key;
+use crate::record::is_in_key;
 use sql_ast::columns::{Columns, MAX_COLUMNS};
 use sql_types::row::RowView;
 use sql_types::value::ValueRef;

@@ -18,4 +18,3 @@ pub mod Ranging
 pub mod Statements
 pub mod Keeping
 pub mod Sets
-pub mod LentValues

@@ -5,8 +5,8 @@ use Rattle.sql_types.specs.Row.{Row}
 use Rattle.sql_ast.specs.Layout.{Layout}
 use Rattle.sql_ast.specs.Rows.{KeepsLimits}
 use Rattle.store.specs.Records.{IsKeySize}
-use Rattle.row_codec.specs.Rows.{row_prefix, row_key, row_value}
-use Rattle.row_codec.proofs.Lengths.{row_key_long, row_value_long}
+use Rattle.row_codec.specs.Rows.{row_prefix, row_key}
+use Rattle.row_codec.proofs.Lengths.{row_key_long}
 use Rattle.stored_database.specs.RecordFormat.{row_record}
 use Rattle.stored_database.proofs.Lengths.{prefix_long}
 
@@ -17,10 +17,6 @@ key_size id layout row h =
     let long = prefix_long id in
     let key = h.key in
     (omega (arith, one), omega (arith, one, long, key, row_key_long layout row))
-
--- and so is its value
-pub value_size : (layout : Layout) (row : Row) → KeepsLimits layout row → length (row_value layout row) ≤ 1200
-value_size layout row h = let others = h.others in omega (arith, others, row_value_long layout row)
 
 -- bytes of a record, of which so many are its key
 pub record AreRecord (bytes : List ℕ) (n : ℕ) (key value : List ℕ) : Type 0 where

@@ -12,12 +12,12 @@ ghost use Rattle.table_rows.specs.NewRows.{GiveFittingRows, MakesChanges, insert
 
 use crate::checks::check_new_rows;
 use crate::choose::{ChosenRows, choose};
-use crate::lent::{LentRow, lent_rows};
 use crate::puts::put_rows;
 use crate::setting::{sets_key, update_in_place};
 use crate::target::{Assignments, Insertion, Target};
 use crate::values::inserted_rows;
 use expressions::types::Typed;
+use row_codec::{LentRow, lent_rows};
 use std::alloc::Global;
 use store::{Batch, Map, StatementError};
 

@@ -9,9 +9,8 @@ ghost use Rattle.table_rows.specs.Targets.{admits};
 ghost use Rattle.table_rows.specs.NewRows.{all_admitted, new_rows_checked};
 ghost use Rattle.table_rows.specs.Setting.{admitted_if, nothing_checked, with_checked, verdict};
 
-use crate::lent::LentRow;
-use crate::lent_record::fits_record;
 use crate::target::Target;
+use row_codec::{LentRow, fits_record};
 use sql_ast::columns::{Column, Columns};
 use sql_types::state::SqlState;
 use sql_types::value::ValueRef;

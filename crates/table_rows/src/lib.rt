@@ -7,8 +7,6 @@ mod checks;
 mod choose;
 mod count;
 mod laws;
-mod lent;
-mod lent_record;
 mod part;
 mod puts;
 mod setting;

@@ -13,9 +13,7 @@ ghost use Rattle.table_rows.specs.Failures.{IsDamagedFor};
 ghost use Rattle.table_rows.specs.HeldRows.{HoldsRows, ConcernRowsOf};
 ghost use Rattle.table_rows.specs.Puts.{FindsKey, PutsRecord, PutsRows};
 
-use crate::lent::LentRow;
-use crate::lent_record::{push_key, push_value, size_of_cells};
-use row_codec::push_row_prefix;
+use row_codec::{LentRow, push_row_key, push_row_prefix, push_row_value, size_of_cells};
 use sql_ast::columns::Columns;
 use sql_types::state::SqlState;
 use std::alloc::{AllocError, Global};
@@ -76,7 +74,7 @@ fn put_row<M: Map>(
         return Err(StatementError::Refused(SqlState::UniqueViolation));
     }
     let key_length = record.len();
-    push_value(columns, row, &mut record)?;
+    push_row_value(columns, row, &mut record)?;
     changes.put_record(record, key_length)?;
     Ok(())
 }
@@ -93,7 +91,7 @@ fn key_of(
     let size = size_of_cells(columns, row).saturating_add(PREFIX_LENGTH);
     let mut key = Vec::with_capacity(alloc, size)?;
     push_row_prefix(&mut key, id)?;
-    push_key(columns, row, &mut key)?;
+    push_row_key(columns, row, &mut key)?;
     Ok(key)
 }
 

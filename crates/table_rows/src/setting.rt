@@ -17,14 +17,12 @@ ghost use Rattle.table_rows.specs.Setting.{sets_key, nothing_set, setting, SetsR
 use crate::change::RowChanges;
 use crate::checks::Checks;
 use crate::choose::is_chosen;
-use crate::lent::LentRow;
-use crate::lent_record::{fits_record, write_value};
 use crate::target::{Assignments, Target};
 use crate::values::assigned_row;
 use crate::visit::{Flow, RowVisitor};
 use crate::walk::visit_target;
 use expressions::types::Typed;
-use row_codec::RowRef;
+use row_codec::{LentRow, RowRef, fits_record, write_row_value};
 use sql_ast::columns::Columns;
 use std::alloc::Global;
 use store::{Batch, Fault, MAX_KEY_LENGTH, Map, StatementError};
@@ -163,7 +161,7 @@ impl SetRows {
         let fits = fits_record(columns, new);
         self.checks.take(target, columns, new, fits);
         if fits {
-            write_value(columns, new, value)?;
+            write_row_value(columns, new, value)?;
             self.changes.put(key, value)?;
         }
         self.count = count;

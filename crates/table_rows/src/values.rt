@@ -7,11 +7,10 @@ ghost use Rattle.abstract_database.specs.Changes.{value_beside, inserted_row, re
 ghost use Rattle.table_rows.specs.Failures.{Gives, ReadsNoMap};
 ghost use Rattle.table_rows.specs.Targets.{terms_in, row_so_wide};
 
-use crate::lent::LentRow;
 use crate::target::{Assignments, Insertion};
 use expressions::eval::{Users, eval};
 use expressions::types::Typed;
-use row_codec::RowRef;
+use row_codec::{LentRow, RowRef};
 use sql_ast::columns::Columns;
 use sql_types::items::Items;
 use sql_types::row::RowView;

@@ -3,9 +3,10 @@
 use crate::told::Told;
 use crate::values::put_value;
 use catalogue::table::TableDefinition;
-use row_codec::{RowRef, encode_key, encode_row, push_row_prefix, view};
+use row_codec::{
+    LentRow, RowRef, push_row_key, push_row_prefix, push_row_value, record_size, view,
+};
 use sql_ast::columns::Columns;
-use sql_ast::rows::record_size;
 use sql_types::row::RowView;
 use sql_types::value::Value;
 use std::alloc::{AllocError, Global};
@@ -54,8 +55,9 @@ pub fn put_row(
     };
     let values = values_of(alloc, &row, table.columns().len())?;
     put_values(out, table, values.as_slice());
-    put_key(alloc, out, table, values.as_slice())?;
-    put_others(alloc, out, table.columns(), values.as_slice())
+    let lent = LentRow::of(alloc, values.as_slice())?;
+    put_key(alloc, out, table, &lent)?;
+    put_others(alloc, out, table.columns(), &lent)
 }
 
 /// The values of a row of so many columns.
@@ -82,11 +84,11 @@ fn put_key(
     alloc: Global,
     out: &mut Told,
     table: &TableDefinition,
-    values: &[Value],
+    row: &LentRow<'_>,
 ) -> Result<(), AllocError> {
     let mut key = Vec::new(alloc);
     push_row_prefix(&mut key, table.id())?;
-    encode_key(table.columns(), values, &mut key)?;
+    push_row_key(table.columns(), row, &mut key)?;
     out.put(" as ");
     out.put_bytes(key.as_slice());
     Ok(())
@@ -97,14 +99,14 @@ fn put_others(
     alloc: Global,
     out: &mut Told,
     columns: &Columns,
-    values: &[Value],
+    row: &LentRow<'_>,
 ) -> Result<(), AllocError> {
-    if record_size(columns, values) > MAX_VALUE_LENGTH {
+    if record_size(columns, row) > MAX_VALUE_LENGTH {
         out.put("/too long\n");
         return Ok(());
     }
     let mut others = Vec::new(alloc);
-    encode_row(columns, values, &mut others)?;
+    push_row_value(columns, row, &mut others)?;
     out.put("/");
     out.put_bytes(others.as_slice());
     out.put("\n");

@@ -1,5 +1,0 @@
-use Rattle.std.proofs.Common.{length}
-use Rattle.sql_ast.proofs.rows.+size_of_key.Given as goal
-
-abbrev pub decreases-size_of_key : goal.decreases-size_of_key
-decreases-size_of_key l = length l.key.now

@@ -1,6 +1,0 @@
-use Rattle.std.proofs.Common.{◌≡◌, take}
-use Rattle.table_rows.proofs.lent.lent_rows.Given as goal
-
--- the rows so far are lent
-abbrev pub invariant-loop-row : goal.invariant-loop-row
-invariant-loop-row l = l.lent ≡ take l.row-index l.row-items
