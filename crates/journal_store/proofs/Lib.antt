@@ -7,9 +7,9 @@ pub mod InTurn
 pub mod Opened
 pub mod Replaying
 pub mod Counted
+pub mod EncodedLengths
 pub mod Clearing
 pub mod Formatted
-pub mod Guarding
 pub mod DeviceReading
 pub mod Journaled
 pub mod Walking

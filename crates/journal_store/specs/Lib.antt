@@ -6,8 +6,8 @@ pub mod ImageLaws
 pub mod StoreLaws
 pub mod Reads
 pub mod Opening
-pub mod WriteProtected
 pub mod Room
+pub mod Encoded
 pub mod Formatting
 pub mod Clearing
 pub mod DeviceImages

@@ -1,6 +1,7 @@
 //! Commits of a store with a journal: a record, where there is room for one, or else the pages.
-ghost use Rattle.std.specs.Prelude.{◌≡◌, ◌≢◌, ◌<◌, ◌≤◌, ◌+◌, ◌↔◌, [], false, IsTrue, Ok, length};
+ghost use Rattle.std.specs.Prelude.{◌≡◌, ◌≢◌, ◌<◌, ◌≤◌, ◌+◌, ◌/◌, ℕ, List, [], false, IsTrue, Ok, length};
 ghost use Rattle.storage_sizes.specs.declared.record_format.RecordFormat.TheVariants.{V2};
+ghost use Rattle.journal.specs.Changes.{Spells};
 ghost use Rattle.store.specs.Contents.{changed_by_batch, changed_in};
 ghost use Rattle.store.specs.Store.{Commits, stored};
 ghost use Rattle.journal_store.specs.Reads.{IsStill};
@@ -9,13 +10,11 @@ ghost use Rattle.journal_store.specs.StoreLaws.{settled};
 ghost use Rattle.journal_store.specs.Stores.{journal_state, root_number, end_of_records};
 
 use crate::devices::JournalDevice;
-use crate::stores::JournalStore;
+use crate::encoded_lengths::left_after_encoded;
+use crate::stores::{JOURNAL_ROOM, JournalStore};
 use journal::{PART_SIZE, batch_bytes};
 use sql_types::try_copy::TryCopy;
 use store::{Batch, RecordFormat, Store, StoreFault};
-
-// How many sectors the journal has.
-const JOURNAL_ROOM: usize = 6;
 
 impl<D: JournalDevice> JournalStore<D> {
     // Whether something waits under this number, which is then one of a record.
@@ -25,19 +24,14 @@ impl<D: JournalDevice> JournalStore<D> {
         self.end > 0 && self.store.number() < number && self.top == number
     }
 
-    // Whether there are sectors for a record of so many parts.
-    fn has_room(&self, parts: usize) -> bool
-        ensures { IsTrue result ↔ (end_of_records self.now + parts ≤ 6) }
-    {
-        parts <= JOURNAL_ROOM - self.end as usize
-    }
-
-    // Whether a batch of so many parts may be a record: there are sectors for it, and pages enough for what waits and it.
-    fn may_record(&self, parts: usize, batch: &Batch) -> bool
-        ensures sectors { IsTrue result → end_of_records self.now + parts ≤ 6 }
+    // Whether a batch may be a record: there are sectors for its parts, and pages enough for what waits and it.
+    fn may_record(&self, batch: &Batch) -> bool
+        ensures sectors { IsTrue result → (bytes : List ℕ) → Spells bytes batch.now
+            → end_of_records self.now + length bytes / 488 ≤ 6 }
         ensures pages { IsTrue result → HasRoomFor (changes_in self.now.waiting + length batch.now) self.now }
     {
-        self.has_room(parts) && self.has_pages_for(batch)
+        let room = (JOURNAL_ROOM - self.end) as usize * PART_SIZE;
+        left_after_encoded(room, batch).is_some() && self.has_pages_for(batch)
     }
 
     // Commits to the pages what waits, by itself, and then a batch. As the number is one of a record that waits, the two
@@ -75,7 +69,7 @@ impl<D: JournalDevice> JournalStore<D> {
         }
     }
 
-    // Commits a batch that changes something.
+    // Commits a batch that changes something. Only one that may be a record is encoded and copied.
     fn commit_some(&mut self, batch: &Batch) -> Result<(), StoreFault>
         requires works { (journal_state self.old).has_failed ≡ false }
         requires some { batch.now ≢ [] }
@@ -86,12 +80,12 @@ impl<D: JournalDevice> JournalStore<D> {
         if number == u64::MAX {
             return Err(StoreFault::Number);
         }
+        if !self.may_record(batch) {
+            return self.commit_to_pages(batch);
+        }
         let Ok(bytes) = batch_bytes(self.alloc, batch) else {
             return Err(StoreFault::Memory);
         };
-        if !self.may_record(bytes.len() / PART_SIZE, batch) {
-            return self.commit_to_pages(batch);
-        }
         let Ok(copy) = batch.try_copy(self.alloc) else {
             return Err(StoreFault::Memory);
         };

@@ -11,6 +11,7 @@ mod device_reads;
 mod device_stores;
 mod devices;
 mod emptying;
+mod encoded_lengths;
 mod formatting;
 mod laws;
 mod on;
@@ -23,7 +24,6 @@ mod switch_fault;
 mod turning_off;
 mod turning_on;
 mod under;
-mod write_protected;
 mod writes;
 
 pub use cow_pages::{DEFAULT_CACHE_PAGES, MAX_CACHE_PAGES, OpenFault};

@@ -1,4 +1,5 @@
-use Rattle.std.proofs.Common.{◌≤◌, ◌/◌, ℕ, List, length, refl, sym, subst, arith}
+use Rattle.std.proofs.Common.{◌≤◌, ◌+◌, ◌/◌, ℕ, List, length, refl, sym, subst, arith}
+use Rattle.journal_store.specs.Stores.{end_of_records}
 use Rattle.journal_store.proofs.Records.{refused_memory, refused_number, some_part}
 use Rattle.journal_store.proofs.stores.JournalStore.commit_some.Goals as goal
 
@@ -14,3 +15,7 @@ returns-in_default-try_copy g c = refused_memory g.met.D.Device.only_now c.args.
 pub append-requires-clause-some : goal.append-requires-clause-some
 append-requires-clause-some g c =
     subst (λ (xs : List ℕ). 1 ≤ length xs / 488) (sym c.deref.ensures.value) (some_part c.in-Ok.bytes.items c.args.batch.now c.requires.some c.in-Ok.ensures)
+
+pub append-requires-clause-fits : goal.append-requires-clause-fits
+append-requires-clause-fits g c =
+    subst (λ (xs : List ℕ). end_of_records c.args.self.now + length xs / 488 ≤ 6) (sym c.deref.ensures.value) (c.if-not-may_record.ensures.sectors refl c.in-Ok.bytes.items c.in-Ok.ensures)
