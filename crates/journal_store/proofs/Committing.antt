@@ -1,5 +1,5 @@
 -- Commits of a store on a device to pages without a journal.
-use Rattle.std.proofs.Common.{◌≡◌, ◌/◌, ◌⊎◌, inl, inr, ℕ, Bool, false, Option, Some, Result, Ok, Err, refl, sym, ap, subst, ◌∙◌, arith}
+use Rattle.std.proofs.Common.{◌≡◌, ◌/◌, ◌⊎◌, inl, inr, ℕ, false, Option, Some, Result, Ok, Err, refl, sym, ap, subst, ◌∙◌, arith}
 use Rattle.std.specs.Prelude.{IfErr}
 use Rattle.sector_device.specs.Timeline.{LeavesOnly, IsPresent, read_by, weakened}
 use Rattle.sector_device.proofs.Runs.{lifted}

@@ -1,5 +1,5 @@
 -- How the store on a device is opened, by how that of a kind is.
-use Rattle.std.proofs.Common.{◌≡◌, ◌/◌, ◌⊎◌, inl, inr, ℕ, true, false, None, Some, Result, Ok, Err, refl, sym, subst}
+use Rattle.std.proofs.Common.{◌≡◌, ◌/◌, inl, inr, ℕ, true, false, None, Some, Result, Ok, Err, refl, sym, subst}
 use Rattle.std.proofs.Math.Path.{fun_ext}
 use Rattle.std.proofs.lemmas.Bool.{false≢true}
 use Rattle.sector_device.specs.Device.{DeviceState, Image, history_joined}

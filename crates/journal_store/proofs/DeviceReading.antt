@@ -1,28 +1,25 @@
 -- Reads of a store on a device, which are those of its kind.
-use Rattle.std.proofs.Common.{◌≡◌, ◌/◌, ℕ, Bool, Option, Result, Ok, Err, refl, sym, subst, arith}
+use Rattle.std.proofs.Common.{◌≡◌, ◌/◌, ℕ, Bool, Option, Result, Ok, Err, sym, subst}
 use Rattle.std.specs.Prelude.{IfErr}
 use Rattle.sector_device.specs.Timeline.{LeavesOnly, IsPresent, read_by}
 use Rattle.sector_device.proofs.Runs.{lifted}
 use Rattle.sector_device.specs.Device.{DeviceState, IsLeft, timeline}
 use Rattle.sector_device.specs.declared.device.Device.{Ghosts}
-use Rattle.cow_pages.specs.Cow.{device_of as device_of_pages, device_below, root_of}
+use Rattle.cow_pages.specs.Cow.{device_of as device_of_pages, device_below}
 use Rattle.cow_pages.specs.Held.{KeepsContent}
 use Rattle.store.specs.Records.{Record, Records}
 use Rattle.store.specs.Steps.{Goes}
-use Rattle.store.specs.Store.{StoreState, OnlyReads, Reads, HasReadCause}
+use Rattle.store.specs.Store.{OnlyReads, Reads, HasReadCause}
 use Rattle.store.specs.declared.fault.StoreFault.{StoreFault}
 use Rattle.store.specs.declared.fault.StoreFault.TheVariants.{Full, Memory, Device, Number}
 use Rattle.kv_store.specs.declared.page_store.PageStore.{PageStore}
 use Rattle.kv_store.specs.PageStore.{pages_of, store_state as pages_state}
-use Rattle.kv_store.specs.TreeStore.{pages_of as tree_pages}
 use Rattle.kv_store.specs.Unwritten.{WritesNothing}
-use Rattle.journal_store.specs.Stores.{device_under, journal_state}
 use Rattle.journal_store.specs.declared.device_stores.DeviceStore.{DeviceStore}
-use Rattle.journal_store.specs.declared.device_stores.DeviceStore.TheVariants.{Pages, Journaled}
+use Rattle.journal_store.specs.declared.device_stores.DeviceStore.TheVariants.{Pages}
 use Rattle.journal_store.specs.DeviceImages.{IsReadAs, records_on}
 use Rattle.journal_store.specs.DeviceReads.{OnlyLooksInto}
 use Rattle.journal_store.specs.DeviceStores.{store_state}
-use Rattle.journal_store.specs.DeviceStoreLaws.{sectors_are}
 
 -- where nothing was written a stop leaves what it might have left before
 pub content_leaves : (d e : DeviceState) → KeepsContent d e → e.sectors ≡ d.sectors → LeavesOnly (records_on d).left (records_on d) (records_on e)

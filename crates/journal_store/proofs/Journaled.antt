@@ -1,5 +1,5 @@
 -- What is said of a store with a journal is said of the store on its device.
-use Rattle.std.proofs.Common.{◌≡◌, ◌/◌, ℕ, Bool, Option, Result, sym, subst}
+use Rattle.std.proofs.Common.{◌≡◌, ℕ, Bool, Option, Result, sym, subst}
 use Rattle.sector_device.specs.Timeline.{read_by}
 use Rattle.sector_device.specs.Device.{timeline}
 use Rattle.sector_device.specs.declared.device.Device.{Ghosts}
