@@ -80,7 +80,6 @@ impl Model for Catalogue {
 
 impl Catalogue {
     /// The definitions of which these are the parts, made in the time of a sort of the memberships.
-    /// `AllocError` comes only where memory was refused.
     pub fn new(alloc: Global, parts: CatalogueParts) -> Result<Catalogue, AllocError>
         requires { AreInOrder (definitions_of parts) }
         ensures { IfOk result (λ catalogue. catalogue ≡ definitions_of parts) }
@@ -187,6 +186,7 @@ impl Catalogue {
     pub fn is_superuser(&self, name: &Name) -> bool
         ensures { result ≡ is_superuser_of (database_of self.now) name.now }
     {
+        // For the proof: the list is in order.
         let _in_order = self.roles();
         match self.role(name) {
             Some(role) => role.attributes.superuser,

@@ -67,8 +67,7 @@ impl TryCopy for GrantIndex {
 }
 
 impl GrantIndex {
-    /// The index of these descriptors, made in the time of one sort. `AllocError` comes only where
-    /// memory was refused.
+    /// The index of these descriptors, made in the time of one sort.
     pub(crate) fn of(alloc: Global, descriptors: &[Descriptor]) -> Result<GrantIndex, AllocError>
         ensures { IfOk result (λ index. IsIndexOf descriptors.now index) }
     {
@@ -175,6 +174,7 @@ fn entry(alloc: Global, descriptor: &Descriptor) -> Result<Granted, AllocError>
     ensures entry { IfOk result (λ entry. entry ≡ entry_of descriptor.now) }
     ensures named { IsNamed descriptor.now.grantee }
 {
+    // For the proof: the grantee has a name.
     let _named = grantee_name(&descriptor.grantee);
     let grantee = descriptor.grantee.try_copy(alloc)?;
     Ok(Granted {

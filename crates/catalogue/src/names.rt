@@ -10,7 +10,7 @@ use std::collections::HashSet;
 /// Of so many names each is compared with all behind it: a set of them would take longer to make.
 const FEW_NAMES: usize = 8;
 
-/// Whether two of the names are the same. The only error is that an allocation failed.
+/// Whether two of the names are the same.
 pub fn has_double(alloc: Global, names: &[&Name]) -> Result<bool, AllocError>
     ensures { IfOk result (λ double. double ≡ double_name (map (λ n. n.now) names.now)) }
 {

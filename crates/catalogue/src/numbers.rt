@@ -11,7 +11,7 @@ use std::alloc::{AllocError, Global};
 // The numbers from 0 to 1,024: a table has one of them, and none has 0.
 const IDS: usize = 1025;
 
-/// The numbers of tables. The only error is that an allocation failed.
+/// The numbers of tables.
 pub fn table_ids(alloc: Global, tables: &[TableDefinition]) -> Result<Vec<u32>, AllocError>
     ensures { IfOk result (λ ids. ids.items ≡ ids_of tables.now) }
 {

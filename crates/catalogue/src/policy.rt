@@ -38,7 +38,7 @@ impl TryCopy for CataloguePolicy {
 }
 
 /// A policy with its conditions bound to the columns of a table, or `None` where one of them is not
-/// a BOOLEAN expression over these columns. `AllocError` comes only where memory was refused.
+/// a BOOLEAN expression over these columns.
 pub fn bind_policy(
     alloc: Global,
     policy: Policy,

@@ -41,7 +41,7 @@ impl Reservation {
         *self.descriptors.allocator()
     }
 
-    /// Room for a change of these descriptors. `AllocError` comes only where memory was refused.
+    /// Room for a change of these descriptors.
     pub(crate) fn new(
         alloc: Global,
         descriptors: &[Descriptor],

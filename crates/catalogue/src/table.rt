@@ -106,7 +106,6 @@ impl Model for TableDefinition {
 
 impl TableDefinition {
     /// The table that these parts define, made in the time of a sort of its privilege descriptors.
-    /// `AllocError` comes only where memory was refused.
     pub fn new(alloc: Global, parts: TableParts) -> Result<TableDefinition, AllocError>
         requires { AreParts parts }
         ensures { IfOk result (λ table. table ≡ definition_of parts) }
@@ -116,8 +115,7 @@ impl TableDefinition {
     }
 
     /// The table that these parts define, which have the privilege descriptors of this table: what it
-    /// has found out of them is copied, and they are not looked at again. `AllocError` comes only where
-    /// memory was refused.
+    /// has found out of them is copied, and they are not looked at again.
     pub fn with_parts(
         &self,
         alloc: Global,
@@ -145,8 +143,7 @@ impl TableDefinition {
         self.grants = index;
     }
 
-    /// A copy of the parts of which the table is made. `AllocError` comes only where memory was
-    /// refused.
+    /// A copy of the parts of which the table is made.
     pub fn copy_parts(&self, alloc: Global) -> Result<TableParts, AllocError>
         ensures table { IfOk result (λ parts. definition_of parts ≡ self.now) }
         ensures parts { IfOk result AreParts }

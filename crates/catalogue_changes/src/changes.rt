@@ -18,8 +18,8 @@ use std::alloc::{AllocError, Global};
 use store::{Batch, Fault};
 
 /// Adds the change that takes the record of an old role, if there is one, to that of a new one, if
-/// there is one: none where they are the same. The only error is that an allocation failed. After
-/// an error the batch may have some of the changes, and the caller drops it.
+/// there is one: none where they are the same. After an error the batch may have some of the
+/// changes, and the caller drops it.
 pub fn push_role_change(
     alloc: Global,
     old: Option<&Role>,
@@ -36,8 +36,8 @@ pub fn push_role_change(
 }
 
 /// Adds the changes that take the records of memberships to those of others, both in their order:
-/// one for each membership that goes, comes or differs. The only error is that an allocation
-/// failed. After an error the batch may have some of the changes, and the caller drops it.
+/// one for each membership that goes, comes or differs. After an error the batch may have some of
+/// the changes, and the caller drops it.
 pub fn push_membership_changes(
     alloc: Global,
     old: &[Membership],
@@ -54,9 +54,8 @@ pub fn push_membership_changes(
 }
 
 /// Adds the change that takes the record of an old table, if there is one, to that of a new one, if
-/// there is one: none where they are the same. Memory: an allocation failed. Damaged: a record has
-/// no size that a store takes. After an error the batch may have some of the changes, and the
-/// caller drops it.
+/// there is one: none where they are the same. Damaged: a record has no size that a store takes.
+/// After an error the batch may have some of the changes, and the caller drops it.
 pub fn push_table_change(
     alloc: Global,
     old: Option<&TableDefinition>,
@@ -79,8 +78,8 @@ pub fn push_table_change(
 }
 
 /// Adds the changes that take the records of an old table's privilege descriptors, if there is one,
-/// to those of a table. Memory: an allocation failed. Damaged: a descriptor has no record that a
-/// store takes. After an error the batch may have some of the changes, and the caller drops it.
+/// to those of a table. Damaged: a descriptor has no record that a store takes. After an error the
+/// batch may have some of the changes, and the caller drops it.
 pub fn push_descriptor_changes(
     alloc: Global,
     old: Option<&TableDefinition>,
@@ -105,8 +104,8 @@ pub fn push_descriptor_changes(
 }
 
 /// Adds the changes that take the records of an old table's policies, if there is one, to those of
-/// a table. Memory: an allocation failed. Damaged: a policy has no record that a store takes. After
-/// an error the batch may have some of the changes, and the caller drops it.
+/// a table. Damaged: a policy has no record that a store takes. After an error the batch may have
+/// some of the changes, and the caller drops it.
 pub fn push_policy_changes(
     alloc: Global,
     old: Option<&TableDefinition>,

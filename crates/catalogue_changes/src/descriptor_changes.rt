@@ -46,7 +46,7 @@ pub fn push_descriptors_set(
     }
 }
 
-// Adds the same. Memory: an allocation failed. Damaged: a record has no size that a store takes.
+// Adds the same. Damaged: a record has no size that a store takes.
 fn push_descriptor_records(
     alloc: Global,
     catalogue: &Catalogue,
@@ -63,6 +63,7 @@ fn push_descriptor_records(
         → IsStorableTable (table_after change.now table.now) → result ≢ Err Fault.Damaged }
     ensures no_device { result ≢ Err Fault.Device }
 {
+    // For the proof: the list is in order.
     let _in_order = catalogue.tables();
     let removed = descriptor_entries(alloc, table.id(), change.removed())?;
     let added = descriptor_entries(alloc, table.id(), change.added())?;

@@ -27,7 +27,7 @@ const MAX_POLICY_ROLES: usize = 255;
 /// The most bytes of a condition in its record, which two bytes count.
 const MAX_STORED_TEXT_LENGTH: usize = 65_535;
 
-/// The record of a role. The only error is that an allocation failed.
+/// The record of a role.
 pub fn role_entry(alloc: Global, role: &Role) -> Result<Entry, AllocError>
     ensures record { IfOk result (λ entry. entry ≡ role_record role.now) }
     ensures size { IfOk result (λ entry. IsRecordSize entry) }
@@ -39,7 +39,7 @@ pub fn role_entry(alloc: Global, role: &Role) -> Result<Entry, AllocError>
     Ok(Entry::from_parts(key, value))
 }
 
-/// The record of a membership. The only error is that an allocation failed.
+/// The record of a membership.
 pub fn membership_entry(alloc: Global, membership: &Membership) -> Result<Entry, AllocError>
     ensures record { IfOk result (λ entry. entry ≡ membership_record membership.now) }
     ensures size { IfOk result (λ entry. IsRecordSize entry) }
@@ -53,8 +53,8 @@ pub fn membership_entry(alloc: Global, membership: &Membership) -> Result<Entry,
     Ok(Entry::from_parts(key, value))
 }
 
-/// The record of a table. Memory: an allocation failed. Damaged: the record has no size that a
-/// store takes, as no table of a database has.
+/// The record of a table. Damaged: the record has no size that a store takes, as no table of a
+/// database has.
 pub fn table_entry(alloc: Global, table: &TableDefinition) -> Result<Entry, Fault>
     ensures record { IfOk result (λ entry. entry ≡ table_record table.now) }
     ensures size { IfOk result (λ entry. IsRecordSize entry) }
@@ -71,9 +71,9 @@ pub fn table_entry(alloc: Global, table: &TableDefinition) -> Result<Entry, Faul
     sized(Entry::from_parts(key, value))
 }
 
-/// The record of a privilege descriptor for the table of this number. Memory: an allocation failed.
-/// Damaged: the index of its column is over 254, or the record has no size that a store takes, as no
-/// descriptor of a database has.
+/// The record of a privilege descriptor for the table of this number. Damaged: the index of its
+/// column is over 254, or the record has no size that a store takes, as no descriptor of a database
+/// has.
 pub fn descriptor_entry(alloc: Global, table: u32, descriptor: &Descriptor) -> Result<Entry, Fault>
     ensures record { IfOk result (λ entry. entry ≡ descriptor_record table descriptor.now) }
     ensures size { IfOk result (λ entry. IsRecordSize entry) }
@@ -93,9 +93,9 @@ pub fn descriptor_entry(alloc: Global, table: u32, descriptor: &Descriptor) -> R
     sized(Entry::from_parts(key, value))
 }
 
-/// The record of a policy of the table of this number. Memory: an allocation failed. Damaged: the
-/// policy has over 255 roles, a condition of 65,536 bytes or more, or a record of no size that a
-/// store takes, as no policy of a database has.
+/// The record of a policy of the table of this number. Damaged: the policy has over 255 roles, a
+/// condition of 65,536 bytes or more, or a record of no size that a store takes, as no policy of a
+/// database has.
 pub fn policy_entry(alloc: Global, table: u32, policy: &Policy) -> Result<Entry, Fault>
     ensures record { IfOk result (λ entry. entry ≡ policy_record table policy.now) }
     ensures size { IfOk result (λ entry. IsRecordSize entry) }

@@ -16,7 +16,7 @@ use sql_ast::role::{Membership, Role};
 use std::alloc::{AllocError, Global};
 use store::{Entry, Fault};
 
-/// The record of a role, where there is one. The only error is that an allocation failed.
+/// The record of a role, where there is one.
 pub(crate) fn role_entries(alloc: Global, role: Option<&Role>) -> Result<Vec<Entry>, AllocError>
     ensures records { IfOk result (λ entries. entries.items
         ≡ map role_record (option_to_list (option_copied role.entry))) }
@@ -30,7 +30,7 @@ pub(crate) fn role_entries(alloc: Global, role: Option<&Role>) -> Result<Vec<Ent
     Ok(entries)
 }
 
-/// The records of memberships. The only error is that an allocation failed.
+/// The records of memberships.
 pub(crate) fn membership_entries(
     alloc: Global,
     memberships: &[Membership],
@@ -46,8 +46,7 @@ pub(crate) fn membership_entries(
     Ok(entries)
 }
 
-/// The record of a table, where there is one. Memory: an allocation failed. Damaged: it has no size
-/// that a store takes.
+/// The record of a table, where there is one. Damaged: it has no size that a store takes.
 pub(crate) fn table_entries(
     alloc: Global,
     table: Option<&TableDefinition>,
@@ -68,8 +67,8 @@ pub(crate) fn table_entries(
     Ok(entries)
 }
 
-/// The records of the privilege descriptors for the table of this number. Memory: an allocation
-/// failed. Damaged: a descriptor has no record that a store takes.
+/// The records of the privilege descriptors for the table of this number. Damaged: a descriptor has
+/// no record that a store takes.
 pub(crate) fn descriptor_entries(
     alloc: Global,
     table: u32,
@@ -89,8 +88,8 @@ pub(crate) fn descriptor_entries(
     Ok(entries)
 }
 
-/// The records of the policies of the table of this number. Memory: an allocation failed. Damaged:
-/// a policy has no record that a store takes.
+/// The records of the policies of the table of this number. Damaged: a policy has no record that a
+/// store takes.
 pub(crate) fn policy_entries(
     alloc: Global,
     table: u32,

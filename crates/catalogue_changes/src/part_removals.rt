@@ -17,8 +17,8 @@ use std::alloc::Global;
 use store::{Batch, Fault, Map};
 
 /// Adds the removals of the records of the privilege descriptors, the policies and the rows of a
-/// table, if there is one. Memory: an allocation failed. Device: the map answered it. Damaged: one
-/// of the records has no size that a store takes.
+/// table, if there is one. Device: the map answered it. Damaged: one of the records has no size
+/// that a store takes.
 pub(crate) fn push_part_removals<M: Map>(
     alloc: Global,
     table: Option<&TableDefinition>,

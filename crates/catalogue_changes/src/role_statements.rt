@@ -19,8 +19,8 @@ use std::alloc::{AllocError, Global};
 use store::Batch;
 
 /// Adds the changes of records of a role that is put in a catalogue, new or in place of the one of
-/// its name: that of its own record, if it differs. The only error is that an allocation failed.
-/// After an error the batch may have some of the changes, and the caller drops it.
+/// its name: that of its own record, if it differs. After an error the batch may have some of the
+/// changes, and the caller drops it.
 pub fn push_role_put(
     alloc: Global,
     catalogue: &Catalogue,
@@ -30,6 +30,7 @@ pub fn push_role_put(
     ensures { OnOk result ((records : Records)
         → Adds (record_changes (change.PutRole role.now) catalogue.now records) out.old out.new) }
 {
+    // For the proof: the list is in order.
     let _in_order = catalogue.roles();
     let old = catalogue.role(&role.name);
     push_role_change(alloc, old, Some(role), out)?;
@@ -37,8 +38,8 @@ pub fn push_role_put(
 }
 
 /// Adds the changes of records of a role that is dropped from a catalogue: the removals of its own
-/// record and of those of its memberships. The only error is that an allocation failed. After an
-/// error the batch may have some of the changes, and the caller drops it.
+/// record and of those of its memberships. After an error the batch may have some of the changes,
+/// and the caller drops it.
 pub fn push_role_drop(
     alloc: Global,
     catalogue: &Catalogue,
@@ -48,6 +49,7 @@ pub fn push_role_drop(
     ensures { OnOk result ((records : Records)
         → Adds (record_changes (change.DropRole name.now) catalogue.now records) out.old out.new) }
 {
+    // For the proof: the list is in order.
     let _in_order = catalogue.roles();
     let old = catalogue.role(name);
     push_role_change(alloc, old, None, out)?;
@@ -58,8 +60,8 @@ pub fn push_role_drop(
 }
 
 /// Adds the changes of records of memberships that are set in a catalogue: one for each membership
-/// that goes, comes or differs. The only error is that an allocation failed. After an error the
-/// batch may have some of the changes, and the caller drops it.
+/// that goes, comes or differs. After an error the batch may have some of the changes, and the
+/// caller drops it.
 pub fn push_memberships(
     alloc: Global,
     catalogue: &Catalogue,
@@ -79,7 +81,7 @@ pub fn push_memberships(
     Ok(())
 }
 
-// Copies of the memberships of other roles and members. The only error is that an allocation failed.
+// Copies of the memberships of other roles and members.
 fn without_memberships_of(
     alloc: Global,
     memberships: &[Membership],

@@ -14,8 +14,8 @@ use std::alloc::Global;
 use storage_sizes::MAX_KEY_LENGTH;
 use store::{Batch, Cursor, Entry, Fault, Map};
 
-/// Adds the removal of the record of each row of the table of this number. Memory: an allocation
-/// failed. Device: the map answered it. Damaged: a record's key has no size that a store takes.
+/// Adds the removal of the record of each row of the table of this number. Device: the map answered
+/// it. Damaged: a record's key has no size that a store takes.
 pub(crate) fn push_row_removals<M: Map>(
     alloc: Global,
     table: u32,
@@ -87,6 +87,7 @@ fn push_key_removal(entry: &Entry, out: &mut Batch) -> Result<(), Fault>
     if key.is_empty() || key.len() > MAX_KEY_LENGTH {
         return Err(Fault::Damaged);
     }
+    // For the proof: the list is in order.
     let _in_order = out.pieces();
     out.remove(key)?;
     Ok(())

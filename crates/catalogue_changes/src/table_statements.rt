@@ -41,7 +41,7 @@ pub fn push_table_put(
     }
 }
 
-// Adds the same. Memory: an allocation failed. Damaged: a record has no size that a store takes.
+// Adds the same. Damaged: a record has no size that a store takes.
 fn push_table_records(
     alloc: Global,
     catalogue: &Catalogue,
@@ -54,6 +54,7 @@ fn push_table_records(
         → result ≢ Err Fault.Damaged }
     ensures no_device { result ≢ Err Fault.Device }
 {
+    // For the proof: the list is in order.
     let _in_order = catalogue.tables();
     let old = catalogue.table(table.name());
     push_table_change(alloc, old, Some(table), out)?;
@@ -63,9 +64,9 @@ fn push_table_records(
 }
 
 /// Adds the changes of records of a table that is dropped from a catalogue, if it is there, from the
-/// records of this map: it goes with its rows, privilege descriptors and policies. Memory: an
-/// allocation failed. Device: the map answered it. Damaged: a record has no size that a store takes.
-/// After an error the batch may have some of the changes, and the caller drops it.
+/// records of this map: it goes with its rows, privilege descriptors and policies. Device: the map
+/// answered it. Damaged: a record has no size that a store takes. After an error the batch may have
+/// some of the changes, and the caller drops it.
 pub fn push_table_drop<M: Map>(
     alloc: Global,
     catalogue: &Catalogue,
@@ -82,6 +83,7 @@ pub fn push_table_drop<M: Map>(
         → HaveKeySizes (row_entries (M.state map.old).map (tables_named name.now catalogue.now))
         → result ≢ Err Fault.Damaged }
 {
+    // For the proof: the list is in order.
     let _in_order = catalogue.tables();
     let old = catalogue.table(name);
     push_table_change(alloc, old, None, out)?;

@@ -16,7 +16,7 @@ use std::alloc::Global;
 use storage_sizes::RecordKind;
 use store::Fault;
 
-/// The name that all of these bytes are. Memory: an allocation failed. Damaged: they are no name.
+/// The name that all of these bytes are. Damaged: they are no name.
 pub fn decode_name(alloc: Global, bytes: &[u8]) -> Result<Name, Fault>
     ensures { Decodes IsUtf8Name (λ (name : List ℕ). name) bytes.now result }
 {
@@ -41,8 +41,8 @@ fn text_at(bytes: &[u8]) -> Option<(&str, &[u8])>
     }
 }
 
-/// The name before the first zero byte, and the bytes after that byte. Memory: an allocation
-/// failed. Damaged: the bytes begin with no such name.
+/// The name before the first zero byte, and the bytes after that byte. Damaged: the bytes begin
+/// with no such name.
 pub fn name_at(alloc: Global, bytes: &[u8]) -> Result<(Name, &[u8]), Fault>
     ensures { DecodesFront IsUtf8Name ended bytes.now result }
 {

@@ -65,6 +65,7 @@ fn is_trimmed(alloc: Global, text: &str) -> Result<bool, Fault>
     ensures trimmed { IfOk result (λ b. IsTrue b ↔ IsTrimmed text.now) }
     ensures memory { IfErr result (λ fault. fault ≡ Fault.Memory) }
 {
+    // For the proof: a text has one list of tokens.
     one_lexing();
     let tokens = match tokens(alloc, text) {
         Ok(tokens) => tokens,
@@ -78,6 +79,7 @@ fn is_trimmed(alloc: Global, text: &str) -> Result<bool, Fault>
 fn decode_clause(alloc: Global, text: &str) -> Result<PolicyClause, Fault>
     ensures { Decodes IsAsWritten text_of text.now result }
 {
+    // For the proof: a text has one reading.
     one_answer();
     match is_trimmed(alloc, text) {
         Ok(true) => {}
@@ -99,6 +101,7 @@ fn decode_clause(alloc: Global, text: &str) -> Result<PolicyClause, Fault>
 fn clause_at(alloc: Global, bytes: &[u8]) -> Result<(Option<PolicyClause>, &[u8]), Fault>
     ensures { DecodesFront IsStoredClauseIfAny clause_bytes bytes.now result }
 {
+    // For the proof: a text spells one condition.
     one_condition();
     let Some((tag, rest)) = bytes.split_first() else {
         return Err(Fault::Damaged);
@@ -118,8 +121,8 @@ fn clause_at(alloc: Global, bytes: &[u8]) -> Result<(Option<PolicyClause>, &[u8]
     }
 }
 
-/// The conditions of USING and of WITH CHECK that are all there is. Memory: an allocation failed.
-/// Damaged: these are the bytes of no such conditions.
+/// The conditions of USING and of WITH CHECK that are all there is. Damaged: these are the bytes of
+/// no such conditions.
 pub fn decode_clauses(
     alloc: Global,
     bytes: &[u8],

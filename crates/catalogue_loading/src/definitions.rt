@@ -22,9 +22,8 @@ use store::{Fault, Map};
 /// bound to the columns of their tables. Each record is read once and each policy parsed once; then
 /// one walk over all records looks for orphans.
 ///
-/// Memory: an allocation failed. Device: the map answered it. Damaged: one of the records is none
-/// that a database writes, so they define nothing. That all records are well formed does not make
-/// their definitions valid together.
+/// Device: the map answered it. Damaged: one of the records is none that a database writes, so they
+/// define nothing. That all records are well formed does not make their definitions valid together.
 pub fn read_definitions<M: Map>(alloc: Global, map: &mut M) -> Result<Catalogue, Fault>
     ensures preserved { M.preserved map.old map.new }
     ensures read { HasRead result (M.state map.old) (M.state map.new) }

@@ -17,5 +17,6 @@ pub fn loaded_catalogues_are_the_prepared_ones()
     ensures undamaged { (records : Records) (prepared : Definitions) → Define records prepared
         → LoadsCatalogue (Err Damaged) records → ⊥ }
 {
+    // For the proof: records stand for one catalogue.
     one_catalogue();
 }

@@ -73,8 +73,7 @@ fn have_circle(alloc: Global, memberships: &Memberships) -> Result<bool, AllocEr
     Ok(false)
 }
 
-/// Whether the memberships are those of roles, and none is in a circle. `AllocError` comes only
-/// where memory was refused.
+/// Whether the memberships are those of roles, and none is in a circle.
 pub(crate) fn are_whole_memberships(
     alloc: Global,
     catalogue: &Catalogue,

@@ -22,6 +22,7 @@ pub(crate) fn know_roles(roles: &[Role])
     ensures { Each IsWholeRole roles.now }
 {
     for role in roles {
+        // For the proof: a name is text, and has no zero byte.
         know_name(&role.name);
     }
 }

@@ -14,8 +14,8 @@ use catalogue::table::TableDefinition;
 use std::alloc::Global;
 use store::{Fault, Map};
 
-/// Reads all records, and finds no orphan where these are the tables. Memory: an allocation failed.
-/// Device: the map answered it. Damaged: one of the records is an orphan.
+/// Reads all records, and finds no orphan where these are the tables. Device: the map answered it.
+/// Damaged: one of the records is an orphan.
 pub(crate) fn check_orphans<M: Map>(
     alloc: Global,
     map: &mut M,
@@ -26,6 +26,7 @@ pub(crate) fn check_orphans<M: Map>(
     ensures found { (M.state map.old).sound
         → Finds (λ _. HasNoOrphan (ids_of tables.now) (M.state map.old).map) result }
 {
+    // For the proof: where every key passed the test, no record is an orphan.
     no_orphan_is_left();
     let ids = table_ids(alloc, tables)?;
     let test = OrphanTest {

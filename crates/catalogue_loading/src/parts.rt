@@ -24,8 +24,8 @@ use std::alloc::{AllocError, Global};
 use store::{Fault, Map};
 use stored_database::one_list_of_policies;
 
-/// The privilege descriptors for the table of this number and this name. Memory: an allocation
-/// failed. Device: the map answered it. Damaged: one of their records spells none.
+/// The privilege descriptors for the table of this number and this name. Device: the map answered
+/// it. Damaged: one of their records spells none.
 pub(crate) fn read_descriptors<M: Map>(
     alloc: Global,
     map: &mut M,
@@ -43,8 +43,8 @@ pub(crate) fn read_descriptors<M: Map>(
 }
 
 /// The policies of the table of this number, this name and these columns, bound to the columns.
-/// Memory: an allocation failed. Device: the map answered it. Damaged: one of their records spells
-/// none, or one of their conditions is no BOOLEAN expression over the columns.
+/// Device: the map answered it. Damaged: one of their records spells none, or one of their
+/// conditions is no BOOLEAN expression over the columns.
 pub(crate) fn read_policies<M: Map>(
     alloc: Global,
     map: &mut M,
@@ -58,6 +58,7 @@ pub(crate) fn read_policies<M: Map>(
         (AreHeldPolicies (M.state map.old).map id table.now columns.now) result }
     ensures bound { IfOk result (Each (IsBoundPolicy (scope_of table.now columns.now))) }
 {
+    // For the proof: records stand for one list of policies.
     one_list_of_policies();
     let reader = PolicyReader::new(id, table);
     let policies = match load_items(alloc, map, &reader.prefix(), &reader) {
@@ -72,7 +73,7 @@ pub(crate) fn read_policies<M: Map>(
 }
 
 // Policies with their conditions bound to the columns of a table, or `None` where one of the
-// conditions is no BOOLEAN expression over them. The only error is that an allocation failed.
+// conditions is no BOOLEAN expression over them.
 fn bind_policies(
     alloc: Global,
     policies: Items<Policy>,

@@ -78,8 +78,11 @@ fn has_clauses(policy: &Policy) -> bool
 fn is_policy(catalogue: &Catalogue, policy: &Policy) -> bool
     ensures { IsTrue result ↔ IsPolicy catalogue.now.roles policy.now }
 {
+    // For the proof: a name is text, and has no zero byte.
     know_name(&policy.name);
+    // For the proof: a text has no zero byte.
     know_text(&policy.using);
+    // For the proof: a text has no zero byte.
     know_text(&policy.check);
     concerns_roles(catalogue, &policy.roles) && has_clauses(policy)
 }

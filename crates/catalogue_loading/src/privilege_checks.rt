@@ -149,8 +149,8 @@ fn has_granted(catalogue: &Catalogue, table: &TableDefinition) -> bool
     has_all_owners(owner, descriptors)
 }
 
-/// Whether the descriptors of a table are on it or on its columns, granted by and to roles, by the
-/// system the owner's four and no others, and each is supported. `AllocError` comes only where memory was refused.
+/// Whether the descriptors of a table are on it or on its columns, granted by and to roles, by the system the
+/// owner's four and no others, and each is supported.
 pub(crate) fn has_whole_privileges(
     alloc: Global,
     catalogue: &Catalogue,

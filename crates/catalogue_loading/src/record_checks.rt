@@ -56,8 +56,8 @@ fn test_next<M: Map, T: RecordTest>(
     Ok(true)
 }
 
-/// Reads all records whose keys begin with this prefix, and tests each. Memory: an allocation
-/// failed. Device: the map answered it. Damaged: one of the records does not pass.
+/// Reads all records whose keys begin with this prefix, and tests each. Device: the map answered
+/// it. Damaged: one of the records does not pass.
 pub fn check_records<M: Map, T: RecordTest>(
     map: &mut M,
     prefix: &[u8],

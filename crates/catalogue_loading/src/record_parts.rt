@@ -22,8 +22,8 @@ pub trait RecordPart {
     /// The bytes of an item.
     ghost spell: { Self.Item → List ℕ };
 
-    /// The item with whose bytes these begin, and the bytes after it. Memory: an allocation failed.
-    /// Damaged: they begin with no item.
+    /// The item with whose bytes these begin, and the bytes after it. Damaged: they begin with no
+    /// item.
     fn read<'a>(alloc: Global, bytes: &'a [u8]) -> Result<(Self::Item, &'a [u8]), Fault>
         ensures { DecodesFront IsValid spell bytes.now result };
 }
@@ -47,8 +47,8 @@ impl RecordPart for EndedName {
     }
 }
 
-/// So many items with which these bytes begin, and the bytes after them. Memory: an allocation
-/// failed. Damaged: they do not begin with so many items.
+/// So many items with which these bytes begin, and the bytes after them. Damaged: they do not begin
+/// with so many items.
 pub fn parts_at<'a, P: RecordPart>(
     alloc: Global,
     count: u8,

@@ -17,14 +17,15 @@ use stored_database::one_catalogue;
 /// has, with a value of its type that is not null where the column is NOT NULL, within the limits of
 /// a row; and no record of a row is of another table.
 ///
-/// Memory: an allocation failed. Device: the map answered it. Damaged: the record of a row is none of
-/// these, so the records stand for no database.
+/// Device: the map answered it. Damaged: the record of a row is none of these, so the records stand
+/// for no database.
 pub fn check_rows<M: Map>(alloc: Global, map: &mut M, catalogue: &Catalogue) -> Result<(), Fault>
     ensures preserved { M.preserved map.old map.new }
     ensures read { HasRead result (M.state map.old) (M.state map.new) }
     ensures checked { (M.state map.old).sound → Define (M.state map.old).map catalogue.now
         → ChecksRows result (M.state map.old).map catalogue.now }
 {
+    // For the proof: records stand for one catalogue.
     one_catalogue();
     let tables = catalogue.tables();
     match check_tables(map, tables) {

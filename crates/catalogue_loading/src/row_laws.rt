@@ -12,5 +12,6 @@ pub fn checked_rows_show_one_database()
     ensures { (records : Records) (d : Definitions) → ChecksRows (Ok tt) records d
         → StandForOne records d }
 {
+    // For the proof: records stand for one database.
     one_database();
 }

@@ -18,8 +18,8 @@ use std::alloc::Global;
 use storage_sizes::RecordKind;
 use store::{Fault, Map};
 
-/// Whether each record of a row of these tables is that of a row which its table may hold. Memory:
-/// an allocation failed. Device: the map answered it. Damaged: one of the records is not.
+/// Whether each record of a row of these tables is that of a row which its table may hold. Device:
+/// the map answered it. Damaged: one of the records is not.
 pub(crate) fn check_tables<M: Map>(map: &mut M, tables: &[TableDefinition]) -> Result<(), Fault>
     ensures preserved { M.preserved map.old map.new }
     ensures read { HasRead result (M.state map.old) (M.state map.new) }
@@ -47,8 +47,8 @@ fn check_table<M: Map>(map: &mut M, table: &TableDefinition) -> Result<(), Fault
     check_records(map, &test.prefix(), &test)
 }
 
-/// Whether each record of a row is of one of these tables. Memory: an allocation failed. Device: the
-/// map answered it. Damaged: one of the records is of none.
+/// Whether each record of a row is of one of these tables. Device: the map answered it. Damaged: one
+/// of the records is of none.
 pub(crate) fn check_orphans<M: Map>(
     alloc: Global,
     map: &mut M,

@@ -32,7 +32,7 @@ fn is_whole_definition(
     has_whole_privileges(alloc, catalogue, table)
 }
 
-/// Whether all tables are. `AllocError` comes only where memory was refused.
+/// Whether all tables are.
 pub(crate) fn are_whole_definitions(
     alloc: Global,
     catalogue: &Catalogue,

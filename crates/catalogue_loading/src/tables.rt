@@ -15,8 +15,8 @@ use std::alloc::Global;
 use storage_sizes::RecordKind;
 use store::{Fault, Map};
 
-/// The tables. Memory: an allocation failed. Device: the map answered it. Damaged: one of the
-/// records spells no table, or one of those of its descriptors and policies none of them.
+/// The tables. Device: the map answered it. Damaged: one of the records spells no table, or one of
+/// those of its descriptors and policies none of them.
 pub(crate) fn read_tables<M: Map>(
     alloc: Global,
     map: &mut M,

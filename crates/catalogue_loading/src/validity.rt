@@ -18,11 +18,12 @@ use std::alloc::{AllocError, Global};
 const MAX_TABLES: usize = 1024;
 
 /// Whether definitions whose items may each stand in a record, and whose lists are in the order of a
-/// database, are those of a whole database. `AllocError` comes only where memory was refused.
+/// database, are those of a whole database.
 pub fn are_valid(alloc: Global, catalogue: &Catalogue) -> Result<bool, AllocError>
     ensures { AreStored catalogue.now → IsInOrder (database_of catalogue.now)
         → IfOk result (λ valid. IsTrue valid ↔ AreValid catalogue.now) }
 {
+    // For the proof: the tokens of a stored condition can be read back.
     tokens_are_readable();
     know_roles(catalogue.roles());
     let tables = catalogue.tables();

@@ -22,7 +22,7 @@ pub trait ItemReader {
     /// The record of an item.
     ghost spell: { Self → Self.Item → Record };
 
-    /// The item that this record spells. Memory: an allocation failed. Damaged: it spells none.
+    /// The item that this record spells. Damaged: it spells none.
     fn read(&self, alloc: Global, entry: &Entry) -> Result<Self::Item, Fault>
         ensures { Decodes (IsValid self.now) (spell self.now) entry.now result };
 }
@@ -51,8 +51,8 @@ fn next_item<M: Map, R: ItemReader>(
     }
 }
 
-/// The items of all records whose keys begin with this prefix, in the order of their keys. Memory:
-/// an allocation failed. Device: the map answered it. Damaged: one of the records spells no item.
+/// The items of all records whose keys begin with this prefix, in the order of their keys. Device:
+/// the map answered it. Damaged: one of the records spells no item.
 pub fn load_items<M: Map, R: ItemReader>(
     alloc: Global,
     map: &mut M,

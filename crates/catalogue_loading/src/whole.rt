@@ -15,14 +15,14 @@ use store::{Fault, Map};
 /// The definitions of the database that the records of a map stand for, with a number for each
 /// table. Whether the records of rows are those of its tables is not looked at.
 ///
-/// Memory: an allocation failed. Device: the map answered it. Damaged: the records define nothing:
-/// one of them is none that a database writes, or what they say together is the definitions of no
-/// whole database.
+/// Device: the map answered it. Damaged: the records define nothing: one of them is none that a
+/// database writes, or what they say together is the definitions of no whole database.
 pub fn load<M: Map>(alloc: Global, map: &mut M) -> Result<Catalogue, Fault>
     ensures preserved { M.preserved map.old map.new }
     ensures read { HasRead result (M.state map.old) (M.state map.new) }
     ensures loaded { (M.state map.old).sound → LoadsCatalogue result (M.state map.old).map }
 {
+    // For the proof: a text has one reading.
     one_answer();
     let catalogue = match read_definitions(alloc, map) {
         Ok(catalogue) => catalogue,

@@ -36,7 +36,7 @@ use Rattle.copies.proofs.Reading.{under_lists}
 
 -- ---- a store that is copied
 
--- the records of a database, all behind the mark, are in the second spelling
+-- the records of a database, all behind the mark, are in record format 2
 whole_is : ((records : Records) (db : Database) → StandsFor records db → behind_mark records ≡ records) → (contents : Contents) (lists : List Changes) (db : Database) → Stands contents db
     → applied_all lists contents.records ≡ spelled_in_second contents.record_format contents.records → whole current (applied_all lists contents.records) ≡ in_second contents
 unfolding current

@@ -68,7 +68,7 @@ module _ {D : Type 0} {g : Ghosts D} (d : DeviceState) (s t : PageStore D g) (be
   abbrev e : DeviceState
   e = device_below (pages_of t)
 
-  -- a copy into the marked store, in the current spelling
+  -- a copy into the marked store, in the current record format
   spelled : (result : Result (Unit {0}) RecordsFault) (records : Records) → d.faithful
       → ((store_state s).sound → (store_state s).has_failed ≡ false → (store_state s).map ≡ mark ∷ [] → Copies result (whole (store_state s).record_format records) (store_state s) (store_state t))
       → Copies result (whole current records) (store_state s) (store_state t)

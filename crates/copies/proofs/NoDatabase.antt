@@ -33,7 +33,7 @@ marked_none records others db is stands =
     let ids = ids_of stands.0.tables in
     false≢true (sym (none_there (is_orphan ids) records stands.1.defined.no_other mark (subst (λ (es : Records). Among mark es) (sym is) (inl refl))) ∙ orphan_mark ids)
 
--- the mark is spelled alike in both spellings
+-- the mark is spelled alike in both record formats
 marked_in_second : (record_format : RecordFormat) (records others : Records) → records ≡ mark ∷ others → (more : Records) × (spelled_in_second record_format records ≡ mark ∷ more)
 marked_in_second V1 records others is = (with_places others, ap with_places is)
 marked_in_second V2 records others is = (others, is)

@@ -16,7 +16,7 @@ use Rattle.recovery.specs.Respelled.{AreRespelling, RespellsFrom}
 use Rattle.recovery.specs.Openings.{AreOfDatabase}
 use Rattle.copies.specs.DatabaseCopies.{IsRead}
 
--- records under the lists are the same records in the second spelling
+-- records under the lists are the same records in record format 2
 pub under_lists : (record_format : RecordFormat) (records : Records) (lists : List Changes) → AreRespelling record_format records lists → applied_all lists records ≡ spelled_in_second record_format records
 under_lists V1 records lists are = ap (λ (ls : List Changes). applied_all ls records) are.1 ∙ are.2
 under_lists V2 records lists are = ap (λ (ls : List Changes). applied_all ls records) are

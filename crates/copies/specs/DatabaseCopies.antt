@@ -37,11 +37,11 @@ told_of (Err fault) = Err (fault_of_copy fault)
 
 -- ---- a store that is copied
 
--- the lists spell the contents in the second spelling, in which they stand for a database
+-- the lists spell the contents in record format 2, in which they stand for a database
 abbrev pub IsRead : Contents → List Changes → Type 0
 IsRead contents lists = AreRespelling contents.record_format contents.records lists × (db : Database) × Stands contents db
 
--- the contents stand for a database, and are copied in the second spelling, with this answer
+-- the contents stand for a database, and are copied in record format 2, with this answer
 abbrev pub CopiesRead : {E : Type 0} → Contents → (E → DeviceState) → Result (Unit {0}) RecordsFault → E → E → Type 0
 CopiesRead contents state result old new = (db : Database) × Stands contents db × CopiesAll state (in_second contents) result old new
 
@@ -64,7 +64,7 @@ HasReadCause fault old new = Unit {0}
 
 -- ---- a device that is copied
 
--- the source holds a database, and its contents are copied in the second spelling, with this answer
+-- the source holds a database, and its contents are copied in record format 2, with this answer
 pub record Copies {E : Type 0} (source : DeviceState) (state : E → DeviceState) (result : Result (Unit {0}) RecordsFault) (old new : E) : Type 0 where
   pub database : Database
   pub holds : HoldsDatabase source database

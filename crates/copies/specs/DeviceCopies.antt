@@ -64,7 +64,7 @@ CopiesAll state contents (Err WrongSize) old new = (is_size (state old).sectors 
 CopiesAll state contents (Err (Full least)) old new = Tries contents (state old) (state new) × IsNotCopied (state old) (state new) × (least ≡ wanted ((state old).sectors / 8) contents.records)
 CopiesAll state contents (Err Device) old new = Tries contents (state old) (state new) × ((state old).faithful → HasFailed (state old) (state new))
 
--- the records behind the mark are copied, in the current spelling
+-- the records behind the mark are copied, in the current record format
 abbrev pub CopiesTo : {D : Type 0} → (D → DeviceState) → Records → Result (Unit {0}) DeviceCopyFault → D → D → Type 0
 CopiesTo state records result old new = CopiesAll state (whole current records) result old new
 

@@ -15,8 +15,8 @@ use sector_device::{CopyProgress, Device};
 use std::alloc::Global;
 use store::Store;
 
-/// Copies the database on a device to another device, of 64 to 65,536 whole pages, in the current spelling, and hands
-/// both back. The source may be of either spelling, with a journal or without; it is only read, and all its definitions
+/// Copies the database on a device to another device, of 64 to 65,536 whole pages, in the current record format, and hands
+/// both back. The source may be of either record format, with a journal or without; it is only read, and all its definitions
 /// and rows are checked before anything is written. What was on the device of the copy before is lost.
 ///
 /// After `Ok` each image that a stop leaves of the copy has exactly the source's records, and stands for the same
@@ -25,7 +25,6 @@ use store::Store;
 ///
 /// `Pages`, `Read`: no database is on the source, or its device failed. `WrongSize`: the device of the copy has another size;
 /// nothing was written. `Full`: no room is left on it; it names how many pages a copy wants at least. `Device`: it failed.
-/// `Memory`: an allocation failed.
 ///
 /// The progress is told now and then how far a large copy is.
 pub fn copy_database<D: JournalDevice, E: Device, W: CopyProgress>(
@@ -60,6 +59,7 @@ fn copy_store<S: Store, E: Device, W: CopyProgress>(
         → CopiesStore (stored (S.state store.old)) E.state result.1 target result.0 }
     ensures cause { IfErr result.1 (λ fault. HasReadCause fault (S.state store.old) (S.state store.new)) }
 {
+    // For the proof: copied records stand for the same database.
     copied_records_stand();
     let lists = match read_source(alloc, store) {
         Ok(lists) => lists,

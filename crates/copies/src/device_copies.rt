@@ -14,7 +14,7 @@ use sector_device::{CopyProgress, Device};
 use std::alloc::Global;
 use storage_sizes::SECTORS_PER_PAGE;
 
-/// Copies the records of a map to a device of 64 to 65,536 whole pages, in the current spelling: those
+/// Copies the records of a map to a device of 64 to 65,536 whole pages, in the current record format: those
 /// behind the mark of a copy, which of a database are all. What was on the device before is lost. The map is only read.
 ///
 /// After `Ok` each image that a stop leaves of the device has exactly these records. On a device that is
@@ -24,7 +24,7 @@ use storage_sizes::SECTORS_PER_PAGE;
 /// `Source`: a read of the map failed. `Damaged`: a record of it has a size that no store takes, which no record of a
 /// database has. `WrongSize`: the device has another size; nothing was written. `Full`: a commit found no room on the
 /// device; it names how many pages a copy wants at least: those of leaves that are full, and never fewer than one more than
-/// the device has. The records are read once more for it. `Device`: the device failed. `Memory`: an allocation failed.
+/// the device has. The records are read once more for it. `Device`: the device failed.
 ///
 /// The progress is told how far a large copy is, as `copy_records` does.
 pub fn copy_to_device<M: Map, D: Device, W: CopyProgress>(
@@ -47,6 +47,7 @@ pub fn copy_to_device<M: Map, D: Device, W: CopyProgress>(
         Err((target, fault)) => return (target, Err(fault)),
     };
     let copied = copy_records(alloc, source, &mut store, progress);
+    // For the proof: each image that a crash leaves has contents.
     sound_images(&store);
     let no_room = no_room_fault(source, pages, copied);
     (store.into_device(), told(copied, no_room))

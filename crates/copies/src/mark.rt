@@ -8,8 +8,7 @@ use store::Entry;
 /// The key of the mark.
 pub(crate) const MARK: [u8; 1] = [0];
 
-/// The record that a copy has until it is whole, with which its store is made. The only error is that an allocation
-/// failed.
+/// The record that a copy has until it is whole, with which its store is made.
 pub fn mark_of_a_copy(alloc: Global) -> Result<Entry, AllocError>
     ensures { IfOk result (λ entry. entry ≡ mark) }
 {

@@ -11,7 +11,7 @@ ghost use Rattle.copies.specs.DeviceCopies.{HasNoneOrMark};
 
 use stored_database::records_have_record_sizes;
 
-/// Records that begin with the mark of a copy stand for no database, in either spelling. So a copy
+/// Records that begin with the mark of a copy stand for no database, in either record format. So a copy
 /// that is not whole is none.
 pub fn marked_records_stand_for_nothing()
     ensures contents { (contents : Contents) (others : Records) (db : Database)
@@ -27,5 +27,6 @@ pub fn copied_records_stand()
     ensures sizes { (records : Records) (db : Database) → StandsFor records db
         → HasOutsized records → ⊥ }
 {
+    // For the proof: records have the sizes that a store takes.
     records_have_record_sizes();
 }

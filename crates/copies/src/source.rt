@@ -12,10 +12,10 @@ use sql_types::items::Items;
 use std::alloc::Global;
 use store::{Batch, Fault, Store};
 
-/// The lists of changes that spell the records of a store in the second spelling, none where they are of it. All definitions
+/// The lists of changes that spell the records of a store in record format 2, none where they have it. All definitions
 /// and all rows are read and checked. The store is only read.
 ///
-/// Memory: an allocation failed. Device: the store answered it. Damaged: the contents stand for no database.
+/// Device: the store answered it. Damaged: the contents stand for no database.
 pub(crate) fn read_source<S: Store>(alloc: Global, store: &mut S) -> Result<Items<Batch>, Fault>
     ensures preserved { S.preserved store.old store.new }
     ensures read { HasRead result (S.state store.old) (S.state store.new) }

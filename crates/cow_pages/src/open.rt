@@ -202,6 +202,7 @@ pub(crate) fn protect_all(allocator: &mut PageAllocator, pages: &[u32])
         → (IsTaken allocator.new page ↔ (IsTaken allocator.old page ⊎ IsPage pages.now page)) }
 {
     for page in pages {
+        // For the proof: the page is in use from now on.
         let _is_new = allocator.protect(*page);
     }
 }

@@ -121,7 +121,7 @@ module _ {D : Type 0} {g : Ghosts D} (present : (device : D) → (g.state device
     failures = failures_since present d s t opened faithful history.faults;
   }
 
--- either the store was only looked at, or it was of the first spelling, and the fault is one of a migration
+-- either the store was only looked at, or it was of record format 1, and the fault is one of a migration
 looked_or_tried : {P Q : Type 0} (sp : RecordFormat) (f : OpeningFault) → (OnlyLooks sp (Err f) → P) → (sp ≡ V1 → IsOfMigration (Records f) → Q) → P ⊎ Q
 looked_or_tried V2 f looked tried = inl (looked tt)
 looked_or_tried V1 (Read read.Memory) looked tried = inr (tried refl tt)

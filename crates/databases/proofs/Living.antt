@@ -104,7 +104,7 @@ ends_at state server w here = record {
   works = λ stands. (here.works (sym here.stopped ∙ stands)).1.unfailed;
 }
 
--- what was found stays, in either spelling
+-- what was found stays, in either record format
 stays : (last : Standing) (db : Database) → IsFoundAt last db → (old new : Timeline (Option Contents)) → LeavesOnly (λ x. Means x db) old new → LeavesOnly (IsFoundLeft last) old new
 stays last db found old new leaves = weakened (λ x. Means x db) (IsFoundLeft last) old new (λ x means. (db, means, found)) leaves
 

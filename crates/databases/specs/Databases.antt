@@ -31,7 +31,7 @@ pub record MeansNone (pages : ℕ) (image : Image) : Type 0 where
 abbrev pub HoldsDatabase : DeviceState → Database → Type 0
 HoldsDatabase d db = MeansDatabase (d.sectors / 8) d.content db
 
--- the device holds contents of the first spelling
+-- the device holds contents of record format 1
 pub record HoldsFirstSpelling (d : DeviceState) : Type 0 where
   pub contents : Contents
   pub has : HasContents (d.sectors / 8) contents d.content

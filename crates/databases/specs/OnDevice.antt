@@ -44,11 +44,11 @@ life_result_of (Err why) = Err (Records why)
 abbrev pub IsNumberOf : DeviceState → ℕ → Type 0
 IsNumberOf d number = (contents : Contents) × (has : HasContents (d.sectors / 8) contents d.content) × (number ≡ has.number)
 
--- the number before the first event: that of what the content stands for; where that is of the first spelling, the next at most
+-- the number before the first event: that of what the content stands for; where that is of record format 1, the next at most
 abbrev pub IsFirstNumberOf : DeviceState → ℕ → Type 0
 IsFirstNumberOf d number = (contents : Contents) × (has : HasContents (d.sectors / 8) contents d.content) × IsNumberAfter contents.record_format has.number number
 
--- what the content stands for is of the first spelling
+-- what the content stands for is of record format 1
 abbrev pub HoldsFirstSpelling : DeviceState → Type 0
 HoldsFirstSpelling d = (contents : Contents) × HasContents (d.sectors / 8) contents d.content × AreOfFirst contents
 
@@ -72,7 +72,7 @@ pub record IsServedOn {D : Type 0} (g : Ghosts D) (X : Type 0) (Reads : ReadingR
   pub device : new ≡ device_of store
 
 -- A life was lived by a server, and its answers, each given at its moment, were added; or none was lived, for want of memory, for the
--- device, or for its size, or since contents of the first spelling were not committed in the second.
+-- device, or for its size, or since contents of record format 1 were not committed in record format 2.
 abbrev pub LivesOn : {D : Type 0} (g : Ghosts D) (X : Type 0) → ReadingRelation → Standing → List Event → List Answer → List Answer → D → D → Result (Unit {0}) DatabaseFault → Type 0
 LivesOn g X Reads last events before after old new (Ok x) = (told : List Answer) × (moments : List ℕ) × (after ≡ before ++ told)
     × ((is : IsLifeOn Reads last events told moments (g.state old) (g.state new)) × IsServedOn g X Reads is.0.begin events told moments new)
@@ -120,7 +120,7 @@ pub record LeavesDatabase (db : Database) (old new : DeviceState) : Type 0 where
   pub during : LeavesOnly (λ x. (records_on old).left x ⊎ Means x db) (records_on old) (records_on new)
   pub now : (x : Option Contents) → (records_on new).left x → Means x db
 
--- A store was opened, and no life began over its contents. Of the second spelling they were only read, and so were those that
+-- A store was opened, and no life began over its contents. Of record format 2 they were only read, and so were those that
 -- stand for no database; others may have been spelled in the second by then, but are those of the same database.
 pub record IsNotBegun (fault : DatabaseFault) (old new : DeviceState) : Type 0 where
   pub why : OpeningFault

@@ -31,7 +31,7 @@ state_under server = state_below server.store
 
 -- ---- what was opened
 
--- records of the first spelling are migrated
+-- records of record format 1 are migrated
 abbrev pub is_first : RecordFormat → Bool
 is_first V1 = true
 is_first V2 = false
@@ -50,12 +50,12 @@ pub record IsMigrated {D : Type 0} {g : Ghosts D} {X : Type 0} (d : DeviceState)
   pub leaves : LeavesDatabase db d (state_under server)
   pub failures : d.failures ≤ (state_under server).failures
 
--- records of the second spelling were only read, and those of the first were migrated
+-- records of record format 2 were only read, and those of record format 1 were migrated
 abbrev pub OpensAs : {D : Type 0} {g : Ghosts D} {X : Type 0} → RecordFormat → (d : DeviceState) {db : Database} → HoldsDatabase d db → Server (DeviceStore D g) X → Type 0
 OpensAs V2 d holds server = IsOnlyRead d holds server
 OpensAs V1 d holds server = IsMigrated d holds server
 
--- a server has just been opened over the database that the device holds, and its store is of the second spelling
+-- a server has just been opened over the database that the device holds, and its store is of record format 2
 pub record IsOpenedOn {D : Type 0} {g : Ghosts D} {X : Type 0} (d : DeviceState) (opened : Opened D X g) : Type 0 where
   pub database : Database
   pub holds : HoldsDatabase d database
@@ -69,7 +69,7 @@ pub record IsOpenedOn {D : Type 0} {g : Ghosts D} {X : Type 0} (d : DeviceState)
 
 -- The fault that stands in what the device holds: that of its pages, or Damaged where its records stand for no database. Memory
 -- is asked for after the size and the magic are tested. That a call of the device failed says nothing of what it holds. The
--- commit of a migration is refused where the records are of the first spelling, and for a number where theirs is the last.
+-- commit of a migration is refused where the records are of record format 1, and for a number where theirs is the last.
 abbrev pub StandsIn : DatabaseFault → DeviceState → Type 0
 StandsIn (Pages fault) d = IsNamedFor fault d
 StandsIn (Records (Read read.Memory)) d = IsNamedFor pages.Memory d
@@ -86,7 +86,7 @@ IsOfMigration (Records (Read read.Device)) = Unit {0}
 IsOfMigration (Records (Read read.Damaged)) = ⊥
 IsOfMigration (Records (Commit fault)) = Unit {0}
 
--- The migration of records of the first spelling was tried: the database that the device held stayed, at every moment; and unless
+-- The migration of records of record format 1 was tried: the database that the device held stayed, at every moment; and unless
 -- the device failed, a stop now leaves the contents that it held, and nothing else
 pub record IsTriedOn (fault : DatabaseFault) (d e : DeviceState) : Type 0 where
   pub holds : HoldsFirstSpelling d

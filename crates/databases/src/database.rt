@@ -14,7 +14,7 @@ use std::alloc::Global;
 use store::{RecordFormat, Store};
 
 /// A database that was opened on a device: the server over it, and whether it was migrated, which it
-/// was exactly where the records on the device were of the first spelling.
+/// was exactly where the records on the device were of record format 1.
 #[derive(Drop)]
 pub struct Opened<D: Device, X> {
     pub server: Server<DeviceStore<D>, X>,
@@ -26,16 +26,16 @@ pub struct Opened<D: Device, X> {
 /// on the device says, has not failed. The device is synced and read; all definitions and all rows
 /// are read and checked. A refusal hands the device back.
 ///
-/// Where the records are of the second spelling, the store has those of the device under their
+/// Where the records are of record format 2, the store has those of the device under their
 /// number, and nothing is written, whatever is answered: each sector has the content that it had,
-/// and a stop leaves no more than before. Records of the first spelling are migrated, in one commit:
+/// and a stop leaves no more than before. Records of record format 1 are migrated, in one commit:
 /// a stop then leaves the same database at every moment, also where the migration is refused.
 ///
 /// `Pages`: no store was opened. `WrongSize`, `NotADatabase` and `Damaged` name the first fault that
 /// stands in the content, in this order: the size, the magic of the root sectors, the root sectors,
 /// the size that the root names, the map, the tree of records, the journal where there is one.
 /// `Records`: a store was opened, but no server. `Damaged`: the records stand for no database. After
-/// these nothing is written. `Full`: no room is left for the records of the first spelling in the
+/// these nothing is written. `Full`: no room is left for the records of record format 1 in the
 /// second. `Number`: no commit number is left for them. Of both, `Device`: the device failed, and
 /// `Memory`: an allocation failed, once the size and the magic were tested.
 pub fn open_database<D: JournalDevice, X: EventHandler + Drop>(

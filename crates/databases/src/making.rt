@@ -47,7 +47,9 @@ pub fn make_database<D: JournalDevice>(
 ) -> Result<(), MakeFault>
     ensures { Makes D.state journal admin.now result device.old device.new }
 {
+    // For the proof: a name is text, and has no zero byte.
     know_name(admin);
+    // For the proof: the first records are those of a new database.
     new_records_stand_for_a_new_database();
     let Some(_pages) = page_count(device.sectors()) else {
         return Err(MakeFault::WrongSize);
@@ -88,8 +90,7 @@ fn know_name(name: &Name)
     let _ = name.as_str().as_bytes();
 }
 
-// The one record of a new database, that of its administrator. The only error is that an allocation
-// failed.
+// The one record of a new database, that of its administrator.
 fn record_of_admin(alloc: Global, admin: &Name) -> Result<Entry, AllocError>
     ensures record { IfOk result (λ entry. entry ≡ admin_record admin.now) }
     ensures key { IfOk result (λ entry. IsKeySize entry.0) }

@@ -29,5 +29,6 @@ pub fn a_stop_leaves_none_or_the_new_one<D: Device>(old: &D, new: &D, next: &D)
         → IsNone (D.state next.now).sectors image → ⊥)
         → LeavesFound (standing_over db) (records_on (D.state next.now)) }
 {
+    // For the proof: an image of sectors has one contents.
     one_contents();
 }

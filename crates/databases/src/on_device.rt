@@ -20,12 +20,12 @@ use std::alloc::Global;
 /// Where each image that a stop may have left stands for a database that the last life may have
 /// left, the answers are those of the session machine over one of these, each given at a moment of
 /// the store's clock, and whenever the life stops, each image that it leaves stands for a database that a next life goes on from. Contents
-/// of the first spelling are spelled in the second before the first event. The numbers of commits
+/// of record format 1 are spelled in record format 2 before the first event. The numbers of commits
 /// are those that the device holds, and it counts its failures itself.
 ///
-/// After an error no event was answered. Nothing was written of contents of the second spelling,
+/// After an error no event was answered. Nothing was written of contents of record format 2,
 /// and of none where the error is of the pages, or `Damaged`: each sector has the content that it had,
-/// and a stop leaves no more than before. Contents of the first spelling may by then be of the second;
+/// and a stop leaves no more than before. Contents of record format 1 may by then be of record format 2;
 /// a stop leaves the database that they stand for. `Pages`: the first fault that stands in the
 /// content, as `DeviceStore::open` names it. `Records`: why no server was opened over the contents, as
 /// `open` names it, as `Damaged` where they stand for no database; or, as `Memory`, no memory was

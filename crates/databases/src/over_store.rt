@@ -21,17 +21,17 @@ use stored_database::one_database;
 ///
 /// Where the contents stand for a database that the last life may have left, the answers are those
 /// of the session machine over it, each given at a moment of the store's clock, and whenever the life
-/// stops, what is left stands for a database that a next life goes on from. Contents of the first spelling are of the second before the first
+/// stops, what is left stands for a database that a next life goes on from. Contents of record format 1 are of record format 2 before the first
 /// event, and no more than one commit has then been made. The counts of its end are the store's, so
 /// that a refusal for space or the device is one that the store counted.
 ///
-/// After an error no event was answered. A store of the second spelling was then only read, and so
+/// After an error no event was answered. A store of record format 2 was then only read, and so
 /// was one whose contents stand for no database: what its reads leave alone is as it was, unless
 /// the store had failed before. A stop leaves of any other the database that was there, in either
-/// spelling, at every moment. `Memory`: an allocation failed. `Device`: the store had failed, or it
-/// counted a failure: the device failed, or what it gave was none of the store's. `Damaged`: the
-/// contents stand for no database. `Full`, `Number`: no room, or no commit number, is left for the
-/// contents in the second spelling. All faults of a commit come only where they are of the first.
+/// spelling, at every moment. `Device`: the store had failed, or it counted a failure: the device
+/// failed, or what it gave was none of the store's. `Damaged`: the contents stand for no database.
+/// `Full`, `Number`: no room, or no commit number, is left for the contents in record format 2.
+/// All faults of a commit come only where they are of the first.
 pub fn live_over<S: Store, X: EventHandler + Drop>(
     alloc: Global,
     store: S,
@@ -50,6 +50,7 @@ pub fn live_over<S: Store, X: EventHandler + Drop>(
         (λ fault. OnlyLooks (S.state store).record_format (Err fault) → S.preserved store result.0) }
     ensures unanswered { OnErr result.1 (answers.new.items ≡ answers.old.items) }
 {
+    // For the proof: records stand for one database.
     one_database();
     match open(alloc, store, handler) {
         Ok(server) => answer_events(server, events, answers),

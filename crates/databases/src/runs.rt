@@ -25,6 +25,7 @@ pub fn run_script_on<D: JournalDevice, X: EventHandler + Drop, K: TakesText>(
     ensures { RunsScriptFrom D.Device K.Sink X.Reads server script.now sink.old result.1 result.0
         sink.new }
 {
+    // For the proof: records stand for one database.
     one_database();
     let mut server = server;
     let end = run_script(alloc, &mut server, script, sink);
@@ -45,6 +46,7 @@ pub fn serve_database<D: JournalDevice, X: EventHandler + Drop, L: Listen>(
     ensures { ServesFrom D.Device L.Sink.Sink X.Reads connections server
         (L.listening listener.old) result.1 result.0 (L.listening listener.new) }
 {
+    // For the proof: records stand for one database.
     one_database();
     let mut server = server;
     let served = serve_listener(alloc, &mut server, listener, connections);

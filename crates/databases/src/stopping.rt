@@ -53,5 +53,6 @@ pub fn either_may_be_left<X: EventHandler>(device: &HistoryDevice)
         → Changes X.Reads (records_on (history_device_state device.now)) w event answer next
         → LeavesOneAtEach (records_on (history_device_state device.now)) w next → ⊥ }
 {
+    // For the proof: records stand for one database.
     one_database();
 }

@@ -12,7 +12,7 @@ use sql_ast::role::Role;
 use sql_types::name::Name;
 use std::alloc::{AllocError, Global};
 
-/// The sections of a database. `AllocError` comes only where memory was refused.
+/// The sections of a database.
 pub fn database_sections<'a>(
     alloc: Global,
     catalogue: &'a Catalogue,

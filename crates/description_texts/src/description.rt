@@ -14,7 +14,6 @@ use sql_ast::role::Role;
 use std::alloc::{AllocError, Global};
 
 /// The description of a database, or of the role of a name, as text in columns or as JSON. `None`: no role has the name.
-/// `AllocError` comes only where memory was refused.
 pub fn describe(
     alloc: Global,
     catalogue: &Catalogue,

@@ -6,7 +6,7 @@ use sql_types::name::Name;
 use std::alloc::{AllocError, Global};
 
 /// The sections as one JSON object: under the name of each a list of its rows, and a row is an object with a member for each
-/// column. PUBLIC is null, and so is what is not there. `AllocError` comes only where memory was refused.
+/// column. PUBLIC is null, and so is what is not there.
 pub fn render_json(alloc: Global, sections: &[Section<'_>]) -> Result<String, AllocError> {
     let mut members = Map::new(alloc);
     for section in sections {

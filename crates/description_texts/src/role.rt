@@ -20,7 +20,7 @@ use sql_ast::privilege::{Action, Privilege};
 use sql_types::name::Name;
 use std::alloc::{AllocError, Global};
 
-/// The sections of the role of a name, or `None` where no role has it. `AllocError` comes only where memory was refused.
+/// The sections of the role of a name, or `None` where no role has it.
 pub fn role_sections<'a>(
     alloc: Global,
     catalogue: &'a Catalogue,

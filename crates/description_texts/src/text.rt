@@ -8,8 +8,7 @@ use std::alloc::{AllocError, Global};
 const ABSENT: &str = "-";
 
 /// The sections as text: the name of each on a line of its own, then its columns' names and its rows, each column as wide as
-/// its widest cell, and an empty line between two sections. A control character stands as a space. `AllocError` comes only
-/// where memory was refused.
+/// its widest cell, and an empty line between two sections. A control character stands as a space.
 pub fn render_text(alloc: Global, sections: &[Section<'_>]) -> Result<String, AllocError> {
     let mut out = String::new(alloc);
     for (index, section) in sections.iter().enumerate() {

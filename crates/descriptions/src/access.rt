@@ -43,7 +43,7 @@ pub struct PrivilegeDescription<'a> {
     pub grants_as: Option<&'a Name>,
 }
 
-/// What a role has of a table. `roles` are those that the role is in. `AllocError` comes only where memory was refused.
+/// What a role has of a table. `roles` are those that the role is in.
 pub fn describe_access<'a>(
     alloc: Global,
     catalogue: &Catalogue,

@@ -19,8 +19,7 @@ pub struct MembershipDescription<'a> {
 }
 
 /// The memberships of which a role is the member, in the order of their roles, each with the roles that it leads to. Time
-/// grows in proportion to all memberships, and to those that are reached through each. `AllocError` comes only where memory
-/// was refused.
+/// grows in proportion to all memberships, and to those that are reached through each.
 pub fn describe_memberships<'a>(
     alloc: Global,
     memberships: &'a Memberships,

@@ -47,7 +47,7 @@ fn guards(enabled: bool, is_exempt: bool, forced: bool, is_in_owner: bool) -> bo
 
 /// The policies of a table that apply to an action of a role, in the order of their names: those that are for the action and
 /// for PUBLIC or a role that it is in. They guard rows only where [`is_guarded`] says so. `roles` are those that the role is
-/// in. Time grows in proportion to the policies of the table. `AllocError` comes only where memory was refused.
+/// in. Time grows in proportion to the policies of the table.
 pub fn applicable_policies<'a>(
     alloc: Global,
     catalogue: &Catalogue,

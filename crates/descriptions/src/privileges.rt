@@ -18,7 +18,7 @@ use std::alloc::{AllocError, Global};
 
 /// The privilege descriptors for a table that give a role something: those to PUBLIC and those to a role that it is in, in
 /// their order. `roles` are those that the role is in (`closure` of the crate `role_membership`). Time grows in proportion to
-/// the descriptors of the table. `AllocError` comes only where memory was refused.
+/// the descriptors of the table.
 pub fn privileges_given<'a>(
     alloc: Global,
     catalogue: &Catalogue,

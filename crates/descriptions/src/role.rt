@@ -21,8 +21,7 @@ pub struct RoleDescription<'a> {
     pub memberships: Vec<MembershipDescription<'a>>,
 }
 
-/// The role of a name with what it is in, or `None` where no role has the name. `AllocError` comes only where memory was
-/// refused.
+/// The role of a name with what it is in, or `None` where no role has the name.
 pub fn describe_role<'a>(
     alloc: Global,
     catalogue: &'a Catalogue,

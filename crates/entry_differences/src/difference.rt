@@ -11,9 +11,8 @@ use std::cmp::Ordering;
 use store::{Batch, Entry};
 
 /// Adds the changes that take the records `old`, in order, to `new`, in order: a removal of each
-/// that goes and a put of each that comes or is another, and none of a record in both. The only
-/// error is that an allocation failed. After an error the batch may have some of the changes, and
-/// the caller drops it.
+/// that goes and a put of each that comes or is another, and none of a record in both. After an
+/// error the batch may have some of the changes, and the caller drops it.
 pub fn push_differences(old: &[Entry], new: &[Entry], out: &mut Batch) -> Result<(), AllocError>
     requires old { HaveRecordSizes old.now }
     requires new { HaveRecordSizes new.now }
@@ -64,6 +63,7 @@ fn push_put(entry: &Entry, out: &mut Batch) -> Result<(), AllocError>
     requires { IsRecordSize entry.now }
     ensures { OnOk result (Adds (put_of entry.now ∷ []) out.old out.new) }
 {
+    // For the proof: the list is in order.
     let _in_order = out.pieces();
     out.put(entry.key(), entry.value())
 }
@@ -73,6 +73,7 @@ fn push_removal(entry: &Entry, out: &mut Batch) -> Result<(), AllocError>
     requires { IsRecordSize entry.now }
     ensures { OnOk result (Adds (removal entry.now ∷ []) out.old out.new) }
 {
+    // For the proof: the list is in order.
     let _in_order = out.pieces();
     out.remove(entry.key())
 }

@@ -23,5 +23,6 @@ pub fn one_answer()
         → Parses SpellsWhole IsWithinDepth text s → s ≢ Err (refusal OutOfMemory)
         → r ≡ s }
 {
+    // For the proof: a text has one list of tokens.
     one_lexing();
 }

@@ -17,7 +17,7 @@ use std::alloc::{AllocError, Global};
 type Tree = Expression<ColumnName>;
 
 /// The longest front of the tokens from `at` on that spells an expression, and its end, or `None`
-/// where no front does. `AllocError` comes only where memory was refused.
+/// where no front does.
 ///
 /// Loops go over chains and prefix operators, and only parentheses go deeper.
 pub fn expr_at(

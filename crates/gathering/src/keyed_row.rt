@@ -25,7 +25,7 @@ pub struct KeyedRow {
     pub(crate) row: Result<Items<Value>, SqlState>,
 }
 
-/// The value of a sort key, or its refusal. An error means that memory was refused.
+/// The value of a sort key, or its refusal.
 pub(crate) fn key_on<R: RowView>(
     alloc: Global,
     key: &TypedSortKey,
@@ -41,7 +41,7 @@ pub(crate) fn key_on<R: RowView>(
     }
 }
 
-/// The values of the sort keys, or the refusal of the first that has one. An error means that memory was refused.
+/// The values of the sort keys, or the refusal of the first that has one.
 pub(crate) fn keys_on<R: RowView>(
     alloc: Global,
     keys: &[TypedSortKey],

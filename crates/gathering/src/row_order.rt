@@ -11,8 +11,7 @@ use sql_types::value::Value;
 use std::alloc::AllocError;
 use std::cmp::Reverse;
 
-/// The rows in the order of their keys, of which those with the same keys stay in their order. An error means that memory was
-/// refused.
+/// The rows in the order of their keys, of which those with the same keys stay in their order.
 ///
 /// Where each row has one key, and each key is a number, the numbers are sorted, and each row is moved once.
 pub(crate) fn in_order_of_keys(rows: Vec<KeyedRow>) -> Result<Vec<KeyedRow>, AllocError>

@@ -56,7 +56,7 @@ impl<'a> SortedRows<'a> {
         }
     }
 
-    /// Adds the next combination that meets the conditions. An error means that memory was refused.
+    /// Adds the next combination that meets the conditions.
     pub fn add<R: RowView>(
         &mut self,
         alloc: Global,
@@ -81,8 +81,7 @@ impl<'a> SortedRows<'a> {
         Ok(())
     }
 
-    /// Puts the row of a combination behind the others, of which those behind the limit may be let go. An error means that memory
-    /// was refused.
+    /// Puts the row of a combination behind the others, of which those behind the limit may be let go.
     fn keep(&mut self, keyed: KeyedRow) -> Result<(), AllocError>
         ensures taken { OnOk result ((users : UserNames) (cells : Cells) (c : Combination) (more : List Combination)
             → cells ≡ cells_of c
@@ -127,8 +126,7 @@ impl<'a> SortedRows<'a> {
         )
     }
 
-    /// The row of a combination under its keys, or the refusal of the first key that has one. An error means that memory was
-    /// refused.
+    /// The row of a combination under its keys, or the refusal of the first key that has one.
     fn keyed<R: RowView>(
         &self,
         alloc: Global,
@@ -152,8 +150,7 @@ impl<'a> SortedRows<'a> {
         }
     }
 
-    /// The rows in the order of their keys, of which those with the same keys stay in their order, up to the limit. An error
-    /// means that memory was refused.
+    /// The rows in the order of their keys, of which those with the same keys stay in their order, up to the limit.
     pub fn into_rows(
         self,
         alloc: Global,
@@ -170,7 +167,7 @@ impl<'a> SortedRows<'a> {
     }
 }
 
-/// The rows up to the limit, or the first refusal among these. An error means that memory was refused.
+/// The rows up to the limit, or the first refusal among these.
 fn first_rows(
     alloc: Global,
     limit: Option<u64>,

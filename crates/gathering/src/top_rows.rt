@@ -45,7 +45,7 @@ impl TopRows {
         }
     }
 
-    /// Puts a row behind the others. An error means that memory was refused.
+    /// Puts a row behind the others.
     pub(crate) fn push(&mut self, row: KeyedRow) -> Result<(), AllocError>
         ensures { OnOk result (self.new.rows.items ≡ self.old.rows.items ++ row ∷ []) }
     {
@@ -73,8 +73,7 @@ impl TopRows {
         }
     }
 
-    /// Lets the rows go that are behind the limit, where there are more than twice as many as it. An error means that memory
-    /// was refused.
+    /// Lets the rows go that are behind the limit, where there are more than twice as many as it.
     pub(crate) fn cut(&mut self, limit: Option<u64>) -> Result<(), AllocError>
         ensures same { OnOk result ((more : List Entry)
             → in_order limit (map entry_of self.old.rows.items ++ more)
@@ -93,7 +92,7 @@ impl TopRows {
         Ok(())
     }
 
-    /// The rows in order, of which those with the same keys stay in their order. An error means that memory was refused.
+    /// The rows in order, of which those with the same keys stay in their order.
     pub(crate) fn into_sorted(self) -> Result<Vec<KeyedRow>, AllocError>
         ensures { IfOk result (λ rows. rows.items ≡ sorted row_cmp self.rows.items) }
     {

@@ -36,7 +36,7 @@ impl<'a> UnsortedRows<'a> {
         }
     }
 
-    /// Adds the next combination that meets the conditions. An error means that memory was refused.
+    /// Adds the next combination that meets the conditions.
     pub fn add<R: RowView>(
         &mut self,
         alloc: Global,

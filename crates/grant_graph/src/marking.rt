@@ -52,7 +52,7 @@ pub(crate) fn mark_named(
 }
 
 /// Copies of the descriptors that are none of the named, the grant option aside. Time grows in proportion to both lists, as far as
-/// names hash apart. `AllocError` comes only where memory was refused.
+/// names hash apart.
 pub fn without(
     alloc: Global,
     descriptors: &[Descriptor],

@@ -119,8 +119,7 @@ fn are_all(marks: &[bool]) -> bool
 }
 
 /// Whether each of the descriptors is supported: a finite chain of supports among them leads to it from one that the system
-/// granted. Time and memory grow in proportion to the descriptors, as far as names hash apart. `AllocError` comes only where
-/// memory was refused.
+/// granted. Time and memory grow in proportion to the descriptors, as far as names hash apart.
 pub fn all_supported(alloc: Global, descriptors: &[Descriptor]) -> Result<bool, AllocError>
     ensures chains { IfOk result (λ all. IsTrue all
         ↔ ((d : TheDescriptor) → Among d descriptors.now → IsSupported descriptors.now d)) }

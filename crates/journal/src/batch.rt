@@ -53,8 +53,7 @@ fn push_zeros(count: usize, out: &mut Vec<u8>) -> Result<(), AllocError>
     out.extend_from_slice(&[0; PART_SIZE][..count])
 }
 
-/// The bytes of a batch, in whole parts: its changes, and zeros to the end of the last part. The only
-/// error is that an allocation failed.
+/// The bytes of a batch, in whole parts: its changes, and zeros to the end of the last part.
 pub fn batch_bytes(alloc: Global, batch: &Batch) -> Result<Vec<u8>, AllocError>
     ensures { IfOk result (λ bytes. Spells bytes.items batch.now) }
 {
@@ -98,7 +97,7 @@ fn change(batch: &mut Batch, key: &[u8], value: Option<&[u8]>) -> Result<(), All
 }
 
 /// The batch that these bytes spell, or `None` where they spell none: one that a store takes, whose keys
-/// rise, and then zeros to the end of the last part. The only error is that an allocation failed.
+/// rise, and then zeros to the end of the last part.
 pub fn read_batch(alloc: Global, bytes: &[u8]) -> Result<Option<Batch>, AllocError>
     ensures found { IfOk result (λ found. IfSome found (λ batch. Spells bytes.now batch)) }
     ensures only { (changes : Changes) → Spells bytes.now changes
@@ -115,6 +114,7 @@ pub fn read_batch(alloc: Global, bytes: &[u8]) -> Result<Option<Batch>, AllocErr
         last = key;
         rest = after;
     }
+    // For the proof: the changes are a batch.
     let _is_batch = batch.pieces();
     if !ends_batch(bytes, rest) {
         return Ok(None);

@@ -96,8 +96,7 @@ fn record_at(
     Some(tag)
 }
 
-// The bytes of the parts in these sectors, one after the other. The only error is that an allocation
-// failed.
+// The bytes of the parts in these sectors, one after the other.
 fn join_parts(alloc: Global, sectors: &[[u8; SECTOR_SIZE]]) -> Result<Vec<u8>, AllocError>
     ensures parts { IfOk result (λ bytes. parts_of (length sectors.now) bytes.items
         ≡ map (λ sector. drop 24 sector) sectors.now) }
@@ -117,7 +116,7 @@ struct Chain {
     end: usize,
 }
 
-// Reads the records of a root. The only error is that an allocation failed.
+// Reads the records of a root.
 fn read_chain(
     alloc: Global,
     root: u64,
@@ -209,8 +208,8 @@ fn greatest_number(room: u16, sectors: &[[u8; SECTOR_SIZE]]) -> u64
 
 /// The journal of a root that these sectors are, so many of them.
 ///
-/// `Memory`: an allocation failed. `Damaged`: a sector is neither blank nor a part of a record, or one
-/// that no stop leaves, so that the sectors are no journal of this root.
+/// `Damaged`: a sector is neither blank nor a part of a record, or one that no stop leaves, so that
+/// the sectors are no journal of this root.
 pub fn find_journal(
     alloc: Global,
     root: u64,

@@ -47,7 +47,7 @@ fn push_removal(key: &[u8], out: &mut Vec<u8>) -> Result<(), AllocError>
     out.extend_from_slice(key)
 }
 
-// Appends the bytes of a change. The only error is that an allocation failed.
+// Appends the bytes of a change.
 pub(crate) fn push_change(change: &Change, out: &mut Vec<u8>) -> Result<(), AllocError>
     requires { IsChangeSize change.now }
     ensures { OnOk result ((rest : List ℕ) → out.new.items ++ rest

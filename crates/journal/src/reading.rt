@@ -28,6 +28,7 @@ pub fn read_sectors<D: Device>(
         → get_or sectors.new q [] ≡ (D.state device.old).content (first + q)) }
     ensures cause { OnErr result (HasFailed (D.state device.old) (D.state device.new)) }
 {
+    // For the proof: the number of sectors stays.
     let _sectors = device.sectors();
     for index in 0..sectors.len() {
         let mut sector = [0; SECTOR_SIZE];
@@ -41,8 +42,8 @@ pub fn read_sectors<D: Device>(
 /// brought what was written to the disk with a sync, so that a stop leaves these sectors as they were
 /// read.
 ///
-/// `Memory`: an allocation failed. `Device`: a read failed. `Damaged`: a sector is neither blank nor a
-/// part of a record, or one that no stop leaves, so that the sectors are no journal of this root.
+/// `Device`: a read failed. `Damaged`: a sector is neither blank nor a part of a record, or one that
+/// no stop leaves, so that the sectors are no journal of this root.
 pub fn read_journal<D: Device>(
     device: &mut D,
     alloc: Global,

@@ -17,7 +17,7 @@ pub fn part_bytes(bytes: &[u8; SECTOR_SIZE]) -> &[u8]
 }
 
 /// The sectors of the record of this number whose parts have these bytes, which follows the pages of this
-/// root. Each is read as its part. The only error is that an allocation failed.
+/// root. Each is read as its part.
 pub fn write_sectors(
     alloc: Global,
     root: u64,

@@ -34,7 +34,7 @@ SpellBatches (e ∷ es) (b ∷ bs) = Spells (joined_parts e.parts) b × SpellBat
 abbrev pub with_batches : List Changes → Contents → Contents
 with_batches batches base = record { record_format = base.record_format; records = applied_all batches base.records }
 
--- The image of a device of so many pages has these contents: its pages have others, of the second spelling, under a root that says
+-- The image of a device of so many pages has these contents: its pages have others, of record format 2, under a root that says
 -- that there is a journal, and its sectors behind the root sectors are a journal of that root, each record of which spells a batch. Where a sector is none that a
 -- journal of the root has, or a record spells no batch, the image has no contents.
 pub record HasJournaledContents (pages : ℕ) (contents : Contents) (image : Image) : Type 0 where

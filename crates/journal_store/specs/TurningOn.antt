@@ -44,7 +44,7 @@ pub record IsStillOff (Cause : Contents → ℕ → Type 0) (d e : DeviceState) 
   pub left : (image : Image) → IsLeft e image → HasContentsUnder false (d.sectors / 8) number contents image
   pub cause : Cause contents number
 
--- nothing was written, and the records are of the first spelling
+-- nothing was written, and the records are of record format 1
 pub record IsNotMigrated (d e : DeviceState) : Type 0 where
   pub content : KeepsContent d e
   pub number : ℕ

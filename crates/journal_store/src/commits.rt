@@ -134,7 +134,7 @@ impl<D: JournalDevice> Store for JournalStore<D> {
         self.commit_some(batch)
     }
 
-    /// Commits all changes of a batch, as `commit` does: the records are of the second spelling already.
+    /// Commits all changes of a batch, as `commit` does: the records are of record format 2 already.
     fn commit_migration(&mut self, batch: &Batch) -> Result<(), StoreFault>
         ensures commits { Commits result (changed_in V2 batch.now (stored (journal_state self.old)))
             (journal_state self.old) (journal_state self.new) }

@@ -47,7 +47,7 @@ fn read_behind_roots<D: Device>(
     Ok(())
 }
 
-// The batches of records, the first of them first. Memory: an allocation failed. Damaged: a record spells none.
+// The batches of records, the first of them first. Damaged: a record spells none.
 fn read_batches(alloc: Global, records: &[JournalRecord]) -> Result<ChangeLists, Fault>
     requires { AreWhole records.now }
     ensures read { IfOk result (λ waiting. AreOf records.now waiting) }
@@ -74,8 +74,7 @@ struct Replayed {
     end: u16,
 }
 
-// The journal of a root that these sectors are. Memory: an allocation failed. Damaged: they are none, or a record of it
-// spells no batch.
+// The journal of a root that these sectors are. Damaged: they are none, or a record of it spells no batch.
 fn replay(alloc: Global, root: u64, sectors: &[[u8; SECTOR_SIZE]]) -> Result<Replayed, Fault>
     requires { length sectors.now ≡ JOURNAL_ROOM }
     ensures read { IfOk result (λ replayed. IsReplayed root sectors.now replayed) }

@@ -128,7 +128,7 @@ impl<D: JournalDevice> JournalStore<D> {
         Ok(())
     }
 
-    // All that waits and then a batch, in one batch. The only error is that an allocation failed.
+    // All that waits and then a batch, in one batch.
     fn joined_with(&self, batch: &Batch) -> Result<Batch, AllocError>
         ensures { IfOk result (λ joined. (es : Records) → IsOrdered es
             → applied joined es ≡ applied batch.now (applied_all self.now.waiting es)) }
@@ -158,6 +158,7 @@ impl<D: JournalDevice> JournalStore<D> {
         ensures spares { IsSoundJournal self.old
             → OnOk result (KeepsReserve reserve (pages_of self.old.store) (pages_of self.new.store)) }
     {
+        // For the proof: the top is the same afterwards.
         let _top = self.top;
         match self.store.checkpoint(joined, reserve) {
             Ok(()) => {
@@ -169,12 +170,11 @@ impl<D: JournalDevice> JournalStore<D> {
         }
     }
 
-    /// Commits all that waits and a batch to the pages, under the next root, behind which the journal has no record. A stop
-    /// at any moment leaves the contents before the batch or those after it, and from `Ok` on those after it alone. After a
-    /// fault that is not Device nothing has changed, and what waits waits still. With `Ok` nothing waits. The sectors beside are
-    /// left alone. Full: the pages had no room for all of it at once, or, with a batch that changes something, none beside the
-    /// reserve: what waits by itself may take that. Number: no number is left. Memory: an allocation failed.
-    /// Device: the device failed.
+    /// Commits all that waits and a batch to the pages, under the next root, behind which the journal has no record. A stop at
+    /// any moment leaves the contents before the batch or those after it, and from `Ok` on those after it alone. After a fault
+    /// that is not Device nothing has changed, and what waits waits still. With `Ok` nothing waits. The sectors beside are left
+    /// alone. Full: the pages had no room for all of it at once, or, with a batch that changes something, none beside the
+    /// reserve: what waits by itself may take that. Number: no number is left. Device: the device failed.
     pub fn checkpoint(&mut self, batch: &Batch) -> Result<(), StoreFault>
         requires { (journal_state self.old).has_failed ≡ false }
         ensures commits { Commits result (changed_by_batch batch.now (stored (journal_state self.old)))

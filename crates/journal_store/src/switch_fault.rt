@@ -9,7 +9,7 @@ pub enum SwitchFault {
     /// The device was not opened.
     #[error("the device was not opened")]
     Unopened(OpenFault),
-    /// The records are of the first spelling: they must be migrated before there can be a journal.
+    /// The records are of record format 1: they must be migrated before there can be a journal.
     #[error("the records are of record format 1")]
     NotMigrated,
     /// A commit was refused, or the device failed.

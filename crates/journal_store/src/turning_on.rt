@@ -60,7 +60,7 @@ fn find_journal<D: JournalDevice>(alloc: Global, device: D) -> (D, Result<u64, S
 /// The contents stay: a stop at any moment leaves them, with a journal or without; until the device was synced first, also
 /// what it might have left before the call. After each error there is no journal, unless it is `Device`, or the device had
 /// one that was not opened. `Unopened`: the device was not opened, as `DeviceStore::open` says, and nothing was written.
-/// `NotMigrated`: the records are of the first spelling, and nothing was written. `Refused(Full)`: no room is left for the map
+/// `NotMigrated`: the records are of record format 1, and nothing was written. `Refused(Full)`: no room is left for the map
 /// pages that a commit has to write. `Refused(Number)`: no number is left. `Refused(Device)`: the device failed.
 /// `Refused(Memory)` is never answered. All this of a faithful device; the size and the failures of any stay counted.
 pub fn turn_on<D: JournalDevice>(alloc: Global, device: D) -> (D, Result<u64, SwitchFault>)

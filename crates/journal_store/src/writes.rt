@@ -48,7 +48,7 @@ impl<D: JournalDevice> Store for DeviceStore<D> {
         }
     }
 
-    /// Commits all changes of a batch and with them that the records are of the second spelling, as `Store` says.
+    /// Commits all changes of a batch and with them that the records are of record format 2, as `Store` says.
     fn commit_migration(&mut self, batch: &Batch) -> Result<(), StoreFault> {
         match self {
             DeviceStore::Pages(store) => store.commit_migration(batch),

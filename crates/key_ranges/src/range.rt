@@ -46,7 +46,7 @@ struct Conditions<'a> {
 ///
 /// Columns that are equal to a value narrow the range from the first on. The column behind them
 /// narrows it further by its first bound from either side. A value that no key holds, as null,
-/// bounds nothing. The only error is that an allocation failed.
+/// bounds nothing.
 pub fn key_range(
     alloc: Global,
     id: u32,

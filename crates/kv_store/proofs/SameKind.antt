@@ -26,7 +26,7 @@ kind_committed {D} {g} next (Err Number) old new is kind = same_kind old new is.
 kind_committed {D} {g} next (Err NoFirstPage) old new is kind = same_kind old new is.1.memory.root
 kind_committed {D} {g} next (Err Device) old new is kind = same_kind old new is.memory.root
 
--- where there is a journal, records are of the second spelling
+-- where there is a journal, records are of record format 2
 pub journaled_is_second : (format : Format) → has_journal format ≡ true → record_format_of format ≡ V2
 journaled_is_second One is = absurd cc
 journaled_is_second Two is = absurd cc

@@ -138,6 +138,7 @@ pub(crate) fn commit_batch<D: Device>(
 {
     let free = pages.free_pages();
     let made = make_pieces(pages, scratch, batch.pieces());
+    // For the proof: what the calls before left alone is still as it was.
     preserved_stays(pages);
     match made {
         Ok(()) => {

@@ -14,7 +14,7 @@ use cow_pages::Format;
 use sector_device::Device;
 use store::StoreFault;
 
-// The format of the second spelling with a journal, or without.
+// The format of record format 2 with a journal, or without.
 fn format_with(journal: bool) -> Format
     ensures kind { has_journal result ≡ journal }
     ensures second { record_format_of result ≡ V2 }
@@ -24,7 +24,7 @@ fn format_with(journal: bool) -> Format
 
 impl<D: Device> TreeStore<D> {
     /// Commits what the pages hold, as it is, under the next number and with a root that says that there is a journal, or that
-    /// there is none: of pages that hold contents of the second spelling. A stop at any moment leaves these contents, under the
+    /// there is none: of pages that hold contents of record format 2. A stop at any moment leaves these contents, under the
     /// old root or under the next one, and from `Ok` on under that one alone. After a fault that is not Device they are held
     /// under the old root. Full: each page is in use, and a map page had to be written. Number: no number is left. Device: the
     /// device failed. Memory is never answered.

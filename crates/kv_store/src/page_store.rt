@@ -246,8 +246,8 @@ impl<D: Device> Store for PageStore<D> {
         self.tree.commit(batch)
     }
 
-    /// Commits all changes of a batch and that the records are of the second spelling, or nothing, as `Store` says. With
-    /// `Ok` a sound store whose records were of the first spelling has the next number, whatever the batch. It may take the
+    /// Commits all changes of a batch and that the records are of record format 2, or nothing, as `Store` says. With
+    /// `Ok` a sound store whose records were of record format 1 has the next number, whatever the batch. It may take the
     /// reserve. All else is as at `commit`.
     fn commit_migration(&mut self, batch: &Batch) -> Result<(), StoreFault>
         ensures commits { Commits result (changed_in V2 batch.now (stored (store_state self.old)))

@@ -126,6 +126,7 @@ impl<D: Device> TreeStore<D> {
             return Err((pages.into_device(), OpenFault::Damaged));
         }
         let checked = check_tree(alloc, &mut pages);
+        // For the proof: what the calls before left alone is still as it was.
         preserved_stays(&pages);
         match checked {
             Ok(true) => Ok(TreeStore::new(alloc, pages)),
@@ -435,8 +436,8 @@ impl<D: Device> Store for TreeStore<D> {
         self.change(format, RootWrite::IfChanged, Reserve::Kept, batch)
     }
 
-    /// Commits all changes of a batch and that the records are of the second spelling, or nothing, as `Store` says. With
-    /// `Ok` a sound store whose records were of the first spelling has the next number, whatever the batch. It may take the
+    /// Commits all changes of a batch and that the records are of record format 2, or nothing, as `Store` says. With
+    /// `Ok` a sound store whose records were of record format 1 has the next number, whatever the batch. It may take the
     /// reserve. All else is as at `commit`.
     fn commit_migration(&mut self, batch: &Batch) -> Result<(), StoreFault>
         ensures commits { Commits result (changed_in V2 batch.now (stored (store_state self.old)))

@@ -37,8 +37,7 @@ impl Model for PageAllocator {
 }
 
 impl PageAllocator {
-    /// The pages of a device of `pages` pages, 1 to 65,536, where each page but page 0 is free. The
-    /// only error is that an allocation failed.
+    /// The pages of a device of `pages` pages, 1 to 65,536, where each page but page 0 is free.
     pub fn new(alloc: Global, pages: u32) -> Result<PageAllocator, AllocError>
         requires some { 1 ≤ pages }
         requires most { pages ≤ MAX_PAGES }

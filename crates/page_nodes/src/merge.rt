@@ -101,7 +101,7 @@ impl LeafMerge {
     }
 
     /// Copies the cells that are in the page still to scratch, and gives the number of all cells. None: these bytes are no
-    /// leaf. Err: an allocation failed. In both cases nothing is known of scratch.
+    /// leaf. In both cases nothing is known of scratch.
     pub fn finish(
         self,
         bytes: &[u8; PAGE_SIZE],

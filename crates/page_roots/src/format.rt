@@ -9,11 +9,11 @@ use storage_sizes::RecordFormat;
 /// behind its root sectors are a journal.
 #[derive(Clone, Copy, PartialEq, Eq, Drop)]
 pub enum Format {
-    /// Records of the first spelling, and no journal.
+    /// Records of record format 1, and no journal.
     One,
-    /// Records of the second spelling, and no journal.
+    /// Records of record format 2, and no journal.
     Two,
-    /// Records of the second spelling, and a journal.
+    /// Records of record format 2, and a journal.
     Three,
 }
 

@@ -41,7 +41,6 @@ fn has_zero(numbers: &[u32]) -> bool
 /// Whether a root of a device of so many pages may name these map pages and entries: logical page 0
 /// is in use, and the map pages and all entries that are not 0 are at least 1, below the number of
 /// pages, and differ from each other. It takes one step for each page of the device and each entry.
-/// The only error is that an allocation failed.
 pub fn is_sound_reach(
     alloc: Global,
     pages: u32,

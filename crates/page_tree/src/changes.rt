@@ -57,7 +57,7 @@ fn comes_between(last: &[u8], key: &[u8], bound: &KeyBound) -> bool
 }
 
 /// Makes changes in the cells of a leaf, one after another, as long as their keys rise below the bound and the cells fit in
-/// a page. Memory: an allocation failed.
+/// a page.
 fn merge_changes(
     bytes: &[u8; PAGE_SIZE],
     changes: &[Change],

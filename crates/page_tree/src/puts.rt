@@ -93,7 +93,7 @@ fn place_in_leaf(scratch: &NodeScratch, key: &[u8], edit: Edit) -> SplitPoint
     place
 }
 
-/// Sets the separator to a key. Memory: an allocation failed.
+/// Sets the separator to a key.
 pub fn set_separator(separator: &mut Vec<u8>, key: &[u8]) -> Result<(), PageFault>
     ensures set { OnOk result (separator.new.items ≡ key.now) }
     ensures fault { IfErr result (λ f. f ≡ PageFault.Memory) }

@@ -26,8 +26,7 @@ pub struct TreeWalk {
 }
 
 // Where no cells of a leaf are left, sets the key from which a walk goes on: the least one after
-// that of the last cell, which is this key with a zero byte. The only error is that an allocation
-// failed.
+// that of the last cell, which is this key with a zero byte.
 fn go_behind(next: &mut Vec<u8>, left: usize, key: &[u8]) -> Result<(), AllocError>
     ensures { OnOk result (left ≡ 0 → next.new.items ≡ key.now ++ (0 ∷ [])) }
 {
@@ -71,8 +70,7 @@ fn found_entry(cursor: &TreeCursor, found: Option<CellParts>) -> (&[u8], &[u8])
 }
 
 impl TreeWalk {
-    /// A walk over the entries from a key on. No page is read yet. The only error is that an
-    /// allocation failed.
+    /// A walk over the entries from a key on. No page is read yet.
     pub fn from_key(alloc: Global, key: &[u8]) -> Result<Self, AllocError>
         ensures { IfOk result (λ walk. (map : List Entry)
             → HasAhead map walk (rest_entries key.now map)) }

@@ -47,7 +47,7 @@ impl<'c> NamedTable<'c> {
     }
 
     /// The table with the guard of its rows from an action of the current role, which may need SELECT
-    /// too. `AllocError` comes only where memory was refused.
+    /// too.
     pub(crate) fn guarded(
         self,
         alloc: Global,

@@ -31,7 +31,7 @@ pub(crate) struct Rights<'a> {
 }
 
 impl<'a> Rights<'a> {
-    /// The rights of the role of a name. `AllocError` comes only where memory was refused.
+    /// The rights of the role of a name.
     pub(crate) fn of(
         alloc: Global,
         catalogue: &'a Catalogue,

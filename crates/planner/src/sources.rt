@@ -26,7 +26,7 @@ pub struct Source<'c> {
 }
 
 /// The table with the guard of its rows from an action of the current role, which may need SELECT
-/// too. `AllocError` comes only where memory was refused.
+/// too.
 pub(crate) fn guard<'c>(
     alloc: Global,
     catalogue: &Catalogue,

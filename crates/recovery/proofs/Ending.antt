@@ -22,7 +22,7 @@ no_list h = cc
 one_list : {c d : Changes} {cs : List Changes} → c ∷ [] ≡ d ∷ cs → c ≡ d
 one_list h = cc
 
--- where there is a list, the records are of the first spelling, and its changes spell them in the second
+-- where there is a list, the records are of record format 1, and its changes spell them in record format 2
 pub record IsFirst (old : StoreState) (changes : Changes) : Type 0 where
   pub first : old.record_format ≡ V1
   pub respells : applied changes old.map ≡ with_places old.map

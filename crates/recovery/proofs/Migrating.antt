@@ -30,7 +30,7 @@ contents_with s records = record { record_format = s; records = records }
 pub same_contents : {s t : RecordFormat} {a b : Records} → s ≡ t → a ≡ b → contents_with s a ≡ contents_with t b
 same_contents p q = cc
 
--- contents of the second spelling are what they are in it
+-- contents of record format 2 are what they are in it
 pub already : (contents : Contents) → contents.record_format ≡ V2 → contents ≡ in_second contents
 already contents second = same second where
   same : {s : RecordFormat} → s ≡ V2 → contents_with s contents.records ≡ in_second (contents_with s contents.records)

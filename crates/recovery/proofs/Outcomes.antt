@@ -58,7 +58,7 @@ pub looking_without_memory : (s : RecordFormat) → OnlyLooks s (Err (Read read.
 looking_without_memory V1 h = absurd h
 looking_without_memory V2 h = tt
 
--- a fault of a commit comes only where there is a list, so not in the second spelling
+-- a fault of a commit comes only where there is a list, so not in record format 2
 pub no_look_refused : {P S : Type 0} (s : RecordFormat) (fault : StoreFault) (mid new : S) (lists : List Changes) → (s ≡ V2 → lists ≡ []) → CommitsNone (Err fault) mid new lists
     → OnlyLooks s (Err (Commit fault)) → P
 no_look_refused s fault mid new lists unlisted none looks = absurd (no_fault (none (unlisted (refused_looking s fault looks))).0)
@@ -80,7 +80,7 @@ unchanged_since : (old mid new : StoreState) → IsUnchanged old mid → IsUncha
 unchanged_since old mid new first second = record { map = second.map ∙ first.map; record_format = second.record_format ∙ first.record_format; number = second.number ∙ first.number }
 
 module _ {S : Type 0} (state : S → StoreState) (old mid new : S) (lists : List Changes) (reads : OnlyReads (state old) (state mid)) (unfailed : (state mid).has_failed ≡ (state old).has_failed) where
-  -- a store of the second spelling was only read
+  -- a store of record format 2 was only read
   pub looked_through : (u : Unit {0}) → CommitsNone (Ok u) mid new lists → lists ≡ [] → HasLooked (Ok u) (state old) (state new)
   looked_through u none is = subst (λ (x : S). HasRead (Ok u) (state old) (state x)) (sym (none is).1) (record { only_reads = reads; cause = tt; failed = unfailed })
 

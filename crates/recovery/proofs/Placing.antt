@@ -158,7 +158,7 @@ places_respell (Err Memory) records items o held places undamaged = tt
 places_respell (Err Device) records items o held places undamaged = tt
 places_respell (Err Damaged) records items o held places undamaged = λ db stands. undamaged (subst (AllByRecursion HasRoom) (read_all records items held) (have_room records db stands)) refl
 
--- the fault of what spells records of the first spelling
+-- the fault of what spells records of record format 1
 pub fault_of_first : (record_format : RecordFormat) → record_format ≡ V1 → (fault : Fault) (records : Records) → Respells (Err fault) records → RespellsFrom record_format (Err fault) records
 fault_of_first record_format first Memory records none = tt
 fault_of_first record_format first Device records none = tt

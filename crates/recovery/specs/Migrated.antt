@@ -1,4 +1,4 @@
--- What a migration comes to: the store is of the second spelling, or as it was.
+-- What a migration comes to: the store is of record format 2, or as it was.
 use Rattle.std.specs.Prelude.{◌≡◌, ◌⊎◌, ◌≤◌, ◌+◌, Bool, Option, Result, Ok, Err}
 use Rattle.sector_device.specs.Timeline.{LeavesOnly}
 use Rattle.storage_sizes.specs.declared.record_format.RecordFormat.TheVariants.{V1, V2}
@@ -11,7 +11,7 @@ use Rattle.stored_database.specs.Spellings.{spelled_in_second, Stands, Means}
 use Rattle.recovery.specs.declared.fault.OpeningFault.{OpeningFault}
 use Rattle.recovery.specs.declared.fault.OpeningFault.TheVariants.{Read, Commit}
 
--- the same records, all of the second spelling
+-- the same records, all of record format 2
 abbrev pub in_second : Contents → Contents
 in_second contents = record { record_format = V2; records = spelled_in_second contents.record_format contents.records }
 
@@ -23,7 +23,7 @@ failed_after_opening (Ok x) had_failed = had_failed
 failed_after_opening (Err (Read fault)) had_failed = failed_after_reads {T = Unit {0}} (Err fault) had_failed
 failed_after_opening (Err (Commit fault)) had_failed = failed_after {T = Unit {0}} (Err fault) had_failed
 
--- why an opening answers a fault: an allocation may always fail, and a commit is only tried in the first spelling
+-- why an opening answers a fault: an allocation may always fail, and a commit is only tried in record format 1
 abbrev pub HasOpeningCause : OpeningFault → StoreState → StoreState → Type 0
 HasOpeningCause (Read read.Memory) old new = Unit {0}
 HasOpeningCause (Read read.Device) old new = HasDeviceCause old new
@@ -38,7 +38,7 @@ pub record KeepsDatabase (db : Database) (result : Result (Unit {0}) OpeningFaul
   pub now : (x : Option Contents) → new.time.left x → Means x db
   pub number : (result ≡ Err (Commit commit.Device)) ⊎ (new.number ≤ old.number + 1)
 
--- what is there afterwards: with Ok the same records of the second spelling, with a fault what was there, but where the device failed
+-- what is there afterwards: with Ok the same records of record format 2, with a fault what was there, but where the device failed
 -- in the commit
 abbrev pub AfterMigration : Result (Unit {0}) OpeningFault → StoreState → StoreState → Type 0
 AfterMigration (Ok x) old new = stored new ≡ in_second (stored old)

@@ -34,17 +34,17 @@ outcome_of (Err refused) = Err refused.fault
 
 -- ---- what is written
 
--- contents of the first spelling
+-- contents of record format 1
 abbrev pub AreOfFirst : Contents → Type 0
 AreOfFirst contents = contents.record_format ≡ V1
 
--- the number of a store that was opened, by what it contained before: no commit was made, or, of contents of the first spelling,
+-- the number of a store that was opened, by what it contained before: no commit was made, or, of contents of record format 1,
 -- one at most
 abbrev pub IsNumberAfter : RecordFormat → ℕ → ℕ → Type 0
 IsNumberAfter V1 before number = (before ≤ number) × (number ≤ before + 1)
 IsNumberAfter V2 before number = number ≡ before
 
--- records of the second spelling are only read, and so are those of the first that stand for no database
+-- records of record format 2 are only read, and so are those of record format 1 that stand for no database
 abbrev pub OnlyLooks : RecordFormat → Result (Unit {0}) OpeningFault → Type 0
 OnlyLooks V2 outcome = Unit {0}
 OnlyLooks V1 (Ok x) = ⊥
@@ -59,7 +59,7 @@ HasLooked (Ok x) old new = HasRead (Ok x) old new
 HasLooked (Err (Read fault)) old new = HasRead {T = Unit {0}} (Err fault) old new
 HasLooked (Err (Commit fault)) old new = ⊥
 
--- the server has just been opened over the database that these contents stand for, and its store is of the second spelling
+-- the server has just been opened over the database that these contents stand for, and its store is of record format 2
 pub record IsOpened {S X : Type 0} (state : S → StoreState) (contents : Contents) (server : Server S X) : Type 0 where
   pub database : Database
   pub stands : Stands contents database

@@ -10,7 +10,7 @@ use Rattle.stored_database.specs.Spellings.{spelled_in_second, Stands}
 use Rattle.recovery.specs.Respelled.{AreRespelling}
 use Rattle.recovery.specs.Openings.{AreOfDatabase}
 
--- the lists spell the contents in the second spelling, in which they stand for a database with these definitions; Damaged
+-- the lists spell the contents in record format 2, in which they stand for a database with these definitions; Damaged
 -- where they stand for none
 abbrev pub AreRead : Contents → Result (List Changes × Definitions) Fault → Type 0
 AreRead contents (Ok read) =

@@ -1,4 +1,4 @@
--- Changes that spell records of the first spelling in the second.
+-- Changes that spell records of record format 1 in record format 2.
 use Rattle.std.specs.Prelude.{◌≡◌, ◌≤◌, ◌<◌, List, [], ◌∷◌, length, Result, Ok, Err}
 use Rattle.storage_sizes.specs.Sizes.{max_key_length, max_value_length}
 use Rattle.storage_sizes.specs.declared.record_format.RecordFormat.{RecordFormat}
@@ -28,14 +28,14 @@ pub record HasRoom (e : Record) : Type 0 where
 
 -- ---- all records
 
--- the changes spell the records in the second spelling, or they stand for no database
+-- the changes spell the records in record format 2, or they stand for no database
 abbrev pub Respells : Result Changes Fault → Records → Type 0
 Respells (Ok changes) records = applied changes records ≡ with_places records
 Respells (Err Memory) records = Unit {0}
 Respells (Err Device) records = Unit {0}
 Respells (Err Damaged) records = (db : Database) → StandsFor (with_places records) db → ⊥
 
--- no list where the records are of the second spelling; else one list, whose changes spell them in it
+-- no list where the records are of record format 2; else one list, whose changes spell them in it
 abbrev pub AreRespelling : RecordFormat → Records → List Changes → Type 0
 AreRespelling V1 records lists = (changes : Changes) × (lists ≡ changes ∷ []) × (applied changes records ≡ with_places records)
 AreRespelling V2 records lists = lists ≡ []

@@ -14,11 +14,10 @@ use store::{Batch, Fault, Map, Store};
 use transactions::View;
 
 /// The definitions of the database that the records of a map stand for under lists of changes, each
-/// record looked at. The map is only read, so what it holds in the first spelling is read under the
+/// record looked at. The map is only read, so what it holds in record format 1 is read under the
 /// changes that spell it in the second.
 ///
-/// Memory: an allocation failed. Device: the map answered it. Damaged: the records under the lists
-/// stand for no database.
+/// Device: the map answered it. Damaged: the records under the lists stand for no database.
 pub fn read_under<M: Map>(alloc: Global, map: &mut M, lists: &[Batch]) -> Result<Catalogue, Fault>
     ensures preserved { M.preserved map.old map.new }
     ensures read { HasRead result (M.state map.old) (M.state map.new) }

@@ -1,4 +1,4 @@
-//! The commit that spells a store's records in the second spelling.
+//! The commit that spells a store's records in record format 2.
 
 ghost use Rattle.std.specs.Prelude.{◌≡◌, List, [], ◌∷◌, Ok};
 ghost use Rattle.storage_sizes.specs.declared.record_format.RecordFormat.TheVariants.{V2};
@@ -8,7 +8,7 @@ ghost use Rattle.store.specs.Contents.{changed_in};
 
 use store::{Batch, Store, StoreFault};
 
-/// Commits the one list that there is and with it that the records are of the second spelling, or
+/// Commits the one list that there is and with it that the records are of record format 2, or
 /// does nothing where there is no list. The faults are those of a commit.
 pub fn commit_respelled<S: Store>(store: &mut S, lists: &[Batch]) -> Result<(), StoreFault>
     ensures none { lists.now ≡ [] → (result ≡ Ok tt) × (store.new ≡ store.old) }

@@ -8,6 +8,6 @@ pub enum OpeningFault {
     /// Its records were not read, or are `Damaged`: they stand for no database. `Memory` stands here
     /// too where an allocation failed later than that, but for those of the commit.
     Read(Fault),
-    /// The records were not committed in the second spelling.
+    /// The records were not committed in record format 2.
     Commit(StoreFault),
 }

@@ -1,4 +1,4 @@
-//! How a store of the first spelling becomes one of the second.
+//! How a store of record format 1 becomes one of record format 2.
 //! How a server is opened over a store.
 #![tactic(auto)]
 

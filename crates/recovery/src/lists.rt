@@ -1,4 +1,4 @@
-//! The changes that spell records of the first spelling in the second.
+//! The changes that spell records of record format 1 in record format 2.
 
 ghost use Rattle.std.specs.Prelude.{◌≡◌, ◌≢◌, [], Ok, Err, IfOk, map};
 ghost use Rattle.std.specs.List.{AllByRecursion};
@@ -17,11 +17,11 @@ use std::alloc::Global;
 use storage_sizes::{RecordFormat, RecordKind};
 use store::{Batch, Entry, Fault, Map, Store};
 
-/// The changes that spell records of the first spelling in the second: each privilege descriptor
+/// The changes that spell records of record format 1 in record format 2: each privilege descriptor
 /// goes, and comes with a place; no other record changes. The map is only read.
 ///
-/// Memory: an allocation failed. Device: the map answered it. Damaged: a descriptor's record has no
-/// room for a place, so the records stand for no database.
+/// Device: the map answered it. Damaged: a descriptor's record has no room for a place, so the
+/// records stand for no database.
 fn respelling<M: Map>(alloc: Global, map: &mut M) -> Result<Batch, Fault>
     ensures preserved { M.preserved map.old map.new }
     ensures read { HasRead result (M.state map.old) (M.state map.new) }
@@ -34,8 +34,8 @@ fn respelling<M: Map>(alloc: Global, map: &mut M) -> Result<Batch, Fault>
     place_changes(alloc, removed.as_slice())
 }
 
-// The changes that take records to the same with a place in each key. Memory: an allocation failed.
-// Damaged: one of them has no room for it.
+// The changes that take records to the same with a place in each key. Damaged: one of them has no
+// room for it.
 fn place_changes(alloc: Global, removed: &[Entry]) -> Result<Batch, Fault>
     ensures placed { IfOk result (λ batch. (records : Records) → IsOrdered records
         → applied batch records
@@ -49,12 +49,12 @@ fn place_changes(alloc: Global, removed: &[Entry]) -> Result<Batch, Fault>
     Ok(batch)
 }
 
-/// No list where the records of a store are of the second spelling. Where they are of the first,
+/// No list where the records of a store are of record format 2. Where they are of the first,
 /// the one list of changes that spell them in the second. The store is only read, in the second
 /// spelling not even that.
 ///
-/// Memory: an allocation failed. Device: the store answered it. Damaged: the records stand for no
-/// database. The last two never come in the second spelling.
+/// Device: the store answered it. Damaged: the records stand for no database. The last two never
+/// come in record format 2.
 pub fn respelled_lists<S: Store>(alloc: Global, store: &mut S) -> Result<Items<Batch>, Fault>
     ensures preserved { S.preserved store.old store.new }
     ensures read { HasRead result (S.state store.old) (S.state store.new) }

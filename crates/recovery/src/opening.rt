@@ -31,18 +31,18 @@ pub struct Refused<S> {
 }
 
 /// A server over the database that the contents of a store stand for, with no session open. All
-/// definitions and all rows are read and checked. A store of the second spelling is only read: its
+/// definitions and all rows are read and checked. A store of record format 2 is only read: its
 /// records, its number and what a stop leaves are as before, of the server and of a refusal alike.
-/// The records of a store of the first spelling are then spelled in the second, in one commit; a
+/// The records of a store of record format 1 are then spelled in record format 2, in one commit; a
 /// stop at any moment leaves the same database.
 ///
 /// `Read`: `Damaged`: the contents stand for no database; nothing is written. `Device`: the device
 /// failed, or what it gave was none of the store's; a store that had failed before answers it always.
-/// `Memory`: an allocation failed. `Commit`: the records of the first spelling were not spelled in the
-/// second. `Full`: they find no room in it. `Number`: no commit number is left for them. `Memory`: an
-/// allocation failed. `Device`: the device failed, and in which spelling they then are is known when it
-/// is opened again. After each other fault the store that is handed back has the contents and the
-/// number that it had, and after each but the two of the device it works as before.
+/// `Commit`: the records of record format 1 were not spelled in record format 2. `Full`: they find no
+/// room in it. `Number`: no commit number is left for them. `Device`: the device failed, and in which
+/// spelling they then are is known when it is opened again. After each other fault the store that is
+/// handed back has the contents and the number that it had, and after each but the two of the device it
+/// works as before.
 pub fn open<S: Store, X: EventHandler + Drop>(
     alloc: Global,
     store: S,
@@ -92,11 +92,10 @@ pub fn open<S: Store, X: EventHandler + Drop>(
     }
 }
 
-// The lists of changes that spell the records of a store in the second spelling, none where they
+// The lists of changes that spell the records of a store in record format 2, none where they
 // are of it, and the definitions of the database that they stand for. The store is only read.
 //
-// Memory: an allocation failed. Device: the store answered it, or had failed before. Damaged: the
-// contents stand for no database.
+// Device: the store answered it, or had failed before. Damaged: the contents stand for no database.
 fn read_store<S: Store>(alloc: Global, store: &mut S) -> Result<(Items<Batch>, Catalogue), Fault>
     ensures preserved { (S.state store.old).has_failed ≡ false → S.preserved store.old store.new }
     ensures read { HasRead result (S.state store.old) (S.state store.new) }

@@ -35,7 +35,7 @@ impl ItemReader for RecordReader {
     }
 }
 
-// A copy of a record. The only error is that an allocation failed.
+// A copy of a record.
 fn copy_of(alloc: Global, entry: &Entry) -> Result<Entry, AllocError>
     ensures { IfOk result (λ copy. copy ≡ entry.now) }
 {
@@ -44,8 +44,7 @@ fn copy_of(alloc: Global, entry: &Entry) -> Result<Entry, AllocError>
     Ok(copy)
 }
 
-/// The records with a place in each key. Memory: an allocation failed. Damaged: one of them has no
-/// room for it.
+/// The records with a place in each key. Damaged: one of them has no room for it.
 pub(crate) fn placed_entries(alloc: Global, entries: &[Entry]) -> Result<Vec<Entry>, Fault>
     ensures placed { IfOk result (λ placed. placed.items ≡ map with_its_place entries.now) }
     ensures room { IfOk result (λ placed. AllByRecursion HasRoom entries.now) }
@@ -59,7 +58,7 @@ pub(crate) fn placed_entries(alloc: Global, entries: &[Entry]) -> Result<Vec<Ent
     Ok(placed)
 }
 
-// A record with a place in its key. Memory: an allocation failed. Damaged: it has no room for it.
+// A record with a place in its key. Damaged: it has no room for it.
 fn placed_entry(alloc: Global, entry: &Entry) -> Result<Entry, Fault>
     ensures placed { IfOk result (λ placed. placed ≡ with_its_place entry.now) }
     ensures room { IfOk result (λ placed. HasRoom entry.now) }

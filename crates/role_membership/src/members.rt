@@ -14,7 +14,7 @@ use std::alloc::{AllocError, Global};
 /// The roles that a role is in: itself, and each that a finite chain of memberships leads to. For each of them the
 /// memberships of which it is the member are looked up, and no others are looked at: time grows in proportion to these roles
 /// and memberships, as far as names hash apart, and with the binary digits of the number of all memberships. Circles do no
-/// harm. `AllocError` comes only where memory was refused.
+/// harm.
 pub fn closure<'a>(
     alloc: Global,
     memberships: &'a Memberships,
@@ -49,7 +49,6 @@ fn add_roles<'a>(roles: &mut RoleSet<'a>, memberships: &'a [Membership]) -> Resu
 }
 
 /// Whether a role is in another one: it is that role, or a finite chain of memberships leads from it to that role.
-/// `AllocError` comes only where memory was refused.
 pub fn is_member(
     alloc: Global,
     memberships: &Memberships,

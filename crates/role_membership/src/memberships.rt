@@ -46,7 +46,7 @@ impl Memberships {
         }
     }
 
-    /// Memberships that stand in their order, made in the time of one sort. `AllocError` comes only where memory was refused.
+    /// Memberships that stand in their order, made in the time of one sort.
     pub fn new(alloc: Global, by_role: Vec<Membership>) -> Result<Memberships, AllocError>
         requires { Rising membership_cmp by_role.items }
         ensures { IfOk result (λ ms. ms ≡ by_role.items) }
@@ -63,7 +63,7 @@ impl Memberships {
         self.by_role.as_slice()
     }
 
-    /// Copies of the memberships. `AllocError` comes only where memory was refused.
+    /// Copies of the memberships.
     pub fn to_vec(&self, alloc: Global) -> Result<Vec<Membership>, AllocError>
         ensures items { IfOk result (λ copy. copy.items ≡ self.now) }
         ensures order { Rising membership_cmp self.now }

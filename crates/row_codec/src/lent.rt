@@ -52,7 +52,7 @@ impl<'a> LentRow<'a> {
         }
     }
 
-    /// A row, lent. The only error is that an allocation failed.
+    /// A row, lent.
     pub fn of(alloc: Global, row: &'a [Value]) -> Result<LentRow<'a>, AllocError>
         ensures { IfOk result (λ lent. lent ≡ row.now) }
     {
@@ -63,7 +63,7 @@ impl<'a> LentRow<'a> {
         Ok(lent)
     }
 
-    /// Appends a value. The only error is that an allocation failed.
+    /// Appends a value.
     pub fn push(&mut self, value: ValueRef<'a>) -> Result<(), AllocError>
         ensures ok { OnOk result (self.new ≡ self.old ++ owned value.entry ∷ []) }
     {
@@ -77,7 +77,7 @@ impl<'a> LentRow<'a> {
         self.values.as_slice()
     }
 
-    /// The row with texts of its own. The only error is that an allocation failed.
+    /// The row with texts of its own.
     pub fn to_row(&self, alloc: Global) -> Result<Items<Value>, AllocError>
         ensures { IfOk result (λ row. row ≡ self.now) }
     {
@@ -89,7 +89,7 @@ impl<'a> LentRow<'a> {
     }
 }
 
-/// Rows, lent. The only error is that an allocation failed.
+/// Rows, lent.
 pub fn lent_rows<'a>(
     alloc: Global,
     rows: &'a Items<Items<Value>>,

@@ -38,7 +38,7 @@ pub fn size_of_cells(columns: &Columns, row: &LentRow<'_>) -> usize
     key.saturating_add(record_size(columns, row))
 }
 
-/// Appends the key of a row: the cells of its key columns, in their order in the key. The only error is that an allocation failed.
+/// Appends the key of a row: the cells of its key columns, in their order in the key.
 pub fn push_row_key(
     columns: &Columns,
     row: &LentRow<'_>,
@@ -52,7 +52,7 @@ pub fn push_row_key(
     Ok(())
 }
 
-/// Appends the value of a row's record: the cells of the columns that are no key columns. The only error is that an allocation failed.
+/// Appends the value of a row's record: the cells of the columns that are no key columns.
 pub fn push_row_value(
     columns: &Columns,
     row: &LentRow<'_>,
@@ -64,7 +64,7 @@ pub fn push_row_value(
     push_others(columns.key(), row, row.as_slice().len(), out)
 }
 
-/// Writes the value of a row's record in place of what a buffer holds. The only error is that an allocation failed.
+/// Writes the value of a row's record in place of what a buffer holds.
 #[tactic(auto, using(crate::proofs::Lengths::value_size))]
 pub fn write_row_value(
     columns: &Columns,

@@ -35,6 +35,7 @@ pub fn create_role(
     ensures executes { Defines (IsCurrent current.now)
         (λ db users. creates_role db users statement.now) catalogue.now result }
 {
+    // For the proof: a name is text, and has no zero byte.
     let _name = statement.role.as_str();
     if catalogue.has_role(&statement.role) {
         return Err(StatementError::Refused(SqlState::DuplicateObject));

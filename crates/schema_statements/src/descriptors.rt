@@ -118,6 +118,7 @@ pub(crate) fn grant_privileges(
         → grant_of (database_in around requester.entry.catalogue.now.roles requester.entry.catalogue.now.memberships
         requester.entry.table.now.descriptors) around.users statement.now ≡ Err e.0)) }
 {
+    // For the proof: the list has descriptors of this table alone.
     let _own = requester.table.descriptors();
     let named = named_by_grant(alloc, requester, statement)?;
     let added = coming(alloc, requester.table, named.descriptors)?;

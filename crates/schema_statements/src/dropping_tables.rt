@@ -24,9 +24,8 @@ use store::{Batch, Map, StatementError};
 /// its policies, and with the rows whose records this map has.
 ///
 /// It is refused with `UndefinedTable` where no table has the name; with `InsufficientPrivilege`
-/// where the current role is neither a superuser nor in the owner. It fails with Memory: an
-/// allocation failed. Device: the map answered it. Damaged: a record has no size that a store takes,
-/// as no record of a database is.
+/// where the current role is neither a superuser nor in the owner. It fails with Device: the map
+/// answered it. Damaged: a record has no size that a store takes, as no record of a database is.
 pub fn drop_table<M: Map>(
     alloc: Global,
     map: &mut M,

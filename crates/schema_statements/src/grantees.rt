@@ -28,7 +28,7 @@ pub(crate) fn are_roles(catalogue: &Catalogue, grantees: &Option<Items<Grantee>>
 }
 
 /// The roles of a new policy: those after TO in rising order, each once; every role where PUBLIC
-/// stands among them or nothing is written. The only error is that an allocation failed.
+/// stands among them or nothing is written.
 pub(crate) fn policy_roles(
     alloc: Global,
     grantees: &Option<Items<Grantee>>,

@@ -36,7 +36,7 @@ fn with_grantor<'a>(requester: Requester<'a, '_>, privilege: Privilege) -> Named
 }
 
 /// Each of these privileges with its acting grantor, where this role asks. Time grows in proportion to the privileges
-/// and to the descriptors of the table for each. `AllocError` comes only where memory was refused.
+/// and to the descriptors of the table for each.
 pub(crate) fn acting_grantors<'a>(
     alloc: Global,
     requester: Requester<'a, '_>,

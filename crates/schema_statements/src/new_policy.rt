@@ -24,7 +24,7 @@ use sql_types::try_copy::TryCopy;
 use std::alloc::{AllocError, Global};
 
 // The policy of a statement: permissive, for every command and for every role where nothing else is
-// written. The only error is that an allocation failed.
+// written.
 fn policy_of(alloc: Global, statement: &CreatePolicy) -> Result<Policy, AllocError>
     ensures { IfOk result (λ policy. policy ≡ new_policy statement.now) }
 {

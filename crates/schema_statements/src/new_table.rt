@@ -13,7 +13,7 @@ use sql_types::try_copy::TryCopy;
 use std::alloc::{AllocError, Global};
 
 /// A new table of the owner's, without row security, to which the system grants the owner all
-/// privileges. The only error is that an allocation failed.
+/// privileges.
 pub(crate) fn new_table(
     alloc: Global,
     id: u32,

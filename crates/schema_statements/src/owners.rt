@@ -37,8 +37,7 @@ pub(crate) fn owned_table<'a>(
     Ok(table)
 }
 
-/// Whether a role is a superuser or in the owner of a table. `AllocError` comes only where memory was
-/// refused.
+/// Whether a role is a superuser or in the owner of a table.
 pub fn acts_as_owner(
     alloc: Global,
     catalogue: &Catalogue,

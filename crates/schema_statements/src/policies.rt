@@ -10,8 +10,7 @@ use catalogue::policy::CataloguePolicy;
 use sql_types::name::Name;
 use std::alloc::AllocError;
 
-/// Puts a policy among others after those whose names come before its name. The only error is that
-/// an allocation failed.
+/// Puts a policy among others after those whose names come before its name.
 pub(crate) fn put_policy(
     policies: &mut Vec<CataloguePolicy>,
     policy: CataloguePolicy,

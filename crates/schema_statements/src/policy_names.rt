@@ -10,8 +10,7 @@ use catalogue::order::compare_names;
 use sql_types::name::Name;
 use std::alloc::AllocError;
 
-/// Puts a name among others that rise, unless it is there. The only error is that an allocation
-/// failed.
+/// Puts a name among others that rise, unless it is there.
 pub(crate) fn put_name(names: &mut Vec<Name>, name: Name) -> Result<(), AllocError>
     ensures { OnOk result (names.new.items ≡ put name_cmp the_new name names.old.items) }
 {

@@ -14,8 +14,7 @@ use sql_types::items::Items;
 use sql_types::name::Name;
 use std::alloc::{AllocError, Global};
 
-/// The table with one more policy, which has a name of its own. The only error is that an allocation
-/// failed.
+/// The table with one more policy, which has a name of its own.
 pub(crate) fn with_policy(
     alloc: Global,
     table: &TableDefinition,
@@ -34,7 +33,7 @@ pub(crate) fn with_policy(
     table.with_parts(alloc, parts)
 }
 
-/// The table without the policy of this name. The only error is that an allocation failed.
+/// The table without the policy of this name.
 pub(crate) fn without_policy(
     alloc: Global,
     table: &TableDefinition,

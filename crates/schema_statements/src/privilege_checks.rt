@@ -49,6 +49,7 @@ fn is_reached(requester: Requester<'_, '_>) -> bool
     ensures { result ≡ list_any (reaches_of requester.entry) requester.entry.table.now.descriptors }
 {
     let table = requester.table;
+    // For the proof: the list has descriptors of this table alone.
     let _own = table.descriptors();
     let names = requester.roles.names();
     table.names_grantee(PUBLIC) || names_any(table, names)

@@ -164,8 +164,7 @@ fn add_actions(
 }
 
 /// The privileges that a statement names on a table of these columns, each once: an action on the whole table, or on
-/// each of the columns that it names. A name of no column is passed over. `AllocError` comes only where memory was
-/// refused.
+/// each of the columns that it names. A name of no column is passed over.
 pub(crate) fn units(
     alloc: Global,
     columns: &Columns,

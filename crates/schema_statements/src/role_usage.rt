@@ -50,6 +50,7 @@ fn stands_in_one(role: &Name, descriptors: &[Descriptor]) -> bool
 fn is_grantor(role: &Name, grantor: &Grantor) -> bool
     ensures { result ≡ bytes_eq (grantor_name grantor.now) role.now }
 {
+    // For the proof: a name is text, and has no zero byte.
     let _name = role.as_str();
     match grantor {
         Grantor::System => false,
@@ -61,6 +62,7 @@ fn is_grantor(role: &Name, grantor: &Grantor) -> bool
 fn is_grantee(role: &Name, grantee: &Grantee) -> bool
     ensures { result ≡ bytes_eq (grantee_name grantee.now) role.now }
 {
+    // For the proof: a name is text, and has no zero byte.
     let _name = role.as_str();
     match grantee {
         Grantee::Public => false,

@@ -37,7 +37,7 @@ fn made_anew(
 }
 
 /// The change of the definitions that makes this change of the privilege descriptors of a table: in place, or where it is
-/// of many, by a table made anew. `AllocError` comes only where memory was refused.
+/// of many, by a table made anew.
 pub(crate) fn schema_change(
     alloc: Global,
     catalogue: &Catalogue,
@@ -49,6 +49,7 @@ pub(crate) fn schema_change(
     ensures { IfOk result
         (λ made. changed made catalogue.now ≡ changed (SetDescriptors change) catalogue.now) }
 {
+    // For the proof: the list is in order.
     let _in_order = catalogue.tables();
     if change.removed().len() + change.added().len() <= MOST_IN_PLACE {
         return Ok(SchemaChange::SetDescriptors(change));

@@ -67,6 +67,7 @@ pub trait Device {
             → OnOk result (HoldsPage first bytes.new (state self.old).content) }
         ensures cause { OnErr result (HasFailed (state self.old) (state self.new)) }
     {
+        // For the proof: the number of sectors stays.
         let _sectors = self.sectors();
         for part in 0..SECTORS_PER_PAGE {
             let mut sector = [0; SECTOR_SIZE];
@@ -89,6 +90,7 @@ pub trait Device {
             → OnOk result (HoldsPage first bytes.now (state self.new).content) }
         ensures cause { OnErr result (HasFailed (state self.old) (state self.new)) }
     {
+        // For the proof: the number of sectors stays.
         let _sectors = self.sectors();
         for part in 0..SECTORS_PER_PAGE {
             let mut sector = [0; SECTOR_SIZE];

@@ -26,8 +26,7 @@ impl HistoryDevice {
     ghost use Rattle.std.specs.Prelude.{◌≤◌, ◌*◌};
     ghost use Rattle.sector_device.specs.HistoryDevice.{calls_of, history_device_state};
 
-    /// A device of so many pages of zeros, of which no call was made. The only error is that an
-    /// allocation failed.
+    /// A device of so many pages of zeros, of which no call was made.
     pub fn new(alloc: Global, pages: u32) -> Result<HistoryDevice, AllocError>
         requires { pages ≤ MAX_MEMORY_PAGES }
         ensures sectors { IfOk result

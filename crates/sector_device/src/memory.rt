@@ -59,7 +59,7 @@ impl MemDevice {
     ghost use Rattle.sector_device.specs.Device.{KeepsHistory, IsLeft, IsSynced};
     ghost use Rattle.sector_device.specs.MemoryDevice.{memory_device_state, synced_content, reads_of};
 
-    /// A device of so many pages of zeros, synced. The only error is that an allocation failed.
+    /// A device of so many pages of zeros, synced.
     pub fn new(alloc: Global, pages: u32) -> Result<MemDevice, AllocError>
         requires { pages ≤ MAX_MEMORY_PAGES }
         ensures sectors { IfOk result

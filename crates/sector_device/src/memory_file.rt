@@ -21,8 +21,7 @@ impl MemFile {
     ghost use Rattle.sector_device.specs.RawFile.{IsFileSynced};
     ghost use Rattle.sector_device.specs.MemFileState.{mem_file_state};
 
-    /// A file of these bytes, synced. The only error is that an allocation
-    /// failed.
+    /// A file of these bytes, synced.
     pub fn new(alloc: Global, bytes: &[u8]) -> Result<MemFile, AllocError>
         ensures bytes { IfOk result (λ f. (mem_file_state f).bytes ≡ bytes.now) }
         ensures synced { IfOk result (λ f. IsFileSynced (mem_file_state f)) }

@@ -21,6 +21,7 @@ fn write_each<D: Device>(
         → OnOk result (HoldsSectors first sectors.now (D.state device.new).content) }
     ensures cause { OnErr result (HasFailed (D.state device.old) (D.state device.new)) }
 {
+    // For the proof: the number of sectors stays.
     let _count = device.sectors();
     for index in 0..sectors.len() {
         device.write(first + index as u32, &sectors[index])?;

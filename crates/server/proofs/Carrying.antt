@@ -53,15 +53,15 @@ inserted_is (e ∷ es) number s = rw (inserted_is es number s) refl
 pub inserted_to : (sessions new : List (ℕ × Session)) (number : ℕ) (s : Session) → new ≡ insert_entry nat_eq sessions number s → new ≡ with_session sessions number s
 inserted_to sessions new number s is = is ∙ inserted_is sessions number s
 
--- ---- the slot
+-- ---- the writer lock
 
--- where nobody holds the slot it is free
+-- where nobody holds the writer lock it is free
 pub slot_is_free : (records : Records) (d : Definitions) (writer : Option Writer) (holder : Option Holder) → holder ≡ None → HolderShows records d writer holder → writer ≡ None
 slot_is_free records d None holder is h = refl
 slot_is_free records d (Some s) None is h = absurd h
 slot_is_free records d (Some s) (Some x) is h = cc
 
--- the slot's changes lead to the holder's database
+-- the changes under the writer lock lead to the holder's database
 pub slot_shows : (records : Records) (d : Definitions) (writer : Option Writer) (s : Writer) (holder : Option Holder) (h : Holder) → writer ≡ Some s → holder ≡ Some h
     → HolderShows records d writer holder → Shows (applied_all s.lists records) (definitions_or s.catalogue d) h.database
 slot_shows records d writer s holder h p q shows =
@@ -69,13 +69,13 @@ slot_shows records d writer s holder h p q shows =
     subst (λ (z : Option Writer). HolderShows records d z (Some h)) p (subst (λ (z : Option Holder). HolderShows records d writer z) q shows) in
     there.1
 
--- where somebody holds the slot it is not free
+-- where somebody holds the writer lock it is not free
 pub slot_is_held : (records : Records) (d : Definitions) (writer : Option Writer) (holder : Option Holder) (h : Holder) → holder ≡ Some h → HolderShows records d writer holder
     → (s : Writer) × (writer ≡ Some s)
 slot_is_held records d (Some s) holder h is shows = (s, refl)
 slot_is_held records d None holder h is shows = absurd (subst (λ (z : Option Holder). HolderShows records d None z) is shows)
 
--- a slot under which there are these records and definitions, with the changes of one more statement
+-- a writer lock under which there are these records and definitions, with the changes of one more statement
 pub held_with : (records under : Records) (d before : Definitions) (writer : Option Writer) (cs : Changes) (change : Option SchemaChange) (lists : List Changes) (held : Option Definitions) (after : Database)
     → records_under writer records ≡ under → definitions_under writer d ≡ before → applied_all lists records ≡ applied cs under → definitions_or held d ≡ definitions_after change before
     → Shows (applied cs (records_under writer records)) (definitions_after change (definitions_under writer d)) after
@@ -87,7 +87,7 @@ held_with records under d before writer cs change lists held after p q r s shows
     subst (λ (z : Records). Shows z (definitions_or held d) after) (sym r)
     (subst (λ (z : Definitions). Shows (applied cs under) z after) (sym s) there)
 
--- a server that works and whose slot is free
+-- a server that works and whose writer lock is free
 pub works_unheld : {S X : Type 0} (state : S → StoreState) (new : Server S X) (s : S) (d : Definitions) (db : Database) (sessions : List (ℕ × Session)) → new.store ≡ s → new.catalogue ≡ d
     → new.writer ≡ None → new.stopped ≡ false → new.sessions.entries ≡ sessions → (state s).has_failed ≡ false → (state s).record_format ≡ V2 → Shows (state s).map d db → WorksAs state new (machine_at db None sessions)
 works_unheld state new s d db sessions store catalogue writer runs entries unfailed second shows = record {
@@ -138,7 +138,7 @@ commit_err Reads state old new db holder d after answer m e Device sound w runs 
     (fresh_failures (state old.store) (state new.store) w.unfailed c.cause) (fresh_faults (state old.store) (state new.store) sound w.unfailed c.cause) in
     (record { answer = answer; machine = m }, next, calls, ap (λ z. z.entries) sessions, fails)
 
--- a commit that was done, of changes that make of the records what the slot's lists make of them
+-- a commit that was done, of changes that make of the records what the writer lock's lists make of them
 pub slot_committed : (r : Result (Unit {0}) StoreFault) (cs : Changes) (held : Option Writer) (old new : StoreState)
     → ((writer : Writer) → held ≡ Some writer → old.sound → applied cs old.map ≡ applied_all writer.lists old.map)
     → Commits r (changed_by_batch cs (stored old)) old new → OnOk r ((writer : Writer) → held ≡ Some writer → CommitsLists writer.lists old new)

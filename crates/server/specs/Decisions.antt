@@ -64,7 +64,7 @@ Decides Reads records d writer db holder sessions e (decision.Open answer number
 Decides Reads records d writer db holder sessions e (decision.Release answer c) =
     Concerns c sessions
     × LeadsTo Reads (machine_at db holder sessions) e answer (machine_at db None (after_change c sessions))
--- outside a block nobody holds the slot
+-- outside a block nobody holds the writer lock
 Decides Reads records d writer db holder sessions e (decision.Commit made) =
     (after : Database) × Leads made.changes records (definitions_after made.schema d) after × (holder ≡ None)
     × MayCommit Reads (machine_at db holder sessions) e × MayCallStore (machine_at db holder sessions) e
@@ -139,7 +139,7 @@ Performs Reads state old new db holder e (Err Device) =
 abbrev pub CommitsLists : List Changes → StoreState → StoreState → Type 0
 CommitsLists lists old new = old.sound → (cs : Changes) × (applied cs old.map ≡ applied_all lists old.map) × Commits (Ok tt) (changed_by_batch cs (stored old)) old new
 
--- whatever database and holder the store and the slot show
+-- whatever database and holder the store and the writer lock show
 abbrev pub Attempts : {S X : Type 0} → ReadingRelation → (S → StoreState) → Server S X → Server S X → MachineEvent TheText → Result Answer StoreFault → Type 0
 Attempts Reads state old new e result = (state old.store).sound → old.stopped ≡ false → (db : Database) (holder : Option Holder) →
     Works state old db holder → Performs Reads state old new db holder e result

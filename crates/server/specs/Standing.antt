@@ -49,7 +49,7 @@ abbrev pub HoldsInBlock : Option Holder → List (ℕ × Session) → Type 0
 HoldsInBlock None sessions = Unit {0}
 HoldsInBlock (Some h) sessions = (s : Session) × (session_of h.session sessions ≡ Some s) × (s.block ≢ Outside)
 
--- a server whose store works: its records, which are of the second spelling, show this database, and its slot this holder's
+-- a server whose store works: its records, which are of record format 2, show this database, and its writer lock this holder's
 pub record Works {S X : Type 0} (state : S → StoreState) (server : Server S X) (db : Database) (holder : Option Holder) : Type 0 where
   pub unfailed : (state server.store).has_failed ≡ false
   pub second : (state server.store).record_format ≡ V2

@@ -10,7 +10,7 @@ abbrev pub definitions_or : Option Definitions → Definitions → Definitions
 definitions_or None d = d
 definitions_or (Some after) d = after
 
--- the records under the changes of the slot, if it is held
+-- the records under the changes of the writer lock, if it is held
 abbrev pub records_under : Option Writer → Records → Records
 records_under None records = records
 records_under (Some writer) records = applied_all writer.lists records

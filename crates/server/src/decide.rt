@@ -23,9 +23,9 @@ pub trait EventHandler {
     /// What a text is read as.
     ghost Reads: { ReadingRelation };
 
-    /// What an event asks of a server whose store is this map, which is only read. Memory: an
-    /// allocation failed. Device: the device of the map failed. Damaged: a record is one that no
-    /// database has, which never comes over a map that stands for a database.
+    /// What an event asks of a server whose store is this map, which is only read. Device: the
+    /// device of the map failed. Damaged: a record is one that no database has, which never comes
+    /// over a map that stands for a database.
     fn decide<M: Map>(
         &self,
         alloc: Global,

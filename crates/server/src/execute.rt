@@ -21,8 +21,8 @@ pub trait Execute {
     /// map whose definitions are those of the catalogue: what it answers, the changes that lead to
     /// the records after it, and the change of the definitions; or its refusal. The map is only read.
     ///
-    /// It fails with Memory: an allocation failed. Device: the device of the map failed. Damaged: a record is one
-    /// that no database has, which never comes over a map that shows a database.
+    /// It fails with Device: the device of the map failed. Damaged: a record is one that no database has, which
+    /// never comes over a map that shows a database.
     fn execute<M: Map>(
         &self,
         alloc: Global,

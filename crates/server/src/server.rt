@@ -383,7 +383,7 @@ impl<S: Store, X: EventHandler> Server<S, X> {
         }
     }
 
-    // Commits what the writer lock holds, and gives the slot up.
+    // Commits what the writer lock holds, and gives the writer lock up.
     fn commit_writer(&mut self, answer: Answer, change: SessionChange) -> Result<Answer, StoreFault>
         ensures history { KeepsHistory (S.state self.old.store) (S.state self.new.store) }
         ensures running { self.new.stopped ≡ self.old.stopped }
@@ -400,7 +400,7 @@ impl<S: Store, X: EventHandler> Server<S, X> {
         }
     }
 
-    // Commits what the writer lock holds, if there is one. The slot stays.
+    // Commits what the writer lock holds, if there is one. The writer lock stays.
     fn commit_held(&mut self) -> Result<(), StoreFault>
         ensures history { KeepsHistory (S.state self.old.store) (S.state self.new.store) }
         ensures kept { self.new ≡ record self.old { store = self.new.store } }
@@ -413,6 +413,7 @@ impl<S: Store, X: EventHandler> Server<S, X> {
         let Some(writer) = &self.writer else {
             return Ok(());
         };
+        // For the proof: lists of changes that are joined change the same.
         joined_changes();
         match writer.lists.joined() {
             Ok(joined) => self.store.commit(joined.batch()),
@@ -420,7 +421,7 @@ impl<S: Store, X: EventHandler> Server<S, X> {
         }
     }
 
-    // The slot's changes are committed: its definitions are those of the database, and it is free.
+    // The changes under the writer lock are committed: its definitions are those of the database, and it is free.
     fn end_slot(&mut self)
         ensures { self.new ≡ record self.old {
           writer = None;

@@ -34,7 +34,7 @@ impl Drop for Writer {
 }
 
 impl Writer {
-    // The slot of a session that has changed nothing yet.
+    // The writer lock of a session that has changed nothing yet.
     pub(crate) fn new(alloc: Global, session: u32) -> Writer
         ensures { result ≡ record { session = session; lists = []; catalogue = None } }
     {
@@ -45,7 +45,7 @@ impl Writer {
         }
     }
 
-    // The slot's changes are committed: the definitions under them, if they changed, come in place of
+    // The changes under the writer lock are committed: the definitions under them, if they changed, come in place of
     // these.
     pub(crate) fn end(self, committed: &mut Catalogue)
         ensures { committed.new ≡ definitions_or self.catalogue committed.old }
@@ -61,8 +61,8 @@ impl Writer {
     }
 
     // Adds the changes of one more statement, and the change that it makes of the definitions: of
-    // those that the slot has, or of the committed ones where it has none, which are then copied. The
-    // only error is that an allocation failed, which leaves the slot as it was.
+    // those that the writer lock has, or of the committed ones where it has none, which are then copied. The
+    // only error is that an allocation failed, which leaves the writer lock as it was.
     pub(crate) fn add(
         &mut self,
         alloc: Global,

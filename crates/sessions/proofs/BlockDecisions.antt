@@ -49,7 +49,7 @@ leave_serves writer number s role inside free records d db holder sessions shows
     let other = holder_is_other records d writer holder number free shows in
     rw (found, inside) (tt, other_holds_with holder sessions number (in_block Outside s) other holds, rw (other, other_sees holder number db other) refl)
 
--- of the session that holds the slot
+-- of the session that holds the writer lock
 pub commit_slot_serves : (writer : Option Writer) (number : ℕ) (s : Session) (role : TheName) → s.block ≡ Inside role → is_slot_of number writer ≡ true
     → Serves writer number s Always (λ m. CommitsAt m number s.block (statement.OfSession of_session.Commit)) (λ m. commit m number s s.block)
     (decision.CommitWriter (answer.Done tag.Commit None None) (change.Block number Leave))
@@ -73,7 +73,7 @@ end_serves writer number s role is free records d db holder sessions shows holds
     let other = holder_is_other records d writer holder number free shows in
     rw (found, after_roll_back s s.block role is) (tt, other_holds_with holder sessions number (in_block Outside (as_role role s)) other holds, rw other refl)
 
--- of the session that holds the slot
+-- of the session that holds the writer lock
 pub release_serves : (writer : Option Writer) (number : ℕ) (s : Session) (role : TheName) → IsBlockOf role s.block → is_slot_of number writer ≡ true
     → Serves writer number s Always Never (λ m. succeeds tag.Rollback (with_block_ended m number s m.committed role))
     (decision.Release (answer.Done tag.Rollback None None) (change.Block number RollBack))
@@ -127,7 +127,7 @@ close_decides records d writer db holder sessions number open_there free shows h
     let other = holder_is_other records d writer holder number free shows in
     (tt, other_holds_without holder sessions number other holds, record { as_read = closes number; read = refl; is = rw (found, other) refl })
 
--- that holds the slot
+-- that holds the writer lock
 pub close_releases : (records : Records) (d : Definitions) (writer : Option Writer) (db : Database) (holder : Option Holder) (sessions : Entries) (number : ℕ)
     → is_some (session_of number sessions) ≡ true → is_slot_of number writer ≡ true → HolderShows records d writer holder
     → Decides NoText records d writer db holder sessions (closes number) (decision.Release (answer.Done tag.Close None None) (change.Close number))

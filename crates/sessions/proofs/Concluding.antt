@@ -27,12 +27,12 @@ use Rattle.sessions.specs.Concluded.{Concludes}
 use Rattle.sessions.proofs.SeenRecords.{not_false, seen_under}
 use Rattle.sessions.proofs.Meant.{refused_as, carried_as, is_free}
 
--- ---- the holder of the slot
+-- ---- the holder of the writer lock
 
 some_session : (r s : Session) → ◌≡◌ {A = Option Session} (Some r) (Some s) → r ≡ s
 some_session r s e = cc
 
--- a holder is in a block: beside a session that is in none, nobody holds the slot but another session
+-- a holder is in a block: beside a session that is in none, nobody holds the writer lock but another session
 nobody_holds : (holder : Option Holder) (number : ℕ) (s : Session) (sessions : Entries) → HoldsInBlock holder sessions → session_of number sessions ≡ Some s → s.block ≡ Outside
     → is_held_by_other number holder ≡ false → holder ≡ None
 nobody_holds None number s sessions held found outside free = refl
@@ -41,7 +41,7 @@ nobody_holds (Some h) number s sessions held found outside free =
     let same : held.0 ≡ s = some_session held.0 s (sym held.1 ∙ ap (λ (n : ℕ). session_of n sessions) own ∙ found) in
     absurd (held.2 (ap (λ (z : Session). z.block) same ∙ outside))
 
--- the slot of nobody
+-- the writer lock of nobody
 no_slot : (records : Records) (d : Definitions) (writer : Option Writer) (holder : Option Holder) → HolderShows records d writer holder → holder ≡ None → writer ≡ None
 no_slot records d None holder shows none = refl
 no_slot records d (Some writer) None shows none = absurd shows

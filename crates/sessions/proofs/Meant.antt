@@ -38,7 +38,7 @@ module _ (m : Machine) (number : ℕ) (s : Session) where
     not_true true e = cc
     not_true false e = refl
 
-    -- no other session holds the slot that a statement needs which changes the database
+    -- no other session holds the writer lock that a statement needs which changes the database
     pub is_free : changes_database x ≡ true → is_held_by_other number m.holder ≡ false
     is_free writes =
         let first = bind_ok (require (not (has_failed s.block)) InFailedTransaction) _ tt may in

@@ -29,7 +29,7 @@ sees_roles records d (Some writer) db (Some h) number shown held =
     by_number true is = rw (sym is) (has_roles (applied_all writer.lists records) (definitions_or writer.catalogue d) h.database held.1)
     by_number false is = rw (sym is) (has_roles records d db shown)
 
--- another session holds the slot where the machine's holder is another
+-- another session holds the writer lock where the machine's holder is another
 pub held_by_other : (records : Records) (d : Definitions) (writer : Option Writer) (holder : Option Holder) (number : ℕ) → HolderShows records d writer holder
     → is_held_by_other number holder ≡ is_slot_of_other number writer
 held_by_other records d None None number held = refl

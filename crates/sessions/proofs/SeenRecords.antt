@@ -67,7 +67,7 @@ pub not_false : (b : Bool) → not b ≡ false → b ≡ true
 not_false true e = refl
 not_false false e = cc
 
--- where no other session holds the slot, a session sees what is under it
+-- where no other session holds the writer lock, a session sees what is under it
 pub seen_under : (number : ℕ) (records : Records) (d : Definitions) (writer : Option Writer) (holder : Option Holder) → HolderShows records d writer holder → is_held_by_other number holder ≡ false
     → (records_seen number writer records ≡ records_under writer records) × (definitions_seen number writer d ≡ definitions_under writer d)
 seen_under number records d None holder shows free = (refl, refl)

@@ -154,7 +154,7 @@ admission_by : (at : OpenSession) (x : Statement) (m : Machine) → (EndsBlock x
 admission_by at x m ordinary None may = inr may
 admission_by at x m ordinary (Some code) may = refused_as m at.number at.session.now code x ordinary may
 
--- as the session's definitions and the slot say
+-- as the session's definitions and the writer lock say
 pub is_admission : (at : OpenSession) (x : Statement) (seen_there : Definitions) (held_there : Bool) (refusal : Option SqlState) → (EndsBlock x → ⊥)
     → seen_there ≡ definitions_seen at.number at.writer.now at.catalogue.now → held_there ≡ is_slot_of_other at.number at.writer.now
     → ((m : Machine) (n : ℕ) → SeesRolesOf seen_there n m → is_held_by_other n m.holder ≡ held_there → may_execute m n at.session.now x ≡ admission_of refusal)

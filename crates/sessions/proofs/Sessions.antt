@@ -60,9 +60,9 @@ pub other_sees : (holder : Option Holder) (n : ℕ) (db : Database) → released
 other_sees None n db other = refl
 other_sees (Some h) n db other = rw (apart_from h n other) refl
 
--- ---- the slot
+-- ---- the writer lock
 
--- a session that does not hold the slot is not the holder
+-- a session that does not hold the writer lock is not the holder
 pub holder_is_other : (records : Records) (d : Definitions) (writer : Option Writer) (holder : Option Holder) (n : ℕ) → is_slot_of n writer ≡ false → HolderShows records d writer holder → released n holder ≡ holder
 holder_is_other records d writer None n free shows = refl
 holder_is_other records d None (Some h) n free shows = absurd shows

@@ -35,7 +35,7 @@ Makes records d writer db holder sessions MayCommit t (decision.CommitWriter ans
     (h : Holder) × (holder ≡ Some h) × Concerns c sessions × MayCommit
     × (t ≡ transition_to answer (machine_at h.database None (after_change c sessions)))
 
--- in each machine in which this session of this number is open and this slot is held, where this is given, the decision makes this transition
+-- in each machine in which this session of this number is open and this writer lock is held, where this is given, the decision makes this transition
 abbrev pub Serves : Option Writer → ℕ → Session → (Machine → Type 0) → (Machine → Type 0) → (Machine → Transition) → Decision → Type 0
 Serves writer number s Given MayCommit leads what = (records : Records) (d : Definitions) (db : Database) (holder : Option Holder) (sessions : Entries)
     → HolderShows records d writer holder → HoldsInBlock holder sessions → session_of number sessions ≡ Some s → Given (machine_at db holder sessions)

@@ -43,7 +43,7 @@ MakesAt records d writer db holder sessions MayCommit t (Err Memory) = Unit {0}
 MakesAt records d writer db holder sessions MayCommit t (Err Device) = Unit {0}
 MakesAt records d writer db holder sessions MayCommit t (Err Damaged) = ⊥
 
--- these records and the slot show the database and the holder, which is in a block, and the session is open
+-- these records and the writer lock show the database and the holder, which is in a block, and the session is open
 pub record IsOpenOver (records : Records) (at : OpenSession) (db : Database) (holder : Option Holder) (sessions : Entries) : Type 0 where
   pub committed : Shows records at.catalogue.now db
   pub held : HolderShows records at.catalogue.now at.writer.now holder

@@ -4,7 +4,7 @@ use Rattle.stored_database.specs.Definitions.{Definitions}
 use Rattle.server.specs.declared.writer.Writer.{Writer}
 use Rattle.server.specs.Writers.{definitions_or}
 
--- the session of this number holds the slot
+-- the session of this number holds the writer lock
 abbrev pub is_slot_of : ℕ → Option Writer → Bool
 is_slot_of number None = false
 is_slot_of number (Some writer) = writer.session == number

@@ -74,7 +74,7 @@ fn has_failed(block: &Block) -> bool
 /// it may. In this order: `InFailedTransaction` in a failed block, `InvalidAuthorization` where its
 /// login role is gone, `InsufficientPrivilege` where its set role is gone or may not be set any more
 /// and the statement sets no other, and `LockNotAvailable` for a statement that changes the database
-/// while another session holds the writer lock. The only error is that an allocation failed.
+/// while another session holds the writer lock.
 pub fn admit(
     alloc: Global,
     catalogue: &Catalogue,

@@ -29,7 +29,7 @@ use sql_types::warning::Warning;
 use std::alloc::{AllocError, Global};
 
 /// BEGIN of a session that may execute it: the session is in a block from now on; in a block it is
-/// only warned. The only error is that an allocation failed.
+/// only warned.
 pub fn begin(alloc: Global, number: u32, session: &Session) -> Result<Decision, AllocError>
     ensures { IfOk result (λ decision. (writer : Option TheWriter) → Serves writer number session.now Always Never
         (λ m. begin_of m number session.now session.now.block) decision) }

@@ -9,5 +9,6 @@ use sql_parser::laws::one_answer;
 pub fn one_reading()
     ensures { ReadsOnce ReadsText }
 {
+    // For the proof: a text has one reading.
     one_answer();
 }

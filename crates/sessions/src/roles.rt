@@ -25,7 +25,7 @@ use sql_types::try_copy::TryCopy;
 use std::alloc::{AllocError, Global};
 
 /// Whether a session that was opened for a role may set a role: itself, each that it is in, and for
-/// a superuser each. The only error is that an allocation failed.
+/// a superuser each.
 pub fn may_set_role(
     alloc: Global,
     catalogue: &Catalogue,
@@ -43,8 +43,7 @@ pub fn may_set_role(
 
 /// SET ROLE of a session that may execute it, over the definitions that it sees: the role is set
 /// from now on, or refused: `UndefinedObject` where there is no role of this name,
-/// `InsufficientPrivilege` where the session may not set it. The only error is that an allocation
-/// failed.
+/// `InsufficientPrivilege` where the session may not set it.
 pub fn set_role(
     alloc: Global,
     catalogue: &Catalogue,
@@ -68,8 +67,7 @@ pub fn set_role(
     put_role(alloc, Tag::Set, number, session, role)
 }
 
-/// RESET ROLE of a session that may execute it: its login role is set from now on. The only error is
-/// that an allocation failed.
+/// RESET ROLE of a session that may execute it: its login role is set from now on.
 pub fn reset_role(alloc: Global, number: u32, session: &Session) -> Result<Decision, AllocError>
     ensures { IfOk result (λ decision. (writer : Option TheWriter)
         → Serves writer number session.now Always Never
@@ -99,7 +97,7 @@ fn put_role(
     Ok(Decision::Answer(done(tag), SessionChange::Put(number, changed)))
 }
 
-// A copy of a block. The only error is that an allocation failed.
+// A copy of a block.
 fn copy_block(alloc: Global, block: &Block) -> Result<Block, AllocError>
     ensures { IfOk result (λ copy. copy ≡ block.now) }
 {
@@ -111,7 +109,7 @@ fn copy_block(alloc: Global, block: &Block) -> Result<Block, AllocError>
 }
 
 /// The name of the role with this name, copied, if it may log in; `None` where there is no such role
-/// or it may not. The only error is that an allocation failed.
+/// or it may not.
 pub fn find_login(
     alloc: Global,
     catalogue: &Catalogue,

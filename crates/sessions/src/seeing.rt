@@ -26,8 +26,8 @@ pub fn other_holds_slot(writer: &Option<Writer>, number: u32) -> bool
     }
 }
 
-/// The definitions that a session sees, lent: those under its own changes if it holds the write
-/// slot, and else the committed ones.
+/// The definitions that a session sees, lent: those under its own changes if it holds the writer
+/// lock, and else the committed ones.
 pub fn seen_catalogue<'a>(
     writer: &'a Option<Writer>,
     committed: &'a Catalogue,

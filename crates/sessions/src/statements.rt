@@ -26,8 +26,8 @@ use sql_types::state::SqlState;
 use std::alloc::{AllocError, Global};
 use store::{Fault, Map, StatementError};
 
-/// An open session of a server: its number, what it is, the committed definitions, and the write
-/// slot.
+/// An open session of a server: its number, what it is, the committed definitions, and the writer
+/// lock.
 #[derive(Clone, Copy)]
 pub(crate) struct OpenSession<'a> {
     pub(crate) number: u32,
@@ -40,9 +40,8 @@ impl<'a> OpenSession<'a> {
     /// What a statement asks in the session, over a map that is only read. COMMIT and ROLLBACK are
     /// answered always, each other statement where the session may execute it.
     ///
-    /// Memory: an allocation failed. Device: the device of the map failed. Damaged: a record is one
-    /// that no database has, which never comes over a map that shows a database. None of these comes
-    /// of COMMIT and ROLLBACK.
+    /// Device: the device of the map failed. Damaged: a record is one that no database has, which
+    /// never comes over a map that shows a database. None of these comes of COMMIT and ROLLBACK.
     pub(crate) fn decide<M: Map, X: Execute>(
         &self,
         executor: &X,

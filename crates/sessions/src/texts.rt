@@ -27,8 +27,8 @@ use store::{Fault, Map};
 /// number is open; a text that is no statement is refused like a statement, with the code with which
 /// it is read.
 ///
-/// Memory: an allocation failed. Device: the device of the map failed. Damaged: a record is one that
-/// no database has, which never comes over a map that shows a database.
+/// Device: the device of the map failed. Damaged: a record is one that no database has, which never
+/// comes over a map that shows a database.
 pub(crate) fn decide_text<M: Map, X: Execute>(
     executor: &X,
     alloc: Global,

@@ -18,7 +18,10 @@ pub fn servers_tell_sessions_what_they_see<S: Store, T: Store, X, Y>()
     ensures step { servers_step_alike S T X Y S.state T.state }
     ensures opened { opened_servers_are_alike S T X Y S.state T.state }
 {
+    // For the proof: a text has one reading.
     one_reading();
+    // For the proof: what records stand for is a whole database.
     stored_databases_are_whole();
+    // For the proof: a whole database is sound.
     whole_databases_are_sound();
 }

@@ -29,8 +29,8 @@ use transactions::View;
 /// of the writer lock sees the records and the definitions under its own changes, each other session
 /// the committed ones. It answers what the statement comes to, or its refusal. The map is only read.
 ///
-/// It fails with Memory: an allocation failed. Device: the device of the map failed. Damaged: a record is one that
-/// no database has, which never comes over a map that shows a database.
+/// It fails with Device: the device of the map failed. Damaged: a record is one that no database has, which never
+/// comes over a map that shows a database.
 pub fn execute_visible<M: Map, X: Execute>(
     executor: &X,
     alloc: Global,

@@ -2,7 +2,7 @@
 ghost use Rattle.std.specs.Prelude.{◌≡◌};
 ghost use Rattle.storage_sizes.specs.Spellings.{current};
 
-/// How the records of a store are spelled. All are spelled alike in both spellings but those of
+/// How the records of a store are spelled. All are spelled alike in both record formats but those of
 /// privilege descriptors, whose keys have a place for a column in the second.
 #[derive(Clone, Copy, PartialEq, Eq, Drop)]
 pub enum RecordFormat {

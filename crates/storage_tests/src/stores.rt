@@ -19,7 +19,7 @@
 //!   writes of the device pass and no call after them, `fail:CALLS` so many calls, and then one fails. `reads` answers how
 //!   many sectors were read since it was asked last, or since the store was opened.
 //! - `put:KEY:VALUE`, `remove:KEY` and `rise:FROM:TO:VALUE`, which puts a value at each number below TO, in four bytes,
-//!   change a tree, or the next batch of a store. `commit` commits that, and `migrate` does so with the second spelling.
+//!   change a tree, or the next batch of a store. `commit` commits that, and `migrate` does so with record format 2.
 //!   `spelling` answers which spelling there is, and `number` the number of the last commit, and how often no room was found
 //!   and a failure met. `get:KEY` answers the value of a key, and `scan` how many entries there are, how many of them a look-up
 //!   finds too, and a digest.

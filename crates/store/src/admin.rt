@@ -10,7 +10,7 @@ use storage_sizes::RecordKind;
 /// The value of the record of a role that is a superuser (1) and may log in (2).
 const SUPERUSER_WITH_LOGIN: u8 = 3;
 
-/// The put of the record of a new database's one role. The only error is that an allocation failed.
+/// The put of the record of a new database's one role.
 pub fn put_admin(alloc: Global, admin: &Name) -> Result<Change, AllocError>
     ensures { IfOk result (λ change.
         change ≡ ((admin_record admin.now).0, Some (admin_record admin.now).1)) }

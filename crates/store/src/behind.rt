@@ -96,7 +96,7 @@ fn first_key(pieces: &[Piece]) -> Option<&[u8]>
     }
 }
 
-// Copies of pieces. The only error is that an allocation failed.
+// Copies of pieces.
 pub(crate) fn copy_pieces(alloc: Global, pieces: &[Piece]) -> Result<Vec<Piece>, AllocError>
     ensures { IfOk result (λ copies. copies.items ≡ pieces.now) }
 {

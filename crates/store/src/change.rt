@@ -29,7 +29,7 @@ impl Model for Change {
 }
 
 impl Change {
-    /// The put of a value at a key. The only error is that an allocation failed.
+    /// The put of a value at a key.
     pub(crate) fn put(alloc: Global, key: &[u8], value: &[u8]) -> Result<Change, AllocError>
         requires { length key.now ≤ MAX_KEY_LENGTH }
         ensures { IfOk result (λ change. change ≡ (key.now, Some value.now)) }
@@ -54,7 +54,7 @@ impl Change {
         }
     }
 
-    /// The removal of a key. The only error is that an allocation failed.
+    /// The removal of a key.
     pub(crate) fn removal(alloc: Global, key: &[u8]) -> Result<Change, AllocError>
         requires { length key.now ≤ MAX_KEY_LENGTH }
         ensures { IfOk result (λ change. change ≡ (key.now, None)) }
@@ -68,7 +68,7 @@ impl Change {
         })
     }
 
-    /// The removal of the key of this change. The only error is that an allocation failed.
+    /// The removal of the key of this change.
     pub(crate) fn to_removal(&self, alloc: Global) -> Result<Change, AllocError>
         ensures { IfOk result (λ change. change ≡ (self.now.0, None)) }
     {

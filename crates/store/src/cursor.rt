@@ -38,8 +38,7 @@ impl Model for Cursor {
 }
 
 impl Cursor {
-    /// A walk over all records whose keys begin with this prefix. The only error is that an
-    /// allocation failed.
+    /// A walk over all records whose keys begin with this prefix.
     pub fn over(alloc: Global, prefix: &[u8]) -> Result<Cursor, AllocError>
         ensures { IfOk result (λ cursor. cursor ≡ walk_between prefix.now prefix.now) }
     {
@@ -47,7 +46,7 @@ impl Cursor {
     }
 
     /// A walk over the records from the key `start` on, up to the last whose key comes before
-    /// `stop` or begins with it. The only error is that an allocation failed.
+    /// `stop` or begins with it.
     pub fn between(alloc: Global, start: &[u8], stop: &[u8]) -> Result<Cursor, AllocError>
         ensures { IfOk result (λ cursor. cursor ≡ walk_between start.now stop.now) }
     {

@@ -50,7 +50,7 @@ impl MemStore {
     ghost use Rattle.store.specs.MemoryStore.{memory_store_state};
 
     /// The records of a new database, as they are spelled now: one role of this name, a superuser
-    /// that may log in. The only error is that an allocation failed.
+    /// that may log in.
     pub fn new(alloc: Global, admin: &Name) -> Result<MemStore, AllocError>
         ensures records { IfOk result (λ store. (memory_store_state store).map ≡ new_records admin.now) }
         ensures record_format { IfOk result (λ store. (memory_store_state store).record_format ≡ current) }
@@ -90,8 +90,7 @@ impl MemStore {
         }
     }
 
-    // Makes an entry with no value for the key of a change, if it has none. The only error is that an
-    // allocation failed.
+    // Makes an entry with no value for the key of a change, if it has none.
     fn hold(&mut self, change: &Change) -> Result<(), AllocError>
         ensures record_format { self.new.record_format ≡ self.old.record_format }
         ensures same { records_of self.new.entries ≡ records_of self.old.entries }
@@ -107,8 +106,7 @@ impl MemStore {
         Ok(())
     }
 
-    // Makes an entry for the key of each of these changes. The only error is that an allocation
-    // failed.
+    // Makes an entry for the key of each of these changes.
     fn hold_all(&mut self, changes: &[Change]) -> Result<(), AllocError>
         ensures record_format { self.new.record_format ≡ self.old.record_format }
         ensures same { records_of self.new.entries ≡ records_of self.old.entries }
@@ -179,7 +177,7 @@ impl MemStore {
         }
     }
 
-    // Makes one change, or none. The only error is that an allocation failed.
+    // Makes one change, or none.
     fn change_one(&mut self, only: &Change) -> Result<(), StoreFault>
         ensures record_format { self.new.record_format ≡ self.old.record_format }
         ensures made { OnOk result (records_of self.new.entries
@@ -224,8 +222,7 @@ impl MemStore {
         }
     }
 
-    // Makes all changes of a batch, or none of them: first those that put a value. The only error is
-    // that an allocation failed.
+    // Makes all changes of a batch, or none of them: first those that put a value.
     fn change_among(&mut self, batch: &Batch) -> Result<(), StoreFault>
         ensures record_format { self.new.record_format ≡ self.old.record_format }
         ensures made { OnOk result (records_of self.new.entries
@@ -287,7 +284,7 @@ fn only_change(pieces: &[Piece]) -> Option<&Change>
     }
 }
 
-// Copies the changes that put a value into one list. The only error is that an allocation failed.
+// Copies the changes that put a value into one list.
 fn copy_puts(alloc: Global, pieces: &[Piece]) -> Result<Vec<Change>, AllocError>
     ensures { IfOk result (λ copies. copies.items ≡ putting (all_changes pieces.now)) }
 {

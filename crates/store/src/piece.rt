@@ -35,7 +35,7 @@ impl Model for Piece {
 }
 
 impl Piece {
-    // One change. The only error is that an allocation failed.
+    // One change.
     pub(crate) fn of(alloc: Global, change: Change) -> Result<Piece, AllocError>
         ensures { IfOk result (λ piece. piece ≡ change ∷ []) }
     {
@@ -157,7 +157,7 @@ impl Piece {
         Ok(())
     }
 
-    // Copies of the changes. The only error is that an allocation failed.
+    // Copies of the changes.
     fn copies(&self, alloc: Global) -> Result<Vec<Change>, AllocError>
         ensures { IfOk result (λ copies. copies.items ≡ self.now) }
     {
@@ -168,8 +168,7 @@ impl Piece {
         Ok(copies)
     }
 
-    // Adds copies of the changes that put a value to others. The only error is that an allocation
-    // failed.
+    // Adds copies of the changes that put a value to others.
     pub(crate) fn copy_puts_to(
         &self,
         alloc: Global,

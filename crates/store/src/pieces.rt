@@ -346,7 +346,7 @@ impl Pieces {
         self.list.partition_point(|piece| piece.ends_within(stop))
     }
 
-    // Cuts the piece of a key in halves if it is full. The only error is that an allocation failed.
+    // Cuts the piece of a key in halves if it is full.
     fn make_room(&mut self, key: &[u8]) -> Result<(), AllocError>
         ensures { all_changes self.new.list.items ≡ all_changes self.old.list.items }
     {
@@ -357,7 +357,7 @@ impl Pieces {
         Ok(())
     }
 
-    // Cuts a piece in halves. The only error is that an allocation failed.
+    // Cuts a piece in halves.
     fn halve(&mut self, at: usize) -> Result<(), AllocError>
         requires inside { at < vec_len self.old.list }
         requires long { 2 ≤ length (get_or self.old.list.items at []) }
@@ -431,7 +431,7 @@ impl Pieces {
         self.list.partition_point(|piece| piece.ends_before(key))
     }
 
-    // A copy. The only error is that an allocation failed.
+    // A copy.
     pub(crate) fn copy(&self, alloc: Global) -> Result<Pieces, AllocError>
         ensures { IfOk result (λ copy. copy.list.items ≡ self.now.list.items) }
     {

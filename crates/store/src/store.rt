@@ -26,17 +26,16 @@ pub trait Store: Map {
         ensures { result ≡ (Self.state self.now).record_format };
 
     /// Commits all changes of a batch, or none of them; the spelling stays. Full: no room is left.
-    /// Number: no number is. Memory: an allocation failed. Device: the device failed, and whether
-    /// the batch is committed is known only when the device is opened again. An empty batch is
-    /// committed without a call below.
+    /// Number: no number is. Device: the device failed, and whether the batch is committed is known
+    /// only when the device is opened again. An empty batch is committed without a call below.
     fn commit(&mut self, batch: &Batch) -> Result<(), StoreFault>
         ensures commits { Commits result (changed_by_batch batch.now (stored (Self.state self.old)))
             (Self.state self.old) (Self.state self.new) }
         ensures empty { batch.now ≡ [] → (Self.state self.old).has_failed ≡ false
             → (result ≡ Ok tt) × (self.new ≡ self.old) };
 
-    /// Commits all changes of a batch and with them that the records are of the second spelling, or
-    /// nothing. The faults are those of `commit`. Where the records are of the first spelling an
+    /// Commits all changes of a batch and with them that the records are of record format 2, or
+    /// nothing. The faults are those of `commit`. Where the records are of record format 1 an
     /// empty batch is a commit, too.
     fn commit_migration(&mut self, batch: &Batch) -> Result<(), StoreFault>
         ensures commits { Commits result (changed_in V2 batch.now (stored (Self.state self.old)))

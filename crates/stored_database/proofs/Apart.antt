@@ -1,4 +1,4 @@
--- Records of a database with a table stand for no database in the other spelling.
+-- Records of a database with a table stand for no database in the other record format.
 use Rattle.std.proofs.Common.{◌≡◌, ℕ, true, List, [], ◌∷◌, ◌++◌, refl, ap, sym, ◌∙◌, subst, inl}
 use Rattle.std.proofs.lemmas.List.{append-nil}
 use Rattle.sql_types.specs.Domain.{HasNoZero}

@@ -75,7 +75,7 @@ select_to_ann = record { grantor = grantor.System; grantee = grantee.Role (codes
 abbrev pub select_to_ann_bytes : Record
 select_to_ann_bytes = (4 ∷ 0 ∷ 0 ∷ 0 ∷ 1 ∷ 1 ∷ 0 ∷ 0 ∷ codes "ann" ++ 0 ∷ [], 1 ∷ [])
 
--- the same as the first spelling has it
+-- the same as record format 1 has it
 abbrev pub select_to_ann_first_bytes : Record
 select_to_ann_first_bytes = (4 ∷ 0 ∷ 0 ∷ 0 ∷ 1 ∷ 1 ∷ 0 ∷ codes "ann" ++ 0 ∷ [], 1 ∷ [])
 

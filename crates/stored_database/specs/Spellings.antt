@@ -1,4 +1,4 @@
--- What records of the first spelling mean: the records of the second that they become. All records are spelled alike in both
+-- What records of record format 1 mean: the records of record format 2 that they become. All records are spelled alike in both
 -- but those of privilege descriptors, whose keys have a place in the second: 0 for a whole table, which alone has descriptors
 -- in the first.
 use Rattle.std.specs.Prelude.{◌≡◌, ℕ, List, [], ◌∷◌, ◌++◌, map, take, drop, if◌then◌else◌, Option, Some}
@@ -11,7 +11,7 @@ use Rattle.abstract_database.specs.Database.{Database, action_number, grantor_na
 use Rattle.stored_database.specs.RecordFormat.{ended, bit, descriptor_prefix}
 use Rattle.stored_database.specs.Records.{StandsFor}
 
--- the record of a descriptor in the first spelling, which has no place: the action, the grantor and the grantee
+-- the record of a descriptor in record format 1, which has no place: the action, the grantor and the grantee
 abbrev pub first_descriptor : ℕ → Descriptor → Record
 first_descriptor id d =
     (descriptor_prefix id ++ action_number d.action ∷ (ended (grantor_name d.grantor) ++ ended (grantee_name d.grantee)), bit d.grantable ∷ [])
@@ -20,19 +20,19 @@ first_descriptor id d =
 abbrev pub with_place : List ℕ → List ℕ
 with_place key = take 6 key ++ 0 ∷ drop 6 key
 
--- a record of the first spelling in the second: those of privilege descriptors get a place, and all others stay
+-- a record of record format 1 in record format 2: those of privilege descriptors get a place, and all others stay
 abbrev pub placed : Record → Record
 placed e = if has_prefix (4 ∷ []) e.0 then (with_place e.0, e.1) else e
 
 abbrev pub with_places : Records → Records
 with_places records = map placed records
 
--- records of either spelling in the second
+-- records of either record format in the second
 abbrev pub spelled_in_second : RecordFormat → Records → Records
 spelled_in_second V1 records = with_places records
 spelled_in_second V2 records = records
 
--- contents stand for this database: their records do, in the second spelling
+-- contents stand for this database: their records do, in record format 2
 abbrev pub Stands : Contents → Database → Type 0
 Stands contents db = StandsFor (spelled_in_second contents.record_format contents.records) db
 

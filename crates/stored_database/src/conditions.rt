@@ -13,6 +13,7 @@ use expr_parser::laws::one_answer;
 pub fn one_condition()
     ensures { (a b : PolicyClause) → IsAsWritten a → IsAsWritten b → a.text ≡ b.text → a ≡ b }
 {
+    // For the proof: a text has one reading.
     one_answer();
 }
 

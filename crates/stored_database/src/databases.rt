@@ -22,6 +22,7 @@ pub fn one_catalogue()
     ensures { (records : Records) (d e : Definitions) → Define records d → Define records e
         → d ≡ e }
 {
+    // For the proof: a text has one reading.
     one_answer();
 }
 
@@ -30,6 +31,7 @@ pub fn one_database()
     ensures { (records : Records) (a b : Database) → StandsFor records a → StandsFor records b
         → a ≡ b }
 {
+    // For the proof: a text has one reading.
     one_answer();
 }
 

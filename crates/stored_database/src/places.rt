@@ -1,4 +1,4 @@
-//! Laws of the two spellings of records: what those of the first mean.
+//! Laws of the two record formats of records: what those of the first mean.
 
 ghost use Rattle.std.specs.Prelude.{◌≡◌, ℕ, false, [], ◌∷◌, None};
 ghost use Rattle.sql_ast.specs.declared.privilege.Descriptor.{Descriptor};
@@ -11,7 +11,7 @@ ghost use Rattle.stored_database.specs.Spellings.{first_descriptor, placed, with
 
 use crate::databases::one_database;
 
-/// A privilege descriptor for a whole table becomes what it is in the second spelling, and no other
+/// A privilege descriptor for a whole table becomes what it is in record format 2, and no other
 /// record becomes that. Records of other kinds stay as they are.
 pub fn descriptors_get_places()
     ensures spelled { (id : ℕ) (d : Descriptor) → d.column ≡ None
@@ -26,8 +26,8 @@ pub fn places_keep_the_order()
     ensures { (records : Records) → IsOrdered records → IsOrdered (with_places records) }
 {}
 
-/// The same records stand for databases in both spellings only where these have no table: behind
-/// the action of what the system granted an owner the second spelling has one zero byte more.
+/// The same records stand for databases in both record formats only where these have no table: behind
+/// the action of what the system granted an owner record format 2 has one zero byte more.
 pub fn spellings_are_apart()
     ensures { (records : Records) (a b : Database) → StandsFor records a
         → StandsFor (with_places records) b → a.tables ≡ [] }
@@ -38,5 +38,6 @@ pub fn contents_stand_for_one_database()
     ensures { (contents : Contents) (a b : Database) → Stands contents a → Stands contents b
         → a ≡ b }
 {
+    // For the proof: records stand for one database.
     one_database();
 }

@@ -55,6 +55,7 @@ pub fn one_list_of_policies()
         → Holds records (policy_prefix id) (policy_record id) a
         → Holds records (policy_prefix id) (policy_record id) b → a ≡ b }
 {
+    // For the proof: a text has one reading.
     one_answer();
 }
 

@@ -43,6 +43,7 @@ pub fn policies_have_own_records()
     ensures { (table : TheName) (id : ℕ) (a b : Policy) → IsStoredPolicy table a
         → IsStoredPolicy table b → policy_record id a ≡ policy_record id b → a ≡ b }
 {
+    // For the proof: a text has one reading.
     one_answer();
 }
 

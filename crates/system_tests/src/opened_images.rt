@@ -1,4 +1,4 @@
-//! Openings of devices of which files tell what they hold, among them devices whose records are of the first spelling.
+//! Openings of devices of which files tell what they hold, among them devices whose records are of record format 1.
 //!
 //! In a file `NAME.image`, `from OTHER` begins with the bytes that `OTHER.image` tells, `put TIMES BYTES` appends bytes so many
 //! times, and `at OFFSET BYTES` puts bytes in the place of others; up to 64 pages the rest is zero. The lines `ask LINE` are a

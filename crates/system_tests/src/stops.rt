@@ -14,9 +14,9 @@
 //! - Failing calls of openings: each call of an opening fails in turn, on devices with unsynced sectors too, which a stop of
 //!   the server alone leaves. It is refused, and nothing is written. The next opening finds the map before the event or after
 //!   it, also where the device is started again as after a stop, and what it found is there after a further stop.
-//! - Migrations: a device whose records are of the first spelling is opened, and that is stopped after each count of sector
+//! - Migrations: a device whose records are of record format 1 is opened, and that is stopped after each count of sector
 //!   writes, and each of its calls fails in turn, without effect and with it. What that leaves is opened by each choice of
-//!   sectors, a part of these openings is stopped once more, and each comes to the records of the second spelling under the next
+//!   sectors, a part of these openings is stopped once more, and each comes to the records of record format 2 under the next
 //!   number.
 //! - Copies: the database of such a device is copied to a new device, and this is stopped after each count of sector writes; so
 //!   is that at the end of a script, where a part of the stops is tried. What a stop leaves is opened by each choice of sectors:

@@ -55,8 +55,7 @@ pub trait RowVisitor {
         ensures no_read { ReadsNoMap result };
 }
 
-/// What the keys of the rows of the table of this number begin with. The only error is that an
-/// allocation failed.
+/// What the keys of the rows of the table of this number begin with.
 pub(crate) fn table_prefix(alloc: Global, id: u32) -> Result<Vec<u8>, AllocError>
     ensures { IfOk result (λ prefix. prefix.items ≡ row_prefix id) }
 {

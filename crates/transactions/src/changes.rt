@@ -102,7 +102,7 @@ impl ChangeLists {
     }
 
     /// All lists in one, as [`ChangeLists::join`] makes it; where there is one list it is lent, and
-    /// nothing is copied. The only error is that an allocation failed.
+    /// nothing is copied.
     pub fn joined(&self) -> Result<Joined<'_>, AllocError>
         ensures { IfOk result (λ joined. (key : List ℕ) → lookup key joined ≡ latest key self.now) }
     {
@@ -124,8 +124,7 @@ impl ChangeLists {
         if later.is_empty() { Some(first) } else { None }
     }
 
-    /// All lists in one: of each key the change of the last list that names it. The only error is
-    /// that an allocation failed.
+    /// All lists in one: of each key the change of the last list that names it.
     pub fn join(&self) -> Result<Batch, AllocError>
         ensures { IfOk result (λ joined. (key : List ℕ) → lookup key joined ≡ latest key self.now) }
     {
@@ -164,6 +163,7 @@ fn add_list(joined: &mut Batch, list: &Batch) -> Result<(), AllocError>
     ensures elsewhere { (key : List ℕ) → lookup key list.now ≡ None
         → lookup key joined.new ≡ lookup key joined.old }
 {
+    // For the proof: the list is in order.
     let _in_order = joined.pieces();
     let pieces = list.pieces();
     for piece in pieces {

@@ -108,7 +108,7 @@ pub struct MergedPlace<P> {
     pub(crate) merge: Merge,
 }
 
-// A copy of a change, if there is one. The only error is that an allocation failed.
+// A copy of a change, if there is one.
 fn copied(alloc: Global, change: Option<&Change>) -> Result<Option<Change>, AllocError>
     ensures { IfOk result (λ copy. copy ≡ option_copied change.entry) }
 {
@@ -119,7 +119,7 @@ fn copied(alloc: Global, change: Option<&Change>) -> Result<Option<Change>, Allo
 }
 
 impl Merge {
-    // A walk from a key on. The only error is that an allocation failed.
+    // A walk from a key on.
     pub(crate) fn from_key(alloc: Global, lists: &[Batch], key: &[u8]) -> Result<Merge, AllocError>
         ensures unread { IfOk result (λ merge. merge.ahead ≡ Below.Unread) }
         ensures merge { IfOk result (λ merge. (es : Records)
@@ -147,7 +147,7 @@ impl Merge {
         self.ahead = Below::Unread;
     }
 
-    // Passes the least change. The only error is that an allocation failed.
+    // Passes the least change.
     fn pass_change(&mut self, change: &Change, lists: &[Batch]) -> Result<(), AllocError>
         ensures read { self.new.read ≡ self.old.read }
         ensures ahead { OnOk result (self.new.ahead
@@ -165,8 +165,7 @@ impl Merge {
         Ok(())
     }
 
-    // Passes what comes first, where the record of the map that is ahead was read. The only error is
-    // that an allocation failed.
+    // Passes what comes first, where the record of the map that is ahead was read.
     fn pass(&mut self, lists: &[Batch]) -> Result<Passed, AllocError>
         ensures passed { (rest : Records) (es : Records) (records : Records) → IsOrdered es
             → self.old.ahead ≢ Below.Unread → IsMerge rest lists.now es self.old records

@@ -65,6 +65,7 @@ pub(crate) fn least_change<'a>(lists: &'a [Batch], from: &[u8]) -> Option<&'a Ch
 fn first_change<'a>(list: &'a Batch, from: &[u8]) -> Option<&'a Change>
     ensures { HasLeast from.now (option_copied result) (list.now ∷ []) }
 {
+    // For the proof: the list is in order.
     let _in_order = list.pieces();
     list.first_from(from)
 }
@@ -137,7 +138,7 @@ impl<'a, M: Map> View<'a, M> {
         map
     }
 
-    // Sets the key from which the read goes on. The only error is that an allocation failed.
+    // Sets the key from which the read goes on.
     fn go_from(&mut self, key: &[u8]) -> Result<(), AllocError>
         ensures keeps { KeepsLists self.old self.new }
         ensures map { self.new.map.now ≡ self.old.map.now }
@@ -147,7 +148,7 @@ impl<'a, M: Map> View<'a, M> {
         self.from.extend_from_slice(key)
     }
 
-    // Goes on behind a key. The only error is that an allocation failed.
+    // Goes on behind a key.
     fn go_behind(&mut self, key: &[u8]) -> Result<(), AllocError>
         ensures keeps { KeepsLists self.old self.new }
         ensures map { self.new.map.now ≡ self.old.map.now }

@@ -8,7 +8,7 @@ pub fn commit<S: Store>(store: &mut S, batch: &Batch) -> Result<(), StoreFault> 
     store.commit(batch)
 }
 
-/// Commits a batch, and that the records are of the second spelling.
+/// Commits a batch, and that the records are of record format 2.
 pub fn commit_migration<S: Store>(store: &mut S, batch: &Batch) -> Result<(), StoreFault> {
     store.commit_migration(batch)
 }

@@ -156,7 +156,7 @@ impl Work for MigratingAgain<'_> {
     }
 }
 
-/// Opens a server on a device. Its records are of the second spelling, and they and their number are those after a migration.
+/// Opens a server on a device. Its records are of record format 2, and they and their number are those after a migration.
 fn check_migrated(
     alloc: Global,
     device: MemDevice,
