@@ -40,8 +40,10 @@ pub fn read_file<Y: System>(
     }
 }
 
-// The definitions of the database that a device holds, which is handed back.
-fn read_definitions<D: JournalDevice>(
+/// The definitions of the database that a device holds, which is handed back. All of its records are
+/// checked, and not one sector is written. The faults are those of `read_file`, but for those of opening
+/// the file.
+pub(crate) fn read_definitions<D: JournalDevice>(
     alloc: Global,
     device: D,
 ) -> (D, Result<Catalogue, DatabaseFault>)

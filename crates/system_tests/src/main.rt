@@ -12,7 +12,8 @@
 //! database on a device. The bytes in `NAME.frames` are sent to a listener, those of each line by themselves, and
 //! `NAME.expected` holds what is sent back, a line for each frame. The program is given orders that something outside of it
 //! hinders, files that were altered among them, as `hindered_orders` tells, and a server what no script can show. Devices whose
-//! bytes stand in files `NAME.image` are opened, as `opened_images` tells, those of an earlier format among them.
+//! bytes stand in files `NAME.image` are opened, as `opened_images` tells, those of an earlier format among them, and the
+//! damaged ones are handed to the command `journal`, as `switched_images` tells.
 //!
 //! At last the whole server is stopped, and calls of its device fail, as `stops` tells: a part of these tests is tried. With
 //! the word `all` nothing else is tried, and all of them are. With the word `memory` nothing is tried but openings of devices of
@@ -37,6 +38,7 @@ mod reports;
 mod servers;
 mod stops;
 mod stores;
+mod switched_images;
 mod unscripted;
 
 use crate::command_lines::printed_for;
@@ -49,6 +51,7 @@ use crate::opened_images::{open_again, printed_of};
 use crate::reports::report;
 use crate::stops::try_stops;
 use crate::stores::{PAGES, SMALL_PAGES, StoreKind, printed_by};
+use crate::switched_images::switch_damaged;
 use crate::unscripted::check_unscripted;
 use std::alloc::Global;
 use std::process::ExitCode;
@@ -179,6 +182,7 @@ fn run_parts(rt: &HostRuntime, alloc: Global, differing: &mut u64) -> io::Result
     try_files(rt, alloc, ".words", &WORDS, differing)?;
     give_hindered_orders(rt, alloc, differing)?;
     try_files(rt, alloc, ".image", &IMAGES, differing)?;
+    switch_damaged(rt, alloc, differing)?;
     check_unscripted(rt, alloc, differing)
 }
 
