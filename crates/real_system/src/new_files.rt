@@ -4,9 +4,9 @@ ghost use Rattle.std.specs.Prelude.{◌≡◌, ◌≤◌, ◌*◌, IfOk};
 ghost use Rattle.sector_device.specs.FileDevice.{file_device_state};
 
 use sector_device::{Device, FileDevice, FileFault, SystemCause, SystemFile};
-use std::fs::{self, File, OpenOptions, TryLockError};
+use std::fs::{self, File, OpenOptions, Permissions, TryLockError};
 use std::io;
-use std::os::unix::fs::{FileExt, OpenOptionsExt};
+use std::os::unix::fs::{FileExt, OpenOptionsExt, PermissionsExt};
 use std::path::Path;
 use std::rt::Files;
 use storage_sizes::{MAX_PAGES, PAGE_SIZE, SECTORS_PER_PAGE};
@@ -19,8 +19,9 @@ const PAGES_AT_ONCE: u32 = 16;
 
 /// A device over a new file at `path` of so many pages of zeros, which are written, so that no later
 /// write wants room on the disk. It is locked before anything is written, so that no other process
-/// opens it, until the device is dropped. The file is made with mode 0600, so that no other user of
-/// the system may open it. It and its folder's entry of it are on the disk when this answers `Ok`.
+/// opens it, until the device is dropped. The file has mode 0600, whatever the umask, and never a wider
+/// one: no other user of the system may open it, and its owner may. It and its folder's entry of it are
+/// on the disk when this answers `Ok`.
 /// After any error but `Exists` the file is taken away again, if the system does so.
 ///
 /// `Exists`: there is something of that name, which is left as it is. `Device`: the system does not
@@ -50,7 +51,7 @@ pub(crate) fn make_file(
     made
 }
 
-// Locks a new file, gives it its pages of zeros, and brings it and its name to the disk.
+// Locks a new file, gives it its mode and its pages of zeros, and brings it and its name to the disk.
 fn fill(
     rt: &impl Files<File = File>,
     file: File,
@@ -77,10 +78,12 @@ fn fill(
     }
 }
 
-// Writes the pages of zeros, and brings the file and its name to the disk.
+// Gives a new file the mode of which the umask may have taken bits, writes the pages of zeros, and brings the file and its
+// name to the disk.
 fn lay_out(rt: &impl Files<File = File>, file: &File, path: &str, pages: u32) -> io::Result<()>
     requires { pages ≤ MAX_PAGES }
 {
+    file.set_permissions(Permissions::from_mode(PRIVATE))?;
     let zeros = [0; PAGE_SIZE * PAGES_AT_ONCE as usize];
     for piece in 0..pages / PAGES_AT_ONCE {
         file.write_all_at(&zeros, zeros.len() as u64 * piece as u64)?;
