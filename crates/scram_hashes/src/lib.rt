@@ -2,5 +2,9 @@
 #![tactic(auto)]
 
 pub mod bytes;
+pub mod decoding;
 pub mod hmac;
+pub mod laws;
 pub mod pbkdf2;
+pub mod verifier;
+mod verifier_text;
