@@ -15,7 +15,7 @@ const MOST_ITERATIONS: u32 = 1_000_000;
 
 /// The parts of a text that stand where a verifier's text has its own.
 #[derive(Clone, Copy)]
-pub struct Parts<'t> {
+pub struct VerifierParts<'t> {
     /// The number of iterations, in decimal.
     pub iterations: &'t str,
     /// The salt, in base64.
@@ -27,7 +27,7 @@ pub struct Parts<'t> {
 }
 
 /// The parts of a text, or `None` where it is no verifier's text.
-pub fn parts_of(text: &str) -> Option<Parts<'_>>
+pub fn parts_of(text: &str) -> Option<VerifierParts<'_>>
     ensures sound { IfSome result (λ parts. text.now
         ≡ joined parts.iterations.now parts.salt.now parts.stored_key.now parts.server_key.now) }
     ensures complete { (verifier : TheVerifier) → IsVerifier verifier
@@ -52,7 +52,7 @@ pub fn parts_of(text: &str) -> Option<Parts<'_>>
     let Some((stored_key, server_key)) = cut(keys, ':') else {
         return None;
     };
-    Some(Parts {
+    Some(VerifierParts {
         iterations,
         salt,
         stored_key,
