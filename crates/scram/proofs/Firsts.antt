@@ -7,7 +7,7 @@ use Rattle.std.proofs.Math.Seq.{get_or-append_seam}
 use Rattle.scram_hashes.proofs.Cuts.{same_cut}
 use Rattle.scram.specs.declared.messages.Binding.{Binding}
 use Rattle.scram.specs.declared.messages.Binding.TheVariants.{Unsupported, Unoffered}
-use Rattle.scram.specs.Messages.{IsFirst, header}
+use Rattle.scram.specs.Messages.{IsFirstMessage, header}
 
 -- a text has one header
 pub same_header : (a b : Binding) (xs ys : List ℕ) → header a ++ xs ≡ header b ++ ys → xs ≡ ys
@@ -17,10 +17,10 @@ same_header Unoffered Unsupported xs ys e = cc e
 same_header Unoffered Unoffered xs ys e = append_cancel_left (codes "y,,") xs ys e
 
 -- what stands behind the name's letter, and behind the header
-pub bare_of : (text : List ℕ) (a b : Binding) (bare nonce rest : List ℕ) → IsFirst text b bare nonce → text ≡ header a ++ rest → rest ≡ bare
+pub bare_of : (text : List ℕ) (a b : Binding) (bare nonce rest : List ℕ) → IsFirstMessage text b bare nonce → text ≡ header a ++ rest → rest ≡ bare
 bare_of text a b bare nonce rest it e = same_header a b rest bare (sym e ∙ it.text_is)
 
-pub named_of : (text : List ℕ) (a b : Binding) (bare nonce rest named : List ℕ) (it : IsFirst text b bare nonce) → text ≡ header a ++ rest
+pub named_of : (text : List ℕ) (a b : Binding) (bare nonce rest named : List ℕ) (it : IsFirstMessage text b bare nonce) → text ≡ header a ++ rest
     → rest ≡ codes "n=" ++ named → named ≡ it.name ++ 44 ∷ (codes "r=" ++ nonce)
 named_of text a b bare nonce rest named it e f =
     append_cancel_left (codes "n=") named (it.name ++ 44 ∷ (codes "r=" ++ nonce)) (sym f ∙ bare_of text a b bare nonce rest it e ∙ it.bare_is)

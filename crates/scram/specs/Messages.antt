@@ -21,7 +21,7 @@ abbrev pub first_bare : List ℕ → List ℕ → List ℕ
 first_bare name nonce = codes "n=" ++ (name ++ 0x2C ∷ (codes "r=" ++ nonce))
 
 -- the text is a client's first message, of these parts
-pub record IsFirst (text : List ℕ) (binding : Binding) (bare nonce : List ℕ) : Type 0 where
+pub record IsFirstMessage (text : List ℕ) (binding : Binding) (bare nonce : List ℕ) : Type 0 where
   pub name : List ℕ
   pub no_comma : All (λ byte. byte ≢ 0x2C) name
   pub nonce_bytes : All IsNonceByte nonce

@@ -2,7 +2,7 @@
 use Rattle.std.specs.Prelude.{◌≡◌, ◌++◌, ℕ, List, take, codes, Option, Some, None, IfSome}
 use Rattle.scram_hashes.specs.Hmac.{hmac_sha256}
 use Rattle.scram_hashes.specs.Keys.{TheVerifier}
-use Rattle.scram_hashes.specs.VerifierText.{Spells, SpellsNone}
+use Rattle.scram_hashes.specs.VerifierText.{SpellsVerifier, SpellsNone}
 
 -- a secret, and how many iterations are told of
 pub record TheMock : Type 0 where
@@ -25,4 +25,4 @@ StoresNone stored = IfSome stored SpellsNone
 -- the verifier that an exchange with a role goes by: the one that is stored, with its text, or else the mock's, with none
 abbrev pub GoesBy : TheMock → List ℕ → Option (List ℕ) → TheVerifier → Option (List ℕ) → Type 0
 GoesBy mock role stored verifier None = StoresNone stored × (verifier ≡ mock_verifier mock role)
-GoesBy mock role stored verifier (Some text) = (stored ≡ Some text) × Spells text verifier
+GoesBy mock role stored verifier (Some text) = (stored ≡ Some text) × SpellsVerifier text verifier

@@ -2,8 +2,8 @@
 
 ghost use Rattle.std.specs.Prelude.{◌≡◌, ◌↔◌, ℕ, List, Some, IfOk, IsTrue, MatchOption};
 ghost use Rattle.std.specs.Option.{option_copied};
-ghost use Rattle.scram_hashes.specs.Keys.{Shows};
-ghost use Rattle.scram.specs.Exchanges.{Begins, HasProof, IsNoFirst, IsRefused, IsShown, challenge, messages};
+ghost use Rattle.scram_hashes.specs.Keys.{ShowsPassword};
+ghost use Rattle.scram.specs.Exchanges.{BeginsExchange, HasProof, IsNoFirst, IsRefusedLogin, IsShownLogin, challenge, messages};
 ghost use Rattle.scram.specs.Messages.{server_final};
 ghost use Rattle.scram.specs.Mocks.{GoesBy};
 
@@ -51,7 +51,7 @@ pub struct Shown {
 }
 
 impl Exchange {
-    /// Begins an exchange by a client's first message, or `None` where it is none.
+    /// BeginsExchange an exchange by a client's first message, or `None` where it is none.
     ///
     /// `stored` is the text that is stored for the role, `None` where there is none; `drawn` are bytes that nobody can
     /// foretell, drawn for this exchange. A role without a verifier gets an exchange as any other, by the mock. The only
@@ -65,7 +65,7 @@ impl Exchange {
         first: &[u8],
     ) -> Result<Option<Exchange>, AllocError>
         ensures { IfOk result (λ it. MatchOption it (IsNoFirst first.now) (λ x.
-            Begins mock.now role.now (option_copied stored.entry) drawn.now first.now x)) }
+            BeginsExchange mock.now role.now (option_copied stored.entry) drawn.now first.now x)) }
     {
         let Some(read) = read_first(first) else {
             return Ok(None);
@@ -101,8 +101,8 @@ impl Exchange {
         stored: Option<&Text>,
     ) -> Result<Option<Shown>, AllocError>
         ensures { IfOk result (λ it. MatchOption it
-            (IsRefused self.now last.now (option_copied stored.entry))
-            (λ shown. IsShown self.now last.now (option_copied stored.entry) shown.text
+            (IsRefusedLogin self.now last.now (option_copied stored.entry))
+            (λ shown. IsShownLogin self.now last.now (option_copied stored.entry) shown.text
             × (shown.message.items ≡ server_final self.now.verifier (messages self.now)))) }
     {
         let Some(proof) = self.proof_in(alloc, last)? else {
@@ -134,7 +134,7 @@ impl Exchange {
     // Whether a proof shows the password of the exchange's verifier.
     fn is_shown_by(&self, alloc: Global, proof: &[u8; 32]) -> Result<bool, AllocError>
         ensures { IfOk result (λ it. IsTrue it
-            ↔ Shows self.now.verifier (messages self.now) proof.now) }
+            ↔ ShowsPassword self.now.verifier (messages self.now) proof.now) }
     {
         let messages = self.messages(alloc)?;
         Ok(self.verifier.is_shown_by(&messages, proof))

@@ -1,7 +1,7 @@
 //! The first message of a client.
 
 ghost use Rattle.std.specs.Prelude.{◌≡◌, ◌≢◌, ◌≤◌, ◌++◌, ◌∷◌, ◌↔◌, ℕ, List, All, IsTrue, IfSome, MatchOption, length};
-ghost use Rattle.scram.specs.Messages.{IsFirst, IsNonceByte, header};
+ghost use Rattle.scram.specs.Messages.{IsFirstMessage, IsNonceByte, header};
 ghost use Rattle.scram.specs.Exchanges.{IsNoFirst};
 
 use crate::messages::Binding;
@@ -21,7 +21,7 @@ pub struct FirstMessage<'t> {
 /// extension, or a nonce that is empty or has a byte that is not printable.
 pub fn read_first(text: &[u8]) -> Option<FirstMessage<'_>>
     ensures { MatchOption result (IsNoFirst text.now)
-        (λ first. IsFirst text.now first.binding first.bare.now first.nonce.now) }
+        (λ first. IsFirstMessage text.now first.binding first.bare.now first.nonce.now) }
 {
     let Some((binding, bare)) = without_header(text) else {
         return None;

@@ -2,29 +2,29 @@
 
 ghost use Rattle.std.specs.Prelude.{◌≡◌, ℕ, List, Option, length};
 ghost use Rattle.base64.specs.GeneralPurpose.{IsBytes};
-ghost use Rattle.scram_hashes.specs.Keys.{Shows, TheVerifier};
-ghost use Rattle.scram.specs.Exchanges.{Authenticates, Begins, HasProof, IsRefused, IsShown, TheExchange, WasShown, messages};
+ghost use Rattle.scram_hashes.specs.Keys.{ShowsPassword, TheVerifier};
+ghost use Rattle.scram.specs.Exchanges.{Authenticates, BeginsExchange, HasProof, IsRefusedLogin, IsShownLogin, TheExchange, WasShown, messages};
 ghost use Rattle.scram.specs.Mocks.{StoresNone, TheMock};
 
 /// What an exchange shows was shown: its text was stored when the exchange began and still is, and the messages of the client show
 /// the password of the verifier that it spells.
 pub fn what_is_shown_was_shown()
     ensures { (mock : TheMock) (role drawn first last text : List ℕ) (stored now : Option (List ℕ))
-        (x : TheExchange) → Begins mock role stored drawn first x → IsShown x last now text
+        (x : TheExchange) → BeginsExchange mock role stored drawn first x → IsShownLogin x last now text
         → WasShown stored now drawn first last text }
 {}
 
 /// A wrong proof shows nothing.
 pub fn wrong_proof_is_refused()
     ensures { (x : TheExchange) (last proof : List ℕ) (now : Option (List ℕ)) → HasProof x last proof
-        → (Shows x.verifier (messages x) proof → ⊥) → IsRefused x last now }
+        → (ShowsPassword x.verifier (messages x) proof → ⊥) → IsRefusedLogin x last now }
 {}
 
 /// A role without a verifier is refused, whatever the client sends.
 pub fn no_verifier_is_refused()
     ensures { (mock : TheMock) (role drawn first last : List ℕ) (stored now : Option (List ℕ))
-        (x : TheExchange) → Begins mock role stored drawn first x → StoresNone stored
-        → IsRefused x last now }
+        (x : TheExchange) → BeginsExchange mock role stored drawn first x → StoresNone stored
+        → IsRefusedLogin x last now }
 {}
 
 /// A last message shows a password in no other exchange, of this role or of another, unless the same bytes were drawn for both.

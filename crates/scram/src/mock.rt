@@ -1,7 +1,7 @@
 //! What stands in for a role that has no verifier.
 
 ghost use Rattle.std.specs.Prelude.{◌≡◌, IfOk, length, take};
-ghost use Rattle.scram_hashes.specs.VerifierText.{IsCount};
+ghost use Rattle.scram_hashes.specs.VerifierText.{IsIterationCount};
 ghost use Rattle.scram_hashes.specs.Keys.{TheVerifier};
 ghost use Rattle.scram.specs.Mocks.{TheMock, mock_verifier};
 
@@ -23,19 +23,19 @@ pub struct Mock {
 
 impl Model for Mock {
     ghost use Rattle.scram.specs.Mocks.{TheMock};
-    ghost use Rattle.scram_hashes.specs.VerifierText.{IsCount};
+    ghost use Rattle.scram_hashes.specs.VerifierText.{IsIterationCount};
 
     ghost Value = { TheMock };
 
     ghost view = { λ m. record { secret = m.secret; iterations = m.iterations } };
 
-    ghost invariant = { λ m. IsCount m.iterations };
+    ghost invariant = { λ m. IsIterationCount m.iterations };
 }
 
 impl Mock {
     /// The mock of a secret.
     pub fn new(secret: [u8; 32], iterations: u32) -> Mock
-        requires { IsCount iterations }
+        requires { IsIterationCount iterations }
         ensures { result ≡ record { secret = secret; iterations = iterations } }
     {
         Mock { secret, iterations }

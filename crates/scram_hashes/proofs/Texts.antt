@@ -7,7 +7,7 @@ use Rattle.std.proofs.lemmas.Fmt.{decimal_injective, decimal_is_IsNumeral}
 use Rattle.std.proofs.lemmas.Str.Parse.{digit_at}
 use Rattle.scram_hashes.specs.Base64.{base64}
 use Rattle.scram_hashes.specs.Keys.{IsVerifier, TheVerifier}
-use Rattle.scram_hashes.specs.VerifierText.{Spells, verifier_text}
+use Rattle.scram_hashes.specs.VerifierText.{SpellsVerifier, verifier_text}
 use Rattle.scram_hashes.proofs.Base64.{base64-injective, base64_lacks_colon, base64_lacks_dollar}
 use Rattle.scram_hashes.proofs.Cuts.{same_cut}
 
@@ -31,7 +31,7 @@ same_parts v w salt iterations stored server =
     ∙ ap (λ x. verifier_by w.salt w.iterations w.stored_key x) server
 
 -- a text spells one verifier
-pub same_Spells : (text : List ℕ) (v w : TheVerifier) → Spells text v → Spells text w → v ≡ w
+pub same_Spells : (text : List ℕ) (v w : TheVerifier) → SpellsVerifier text v → SpellsVerifier text w → v ≡ w
 same_Spells text v w one two =
     let whole : verifier_text v ≡ verifier_text w = sym one.text_is ∙ two.text_is in
     let rest = append_cancel_left (codes "SCRAM-SHA-256$") _ _ whole in

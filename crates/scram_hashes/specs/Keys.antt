@@ -48,8 +48,8 @@ abbrev pub client_proof : List ℕ → List ℕ → List ℕ
 client_proof salted messages = xor_bytes (client_key salted) (hmac_sha256 (stored_key_of salted) messages)
 
 -- ClientSignature taken off the proof leaves a key, and its digest is the stored key
-abbrev pub Shows : TheVerifier → List ℕ → List ℕ → Type 0
-Shows verifier messages proof = sha256 (xor_bytes proof (hmac_sha256 verifier.stored_key messages)) ≡ verifier.stored_key
+abbrev pub ShowsPassword : TheVerifier → List ℕ → List ℕ → Type 0
+ShowsPassword verifier messages proof = sha256 (xor_bytes proof (hmac_sha256 verifier.stored_key messages)) ≡ verifier.stored_key
 
 -- ServerSignature: what shows to the client that the server has the verifier
 abbrev pub server_signature : TheVerifier → List ℕ → List ℕ
@@ -58,4 +58,4 @@ server_signature verifier messages = hmac_sha256 verifier.server_key messages
 -- who has the password can show it, for any messages
 abbrev pub PasswordShows : List ℕ → List ℕ → ℕ → List ℕ → Type 0
 PasswordShows password salt iterations messages =
-    Shows (verifier_of password salt iterations) messages (client_proof (hi password salt iterations) messages)
+    ShowsPassword (verifier_of password salt iterations) messages (client_proof (hi password salt iterations) messages)

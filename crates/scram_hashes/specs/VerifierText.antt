@@ -13,16 +13,16 @@ verifier_text verifier =
     joined (decimal verifier.iterations) (base64 verifier.salt) (base64 verifier.stored_key) (base64 verifier.server_key)
 
 -- this text spells this verifier
-pub record Spells (text : List ℕ) (verifier : TheVerifier) : Type 0 where
+pub record SpellsVerifier (text : List ℕ) (verifier : TheVerifier) : Type 0 where
   pub is_verifier : IsVerifier verifier
   pub text_is : text ≡ verifier_text verifier
 
 -- it spells none
 abbrev pub SpellsNone : List ℕ → Type 0
-SpellsNone text = (verifier : TheVerifier) → Spells text verifier → ⊥
+SpellsNone text = (verifier : TheVerifier) → SpellsVerifier text verifier → ⊥
 
 -- a count of iterations that a verifier may have
-pub record IsCount (iterations : ℕ) : Type 0 where
+pub record IsIterationCount (iterations : ℕ) : Type 0 where
   pub least : 4096 ≤ iterations
   pub most : iterations ≤ 1000000
 

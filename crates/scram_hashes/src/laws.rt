@@ -2,7 +2,7 @@
 
 ghost use Rattle.std.specs.Prelude.{◌≡◌, ℕ, List};
 ghost use Rattle.scram_hashes.specs.Keys.{PasswordShows, TheVerifier};
-ghost use Rattle.scram_hashes.specs.VerifierText.{Spells};
+ghost use Rattle.scram_hashes.specs.VerifierText.{SpellsVerifier};
 
 /// Whoever has the password of a verifier can show it, whatever the messages are.
 pub fn password_shows()
@@ -12,6 +12,6 @@ pub fn password_shows()
 
 /// A text spells one verifier at most.
 pub fn one_verifier()
-    ensures { (text : List ℕ) (verifier other : TheVerifier) → Spells text verifier
-        → Spells text other → verifier ≡ other }
+    ensures { (text : List ℕ) (verifier other : TheVerifier) → SpellsVerifier text verifier
+        → SpellsVerifier text other → verifier ≡ other }
 {}

@@ -2,8 +2,8 @@
 
 ghost use Rattle.std.specs.Prelude.{◌≡◌, ◌≤◌, ◌↔◌, IfOk, IsTrue, MatchOption, length, string_bytes};
 ghost use Rattle.base64.specs.GeneralPurpose.{IsBytes};
-ghost use Rattle.scram_hashes.specs.Keys.{IsVerifier, Shows, TheVerifier, server_signature, verifier_of};
-ghost use Rattle.scram_hashes.specs.VerifierText.{IsCount, IsSaltSize, Spells, SpellsNone, verifier_text};
+ghost use Rattle.scram_hashes.specs.Keys.{IsVerifier, ShowsPassword, TheVerifier, server_signature, verifier_of};
+ghost use Rattle.scram_hashes.specs.VerifierText.{IsIterationCount, IsSaltSize, SpellsVerifier, SpellsNone, verifier_text};
 
 use crate::bytes::{are_equal, xor};
 use crate::decoding::{decode, decode_key};
@@ -59,7 +59,7 @@ impl Verifier {
         server_key: [u8; 32],
     ) -> Verifier
         requires size { IsSaltSize (length salt.items) }
-        requires count { IsCount iterations }
+        requires count { IsIterationCount iterations }
         ensures { result ≡ record {
           salt = salt.items;
           iterations = iterations;
@@ -81,7 +81,7 @@ impl Verifier {
     /// The verifier of a password under a salt.
     pub fn of_password(password: &[u8], salt: Vec<u8>, iterations: u32) -> Verifier
         requires size { IsSaltSize (length salt.items) }
-        requires count { IsCount iterations }
+        requires count { IsIterationCount iterations }
         ensures { result ≡ verifier_of password.now salt.items iterations }
     {
         let salted = derive_key(password, &salt, iterations);
@@ -95,7 +95,7 @@ impl Verifier {
     /// The only error is that memory was refused.
     pub fn from_text(alloc: Global, text: &str) -> Result<Option<Verifier>, AllocError>
         ensures { IfOk result (λ it. MatchOption it (SpellsNone text.now)
-            (λ verifier. Spells text.now verifier)) }
+            (λ verifier. SpellsVerifier text.now verifier)) }
     {
         let Some(parts) = parts_of(text) else {
             return Ok(None);
@@ -122,7 +122,7 @@ impl Verifier {
     ///
     /// The only error is that memory was refused.
     pub fn to_text(&self, alloc: Global) -> Result<String, AllocError>
-        ensures { IfOk result (λ text. Spells (string_bytes text) self.now) }
+        ensures { IfOk result (λ text. SpellsVerifier (string_bytes text) self.now) }
     {
         let mut buffer = Buffer::new();
         let mut text = String::from_str(alloc, "SCRAM-SHA-256$")?;
@@ -146,7 +146,7 @@ impl Verifier {
     /// How many iterations the keys took.
     pub fn iterations(&self) -> u32
         ensures value { result ≡ self.now.iterations }
-        ensures count { IsCount result }
+        ensures count { IsIterationCount result }
     {
         self.iterations
     }
@@ -160,7 +160,7 @@ impl Verifier {
 
     /// Whether a proof shows the password for these messages.
     pub fn is_shown_by(&self, messages: &[u8], proof: &[u8; 32]) -> bool
-        ensures { IsTrue result ↔ Shows self.now messages.now proof.now }
+        ensures { IsTrue result ↔ ShowsPassword self.now messages.now proof.now }
     {
         let signature = hmac_sha256(&self.stored_key, messages);
         let client_key = xor(proof, &signature);

@@ -3,7 +3,7 @@
 ghost use Rattle.std.specs.Prelude.{◌≡◌, ◌≢◌, ◌<◌, ◌≤◌, ◌++◌, ◌∷◌, ℕ, List, All, MatchOption, IfSome, codes, decimal};
 ghost use Rattle.scram_hashes.specs.Base64.{base64};
 ghost use Rattle.scram_hashes.specs.Keys.{IsVerifier, TheVerifier};
-ghost use Rattle.scram_hashes.specs.VerifierText.{IsCount, joined, verifier_text};
+ghost use Rattle.scram_hashes.specs.VerifierText.{IsIterationCount, joined, verifier_text};
 
 use itoa::Buffer;
 
@@ -63,8 +63,8 @@ pub fn parts_of(text: &str) -> Option<VerifierParts<'_>>
 /// The number that a text writes in decimal without signs and leading zeros, where a verifier may have so many iterations.
 pub fn iterations_in(text: &str) -> Option<u32>
     ensures { MatchOption result
-        ((iterations : ℕ) → IsCount iterations → text.now ≢ decimal iterations)
-        (λ iterations. IsCount iterations × (text.now ≡ decimal iterations)) }
+        ((iterations : ℕ) → IsIterationCount iterations → text.now ≢ decimal iterations)
+        (λ iterations. IsIterationCount iterations × (text.now ≡ decimal iterations)) }
 {
     let Ok(iterations) = text.parse::<u32>() else {
         return None;
