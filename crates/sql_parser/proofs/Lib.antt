@@ -5,3 +5,6 @@ mod Moves
 mod OpenCounts
 mod PolicyTexts
 mod Trimming
+mod Spellings
+mod WholeFronts
+mod Searches

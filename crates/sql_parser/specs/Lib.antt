@@ -1,2 +1,4 @@
+pub mod Completions
 pub mod Forms
+pub mod Places
 pub mod Policies

@@ -12,7 +12,11 @@
 //! - `*` and `count(*)` have a FROM, and `count(*)` has neither ORDER BY nor LIMIT.
 #![tactic(auto)]
 
+mod beginnings;
+mod completions;
 mod depth;
 mod form_rules;
+mod fronts;
 pub mod laws;
 pub mod parse;
+pub mod places;
