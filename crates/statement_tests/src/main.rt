@@ -1,13 +1,15 @@
 //! Tests of statements: how sections of a description are laid out (`layouts`), what texts stand for (`texts`), what statements over
-//! rows answer (`rows`), what records of a database stand for (`records`), and statements that define something (`definitions`).
+//! rows answer (`rows`), what records of a database stand for (`records`), statements that define something (`definitions`), and
+//! where broken texts go wrong (`places`).
 //!
 //! A line `part NAME` of standard input begins one of these parts, whose lines follow; what each of them means is said at the head
-//! of the part. `records.py` and `definitions.py` read the lines of two of them and write the same answers.
+//! of the part. `records.py`, `definitions.py` and `places.py` read the lines of three of them and write the same answers.
 #![tactic(auto)]
 
 mod definitions;
 mod layouts;
 mod names;
+mod places;
 mod records;
 mod rows;
 mod texts;
@@ -31,6 +33,7 @@ enum StatementPart {
     Rows,
     Records,
     Definitions,
+    Places,
 }
 
 /// The parts, each with what its lines left there.
@@ -100,6 +103,7 @@ impl StatementTests {
             StatementPart::Rows => self.rows.follow(self.alloc, line, out),
             StatementPart::Records => self.records.follow(line, out),
             StatementPart::Definitions => self.definitions.follow(self.alloc, line, out),
+            StatementPart::Places => Ok(places::follow(self.alloc, line, out)?),
         }
     }
 
@@ -112,6 +116,7 @@ impl StatementTests {
             "rows" => StatementPart::Rows,
             "records" => StatementPart::Records,
             "definitions" => StatementPart::Definitions,
+            "places" => StatementPart::Places,
             _ => bail!("there is no such part"),
         };
         Ok(())

@@ -5,7 +5,7 @@
 //! A line that begins with `-- ` is told as it is. In a text `\n`, `\r`, `\t`, `\f`, `\v` and `\0` stand for a newline,
 //! a carriage return, a tab, a form feed, a vertical tab and a zero byte, `\s` for a space, and `{N*X}` for N times X.
 
-mod escapes;
+pub mod escapes;
 mod printed_expressions;
 mod printed_sources;
 mod printed_statements;
