@@ -88,7 +88,9 @@ for words that are no command.
 ";
 
 /// The version of the program.
-pub const VERSION_NUMBER: &str = "0.1.0";
+pub const VERSION_NUMBER: &str = "0.2.0";
 
-/// What `--version` prints.
-pub const VERSION: &str = "guarddb 0.1.0\n";
+/// What `--version` prints: the version, and the formats of files that this program reads and writes.
+pub const VERSION: &str = "guarddb 0.2.0
+file formats: reads 1, 2 and 3; writes 2 and 3
+";
