@@ -622,15 +622,17 @@ class Program(unittest.TestCase):
 
     def test_files_are_private(self):
         """Whatever the umask lets through, the owner alone may open a database, or connect to a socket."""
-        before = os.umask(0)
-        try:
-            path = self.path('db')
-            make_database(path)
-            self.assertEqual(os.stat(path).st_mode & 0o777, 0o600)
-            with served(path, socket_path=self.path('at')) as place, guarddb.connect(place, wait=10, timeout=20):
-                self.assertEqual(os.stat(place).st_mode & 0o777, 0o600)
-        finally:
-            os.umask(before)
+        for umask in (0, 0o022, 0o277, 0o777):
+            with self.subTest(umask=oct(umask)):
+                path, place = self.path(f'db{umask}'), self.path(f'at{umask}')
+                before = os.umask(umask)
+                try:
+                    make_database(path)
+                    with served(path, socket_path=place) as place, guarddb.connect(place, wait=10, timeout=20):
+                        self.assertEqual(os.stat(place).st_mode & 0o777, 0o600)
+                finally:
+                    os.umask(before)
+                self.assertEqual(os.stat(path).st_mode & 0o777, 0o600)
 
 
 if __name__ == '__main__':
