@@ -6,7 +6,7 @@
 A line for each finding, with its file and line; the last line is a count, and the status is 1 where there is one:
 
 - a public function of crates/*/src that no file names but where it is defined. Nothing has to call a law, whose contract is a fact:
-  a function whose body is empty or only names other laws, or one of LAWS;
+  a function whose body is empty or only names other laws, or one of LAWS, nor yet what COMING has;
 - a function, type, definition or path in backticks, in a page, that is not there;
 - a public function that such a page names, while nothing in the program calls it: tests are no callers here.
 
@@ -37,6 +37,11 @@ LAWS = {
     'systems::MemSystem::new': 'there is a faithful system',
     'wire::Recorder::new': 'there is a sink that keeps the store\'s number at each answer',
 }
+# What no command calls yet, each with what it is for.
+COMING = {
+    'scram::Mock::of_verifier': 'a server that keeps the secret of its mocks in its table of passwords',
+    'sql_parser::error_place': 'commands and clients that explain a syntax error',
+}
 # What tests alone call: a device in memory fails and stops when it is asked to.
 FOR_TESTS = {'sector_device::MemDevice'}
 # Names of others, which pages name: PostgreSQL, SQLite, Linux, systemd, Python and Rust have them.
@@ -66,7 +71,7 @@ class Code:
     def __init__(self):
         self.files = [sources.File(path) for path in sources.paths(TOP)]
         self.functions = [function for file in self.files for function in file.functions]
-        self.laws = sources.laws_of(self.functions) | {function for function in self.functions if path_of(function) in LAWS}
+        self.laws = sources.laws_of(self.functions) | {function for function in self.functions if path_of(function) in LAWS | COMING}
         self.crates = {file.crate for file in self.files}
         self.words = collections.defaultdict(set)       # all that is written in each crate and in the scripts, comments apart
         for path in sources.all_paths(TOP):
