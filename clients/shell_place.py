@@ -38,8 +38,10 @@ def say(text):
 
 
 def warn(text):
-    with contextlib.suppress(OSError):
+    try:
         print(text, file=sys.stderr, flush=True)
+    except OSError:
+        os.dup2(os.open(os.devnull, os.O_WRONLY), 2)        # else Python tries it once more at its end, and changes the status
 
 
 def cause(fault):

@@ -42,7 +42,7 @@ LETTERS = 'aé日한\u1112\u1161\u11ab🙂\u0301 \'"\\\\\n\r\t\x1b\u202e\u200d-;
 
 
 def environment(folder):
-    kept = {name: value for name, value in os.environ.items() if name not in ('COLUMNS', 'LINES', 'PYTHONPATH')}
+    kept = {name: value for name, value in os.environ.items() if name not in ('COLUMNS', 'LINES', 'PYTHONPATH', 'PYTHONUNBUFFERED')}
     return {**kept, 'GUARDDB': PROGRAM, 'GUARDDB_HISTORY': os.path.join(folder, 'history'), 'TERM': 'dumb', 'PS1': '$ ',
             'LC_ALL': 'C.UTF-8', 'TMPDIR': folder, 'BASH_SILENCE_DEPRECATION_WARNING': '1'}
 
