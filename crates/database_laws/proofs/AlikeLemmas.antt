@@ -223,7 +223,7 @@ delete_checked_by db find users s = do
   allowed ← require_needs db users (needs_of_delete table condition)
   Ok (record { table = table; condition = condition; reads = has_any (columns_read 0 (option_to_list condition)) })
 
-delete_alone : (db : Database) (users : UserNames) (s : Delete) → checked_delete db users s ≡ checked_delete (without_rows db) users s
+pub delete_alone : (db : Database) (users : UserNames) (s : Delete) → checked_delete db users s ≡ checked_delete (without_rows db) users s
 delete_alone db users s = ap (λ (find : TheName → Option TableOf). delete_checked_by db find users s) (fun_ext (λ (name : TheName). definitions_alone db name))
 
 -- the rows that are left, and how many are gone

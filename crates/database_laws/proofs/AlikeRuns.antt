@@ -34,9 +34,9 @@ use Rattle.database_laws.proofs.AllAlikeDefinitions.{definition_ends, refused_al
 pub held_at : (number : ℕ) (h : Holder) (committed : Database) (b : Bool) → (h.session == number) ≡ b → seen_by number (Some h) committed ≡ cond b h.database committed
 held_at number h committed b e = ap (λ (x : Bool). cond x h.database committed) e
 
-module _ (login : TheName) where
+module _ (login : TheName → Bool) where
   -- where both hold the slot, or neither does, other databases may be committed
-  seen_where : (number : ℕ) (g h : Option Holder) (old c new f : Database) → holds_slot number g ≡ holds_slot number h → SameApparentRowsForLogin login (seen_by number g old) (seen_by number h c) → SameApparentRowsForLogin login new f →
+  pub seen_where : (number : ℕ) (g h : Option Holder) (old c new f : Database) → holds_slot number g ≡ holds_slot number h → SameApparentRowsForLogin login (seen_by number g old) (seen_by number h c) → SameApparentRowsForLogin login new f →
       SameApparentRowsForLogin login (seen_by number g new) (seen_by number h f)
   seen_where number None None old c new f same alike next = next
   seen_where number None (Some h) old c new f same alike next = subst (λ (x : Database). SameApparentRowsForLogin login new x) (sym (held_at number h f false (sym same))) next
@@ -74,19 +74,19 @@ own_slot number db c = let e : (number == number) ≡ true = eq-eqb number numbe
 
 -- ---- both machines move alike
 
-module _ (number : ℕ) (login : TheName) where
+module _ (number : ℕ) (login : TheName → Bool) where
   pub data MoveAlike (m k : Machine) : Machine → Machine → Type 0 where
     stay : MoveAlike m k m k
-    change : (s : Session) → s.login ≡ login → MoveAlike m k (with_session_changed m number s) (with_session_changed k number s)
-    end : (s : Session) (role : TheName) (d e : Database) → s.login ≡ login → SameApparentRowsForLogin login d e → MoveAlike m k (with_block_ended m number s d role) (with_block_ended k number s e role)
+    change : (s : Session) → login s.login ≡ true → MoveAlike m k (with_session_changed m number s) (with_session_changed k number s)
+    end : (s : Session) (role : TheName) (d e : Database) → login s.login ≡ true → SameApparentRowsForLogin login d e → MoveAlike m k (with_block_ended m number s d role) (with_block_ended k number s e role)
     commit_at_once : (d e : Database) → SameApparentRowsForLogin login d e → MoveAlike m k (record m { committed = d }) (record k { committed = e })
     hold : (d e : Database) → SameApparentRowsForLogin login d e → MoveAlike m k (record m { holder = Some (record { session = number; database = d }) }) (record k { holder = Some (record { session = number; database = e }) })
 
   there_alike : (m k : Machine) (s : Session) → session_of number (with_session m.sessions number s) ≡ session_of number (with_session k.sessions number s)
   there_alike m k s = session_there m.sessions number s ∙ sym (session_there k.sessions number s)
 
-  login_after : (sessions : List (ℕ × Session)) (s : Session) → s.login ≡ login → (t : Session) → session_of number (with_session sessions number s) ≡ Some t → t.login ≡ login
-  login_after sessions s own t h = let same : ◌≡◌ {A = Option Session} (Some s) (Some t) = sym (session_there sessions number s) ∙ h in ap (λ (o : Option Session). login_of o) (sym same) ∙ own where
+  login_after : (sessions : List (ℕ × Session)) (s : Session) → login s.login ≡ true → (t : Session) → session_of number (with_session sessions number s) ≡ Some t → login t.login ≡ true
+  login_after sessions s own t h = let same : ◌≡◌ {A = Option Session} (Some s) (Some t) = sym (session_there sessions number s) ∙ h in ap (λ (o : Option Session). login (login_of o)) (sym same) ∙ own where
     login_of : Option Session → TheName
     login_of None = []
     login_of (Some x) = x.login
@@ -139,7 +139,7 @@ module _ (number : ℕ) (login : TheName) where
 
   -- ---- one statement of the session
 
-  module _ (m k : Machine) (st : MachinesAlikeForSession number login m k) (on_m : AreSound m) (on_k : AreSound k) (s : Session) (own : s.login ≡ login) where
+  module _ (m k : Machine) (st : MachinesAlikeForSession number login m k) (on_m : AreSound m) (on_k : AreSound k) (s : Session) (own : login s.login ≡ true) where
     abbrev Both : Transition → Transition → Type 0
     Both t u = Alike m k t u
 
@@ -214,14 +214,14 @@ module _ (number : ℕ) (login : TheName) where
     role_set : (role : Option TheName) → with_role_set (seen m number) s role ≡ with_role_set (seen k number) s role
     role_set role = ap (λ (db : Database). with_role_set db s role) st.seen.definitions
 
-    keeps_login : (db : Database) (role : Option TheName) → Every (λ (c : Session). c.login ≡ login) (with_role_set db s role)
-    keeps_login db None = every_ok (λ (c : Session). c.login ≡ login) (as_role s.login s) own
+    keeps_login : (db : Database) (role : Option TheName) → Every (λ (c : Session). login c.login ≡ true) (with_role_set db s role)
+    keeps_login db None = every_ok (λ (c : Session). login c.login ≡ true) (as_role s.login s) own
     keeps_login db (Some role) =
-        every_bind (λ (c : Session). c.login ≡ login) (require (has_role db role) UndefinedObject) _ (λ u a.
-        every_bind (λ (c : Session). c.login ≡ login) (require (may_set_role db s.login role) InsufficientPrivilege) _ (λ v b.
-        every_ok (λ (c : Session). c.login ≡ login) (as_role role s) own))
+        every_bind (λ (c : Session). login c.login ≡ true) (require (has_role db role) UndefinedObject) _ (λ u a.
+        every_bind (λ (c : Session). login c.login ≡ true) (require (may_set_role db s.login role) InsufficientPrivilege) _ (λ v b.
+        every_ok (λ (c : Session). login c.login ≡ true) (as_role role s) own))
 
-    set_both : (r : Result Session SqlState) → Every (λ (c : Session). c.login ≡ login) r →
+    set_both : (r : Result Session SqlState) → Every (λ (c : Session). login c.login ≡ true) r →
         DoAlike (r >>= λ changed. Ok (succeeds tag.Set (with_session_changed m number changed))) (r >>= λ changed. Ok (succeeds tag.Set (with_session_changed k number changed)))
     set_both (Ok c) keeps = record { answers = refl; move = change c (keeps c refl) }
     set_both (Err code) keeps = refl
@@ -246,7 +246,7 @@ module _ (number : ℕ) (login : TheName) where
 
     -- a role that may execute a statement of the database is one that the login role may set
     acts_of : (x : DatabaseStatement) (v : Unit {0}) → may_execute m number s (statement.OnDatabase x) ≡ Ok v → MayActAs (seen m number) login pair
-    acts_of x v is = (own, subst (λ (l : TheName). may_set_role (seen m number) l s.role ≡ true) own (allowed v is)) where
+    acts_of x v is = (own, allowed v is) where
       allowed : Every (λ (u : Unit {0}). may_set_role (seen m number) s.login s.role ≡ true) (may_execute m number s (statement.OnDatabase x))
       allowed =
           every_bind (λ (u : Unit {0}). may_set_role (seen m number) s.login s.role ≡ true) (require (not (has_failed s.block)) InFailedTransaction) _ (λ a a-is.
@@ -306,16 +306,25 @@ module _ (number : ℕ) (login : TheName) where
           ap (λ (r : Result (Unit {0}) SqlState). (transition_or_refusal n number s (r >>= λ u. exec (seen n number) pair x >>= λ e. Ok (applied n number s (changes_database x) e))).answer) free
           ∙ ap (λ (r : Result Effect SqlState). (transition_or_refusal n number s (r >>= λ e. Ok (applied n number s (changes_database x) e))).answer) comes
 
-      applied_answer : (writing : Bool) (p : Effect) → (applied m number s writing p).answer ≡ p.answer
-      applied_answer true p = refl
-      applied_answer false p = refl
+      applied_answer : (n : Machine) (writing : Bool) (p : Effect) → (applied n number s writing p).answer ≡ p.answer
+      applied_answer n true p = refl
+      applied_answer n false p = refl
 
-      carried_with : (x : DatabaseStatement) (v : Unit {0}) (p : Effect) → may_execute m number s (statement.OnDatabase x) ≡ Ok v → exec (seen m number) pair x ≡ Ok p →
-          (execute_on_database m number s x).answer ≡ p.answer
-      carried_with x v p free comes =
-          ap (λ (r : Result (Unit {0}) SqlState). (transition_or_refusal m number s (r >>= λ u. exec (seen m number) pair x >>= λ e. Ok (applied m number s (changes_database x) e))).answer) free
-          ∙ ap (λ (r : Result Effect SqlState). (transition_or_refusal m number s (r >>= λ e. Ok (applied m number s (changes_database x) e))).answer) comes
-          ∙ applied_answer (changes_database x) p
+      carried_with : (n : Machine) (x : DatabaseStatement) (v : Unit {0}) (p : Effect) → may_execute n number s (statement.OnDatabase x) ≡ Ok v → exec (seen n number) pair x ≡ Ok p →
+          (execute_on_database n number s x).answer ≡ p.answer
+      carried_with n x v p free comes =
+          ap (λ (r : Result (Unit {0}) SqlState). (transition_or_refusal n number s (r >>= λ u. exec (seen n number) pair x >>= λ e. Ok (applied n number s (changes_database x) e))).answer) free
+          ∙ ap (λ (r : Result Effect SqlState). (transition_or_refusal n number s (r >>= λ e. Ok (applied n number s (changes_database x) e))).answer) comes
+          ∙ applied_answer n (changes_database x) p
+
+      same_code : (c i : SqlState) → answer.Refused c ≡ answer.Refused i → c ≡ i
+      same_code c i e = cc
+
+      -- one that is not refused so is not answered so
+      not_told : (n : Machine) (x : DatabaseStatement) (v : Unit {0}) (code : SqlState) → session_of number n.sessions ≡ Some s → n.stopped ≡ false → may_execute n number s (statement.OnDatabase x) ≡ Ok v →
+          (r : Result Effect SqlState) → exec (seen n number) pair x ≡ r → (r ≡ Err code → ⊥) → answer_to n (shown x) ≡ answer.Refused code → ⊥
+      not_told n x v code at running free (Ok p) is other e = exec_answers (seen n number) pair x p is code (sym (answer_of n at running (Ok (statement.OnDatabase x)) ∙ carried_with n x v p free is) ∙ e)
+      not_told n x v code at running free (Err c) is other e = other (ap (λ (i : SqlState). Err i) (same_code c code (sym (answer_of n at running (Ok (statement.OnDatabase x)) ∙ refused_with n x v c free is) ∙ e)))
 
       -- ---- where it is not admitted, both refuse it
 
@@ -343,14 +352,24 @@ module _ (number : ℕ) (login : TheName) where
       on_seen_k : IsSound (seen k number)
       on_seen_k = sound_seen number k.holder k.committed on_k.committed on_k.holder
 
+      both_refuse : (r q : Result Effect SqlState) (code : SqlState) → r ≡ Err code → q ≡ Err code → EndAll login r q
+      both_refuse r q code e f = subst (λ (x : Result Effect SqlState). EndAll login x q) (sym e) (subst (λ (y : Result Effect SqlState). EndAll login (Err code) y) (sym f) refl)
+
       told_step : (x : RowStatement) → goes_by_visible (seen m number) s.role x ≡ true → SameSlot (statement.OnDatabase (on_database.OverRows x)) → (v : Unit {0}) → may_execute m number s (statement.OnDatabase (on_database.OverRows x)) ≡ Ok v → Step (on_database.OverRows x)
       told_step x told same v free =
           let y = on_database.OverRows x in
           let free_k : may_execute k number s (statement.OnDatabase y) ≡ Ok v = sym (may_alike (statement.OnDatabase y) same) ∙ free in
           elim (key_or_not (exec (seen m number) pair y)) [
-            | inl key ↦ inl (by_key (shown y) (inl (answer_of m there on (Ok (statement.OnDatabase y)) ∙ refused_with m y v UniqueViolation free key)))
+            | inl key ↦ elim (key_or_not (exec (seen k number) pair y)) [
+              | inl both ↦ inr (database_both y same (λ u is. both_refuse (exec (seen m number) pair y) (exec (seen k number) pair y) UniqueViolation key both))
+              | inr none ↦ inl (by_key (shown y) (inl (
+                  answer_of m there on (Ok (statement.OnDatabase y)) ∙ refused_with m y v UniqueViolation free key,
+                  not_told k y v UniqueViolation there_k on_running_k free_k (exec (seen k number) pair y) refl none)))
+            ]
             | inr other ↦ elim (key_or_not (exec (seen k number) pair y)) [
-              | inl key ↦ inl (by_key (shown y) (inr (answer_of k there_k on_running_k (Ok (statement.OnDatabase y)) ∙ refused_with k y v UniqueViolation free_k key)))
+              | inl key ↦ inl (by_key (shown y) (inr (
+                  answer_of k there_k on_running_k (Ok (statement.OnDatabase y)) ∙ refused_with k y v UniqueViolation free_k key,
+                  not_told m y v UniqueViolation there on free (exec (seen m number) pair y) refl other)))
               | inr none ↦ inr (database_both y same (λ u is.
                   subst (λ (r : Result Effect SqlState). EndAll login (exec (seen m number) pair y) r) (other_exec y)
                   (rows_end login (seen m number) (seen k number) st.seen on_seen_m on_seen_k pair (acts_of y u is) x told other (λ e. none (sym (other_exec y) ∙ e)))))
@@ -370,9 +389,6 @@ module _ (number : ℕ) (login : TheName) where
           refused_bare : (r : Result Checked SqlState) → (r >>= λ c. Ok (apart_from_rows c)) ≡ Err code → r ≡ Err code
           refused_bare (Err i) e = cc
           refused_bare (Ok c) e = cc
-
-      both_refuse : (r q : Result Effect SqlState) (code : SqlState) → r ≡ Err code → q ≡ Err code → EndAll login r q
-      both_refuse r q code e f = subst (λ (x : Result Effect SqlState). EndAll login x q) (sym e) (subst (λ (y : Result Effect SqlState). EndAll login (Err code) y) (sym f) refl)
 
       untold_step : (x : RowStatement) → goes_by_visible (seen m number) s.role x ≡ false → SameSlot (statement.OnDatabase (on_database.OverRows x)) →
           (r : Result Checked SqlState) → checked (seen m number) (as_seen pair (seen m number)) (on_database.OverRows x) ≡ r → Step (on_database.OverRows x)
@@ -407,7 +423,7 @@ module _ (number : ℕ) (login : TheName) where
       unhiding_step x told same v free (Ok p) is =
           let y = on_database.Defining x in
           inl (by_definition x told (λ refusal.
-          exec_answers (seen m number) pair y p is refusal.0 (sym (answer_of m there on (Ok (statement.OnDatabase y)) ∙ carried_with y v p free is) ∙ refusal.1)))
+          exec_answers (seen m number) pair y p is refusal.0 (sym (answer_of m there on (Ok (statement.OnDatabase y)) ∙ carried_with m y v p free is) ∙ refusal.1)))
 
       definition_step : (x : DefiningStatement) (b : Bool) → may_unhide x ≡ b → SameSlot (statement.OnDatabase (on_database.Defining x)) →
           (r : Result (Unit {0}) SqlState) → may_execute m number s (statement.OnDatabase (on_database.Defining x)) ≡ r → Step (on_database.Defining x)

@@ -241,7 +241,7 @@ insert_checked_by db find users s = do
   few ← require (nat_le (length s.rows) 256) ProgramLimitExceeded
   Ok (record { table = table; columns = columns; rows = rows })
 
-insert_alone : (db : Database) (users : UserNames) (s : Insert) → checked_insert db users s ≡ checked_insert (without_rows db) users s
+pub insert_alone : (db : Database) (users : UserNames) (s : Insert) → checked_insert db users s ≡ checked_insert (without_rows db) users s
 insert_alone db users s = ap (λ (find : TheName → Option TableOf). insert_checked_by db find users s) (fun_ext (λ (name : TheName). definitions_alone db name))
 
 abbrev pub FailsByKey : Result Effect SqlState → Type 0
@@ -346,7 +346,7 @@ update_checked_by db find users s = do
   allowed ← require_needs db users (needs_of_update table columns values condition)
   Ok (record { table = table; columns = columns; values = values; condition = condition; reads = has_any (columns_read 0 (values ++ option_to_list condition)) })
 
-update_alone : (db : Database) (users : UserNames) (s : Update) → checked_update db users s ≡ checked_update (without_rows db) users s
+pub update_alone : (db : Database) (users : UserNames) (s : Update) → checked_update db users s ≡ checked_update (without_rows db) users s
 update_alone db users s = ap (λ (find : TheName → Option TableOf). update_checked_by db find users s) (fun_ext (λ (name : TheName). definitions_alone db name))
 
 abbrev rows_so : ℕ → List Row → Changed

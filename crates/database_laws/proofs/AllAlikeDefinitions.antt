@@ -223,7 +223,7 @@ drop_role_keeps db users s = every_bind (KeepsTables db) (checked_drop_role db u
 
 -- ---- two databases afterwards
 
-module _ (login : TheName) (d e : Database) (alike : SameApparentRowsForLogin login d e) (pair : UserPair) (may : MayActAs d login pair) where
+module _ (login : TheName → Bool) (d e : Database) (alike : SameApparentRowsForLogin login d e) (pair : UserPair) (may : MayActAs d login pair) where
   abbrev users : UserNames
   users = as_seen pair d
 

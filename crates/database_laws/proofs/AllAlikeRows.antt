@@ -44,9 +44,9 @@ use Rattle.database_laws.proofs.OnePolicy.{update_over, delete_over}
 
 -- ---- databases afterwards
 
-module _ (login : TheName) (d e : Database) (alike : SameApparentRowsForLogin login d e) where
+module _ (login : TheName → Bool) (d e : Database) (alike : SameApparentRowsForLogin login d e) where
   pub acts_before : (a : Database) → without_rows a ≡ without_rows d → (pair : UserPair) → MayActAs a login pair → MayActAs d login pair
-  acts_before a same pair acts = (acts.0, sym (ap (λ (x : Database). may_set_role x login pair.current) same) ∙ acts.1)
+  acts_before a same pair acts = (acts.0, sym (ap (λ (x : Database). may_set_role x pair.session pair.current) same) ∙ acts.1)
 
   -- the definitions stay, and what is left looks alike to each to whom the databases did
   pub all_after : (a b : Database) → without_rows a ≡ without_rows d → without_rows b ≡ without_rows e → ((pair : UserPair) → MayActAs d login pair → SameApparentRows (as_seen pair d) a b) → SameApparentRowsForLogin login a b
@@ -56,7 +56,7 @@ module _ (login : TheName) (d e : Database) (alike : SameApparentRowsForLogin lo
   }
 
 -- refused with one code, or carried out with one answer, and what they leave looks alike again to all
-abbrev pub EndAll : TheName → Result Effect SqlState → Result Effect SqlState → Type 0
+abbrev pub EndAll : (TheName → Bool) → Result Effect SqlState → Result Effect SqlState → Type 0
 EndAll login (Ok a) (Ok b) = (a.answer ≡ b.answer) × SameApparentRowsForLogin login a.database b.database
 EndAll login (Err c) (Err k) = c ≡ k
 EndAll login (Ok a) (Err k) = ⊥
@@ -94,7 +94,7 @@ select_leaves db users s =
     every_bind (λ (x : Effect). x.database ≡ db) (query (map (source_of db users) c.tables) users c.query) _ (λ rows rows-is.
     every_ok (λ (x : Effect). x.database ≡ db) (effect (answer.Rows rows) db) refl))
 
-module _ (login : TheName) (d e : Database) (alike : SameApparentRowsForLogin login d e) (on_d : IsSound d) (on_e : IsSound e) (pair : UserPair) (may : MayActAs d login pair) where
+module _ (login : TheName → Bool) (d e : Database) (alike : SameApparentRowsForLogin login d e) (on_d : IsSound d) (on_e : IsSound e) (pair : UserPair) (may : MayActAs d login pair) where
   abbrev users : UserNames
   users = as_seen pair d
 

@@ -53,6 +53,10 @@ pub mod AlikeRuns
 pub mod RunsAlike
 pub mod OthersLeftOut
 pub mod StoresAlike
+pub mod ClosedLemmas
+pub mod ToldRuns
+pub mod ToldStores
+pub mod ToldUnseen
 pub mod TwoTenants
 pub mod HiddenAnswers
 pub mod OtherEyes

@@ -152,7 +152,7 @@ look_back v d a e p q = record {
   rows = λ t h. let named = defined_alike v d a p t.name ∙ h in sym (p.rows t named) ∙ q.rows t named;
 }
 
-pub all_back : (login : TheName) (d a e : Database) → SameApparentRowsForLogin login d a → SameApparentRowsForLogin login d e → SameApparentRowsForLogin login a e
+pub all_back : (login : TheName → Bool) (d a e : Database) → SameApparentRowsForLogin login d a → SameApparentRowsForLogin login d e → SameApparentRowsForLogin login a e
 all_back login d a e p q = record {
   definitions = sym p.definitions ∙ q.definitions;
   rows = λ pair acts.
@@ -160,7 +160,7 @@ all_back login d a e p q = record {
       subst (λ (u : UserNames). SameApparentRows u a e) (ap (λ (x : Database). as_seen pair x) p.definitions) (look_back (as_seen pair d) d a e (p.rows pair before) (q.rows pair before));
 }
 
-module _ (number : ℕ) (login : TheName) (m k : Machine) (st : MachinesAlikeForSession number login m k) (event : Event Reading) (apart : nat_eq number (number_of event) ≡ false)
+module _ (number : ℕ) (login : TheName → Bool) (m k : Machine) (st : MachinesAlikeForSession number login m k) (event : Event Reading) (apart : nat_eq number (number_of event) ≡ false)
     (hides : SameApparentRowsForLogin login m.committed (after m event).committed) where
   committed_alike : SameApparentRowsForLogin login (after m event).committed k.committed
   committed_alike = all_back login m.committed (after m event).committed k.committed hides st.committed
@@ -199,7 +199,7 @@ or_false : (a b : Bool) → (a || b) ≡ false → (a ≡ false) × (b ≡ false
 or_false true b e = cc
 or_false false b e = (refl, e)
 
-module _ (number : ℕ) (login : TheName) where
+module _ (number : ℕ) (login : TheName → Bool) where
   abbrev Continues : Machine → Machine → List (Event Reading) → Type 0
   Continues m k later = (n j : Machine) → MachinesAlikeForSession number login n j → AreSound n → AreSound j → IsUnaffectedByOthers number login n j later
 
@@ -211,11 +211,11 @@ module _ (number : ℕ) (login : TheName) where
     next event own (inl exception) = excepted own exception
     next event own (inr both) = answered own both.answers (go (after m event) (after k event) (moved number login m k st (after m event) (after k event) both.move) (sound_after m event on_m) (sound_after k event on_k))
 
-    opened_at : (b : Bool) → (nat_le 256 (length m.sessions) || nat_le 256 (length k.sessions)) ≡ b → Unaffected m k (opens number login ∷ later)
-    opened_at true e = crowded_out e
-    opened_at false e =
+    opened_at : (l : TheName) → login l ≡ true → (b : Bool) → (nat_le 256 (length m.sessions) || nat_le 256 (length k.sessions)) ≡ b → Unaffected m k (opens number l ∷ later)
+    opened_at l own true e = crowded_out own e
+    opened_at l own false e =
         let both = or_false (nat_le 256 (length m.sessions)) (nat_le 256 (length k.sessions)) e in
-        next (opens number login) (refl, refl) (opened number login m k st on_m on_k (both.0 ∙ sym both.1))
+        next (opens number l) (refl, own) (opened number login m k st on_m on_k l own (both.0 ∙ sym both.1))
 
     abbrev held : Bool
     held = is_held_by_other number m.holder || is_held_by_other number k.holder
@@ -241,8 +241,7 @@ module _ (number : ℕ) (login : TheName) where
     own_event : (event : Event Reading) → IsOwn number login event → Unaffected m k (event ∷ later)
     own_event (opens n l) own =
         subst (λ (x : ℕ). Unaffected m k (opens x l ∷ later)) (sym own.0)
-        (subst (λ (x : TheName). Unaffected m k (opens number x ∷ later)) (sym own.1)
-        (opened_at (nat_le 256 (length m.sessions) || nat_le 256 (length k.sessions)) refl))
+        (opened_at l own.1 (nat_le 256 (length m.sessions) || nat_le 256 (length k.sessions)) refl)
     own_event (executes n reading) own = subst (λ (x : ℕ). Unaffected m k (executes x reading ∷ later)) (sym own) (read_at reading)
     own_event (closes n) own = subst (λ (x : ℕ). Unaffected m k (closes x ∷ later)) (sym own) (closed (closes_alike number login m k st on_m on_k))
 

@@ -18,7 +18,7 @@ use Rattle.database_laws.proofs.AlikeRuns.{MoveAlike, stay, change, end, commit_
 pub sound_after : (m : Machine) (event : Event Reading) → AreSound m → AreSound (after m event)
 sound_after m event on = let keeps = transition_holds IsSound sound m event on.committed on.holder in record { committed = keeps.0; holder = keeps.1 }
 
-module _ (number : ℕ) (login : TheName) where
+module _ (number : ℕ) (login : TheName → Bool) where
   abbrev pub Step : Machine → Machine → Event Reading → Type 0
   Step m k event = IsException number m k event ⊎ Alike number login m k (transition m event) (transition k event)
 
@@ -56,23 +56,23 @@ module _ (number : ℕ) (login : TheName) where
     pub executed : (reading : Reading) → SameSlot reading → Step m k (executes number reading)
     executed reading same = by_stop (executes number reading) (λ on. executed_at reading same on (session_of number m.sessions) refl) m.stopped refl
 
-    opened_as : (a b c : Bool) → Alike number login m k
-        (cond a (refuses m ConnectionNameInUse) (cond b (refuses m TooManyConnections) (cond c (succeeds tag.Open (with_session_changed m number (record { login = login; role = login; block = Outside }))) (refuses m InvalidAuthorization))))
-        (cond a (refuses k ConnectionNameInUse) (cond b (refuses k TooManyConnections) (cond c (succeeds tag.Open (with_session_changed k number (record { login = login; role = login; block = Outside }))) (refuses k InvalidAuthorization))))
-    opened_as true b c = record { answers = refl; move = stay }
-    opened_as false true c = record { answers = refl; move = stay }
-    opened_as false false true = record { answers = refl; move = change (record { login = login; role = login; block = Outside }) refl }
-    opened_as false false false = record { answers = refl; move = stay }
+    opened_as : (l : TheName) → login l ≡ true → (a b c : Bool) → Alike number login m k
+        (cond a (refuses m ConnectionNameInUse) (cond b (refuses m TooManyConnections) (cond c (succeeds tag.Open (with_session_changed m number (record { login = l; role = l; block = Outside }))) (refuses m InvalidAuthorization))))
+        (cond a (refuses k ConnectionNameInUse) (cond b (refuses k TooManyConnections) (cond c (succeeds tag.Open (with_session_changed k number (record { login = l; role = l; block = Outside }))) (refuses k InvalidAuthorization))))
+    opened_as l own true b c = record { answers = refl; move = stay }
+    opened_as l own false true c = record { answers = refl; move = stay }
+    opened_as l own false false true = record { answers = refl; move = change (record { login = l; role = l; block = Outside }) own }
+    opened_as l own false false false = record { answers = refl; move = stay }
 
-    abbrev opening : Machine → Bool → Bool → Bool → Transition
-    opening n a b c = cond a (refuses n ConnectionNameInUse) (cond b (refuses n TooManyConnections) (cond c (succeeds tag.Open (with_session_changed n number (record { login = login; role = login; block = Outside }))) (refuses n InvalidAuthorization)))
+    abbrev opening : TheName → Machine → Bool → Bool → Bool → Transition
+    opening l n a b c = cond a (refuses n ConnectionNameInUse) (cond b (refuses n TooManyConnections) (cond c (succeeds tag.Open (with_session_changed n number (record { login = l; role = l; block = Outside }))) (refuses n InvalidAuthorization)))
 
-    pub opened : nat_le 256 (length m.sessions) ≡ nat_le 256 (length k.sessions) → Step m k (opens number login)
-    opened room = by_stop (opens number login) (λ on. inr (running_both (opens number login) (open_session m number login) (open_session k number login) on refl refl
-        (subst (λ (a : Bool). Alike number login m k (open_session m number login) (opening k a (nat_le 256 (length k.sessions)) (may_log_in k.committed login))) (ap (λ (o : Option Session). is_some o) st.session)
-        (subst (λ (b : Bool). Alike number login m k (open_session m number login) (opening k (is_some (session_of number m.sessions)) b (may_log_in k.committed login))) room
-        (subst (λ (c : Bool). Alike number login m k (open_session m number login) (opening k (is_some (session_of number m.sessions)) (nat_le 256 (length m.sessions)) c)) (ap (λ (db : Database). may_log_in db login) st.committed.definitions)
-        (opened_as (is_some (session_of number m.sessions)) (nat_le 256 (length m.sessions)) (may_log_in m.committed login))))))) m.stopped refl
+    pub opened : (l : TheName) → login l ≡ true → nat_le 256 (length m.sessions) ≡ nat_le 256 (length k.sessions) → Step m k (opens number l)
+    opened l own room = by_stop (opens number l) (λ on. inr (running_both (opens number l) (open_session m number l) (open_session k number l) on refl refl
+        (subst (λ (a : Bool). Alike number login m k (open_session m number l) (opening l k a (nat_le 256 (length k.sessions)) (may_log_in k.committed l))) (ap (λ (o : Option Session). is_some o) st.session)
+        (subst (λ (b : Bool). Alike number login m k (open_session m number l) (opening l k (is_some (session_of number m.sessions)) b (may_log_in k.committed l))) room
+        (subst (λ (c : Bool). Alike number login m k (open_session m number l) (opening l k (is_some (session_of number m.sessions)) (nat_le 256 (length m.sessions)) c)) (ap (λ (db : Database). may_log_in db l) st.committed.definitions)
+        (opened_as l own (is_some (session_of number m.sessions)) (nat_le 256 (length m.sessions)) (may_log_in m.committed l))))))) m.stopped refl
 
     closed_at : (o : Option Session) → (close_session m number o).answer ≡ (close_session k number o).answer
     closed_at None = refl
@@ -143,8 +143,7 @@ module _ (number : ℕ) (login : TheName) where
   one : (m k : Machine) (event : Event Reading) (later : List (Event Reading)) → IsOwn number login event → SamePlaces m k → MachinesAlikeForSession number login m k → AreSound m → AreSound k → Continues m k later → IsUnaffected number m k (event ∷ later)
   one m k (opens n l) later own p st on_m on_k go =
       subst (λ (x : ℕ). IsUnaffected number m k (opens x l ∷ later)) (sym own.0)
-      (subst (λ (x : TheName). IsUnaffected number m k (opens number x ∷ later)) (sym own.1)
-      (next m k (opens number login) later p st on_m on_k go (opened m k st on_m on_k (ap (λ (l : List (ℕ × Session)). nat_le 256 (length l)) p.sessions))))
+      (next m k (opens number l) later p st on_m on_k go (opened m k st on_m on_k l own.1 (ap (λ (e : List (ℕ × Session)). nat_le 256 (length e)) p.sessions)))
   one m k (executes n reading) later own p st on_m on_k go =
       subst (λ (x : ℕ). IsUnaffected number m k (executes x reading ∷ later)) (sym own)
       (next m k (executes number reading) later p st on_m on_k go (executed m k st on_m on_k reading (λ x is. ap (λ (b : Bool). is_writing x && b) (holders_alike m k p.holder))))

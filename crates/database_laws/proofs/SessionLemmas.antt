@@ -126,7 +126,7 @@ module _ (m : Machine) (number : ℕ) (s : Session) where
   after_sort x (rolls_back is) = subst (λ y. After (execute_in m number s (Ok y))) (sym is) (after_rollback s.block)
   after_sort x (is_ordinary at) = subst After (sym (at m number s)) (after_outcome x (ordinary m number s x) (outcome m number s x))
 
-  after_reading : (reading : Reading) → After (execute_in m number s reading)
+  pub after_reading : (reading : Reading) → After (execute_in m number s reading)
   after_reading (Err code) = after_refused code s.block refl
   after_reading (Ok x) = after_sort x (sort_of x)
 

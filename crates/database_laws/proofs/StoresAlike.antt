@@ -13,7 +13,7 @@ use Rattle.database_laws.proofs.RunLemmas.{only_transition}
 use Rattle.database_laws.proofs.AlikeRuns.{MoveAlike, moved}
 use Rattle.database_laws.proofs.RunsAlike.{Step, SamePlaces, places_after, holders_alike, sound_after, executed, opened, closes_alike}
 
-module _ (Reads : ReadingRelation) (Leave LeaveOther : Stops) (once : ReadsOnce Reads) (number : ℕ) (login : TheName) where
+module _ (Reads : ReadingRelation) (Leave LeaveOther : Stops) (once : ReadsOnce Reads) (number : ℕ) (login : TheName → Bool) where
   -- a step is the machine's own transition, or a refusal comes in its place
   own_or_not : (old new : Counts) (m : Machine) (event : Event TheText) (answer : Answer) (after : Machine) → IsStep Reads old new m event answer after → IsTransition Reads m event (transition_to answer after) ⊎ IsInPlace old new answer
   own_or_not old new m event answer after (by_transition is) = inl is
@@ -46,10 +46,10 @@ module _ (Reads : ReadingRelation) (Leave LeaveOther : Stops) (once : ReadsOnce 
     abbrev StepOf : Event Reading → Type 0
     StepOf x = Step number login m k x
 
-    opened_step : (n : ℕ) (l : TheName) (x : Event Reading) → (n ≡ number) × (l ≡ login) → x ≡ opens n l → StepOf x
+    opened_step : (n : ℕ) (l : TheName) (x : Event Reading) → (n ≡ number) × (login l ≡ true) → x ≡ opens n l → StepOf x
     opened_step n l x own read =
-        subst StepOf (sym (read ∙ ap (λ (i : ℕ). opens i l) own.0 ∙ ap (λ (i : TheName). opens number i) own.1))
-        (opened number login m k p.alike p.first p.second (ap (λ (e : List (ℕ × Session)). nat_le 256 (length e)) p.places.sessions))
+        subst StepOf (sym (read ∙ ap (λ (i : ℕ). opens i l) own.0))
+        (opened number login m k p.alike p.first p.second l own.1 (ap (λ (e : List (ℕ × Session)). nat_le 256 (length e)) p.places.sessions))
 
     executed_step : (n : ℕ) (x : Event Reading) (reading : Reading) → n ≡ number → x ≡ executes n reading → StepOf x
     executed_step n x reading own is =
@@ -155,7 +155,7 @@ module _ (Reads : ReadingRelation) where
   refuses_each old new m event answer after on (for_device t is may e a fails) = absurd (no_store m event on may)
 
   -- so both answer alike, and stay
-  stopped_goes : (number : ℕ) (login : TheName) (w v n j : At) (event : Event TheText) (a b : Answer) → w.standing.machine.stopped ≡ true → DifferInHiddenRows number login w.standing.machine v.standing.machine →
+  stopped_goes : (number : ℕ) (login : TheName → Bool) (w v n j : At) (event : Event TheText) (a b : Answer) → w.standing.machine.stopped ≡ true → DifferInHiddenRows number login w.standing.machine v.standing.machine →
       IsStep Reads w.counts n.counts w.standing.machine event a n.standing.machine → IsStep Reads v.counts j.counts v.standing.machine event b j.standing.machine → GoesAlike Reads number login w v n j event a b
   stopped_goes number login w v n j event a b on differ x y =
       let first = refuses_each w.counts n.counts w.standing.machine event a n.standing.machine on x in
@@ -182,7 +182,7 @@ module _ (Reads : ReadingRelation) where
         (stopped_runs n j end other_end es as' bs (ap (λ (t : Transition). t.machine.stopped) first ∙ on) (ap (λ (t : Transition). t.machine.stopped) second ∙ off) xs ys))
 
 -- what differs in hidden rows, and is sound
-module _ (number : ℕ) (login : TheName) (w v : At) (differ : DifferInHiddenRows number login w.standing.machine v.standing.machine)
+module _ (number : ℕ) (login : TheName → Bool) (w v : At) (differ : DifferInHiddenRows number login w.standing.machine v.standing.machine)
     (on_w : AreSoundUnlessStopped w.standing.machine) (on_v : AreSoundUnlessStopped v.standing.machine) (on : w.standing.machine.stopped ≡ false) where
   sound_places : (Reads : ReadingRelation) (Leave LeaveOther : Stops) (once : ReadsOnce Reads) → Place Reads Leave LeaveOther once number login w v
   sound_places Reads Leave LeaveOther once = record {

@@ -1,5 +1,6 @@
 -- Two databases of tenants that look alike to one of them.
-use Rattle.std.proofs.Common.{◌≡◌, ◌||◌, Bool, true, false, cond, codes, length, bytes_eq, List, [], ◌∷◌, Option, Some, None, refl, sym, ap, ◌∙◌, subst, inl, inr}
+use Rattle.std.proofs.Common.{◌≡◌, ◌⊎◌, ◌||◌, ℕ, nat_eq, Bool, true, false, cond, codes, length, bytes_eq, List, [], ◌∷◌, Option, Some, None, refl, sym, ap, ◌∙◌, subst, inl, inr}
+use Rattle.std.proofs.lemmas.Bool.{eqb-true}
 use Rattle.std.specs.Option.{option_map}
 use Rattle.std.proofs.lemmas.Option.{same_Some}
 use Rattle.sql_types.specs.Row.{Row}
@@ -10,18 +11,20 @@ use Rattle.sql_ast.specs.declared.policy.Policy.{Policy}
 use Rattle.sql_ast.specs.declared.policy.PolicyClause.{PolicyClause}
 use Rattle.sql_ast.specs.Term.{column, current_user, comparison}
 use Rattle.abstract_database.specs.Lists.{TheName, Among, drop_where}
+use Rattle.abstract_database.specs.Roles.{may_set_role}
 use Rattle.abstract_database.specs.Database.{TableOf, Table, Database, definition_named, rows_named}
 use Rattle.abstract_database.specs.Expressions.{columns_in}
 use Rattle.abstract_database.specs.Statements.{UserPair, as_seen}
-use Rattle.abstract_database.specs.Machine.{Outside, Session}
+use Rattle.abstract_database.specs.Machine.{Outside, Session, seen}
 use Rattle.abstract_database.proofs.ListLemmas.{bytes_same}
 use Rattle.abstract_database.proofs.ResultLemmas.{ok_inside}
 use Rattle.database_laws.specs.Invariants.{IsSound}
 use Rattle.database_laws.specs.Worlds.{is_silent, SameApparentRows}
 use Rattle.database_laws.specs.OnePolicy.{HasPoliciesForAll, IsOfKey, SpeaksOfKeys}
-use Rattle.database_laws.specs.HiddenRuns.{MayActAs, SameApparentRowsForLogin}
+use Rattle.database_laws.specs.HiddenRuns.{MayActAs, SameApparentRowsForLogin, holds_slot}
+use Rattle.database_laws.specs.Told.{entries_of, AllFor, IsAlikeTo}
 use Rattle.database_laws.specs.OutOfSight.{IsOfTenants}
-use Rattle.database_laws.specs.TwoTenants.{notes, own_notes, note, with_notes, first, second, ann, bob, MeetThePremises}
+use Rattle.database_laws.specs.TwoTenants.{notes, own_notes, note, with_notes, first, second, ann, bob, of_ann, with_bob_before, with_bob_behind, MeetThePremises}
 use Rattle.database_laws.proofs.WholeSound.{whole_sound}
 use Rattle.database_laws.proofs.WholeTenants.{first_whole, second_whole}
 use Rattle.database_laws.proofs.Tenants.{tenants_unseen}
@@ -46,12 +49,19 @@ of_option (Some x) = refl
 one_table : (rows : List Row) (t : TableOf) → definition_named (with_notes rows) t.name ≡ Some t → notes ≡ t
 one_table rows t h = one_at rows t (bytes_eq notes.name t.name) (of_option (found_by rows (bytes_eq notes.name t.name)) ∙ h)
 
-to_ann : SameApparentRows (as_seen ann first) first second
-to_ann = record {
+-- two lists of notes of which the same are ann's
+abbrev SameOfAnn : List Row → List Row → Type 0
+SameOfAnn rows others = drop_where (is_silent first (as_seen ann first) notes) rows ≡ drop_where (is_silent first (as_seen ann first) notes) others
+
+both_to_ann : (rows others : List Row) → SameOfAnn rows others → SameApparentRows (as_seen ann first) (with_notes rows) (with_notes others)
+both_to_ann rows others same = record {
   definitions = refl;
-  rows = λ t h. subst (λ (u : TableOf). drop_where (is_silent first (as_seen ann first) u) (rows_named first u.name) ≡ drop_where (is_silent second (as_seen ann first) u) (rows_named second u.name))
-      (one_table (note "ann" 1 ∷ note "bob" 1 ∷ []) t h) refl;
+  rows = λ t h. subst (λ (u : TableOf). drop_where (is_silent (with_notes rows) (as_seen ann first) u) (rows_named (with_notes rows) u.name) ≡ drop_where (is_silent (with_notes others) (as_seen ann first) u) (rows_named (with_notes others) u.name))
+      (one_table rows t h) same;
 }
+
+to_ann : SameApparentRows (as_seen ann first) first second
+to_ann = both_to_ann (note "ann" 1 ∷ note "bob" 1 ∷ []) (note "ann" 1 ∷ note "bob" 2 ∷ note "bob" 3 ∷ []) refl
 
 -- ---- what is sound
 
@@ -106,15 +116,43 @@ one_name : (b : Bool) → (b || false) ≡ true → b ≡ true
 one_name true e = refl
 one_name false e = cc
 
-acts_as_ann : (pair : UserPair) → MayActAs first (codes "ann") pair → ann ≡ pair
+acts_as_ann : (pair : UserPair) → MayActAs first (bytes_eq (codes "ann")) pair → ann ≡ pair
 acts_as_ann pair acts =
-    let own : codes "ann" ≡ pair.current = bytes_same (codes "ann") pair.current (one_name (bytes_eq (codes "ann") pair.current) acts.1) in
-    ap (λ (n : TheName). record { current = n; session = codes "ann" }) own ∙ ap (λ (n : TheName). record { current = pair.current; session = n }) (sym acts.0)
+    let login : codes "ann" ≡ pair.session = bytes_same (codes "ann") pair.session acts.0 in
+    let own : codes "ann" ≡ pair.current = bytes_same (codes "ann") pair.current (one_name (bytes_eq (codes "ann") pair.current) (ap (λ (n : TheName). may_set_role first n pair.current) login ∙ acts.1)) in
+    ap (λ (n : TheName). record { current = n; session = codes "ann" }) own ∙ ap (λ (n : TheName). record { current = pair.current; session = n }) login
 
-to_all : SameApparentRowsForLogin (codes "ann") first second
-to_all = record {
+all_to_ann : (rows others : List Row) → SameOfAnn rows others → SameApparentRowsForLogin (bytes_eq (codes "ann")) (with_notes rows) (with_notes others)
+all_to_ann rows others same = record {
   definitions = refl;
-  rows = λ pair acts. subst (λ (p : UserPair). SameApparentRows (as_seen p first) first second) (acts_as_ann pair acts) to_ann;
+  rows = λ pair acts. subst (λ (p : UserPair). SameApparentRows (as_seen p first) (with_notes rows) (with_notes others)) (acts_as_ann pair acts) (both_to_ann rows others same);
+}
+
+to_all : SameApparentRowsForLogin (bytes_eq (codes "ann")) first second
+to_all = all_to_ann (note "ann" 1 ∷ note "bob" 1 ∷ []) (note "ann" 1 ∷ note "bob" 2 ∷ note "bob" 3 ∷ []) refl
+
+in_block : SameApparentRowsForLogin (bytes_eq (codes "ann")) (with_notes (note "ann" 1 ∷ note "ann" 2 ∷ note "bob" 1 ∷ [])) (with_notes (note "ann" 1 ∷ note "ann" 2 ∷ note "bob" 2 ∷ note "bob" 3 ∷ []))
+in_block = all_to_ann (note "ann" 1 ∷ note "ann" 2 ∷ note "bob" 1 ∷ []) (note "ann" 1 ∷ note "ann" 2 ∷ note "bob" 2 ∷ note "bob" 3 ∷ []) refl
+
+one_or_two : (number : ℕ) → (nat_eq number 1 || nat_eq number 2) ≡ true → (1 ≡ number) ⊎ (2 ≡ number)
+one_or_two number h = by (nat_eq number 1) (nat_eq number 2) refl refl h where
+  by : (b c : Bool) → nat_eq number 1 ≡ b → nat_eq number 2 ≡ c → (b || c) ≡ true → (1 ≡ number) ⊎ (2 ≡ number)
+  by true c e f g = inl (sym (eqb-true number 1 e))
+  by false true e f g = inr (sym (eqb-true number 2 f))
+  by false false e f g = cc
+
+-- what holds of both numbers
+of_both : (P : ℕ → Type 0) → P 1 → P 2 → (number : ℕ) → (nat_eq number 1 || nat_eq number 2) ≡ true → P number
+of_both P p q number h = elim (one_or_two number h) [ inl is ↦ subst P is p | inr is ↦ subst P is q ]
+
+both_sessions : IsAlikeTo of_ann with_bob_before with_bob_behind
+both_sessions = record {
+  sessions = of_both (λ n. entries_of n with_bob_before.sessions ≡ entries_of n with_bob_behind.sessions) refl refl;
+  opened_for = of_both (λ n. AllFor of_ann.logins (entries_of n with_bob_before.sessions)) (refl, tt) (refl, tt);
+  stopped = refl;
+  slot = of_both (λ n. holds_slot n with_bob_before.holder ≡ holds_slot n with_bob_behind.holder) refl refl;
+  committed = to_all;
+  seen = of_both (λ n. SameApparentRowsForLogin of_ann.logins (seen with_bob_before n) (seen with_bob_behind n)) to_all in_block;
 }
 
 abbrev ann_session : Session
@@ -137,12 +175,13 @@ premises_met = record {
   unseen = tenants_unseen first (as_seen bob first) (as_seen ann first) notes tenant_column by_tenant refl refl apart;
   machines = record {
     session = refl;
-    opened_for = λ s h. ap (λ (x : Session). x.login) (sym (some_same s h));
+    opened_for = λ s h. ap (λ (x : Session). bytes_eq (codes "ann") x.login) (sym (some_same s h));
     stopped = refl;
     slot = refl;
     committed = to_all;
     seen = to_all;
   };
+  both_sessions = both_sessions;
   sound_machines = (record { committed = sound_first; holder = tt }, record { committed = sound_second; holder = tt });
   told = (refl, refl);
 }

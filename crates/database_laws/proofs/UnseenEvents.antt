@@ -27,11 +27,11 @@ use Rattle.database_laws.proofs.OthersLeftOut.{all_back}
 
 -- ---- to look alike is an equivalence
 
-module _ (login : TheName) where
+module _ (login : TheName → Bool) where
   pub all_same : (d : Database) → SameApparentRowsForLogin login d d
   all_same d = record { definitions = refl; rows = λ pair acts. record { definitions = refl; rows = λ t h. refl } }
 
-  all_turned : (d a : Database) → SameApparentRowsForLogin login d a → SameApparentRowsForLogin login a d
+  pub all_turned : (d a : Database) → SameApparentRowsForLogin login d a → SameApparentRowsForLogin login a d
   all_turned d a p = all_back login d a d p (all_same d)
 
   all_joined : (d a e : Database) → SameApparentRowsForLogin login d a → SameApparentRowsForLogin login a e → SameApparentRowsForLogin login d e
@@ -55,7 +55,7 @@ sound_of_holder number (Some h) db p q = by (h.session == number) where
 
 -- ---- one event
 
-module _ (login : TheName) (m : Machine) (number : ℕ) (was : LooksCommitted login number m) where
+module _ (login : TheName → Bool) (m : Machine) (number : ℕ) (was : LooksCommitted login number m) where
   record Unseen (t : Transition) : Type 0 where
     committed : SameApparentRowsForLogin login m.committed t.machine.committed
     sees : LooksCommitted login number t.machine
@@ -162,7 +162,7 @@ module _ (login : TheName) (m : Machine) (number : ℕ) (was : LooksCommitted lo
             (subst (λ (x : Option Holder). SameApparentRowsForLogin login m.committed (seen_by number x m.committed)) (sym s.holder) was);
       }
 
-running_unseen : (login : TheName) (m : Machine) (event : Event Reading) → AreSound m → (was : LooksCommitted login (number_of event) m) → IsUnseen login m event → Unseen login m (number_of event) was (running_transition m event)
+running_unseen : (login : TheName → Bool) (m : Machine) (event : Event Reading) → AreSound m → (was : LooksCommitted login (number_of event) m) → IsUnseen login m event → Unseen login m (number_of event) was (running_transition m event)
 running_unseen login m (opens n l) on was h = open_unseen login m n was l
 running_unseen login m (executes n reading) on was h = execute_unseen login m n was on reading h (session_of n m.sessions) refl
 running_unseen login m (closes n) on was h = close_unseen login m n was (session_of n m.sessions)

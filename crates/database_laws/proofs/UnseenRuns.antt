@@ -19,7 +19,7 @@ not_other true e = refl
 not_other false e = cc
 
 -- where no other session holds it, the session of the event does, if one does
-slot_is_own : (n : ℕ) (old new : Option Holder) → is_held_by_other n old ≡ false → SlotAfter n old new → (h : Holder) → new ≡ Some h → (h.session == n) ≡ true
+pub slot_is_own : (n : ℕ) (old new : Option Holder) → is_held_by_other n old ≡ false → SlotAfter n old new → (h : Holder) → new ≡ Some h → (h.session == n) ≡ true
 slot_is_own n None new free kept h is = cc
 slot_is_own n (Some g) new free kept h is = subst (λ (x : Holder). (x.session == n) ≡ true) (one_of g h is) (not_other (g.session == n) free)
   where
@@ -33,7 +33,7 @@ slot_is_own n old new free (taken db) h is = subst (λ (x : Holder). (x.session 
     one_of : (g h : Holder) → ◌≡◌ {A = Option Holder} (Some g) (Some h) → g ≡ h
     one_of g h e = cc
 
-module _ (number : ℕ) (login : TheName) (m : Machine) (event : Event Reading) (hold : OthersHoldUnseen number login m) where
+module _ (number : ℕ) (login : TheName → Bool) (m : Machine) (event : Event Reading) (hold : OthersHoldUnseen number login m) where
   abbrev n : ℕ
   n = number_of event
 
@@ -78,18 +78,18 @@ module _ (number : ℕ) (login : TheName) (m : Machine) (event : Event Reading) 
 
 -- ---- a list of events
 
-own_number : (number : ℕ) (login : TheName) (event : Event Reading) → IsOwn number login event → number_of event ≡ number
+own_number : (number : ℕ) (login : TheName → Bool) (event : Event Reading) → IsOwn number login event → number_of event ≡ number
 own_number number login (opens n l) own = own.0
 own_number number login (executes n reading) own = own
 own_number number login (closes n) own = own
 
-module _ (number : ℕ) (login : TheName) where
+module _ (number : ℕ) (login : TheName → Bool) where
   runs : {m k : Machine} {events : List (Event Reading)} → IsUnaffectedByOthers number login m k events → AreSound m → OthersHoldUnseen number login m → OthersActUnseen number login m events → IsUndisturbed number login m k events
   runs ended on hold act = no_more
   runs (closed same) on hold act = is_closed same
   runs (excepted own exception) on hold act = is_excepted own exception
   runs (kept_waiting x writing held) on hold act = is_kept_waiting x writing held
-  runs (crowded_out full) on hold act = is_crowded_out full
+  runs (crowded_out mine full) on hold act = is_crowded_out mine full
   runs (answered {m = m} {event = event} own same rest) on hold act =
       is_answered own same (runs rest (sound_after m event on) (own_keeps number login m event hold (own_number number login event own)) act.1)
   runs (left_out {m = m} {event = event} apart rest) on hold act = elim act.0 [

@@ -30,12 +30,12 @@ use Rattle.database_laws.specs.Worlds.{SameApparentRows, is_told}
 
 -- ---- what a session may act as, and databases that look alike to it
 
--- a role that the login role may set, beside the login role
-abbrev pub MayActAs : Database → TheName → UserPair → Type 0
-MayActAs db login pair = (pair.session ≡ login) × (may_set_role db login pair.current ≡ true)
+-- one of the login roles, and beside it a role that it may set
+abbrev pub MayActAs : Database → (TheName → Bool) → UserPair → Type 0
+MayActAs db login pair = (login pair.session ≡ true) × (may_set_role db pair.session pair.current ≡ true)
 
 -- the same definitions, and to each that the login role may act as the same rows that say something
-pub record SameApparentRowsForLogin (login : TheName) (d e : Database) : Type 0 where
+pub record SameApparentRowsForLogin (login : TheName → Bool) (d e : Database) : Type 0 where
   pub definitions : without_rows d ≡ without_rows e
   pub rows : (pair : UserPair) → MayActAs d login pair → SameApparentRows (as_seen pair d) d e
 
@@ -51,9 +51,9 @@ holds_slot number (Some h) = h.session == number
 
 -- over both machines the session of this number is the same, of this login role, and what it sees, and what is committed, looks
 -- alike to all that it may act as
-pub record MachinesAlikeForSession (number : ℕ) (login : TheName) (m k : Machine) : Type 0 where
+pub record MachinesAlikeForSession (number : ℕ) (login : TheName → Bool) (m k : Machine) : Type 0 where
   pub session : session_of number m.sessions ≡ session_of number k.sessions
-  pub opened_for : (s : Session) → session_of number m.sessions ≡ Some s → s.login ≡ login
+  pub opened_for : (s : Session) → session_of number m.sessions ≡ Some s → login s.login ≡ true
   pub stopped : m.stopped ≡ k.stopped
   pub slot : holds_slot number m.holder ≡ holds_slot number k.holder
   pub committed : SameApparentRowsForLogin login m.committed k.committed
@@ -61,7 +61,7 @@ pub record MachinesAlikeForSession (number : ℕ) (login : TheName) (m k : Machi
 
 -- the same sessions are open and the same one holds the writer lock, and the databases differ only in rows that are hidden from all
 -- that the session of this number may act as
-pub record DifferInHiddenRows (number : ℕ) (login : TheName) (m k : Machine) : Type 0 where
+pub record DifferInHiddenRows (number : ℕ) (login : TheName → Bool) (m k : Machine) : Type 0 where
   pub sessions : m.sessions ≡ k.sessions
   pub holder : holder_of m.holder ≡ holder_of k.holder
   pub alike : MachinesAlikeForSession number login m k
@@ -78,8 +78,8 @@ AreSoundUnlessStopped m = m.stopped ≡ false → AreSound m
 -- ---- events
 
 -- an event of the session of this number, which is opened for this login role
-abbrev pub IsOwn : ℕ → TheName → Event Reading → Type 0
-IsOwn number login (opens n l) = (n ≡ number) × (l ≡ login)
+abbrev pub IsOwn : ℕ → (TheName → Bool) → Event Reading → Type 0
+IsOwn number login (opens n l) = (n ≡ number) × (login l ≡ true)
 IsOwn number login (executes n reading) = n ≡ number
 IsOwn number login (closes n) = n ≡ number
 
@@ -122,10 +122,14 @@ may_unhide (defining.DropPolicy s) = true
 may_unhide (defining.Grant s) = false
 may_unhide (defining.Revoke s) = false
 
+-- one of two answers, and not the other, is the refusal with this code
+abbrev pub TellsAlone : SqlState → Answer → Answer → Type 0
+TellsAlone code a b = ((a ≡ answer.Refused code) × (b ≡ answer.Refused code → ⊥)) ⊎ ((b ≡ answer.Refused code) × (a ≡ answer.Refused code → ⊥))
+
 -- an event that may be answered by rows that are hidden
 pub data IsException (number : ℕ) (m k : Machine) : Event Reading → Type 0 where
-  -- over one of the machines the key of a new row stands already
-  by_key : (event : Event Reading) → (answer_to m event ≡ answer.Refused UniqueViolation) ⊎ (answer_to k event ≡ answer.Refused UniqueViolation) → IsException number m k event
+  -- over one of the machines, and not over the other, the key of a new row stands already
+  by_key : (event : Event Reading) → TellsAlone UniqueViolation (answer_to m event) (answer_to k event) → IsException number m k event
   -- an UPDATE or DELETE that reads no column passes its checks, and not all policies of its table that are for the set role are FOR
   -- ALL without WITH CHECK
   by_count : (s : Session) (x : RowStatement) (c : Checked) → session_of number m.sessions ≡ Some s → goes_by_visible (seen m number) s.role x ≡ false →
@@ -147,7 +151,7 @@ pub data IsUnaffected (number : ℕ) : Machine → Machine → List (Event Readi
 
 -- over machines that differ only in rows hidden from all that a session may act as, its own events are answered the same
 abbrev pub runs_are_alike : Type 0
-runs_are_alike = (number : ℕ) (login : TheName) (m k : Machine) (events : List (Event Reading)) → DifferInHiddenRows number login m k → AreSound m → AreSound k →
+runs_are_alike = (number : ℕ) (login : TheName → Bool) (m k : Machine) (events : List (Event Reading)) → DifferInHiddenRows number login m k → AreSound m → AreSound k →
     Each (IsOwn number login) events → IsUnaffected number m k events
 
 -- ---- runs among others
@@ -155,32 +159,32 @@ runs_are_alike = (number : ℕ) (login : TheName) (m k : Machine) (events : List
 -- the answers to the session's own events are the same, where all events are run and where the others' are left out, up to its
 -- close, the first exception, an own write while another holds the slot, or an opening where there are 256 sessions; as long as
 -- the others change only rows that are hidden from all that it may act as
-pub data IsUnaffectedByOthers (number : ℕ) (login : TheName) : Machine → Machine → List (Event Reading) → Type 0 where
+pub data IsUnaffectedByOthers (number : ℕ) (login : TheName → Bool) : Machine → Machine → List (Event Reading) → Type 0 where
   ended : {m k : Machine} → IsUnaffectedByOthers number login m k []
   closed : {m k : Machine} {later : List (Event Reading)} → answer_to m (closes number) ≡ answer_to k (closes number) → IsUnaffectedByOthers number login m k (closes number ∷ later)
   excepted : {m k : Machine} {event : Event Reading} {later : List (Event Reading)} → IsOwn number login event → IsException number m k event → IsUnaffectedByOthers number login m k (event ∷ later)
   kept_waiting : {m k : Machine} {later : List (Event Reading)} (x : Statement) → is_writing x ≡ true → (is_held_by_other number m.holder || is_held_by_other number k.holder) ≡ true →
       IsUnaffectedByOthers number login m k (executes number (Ok x) ∷ later)
-  crowded_out : {m k : Machine} {later : List (Event Reading)} → (nat_le 256 (length m.sessions) || nat_le 256 (length k.sessions)) ≡ true →
-      IsUnaffectedByOthers number login m k (opens number login ∷ later)
+  crowded_out : {m k : Machine} {l : TheName} {later : List (Event Reading)} → login l ≡ true → (nat_le 256 (length m.sessions) || nat_le 256 (length k.sessions)) ≡ true →
+      IsUnaffectedByOthers number login m k (opens number l ∷ later)
   answered : {m k : Machine} {event : Event Reading} {later : List (Event Reading)} → IsOwn number login event → answer_to m event ≡ answer_to k event →
       IsUnaffectedByOthers number login (after m event) (after k event) later → IsUnaffectedByOthers number login m k (event ∷ later)
   left_out : {m k : Machine} {event : Event Reading} {later : List (Event Reading)} → nat_eq number (number_of event) ≡ false →
       (SameApparentRowsForLogin login m.committed (after m event).committed → IsUnaffectedByOthers number login (after m event) k later) → IsUnaffectedByOthers number login m k (event ∷ later)
 
 -- an event of the session, or of another one
-abbrev pub IsOwnOrOthers : ℕ → TheName → Event Reading → Type 0
+abbrev pub IsOwnOrOthers : ℕ → (TheName → Bool) → Event Reading → Type 0
 IsOwnOrOthers number login event = IsOwn number login event ⊎ (nat_eq number (number_of event) ≡ false)
 
 abbrev pub others_may_be_left_out : Type 0
-others_may_be_left_out = (number : ℕ) (login : TheName) (m k : Machine) (events : List (Event Reading)) → MachinesAlikeForSession number login m k → AreSound m → AreSound k →
+others_may_be_left_out = (number : ℕ) (login : TheName → Bool) (m k : Machine) (events : List (Event Reading)) → MachinesAlikeForSession number login m k → AreSound m → AreSound k →
     Each (IsOwnOrOthers number login) events → IsUnaffectedByOthers number login m k events
 
 -- ---- runs over stores
 
 -- an event of the session, whose statement is given as its text
-abbrev pub IsOwnText : ℕ → TheName → Event TheText → Type 0
-IsOwnText number login (opens n l) = (n ≡ number) × (l ≡ login)
+abbrev pub IsOwnText : ℕ → (TheName → Bool) → Event TheText → Type 0
+IsOwnText number login (opens n l) = (n ≡ number) × (login l ≡ true)
 IsOwnText number login (executes n text) = n ≡ number
 IsOwnText number login (closes n) = n ≡ number
 
@@ -191,7 +195,7 @@ pub data IsInPlace (old new : Counts) (a : Answer) : Type 0 where
 
 -- one event of the session over two stores: its close, answered the same; or an exception, or refused by a store; or answered the same
 -- and such that they differ, again, only in rows that are hidden from all that the session may act as
-pub data GoesAlike (Reads : ReadingRelation) (number : ℕ) (login : TheName) (w v next later : At) : Event TheText → Answer → Answer → Type 0 where
+pub data GoesAlike (Reads : ReadingRelation) (number : ℕ) (login : TheName → Bool) (w v next later : At) : Event TheText → Answer → Answer → Type 0 where
   by_close : {a : Answer} → GoesAlike Reads number login w v next later (closes number) a a
   by_exception : {event : Event TheText} {a b : Answer} (read : Event Reading) → IsReadAs Reads w.standing.machine event read →
       IsException number w.standing.machine v.standing.machine read → GoesAlike Reads number login w v next later event a b
@@ -200,7 +204,7 @@ pub data GoesAlike (Reads : ReadingRelation) (number : ℕ) (login : TheName) (w
 
 -- so goes each event of the session over two stores, each with stops of its own, whose databases differ so
 abbrev pub stores_go_alike : ReadingRelation → Stops → Stops → Type 0
-stores_go_alike Reads Leave LeaveOther = ReadsOnce Reads → (number : ℕ) (login : TheName) (w v next later : At) (event : Event TheText) (a b : Answer) →
+stores_go_alike Reads Leave LeaveOther = ReadsOnce Reads → (number : ℕ) (login : TheName → Bool) (w v next later : At) (event : Event TheText) (a b : Answer) →
     DifferInHiddenRows number login w.standing.machine v.standing.machine → AreSoundUnlessStopped w.standing.machine → AreSoundUnlessStopped v.standing.machine →
     IsOwnText number login event → Happens Reads Leave w event a next → Happens Reads LeaveOther v event b later → GoesAlike Reads number login w v next later event a b
 
@@ -220,6 +224,6 @@ pub data AnswersAgree (Reads : ReadingRelation) (Leave LeaveOther : Stops) (numb
 
 -- over two stores whose databases differ only in rows hidden from all that a session may act as, its own events are answered the same
 abbrev pub stores_are_alike : ReadingRelation → Stops → Stops → Type 0
-stores_are_alike Reads Leave LeaveOther = ReadsOnce Reads → (number : ℕ) (login : TheName) (w v end other_end : At) (events : List (Event TheText)) (answers others : List Answer) →
+stores_are_alike Reads Leave LeaveOther = ReadsOnce Reads → (number : ℕ) (login : TheName → Bool) (w v end other_end : At) (events : List (Event TheText)) (answers others : List Answer) →
     DifferInHiddenRows number login w.standing.machine v.standing.machine → AreSoundUnlessStopped w.standing.machine → AreSoundUnlessStopped v.standing.machine → Each (IsOwnText number login) events →
     RanBy (Happens Reads Leave) w events answers end → RanBy (Happens Reads LeaveOther) v events others other_end → AnswersAgree Reads Leave LeaveOther number w v events answers others

@@ -6,6 +6,9 @@ pub mod Worlds
 pub mod OnePolicy
 pub mod HiddenRuns
 pub mod OutOfSight
+pub mod Closed
+pub mod Told
+pub mod ToldStores
 pub mod TwoTenants
 pub mod Selections
 pub mod RowChanges

@@ -1,5 +1,5 @@
 -- Statements over rows that are out of the sight of others: what they leave looks to these as it did before.
-use Rattle.std.specs.Prelude.{◌≡◌, ◌⊎◌, ◌||◌, ℕ, nat_eq, nat_le, true, false, List, [], ◌∷◌, filter, length, bytes_eq, Some, None, Ok, Err}
+use Rattle.std.specs.Prelude.{◌≡◌, ◌⊎◌, ◌||◌, ℕ, nat_eq, nat_le, Bool, true, false, List, [], ◌∷◌, filter, length, bytes_eq, Some, None, Ok, Err}
 use Rattle.sql_types.specs.Row.{Row}
 use Rattle.sql_ast.specs.declared.expression.ColumnName.{ColumnName}
 use Rattle.sql_ast.specs.declared.expression.Comparison.TheVariants.{Equal}
@@ -48,66 +48,66 @@ unseen_by_others = (pair : UserPair) (others : UserNames) (db : Database) (x : R
 -- ---- all that a login role may act as
 
 -- the statement is out of the sight of all that the login role may act as
-abbrev pub IsOutOfSightOf : TheName → Database → UserNames → RowStatement → Type 0
+abbrev pub IsOutOfSightOf : (TheName → Bool) → Database → UserNames → RowStatement → Type 0
 IsOutOfSightOf login db users x = (pair : UserPair) → MayActAs db login pair → WritesOutOfSight db users (as_seen pair db) x
 
 -- what it leaves looks to all of them as it did before
 abbrev pub unseen_by_all : Type 0
-unseen_by_all = (pair : UserPair) (login : TheName) (db : Database) (x : RowStatement) (e : Effect) → IsSound db → IsOutOfSightOf login db (as_seen pair db) x →
+unseen_by_all = (pair : UserPair) (login : TheName → Bool) (db : Database) (x : RowStatement) (e : Effect) → IsSound db → IsOutOfSightOf login db (as_seen pair db) x →
     exec db pair (on_database.OverRows x) ≡ Ok e → SameApparentRowsForLogin login db e.database
 
 -- ---- events of sessions
 
 -- what the session of this number sees looks, to all that the login role may act as, like what is committed
-abbrev pub LooksCommitted : TheName → ℕ → Machine → Type 0
+abbrev pub LooksCommitted : (TheName → Bool) → ℕ → Machine → Type 0
 LooksCommitted login number m = SameApparentRowsForLogin login m.committed (seen m number)
 
 -- a statement over rows that is out of their sight, or one that concerns the session alone
-abbrev pub IsUnseenIn : TheName → Database → UserPair → Statement → Type 0
+abbrev pub IsUnseenIn : (TheName → Bool) → Database → UserPair → Statement → Type 0
 IsUnseenIn login db pair (statement.OnDatabase (on_database.OverRows x)) = IsOutOfSightOf login db (as_seen pair db) x
 IsUnseenIn login db pair (statement.OnDatabase (on_database.Defining x)) = ⊥
 IsUnseenIn login db pair (statement.OfSession x) = Unit {0}
 
-abbrev pub IsUnseenReading : TheName → Machine → ℕ → Reading → Type 0
+abbrev pub IsUnseenReading : (TheName → Bool) → Machine → ℕ → Reading → Type 0
 IsUnseenReading login m number (Ok x) = (s : Session) → session_of number m.sessions ≡ Some s → IsUnseenIn login (seen m number) (users_of s) x
 IsUnseenReading login m number (Err code) = Unit {0}
 
 -- an event that makes no statement but such a one
-abbrev pub IsUnseen : TheName → Machine → Event Reading → Type 0
+abbrev pub IsUnseen : (TheName → Bool) → Machine → Event Reading → Type 0
 IsUnseen login m (opens number l) = Unit {0}
 IsUnseen login m (executes number reading) = IsUnseenReading login m number reading
 IsUnseen login m (closes number) = Unit {0}
 
 -- it changes what is committed, and what its session sees, only out of the sight of all that the login role may act as
 abbrev pub unseen_events : Type 0
-unseen_events = (login : TheName) (m : Machine) (event : Event Reading) → AreSound m → LooksCommitted login (number_of event) m → IsUnseen login m event →
+unseen_events = (login : TheName → Bool) (m : Machine) (event : Event Reading) → AreSound m → LooksCommitted login (number_of event) m → IsUnseen login m event →
     SameApparentRowsForLogin login m.committed (after m event).committed × LooksCommitted login (number_of event) (after m event)
 
 -- ---- runs among others
 
 -- what another session has done, which holds the writer lock, looks to all that the login role may act as like what is committed
-abbrev pub OthersHoldUnseen : ℕ → TheName → Machine → Type 0
+abbrev pub OthersHoldUnseen : ℕ → (TheName → Bool) → Machine → Type 0
 OthersHoldUnseen number login m = (h : Holder) → m.holder ≡ Some h → nat_eq number h.session ≡ false → SameApparentRowsForLogin login m.committed h.database
 
 -- an event of the session, or of another one, out of the sight of all that the login role may act as
-abbrev pub IsOwnOrUnseen : ℕ → TheName → Machine → Event Reading → Type 0
+abbrev pub IsOwnOrUnseen : ℕ → (TheName → Bool) → Machine → Event Reading → Type 0
 IsOwnOrUnseen number login m event = IsOwn number login event ⊎ ((nat_eq number (number_of event) ≡ false) × IsUnseen login m event)
 
 -- each event is such a one in the machine before it
-abbrev pub OthersActUnseen : ℕ → TheName → Machine → List (Event Reading) → Type 0
+abbrev pub OthersActUnseen : ℕ → (TheName → Bool) → Machine → List (Event Reading) → Type 0
 OthersActUnseen number login m [] = Unit {0}
 OthersActUnseen number login m (event ∷ later) = IsOwnOrUnseen number login m event × OthersActUnseen number login (after m event) later
 
 -- the answers to the session's own events are the same, where all events are run and where the others' are left out, up to its
 -- close, the first exception, an own write while another holds the slot, or an opening where there are 256 sessions
-pub data IsUndisturbed (number : ℕ) (login : TheName) : Machine → Machine → List (Event Reading) → Type 0 where
+pub data IsUndisturbed (number : ℕ) (login : TheName → Bool) : Machine → Machine → List (Event Reading) → Type 0 where
   no_more : {m k : Machine} → IsUndisturbed number login m k []
   is_closed : {m k : Machine} {later : List (Event Reading)} → answer_to m (closes number) ≡ answer_to k (closes number) → IsUndisturbed number login m k (closes number ∷ later)
   is_excepted : {m k : Machine} {event : Event Reading} {later : List (Event Reading)} → IsOwn number login event → IsException number m k event → IsUndisturbed number login m k (event ∷ later)
   is_kept_waiting : {m k : Machine} {later : List (Event Reading)} (x : Statement) → is_writing x ≡ true → (is_held_by_other number m.holder || is_held_by_other number k.holder) ≡ true →
       IsUndisturbed number login m k (executes number (Ok x) ∷ later)
-  is_crowded_out : {m k : Machine} {later : List (Event Reading)} → (nat_le 256 (length m.sessions) || nat_le 256 (length k.sessions)) ≡ true →
-      IsUndisturbed number login m k (opens number login ∷ later)
+  is_crowded_out : {m k : Machine} {l : TheName} {later : List (Event Reading)} → login l ≡ true → (nat_le 256 (length m.sessions) || nat_le 256 (length k.sessions)) ≡ true →
+      IsUndisturbed number login m k (opens number l ∷ later)
   is_answered : {m k : Machine} {event : Event Reading} {later : List (Event Reading)} → IsOwn number login event → answer_to m event ≡ answer_to k event →
       IsUndisturbed number login (after m event) (after k event) later → IsUndisturbed number login m k (event ∷ later)
   passes_over : {m k : Machine} {event : Event Reading} {later : List (Event Reading)} → nat_eq number (number_of event) ≡ false →
@@ -115,7 +115,7 @@ pub data IsUndisturbed (number : ℕ) (login : TheName) : Machine → Machine �
 
 -- so they are where each other event is out of sight
 abbrev pub others_are_not_noticed : Type 0
-others_are_not_noticed = (number : ℕ) (login : TheName) (m k : Machine) (events : List (Event Reading)) → MachinesAlikeForSession number login m k → AreSound m → AreSound k →
+others_are_not_noticed = (number : ℕ) (login : TheName → Bool) (m k : Machine) (events : List (Event Reading)) → MachinesAlikeForSession number login m k → AreSound m → AreSound k →
     OthersHoldUnseen number login m → OthersActUnseen number login m events → IsUndisturbed number login m k events
 
 -- ---- tables of tenants

@@ -1,5 +1,5 @@
 -- Two databases that differ in the rows of one tenant alone: with them the premises of the laws of hidden rows are met.
-use Rattle.std.specs.Prelude.{◌≡◌, ℕ, true, false, pos, List, [], ◌∷◌, flat_map, codes, Some, None, Ok}
+use Rattle.std.specs.Prelude.{◌≡◌, ◌||◌, ℕ, nat_eq, true, false, pos, List, [], ◌∷◌, flat_map, codes, bytes_eq, Some, None, Ok}
 use Prim.Native.String.{String}
 use Rattle.sql_types.specs.Row.{Row}
 use Rattle.sql_types.specs.declared.value.Value.TheVariants.{Int, Text}
@@ -25,13 +25,14 @@ use Rattle.sql_ast.specs.Term.{column, current_user, comparison}
 use Rattle.abstract_database.specs.Database.{TableOf, Database}
 use Rattle.abstract_database.specs.Privileges.{all_actions, owner_descriptor}
 use Rattle.abstract_database.specs.Statements.{UserPair, as_seen}
-use Rattle.abstract_database.specs.Machine.{Event, executes, Reading, Outside, Machine}
+use Rattle.abstract_database.specs.Machine.{Event, executes, Reading, Outside, Inside, Session, Machine}
 use Rattle.abstract_database.specs.Whole.{IsWhole}
 use Rattle.database_laws.specs.Invariants.{IsSound}
 use Rattle.database_laws.specs.Worlds.{SameApparentRows}
 use Rattle.database_laws.specs.OnePolicy.{HasPoliciesForAll, SpeaksOfKeys}
 use Rattle.database_laws.specs.HiddenRuns.{MachinesAlikeForSession, AreSound, answer_to}
 use Rattle.database_laws.specs.OutOfSight.{IsOutOfSight, IsOfTenants}
+use Rattle.database_laws.specs.Told.{Tenant, IsAlikeTo}
 
 -- CREATE TABLE notes (tenant TEXT, k BIGINT, PRIMARY KEY (tenant, k)), with row security enabled and forced
 abbrev pub notes : TableOf
@@ -106,6 +107,34 @@ ann_asks = executes 1 (Ok (statement.OnDatabase (on_database.OverRows (over_rows
 abbrev pub her_note : Answer
 her_note = answer.Rows (note "ann" 1 ∷ [])
 
+-- a tenant of one login role, and of the sessions 1 and 2
+abbrev pub of_ann : Tenant
+of_ann = record { logins = bytes_eq (codes "ann"); sessions = λ n. nat_eq n 1 || nat_eq n 2 }
+
+abbrev pub idle : String → Session
+idle name = record { login = codes name; role = codes name; block = Outside }
+
+abbrev pub working : String → Session
+working name = record { login = codes name; role = codes name; block = Inside (codes name) }
+
+-- both of hers are open, the second in a block that has written a note of hers, and one of bob's
+abbrev pub with_bob_before : Machine
+with_bob_before = record {
+  committed = first;
+  holder = Some (record { session = 2; database = with_notes (note "ann" 1 ∷ note "ann" 2 ∷ note "bob" 1 ∷ []) });
+  sessions = (7, idle "bob") ∷ (1, idle "ann") ∷ (2, working "ann") ∷ [];
+  stopped = false;
+}
+
+-- bob has other notes, and other sessions
+abbrev pub with_bob_behind : Machine
+with_bob_behind = record {
+  committed = second;
+  holder = Some (record { session = 2; database = with_notes (note "ann" 1 ∷ note "ann" 2 ∷ note "bob" 2 ∷ note "bob" 3 ∷ []) });
+  sessions = (1, idle "ann") ∷ (2, working "ann") ∷ (8, idle "bob") ∷ (9, working "bob") ∷ [];
+  stopped = false;
+}
+
 pub record MeetThePremises : Type 0 where
   pub differ : first ≡ second → ⊥
   pub alike : SameApparentRows (as_seen ann first) first second
@@ -118,6 +147,7 @@ pub record MeetThePremises : Type 0 where
   -- what bob may write is out of ann's sight
   pub of_tenants : IsOfTenants first notes (record { table = None; column = codes "tenant" })
   pub unseen : IsOutOfSight first (as_seen bob first) (as_seen ann first) notes
-  pub machines : MachinesAlikeForSession 1 (codes "ann") (opened_by_ann first) (opened_by_ann second)
+  pub machines : MachinesAlikeForSession 1 (bytes_eq (codes "ann")) (opened_by_ann first) (opened_by_ann second)
+  pub both_sessions : IsAlikeTo of_ann with_bob_before with_bob_behind
   pub sound_machines : AreSound (opened_by_ann first) × AreSound (opened_by_ann second)
   pub told : (answer_to (opened_by_ann first) ann_asks ≡ her_note) × (answer_to (opened_by_ann second) ann_asks ≡ her_note)

@@ -2,6 +2,7 @@
 
 ghost use Rattle.database_laws.specs.Selections.{shows_visible_rows, sorts_by_its_keys, products_are_in_order, hidden_rows_do_not_show, hidden_rows_may_go};
 ghost use Rattle.database_laws.specs.Worlds.{two_worlds, worlds_agree, answers_hide, deletes_before_others, inserts_before_others, updates_before_others, inserts_alike, updates_alike, deletes_alike};
+ghost use Rattle.database_laws.specs.Closed.{closed_tables_tell_nothing};
 ghost use Rattle.database_laws.specs.OnePolicy.{one_policy_for_all, keys_tell_nothing};
 ghost use Rattle.database_laws.specs.RowChanges.{insert_changes_its_table, update_changes_its_table, delete_changes_its_table, insert_adds_its_rows, update_replaces_its_rows, delete_removes_its_rows, columns_are_found, values_are_given, values_are_assigned};
 ghost use Rattle.database_laws.specs.Refusals.{select_fails_for_cause, insert_fails_for_cause, update_fails_for_cause, delete_fails_for_cause};
@@ -53,6 +54,11 @@ pub fn two_worlds()
 pub fn one_policy_hides_all()
     ensures alike { one_policy_for_all }
     ensures keys { keys_tell_nothing }
+{}
+
+/// Tables on which the current role has no privilege tell it nothing.
+pub fn closed_tables_tell_nothing()
+    ensures { closed_tables_tell_nothing }
 {}
 
 /// INSERT, UPDATE and DELETE change no definition, and no row of another table than their own.

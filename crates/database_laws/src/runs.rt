@@ -2,6 +2,7 @@
 
 ghost use Rattle.abstract_database.specs.Runs.{ReadingRelation, Stops};
 ghost use Rattle.database_laws.specs.HiddenRuns.{stores_are_alike, stores_go_alike};
+ghost use Rattle.database_laws.specs.ToldStores.{what_stores_tell_a_tenant};
 ghost use Rattle.database_laws.specs.StoreRuns.{long_texts_are_answered_for_their_length, full_machines_answer_openings, machines_answer_closes, commit_numbers_never_fall, stops_leave_what_was_answered};
 ghost use Rattle.database_laws.specs.Runs.{one_transition, one_run, machine_runs_join, store_runs_join, stores_make_transitions, stores_run_the_machine, refusals_over_a_store};
 
@@ -46,6 +47,11 @@ pub fn stores_run_the_machine<R: Reader, S: Stopping>()
 pub fn stores_tell_sessions_what_they_see<R: Reader, S: Stopping, T: Stopping>()
     ensures event { stores_go_alike R.Reads S.Leave T.Leave }
     ensures run { stores_are_alike R.Reads S.Leave T.Leave }
+{}
+
+/// What a tenant is told by two servers.
+pub fn stores_tell_tenants_what_they_see<R: Reader, S: Stopping, T: Stopping>()
+    ensures { what_stores_tell_a_tenant R.Reads S.Leave T.Leave }
 {}
 
 /// What needs nothing of the store is answered by the machine, whatever there is of memory, of space or

@@ -2,6 +2,7 @@
 
 ghost use Rattle.database_laws.specs.HiddenRuns.{runs_are_alike, others_may_be_left_out};
 ghost use Rattle.database_laws.specs.OutOfSight.{unseen_by_others, unseen_by_all, unseen_events, others_are_not_noticed, apart_is_out_of_sight, tenants_are_out_of_sight};
+ghost use Rattle.database_laws.specs.Told.{what_a_tenant_is_told, unseen_acts_are_out_of_sight};
 ghost use Rattle.database_laws.specs.TwoTenants.{MeetThePremises};
 ghost use Rattle.database_laws.specs.Openings.{only_logins_open, logins_are_authorized};
 ghost use Rattle.database_laws.specs.Sessions.{effects_are_no_refusals, other_sessions_stay, blocks_keep_their_role, only_the_holder_changes, others_see_the_committed, uncommitted_is_not_seen};
@@ -46,6 +47,12 @@ pub fn one_holder()
 pub fn sessions_are_told_what_they_see()
     ensures alone { runs_are_alike }
     ensures among_others { others_may_be_left_out }
+{}
+
+/// What a tenant is told.
+pub fn tenants_are_told_what_they_see()
+    ensures told { what_a_tenant_is_told }
+    ensures unseen { unseen_acts_are_out_of_sight }
 {}
 
 /// What others do out of sight looks as before: a statement over rows each of which its users may write

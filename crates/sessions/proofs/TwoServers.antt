@@ -1,5 +1,5 @@
 -- Two servers whose databases differ only in rows that are hidden from a session.
-use Rattle.std.proofs.Common.{ℕ, List, [], ◌∷◌, Option, Some, None, refl, sym, ◌∙◌, subst, inl, inr}
+use Rattle.std.proofs.Common.{ℕ, Bool, List, [], ◌∷◌, Option, Some, None, refl, sym, ◌∙◌, subst, inl, inr}
 use Rattle.sql_types.specs.declared.event.Event.{Event}
 use Rattle.store.specs.Records.{Records}
 use Rattle.store.specs.Store.{StoreState}
@@ -21,7 +21,7 @@ use Rattle.server.specs.Standing.{event_of, events_of, stops_of, HolderShows, Re
 use Rattle.sessions.specs.Readings.{ReadsText}
 use Rattle.sessions.specs.TwoServers.{IsOwnEvent, servers_are_alike, servers_step_alike, opened_servers_are_alike}
 
-own_texts : (number : ℕ) (login : TheName) (events : List Event) → Each (IsOwnEvent number login) events → Each (IsOwnText number login) (events_of events)
+own_texts : (number : ℕ) (login : TheName → Bool) (events : List Event) → Each (IsOwnEvent number login) events → Each (IsOwnText number login) (events_of events)
 own_texts number login [] own x h = absurd h
 own_texts number login (e ∷ es) own x (inl is) = subst (IsOwnText number login) is (own e (inl refl))
 own_texts number login (e ∷ es) own x (inr h) = own_texts number login es (λ y k. own y (inr k)) x h
@@ -66,7 +66,7 @@ module _ (once : ReadsOnce ReadsText) (whole : (records : Records) (db : Databas
             s.differ (machine_sound state before s.here s.stands_here) (machine_sound other_state other_before s.there s.stands_there) own one.2 two.2;
       }
 
-  opened : (number : ℕ) (login : TheName) (d e : Database) → SameApparentRowsForLogin login d e → DifferInHiddenRows number login (machine_over d) (machine_over e)
+  opened : (number : ℕ) (login : TheName → Bool) (d e : Database) → SameApparentRowsForLogin login d e → DifferInHiddenRows number login (machine_over d) (machine_over e)
   opened number login d e all = record {
     sessions = refl;
     holder = refl;

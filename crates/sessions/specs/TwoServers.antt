@@ -1,5 +1,5 @@
 -- Two servers, each over a store of its own, whose databases differ only in rows that are hidden from a session.
-use Rattle.std.specs.Prelude.{ℕ, List}
+use Rattle.std.specs.Prelude.{ℕ, Bool, List}
 use Rattle.sql_types.specs.declared.answer.Answer.{Answer}
 use Rattle.sql_types.specs.declared.event.Event.{Event}
 use Rattle.store.specs.Store.{StoreState}
@@ -14,7 +14,7 @@ use Rattle.server.specs.Runs.{Steps, Runs}
 use Rattle.sessions.specs.Readings.{ReadsText}
 
 -- an event of the session of this number, which is opened for this login role
-abbrev pub IsOwnEvent : ℕ → TheName → Event → Type 0
+abbrev pub IsOwnEvent : ℕ → (TheName → Bool) → Event → Type 0
 IsOwnEvent number login e = IsOwnText number login (event_of e)
 
 -- a server over a sound store stood here, and ran these events with these answers
@@ -31,7 +31,7 @@ AreAnsweredAlike state other_state number w v events answers others after other_
 -- two servers that stand where their machines differ only in rows that are hidden from a session answer its own events alike
 abbrev pub servers_are_alike : (S T X Y : Type 0) → (S → StoreState) → (T → StoreState) → Type 0
 servers_are_alike S T X Y state other_state =
-    (number : ℕ) (login : TheName) (w v : At) (events : List Event) (answers others : List Answer) (before after : Server S X) (other_before other_after : Server T Y) →
+    (number : ℕ) (login : TheName → Bool) (w v : At) (events : List Event) (answers others : List Answer) (before after : Server S X) (other_before other_after : Server T Y) →
     DifferInHiddenRows number login w.standing.machine v.standing.machine → Each (IsOwnEvent number login) events →
     HasRunFrom state w events answers before after → HasRunFrom other_state v events others other_before other_after →
     AreAnsweredAlike state other_state number w v events answers others after other_after
@@ -39,7 +39,7 @@ servers_are_alike S T X Y state other_state =
 -- ---- one step
 
 -- two servers over sound stores, which stand where their machines differ only in rows that are hidden from the session
-pub record StandAlike {S T X Y : Type 0} (state : S → StoreState) (other_state : T → StoreState) (number : ℕ) (login : TheName) (server : Server S X) (other : Server T Y) : Type 0 where
+pub record StandAlike {S T X Y : Type 0} (state : S → StoreState) (other_state : T → StoreState) (number : ℕ) (login : TheName → Bool) (server : Server S X) (other : Server T Y) : Type 0 where
   pub here : At
   pub there : At
   pub sound_here : (state server.store).sound
@@ -49,7 +49,7 @@ pub record StandAlike {S T X Y : Type 0} (state : S → StoreState) (other_state
   pub differ : DifferInHiddenRows number login here.standing.machine there.standing.machine
 
 -- after one event both stand somewhere, and the event went alike from where they stood
-pub record StepAlike {S T X Y : Type 0} (state : S → StoreState) (other_state : T → StoreState) (number : ℕ) (login : TheName) (w v : At) (e : Event) (a b : Answer) (server : Server S X) (other : Server T Y) : Type 0 where
+pub record StepAlike {S T X Y : Type 0} (state : S → StoreState) (other_state : T → StoreState) (number : ℕ) (login : TheName → Bool) (w v : At) (e : Event) (a b : Answer) (server : Server S X) (other : Server T Y) : Type 0 where
   pub here : At
   pub there : At
   pub stands_here : Represents state server here
@@ -59,7 +59,7 @@ pub record StepAlike {S T X Y : Type 0} (state : S → StoreState) (other_state 
 -- so does each own event of the session go
 abbrev pub servers_step_alike : (S T X Y : Type 0) → (S → StoreState) → (T → StoreState) → Type 0
 servers_step_alike S T X Y state other_state =
-    (number : ℕ) (login : TheName) (e : Event) (a b : Answer) (before after : Server S X) (other_before other_after : Server T Y) →
+    (number : ℕ) (login : TheName → Bool) (e : Event) (a b : Answer) (before after : Server S X) (other_before other_after : Server T Y) →
     (s : StandAlike state other_state number login before other_before) → IsOwnEvent number login e →
     Steps ReadsText state before e a after → Steps ReadsText other_state other_before e b other_after →
     StepAlike state other_state number login s.here s.there e a b after other_after
@@ -69,7 +69,7 @@ servers_step_alike S T X Y state other_state =
 -- two servers answer alike that have just been opened over databases which look alike to all that a login role may act as
 abbrev pub opened_servers_are_alike : (S T X Y : Type 0) → (S → StoreState) → (T → StoreState) → Type 0
 opened_servers_are_alike S T X Y state other_state =
-    (number : ℕ) (login : TheName) (d e : Database) (events : List Event) (answers others : List Answer) (before after : Server S X) (other_before other_after : Server T Y) →
+    (number : ℕ) (login : TheName → Bool) (d e : Database) (events : List Event) (answers others : List Answer) (before after : Server S X) (other_before other_after : Server T Y) →
     SameApparentRowsForLogin login d e → Each (IsOwnEvent number login) events →
     HasRunFrom state (at_start (state before.store) d) events answers before after → HasRunFrom other_state (at_start (other_state other_before.store) e) events others other_before other_after →
     AreAnsweredAlike state other_state number (at_start (state before.store) d) (at_start (other_state other_before.store) e) events answers others after other_after

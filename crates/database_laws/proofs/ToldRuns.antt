@@ -1,0 +1,451 @@
+-- Two runs in which a tenant does the same, and others act out of its sight.
+use Rattle.std.proofs.Common.{◌≡◌, ◌⊎◌, ◌==◌, ◌&&◌, ℕ, nat_eq, nat_le, Bool, true, false, cond, length, filter, is_some, List, [], ◌∷◌, Option, Some, None, Result, Ok, Err, refl, sym, ap, ◌∙◌, subst, inl, inr}
+use Rattle.std.proofs.lemmas.Bool.{eqb-true, eq-eqb}
+use Rattle.sql_types.specs.declared.state.SqlState.{SqlState}
+use Rattle.sql_types.specs.declared.state.SqlState.TheVariants.{ConnectionDoesNotExist, ConnectionNameInUse, TooManyConnections, InvalidAuthorization, IoError}
+use Rattle.sql_types.specs.declared.tag.Tag.TheVariants as tag
+use Rattle.sql_ast.specs.declared.statement.Statement.{Statement}
+use Rattle.abstract_database.specs.Lists.{TheName}
+use Rattle.abstract_database.specs.Database.{Database}
+use Rattle.abstract_database.specs.Roles.{may_log_in}
+use Rattle.abstract_database.specs.Machine.{Outside, Session, Event, opens, executes, closes, Reading, Machine, Holder, Transition, refuses, succeeds, machine_over, session_of, with_session, without_session, with_session_changed, is_held_by_other, released, seen_by, seen, open_session, close_session, is_writing, execute, execute_in, running_transition, transition}
+use Rattle.database_laws.specs.Sessions.{number_of}
+use Rattle.database_laws.specs.HiddenRuns.{SameApparentRowsForLogin, holds_slot, MachinesAlikeForSession, AreSound, answer_to, after, IsException}
+use Rattle.database_laws.specs.Told.{Tenant, entries_of, AllFor, IsAlikeTo, Act, happens, declares, restarts, follows, is_of, OpensItsOwn, OthersKeepOutOfSight, noticed, IsCrowded, by_slot, by_number, IsExceptionFor, IsAnsweredAlike, IsToldAlike, all_told, told_apart, told_alike, declared, untold_here, untold_there, what_a_tenant_is_told}
+use Rattle.database_laws.proofs.SessionLemmas.{SessionsAfter, all_stay, one_changes, after_reading}
+use Rattle.database_laws.proofs.AlikeRuns.{MoveAlike, stay, change, end, commit_at_once, hold, moved, Alike, seen_where}
+use Rattle.database_laws.proofs.RunsAlike.{Step, sound_after, executed, opened, closes_alike}
+use Rattle.database_laws.proofs.OthersLeftOut.{turns, all_back, alike_after_others}
+use Rattle.database_laws.proofs.UnseenEvents.{all_turned}
+
+-- ---- lists of sessions
+
+module _ (number : ℕ) where
+  looked : (es : List (ℕ × Session)) → session_of number es ≡ session_of number (entries_of number es)
+  looked [] = refl
+  looked (e ∷ es) = by (nat_eq number e.0) refl (looked es) where
+    by : (b : Bool) → nat_eq number e.0 ≡ b → session_of number es ≡ session_of number (entries_of number es) → cond b (Some e.1) (session_of number es) ≡ session_of number (cond b (e ∷ entries_of number es) (entries_of number es))
+    by true at go = sym (ap (λ (b : Bool). cond b (Some e.1) (session_of number (entries_of number es))) at)
+    by false at go = go
+
+  with_own : (s : Session) (es : List (ℕ × Session)) → entries_of number (with_session es number s) ≡ with_session (entries_of number es) number s
+  with_own s [] = ap (λ (b : Bool). cond b ((number, s) ∷ []) []) (eq-eqb number number refl)
+  with_own s (e ∷ es) = by (nat_eq number e.0) refl (with_own s es) where
+    by : (b : Bool) → nat_eq number e.0 ≡ b → entries_of number (with_session es number s) ≡ with_session (entries_of number es) number s → entries_of number (cond b ((e.0, s) ∷ es) (e ∷ with_session es number s)) ≡ with_session (cond b (e ∷ entries_of number es) (entries_of number es)) number s
+    by true at go =
+        ap (λ (b : Bool). cond b ((e.0, s) ∷ entries_of number es) (entries_of number es)) at
+        ∙ sym (ap (λ (b : Bool). cond b ((e.0, s) ∷ entries_of number es) (e ∷ with_session (entries_of number es) number s)) at)
+    by false at go = ap (λ (b : Bool). cond b (e ∷ entries_of number (with_session es number s)) (entries_of number (with_session es number s))) at ∙ go
+
+  without_own : (es : List (ℕ × Session)) → entries_of number (without_session number es) ≡ without_session number (entries_of number es)
+  without_own [] = refl
+  without_own (e ∷ es) = by (nat_eq number e.0) refl (without_own es) where
+    by : (b : Bool) → nat_eq number e.0 ≡ b → entries_of number (without_session number es) ≡ without_session number (entries_of number es) → entries_of number (cond b es (e ∷ without_session number es)) ≡ without_session number (cond b (e ∷ entries_of number es) (entries_of number es))
+    by true at go = sym (ap (λ (b : Bool). cond b (entries_of number es) (e ∷ without_session number (entries_of number es))) at)
+    by false at go = ap (λ (b : Bool). cond b (e ∷ entries_of number (without_session number es)) (entries_of number (without_session number es))) at ∙ go
+
+module _ (number i : ℕ) (apart : nat_eq i number ≡ false) where
+  elsewhere : (n : ℕ) → nat_eq number n ≡ true → nat_eq i n ≡ false
+  elsewhere n e = subst (λ (j : ℕ). nat_eq i j ≡ false) (eqb-true number n e) apart
+
+  with_other : (s : Session) (es : List (ℕ × Session)) → entries_of i (with_session es number s) ≡ entries_of i es
+  with_other s [] = ap (λ (b : Bool). cond b ((number, s) ∷ []) []) apart
+  with_other s (e ∷ es) = by (nat_eq number e.0) refl (with_other s es) where
+    by : (b : Bool) → nat_eq number e.0 ≡ b → entries_of i (with_session es number s) ≡ entries_of i es → entries_of i (cond b ((e.0, s) ∷ es) (e ∷ with_session es number s)) ≡ entries_of i (e ∷ es)
+    by true at go =
+        ap (λ (b : Bool). cond b ((e.0, s) ∷ entries_of i es) (entries_of i es)) (elsewhere e.0 at)
+        ∙ sym (ap (λ (b : Bool). cond b (e ∷ entries_of i es) (entries_of i es)) (elsewhere e.0 at))
+    by false at go = ap (λ (l : List (ℕ × Session)). cond (nat_eq i e.0) (e ∷ l) l) go
+
+  without_other : (es : List (ℕ × Session)) → entries_of i (without_session number es) ≡ entries_of i es
+  without_other [] = refl
+  without_other (e ∷ es) = by (nat_eq number e.0) refl (without_other es) where
+    by : (b : Bool) → nat_eq number e.0 ≡ b → entries_of i (without_session number es) ≡ entries_of i es → entries_of i (cond b es (e ∷ without_session number es)) ≡ entries_of i (e ∷ es)
+    by true at go = sym (ap (λ (b : Bool). cond b (e ∷ entries_of i es) (entries_of i es)) (elsewhere e.0 at))
+    by false at go = ap (λ (l : List (ℕ × Session)). cond (nat_eq i e.0) (e ∷ l) l) go
+
+-- the same entries of each number in both, and again after both changed alike
+with_both : (number i : ℕ) (s : Session) (es fs : List (ℕ × Session)) → entries_of i es ≡ entries_of i fs → entries_of i (with_session es number s) ≡ entries_of i (with_session fs number s)
+with_both number i s es fs same = by (nat_eq i number) refl where
+  by : (b : Bool) → nat_eq i number ≡ b → entries_of i (with_session es number s) ≡ entries_of i (with_session fs number s)
+  by false apart = with_other number i apart s es ∙ same ∙ sym (with_other number i apart s fs)
+  by true own =
+      let at : i ≡ number = eqb-true i number own in
+      let here : entries_of number es ≡ entries_of number fs = subst (λ (j : ℕ). entries_of j es ≡ entries_of j fs) at same in
+      subst (λ (j : ℕ). entries_of j (with_session es number s) ≡ entries_of j (with_session fs number s)) (sym at)
+      (with_own number s es ∙ ap (λ (l : List (ℕ × Session)). with_session l number s) here ∙ sym (with_own number s fs))
+
+without_both : (number i : ℕ) (es fs : List (ℕ × Session)) → entries_of i es ≡ entries_of i fs → entries_of i (without_session number es) ≡ entries_of i (without_session number fs)
+without_both number i es fs same = by (nat_eq i number) refl where
+  by : (b : Bool) → nat_eq i number ≡ b → entries_of i (without_session number es) ≡ entries_of i (without_session number fs)
+  by false apart = without_other number i apart es ∙ same ∙ sym (without_other number i apart fs)
+  by true own =
+      let at : i ≡ number = eqb-true i number own in
+      let here : entries_of number es ≡ entries_of number fs = subst (λ (j : ℕ). entries_of j es ≡ entries_of j fs) at same in
+      subst (λ (j : ℕ). entries_of j (without_session number es) ≡ entries_of j (without_session number fs)) (sym at)
+      (without_own number es ∙ ap (without_session number) here ∙ sym (without_own number fs))
+
+-- ---- all of them for the login roles
+
+module _ (logins : TheName → Bool) where
+  all_with : (number : ℕ) (s : Session) (es : List (ℕ × Session)) → logins s.login ≡ true → AllFor logins es → AllFor logins (with_session es number s)
+  all_with number s [] own all = (own, tt)
+  all_with number s (e ∷ es) own all = by (nat_eq number e.0) (all_with number s es own all.1) where
+    by : (b : Bool) → AllFor logins (with_session es number s) → AllFor logins (cond b ((e.0, s) ∷ es) (e ∷ with_session es number s))
+    by true go = (own, all.1)
+    by false go = (all.0, go)
+
+  all_without : (number : ℕ) (es : List (ℕ × Session)) → AllFor logins es → AllFor logins (without_session number es)
+  all_without number [] all = tt
+  all_without number (e ∷ es) all = by (nat_eq number e.0) (all_without number es all.1) where
+    by : (b : Bool) → AllFor logins (without_session number es) → AllFor logins (cond b es (e ∷ without_session number es))
+    by true go = all.1
+    by false go = (all.0, go)
+
+  all_found : (number : ℕ) (es : List (ℕ × Session)) → AllFor logins es → (s : Session) → session_of number es ≡ Some s → logins s.login ≡ true
+  all_found number [] all s h = cc
+  all_found number (e ∷ es) all s h = by (nat_eq number e.0) (all_found number es all.1 s) h where
+    one_of : (x y : Session) → ◌≡◌ {A = Option Session} (Some x) (Some y) → x ≡ y
+    one_of x y is = cc
+
+    by : (b : Bool) → (session_of number es ≡ Some s → logins s.login ≡ true) → cond b (Some e.1) (session_of number es) ≡ Some s → logins s.login ≡ true
+    by true go is = subst (λ (x : Session). logins x.login ≡ true) (one_of e.1 s is) all.0
+    by false go is = go is
+
+  after_with : (number i : ℕ) (s : Session) (es : List (ℕ × Session)) → logins s.login ≡ true → AllFor logins (entries_of i es) → AllFor logins (entries_of i (with_session es number s))
+  after_with number i s es own all = by (nat_eq i number) refl where
+    by : (b : Bool) → nat_eq i number ≡ b → AllFor logins (entries_of i (with_session es number s))
+    by false apart = subst (AllFor logins) (sym (with_other number i apart s es)) all
+    by true is =
+        let at : i ≡ number = eqb-true i number is in
+        subst (λ (j : ℕ). AllFor logins (entries_of j (with_session es number s))) (sym at)
+        (subst (AllFor logins) (sym (with_own number s es)) (all_with number s (entries_of number es) own (subst (λ (j : ℕ). AllFor logins (entries_of j es)) at all)))
+
+  after_without : (number i : ℕ) (es : List (ℕ × Session)) → AllFor logins (entries_of i es) → AllFor logins (entries_of i (without_session number es))
+  after_without number i es all = by (nat_eq i number) refl where
+    by : (b : Bool) → nat_eq i number ≡ b → AllFor logins (entries_of i (without_session number es))
+    by false apart = subst (AllFor logins) (sym (without_other number i apart es)) all
+    by true is =
+        let at : i ≡ number = eqb-true i number is in
+        subst (λ (j : ℕ). AllFor logins (entries_of j (without_session number es))) (sym at)
+        (subst (AllFor logins) (sym (without_own number es)) (all_without number (entries_of number es) (subst (λ (j : ℕ). AllFor logins (entries_of j es)) at all)))
+
+-- ---- an event of another leaves the tenant's sessions
+
+module _ (m : Machine) (i : ℕ) where
+  abbrev Leaves : Transition → Type 0
+  Leaves t = entries_of i t.machine.sessions ≡ entries_of i m.sessions
+
+  leaves_open : (number : ℕ) → nat_eq i number ≡ false → (login : TheName) (a b c : Bool) →
+      Leaves (cond a (refuses m ConnectionNameInUse) (cond b (refuses m TooManyConnections) (cond c (succeeds tag.Open (with_session_changed m number (record { login = login; role = login; block = Outside }))) (refuses m InvalidAuthorization))))
+  leaves_open number apart login true b c = refl
+  leaves_open number apart login false true c = refl
+  leaves_open number apart login false false true = with_other number i apart (record { login = login; role = login; block = Outside }) m.sessions
+  leaves_open number apart login false false false = refl
+
+  leaves_close : (number : ℕ) → nat_eq i number ≡ false → (o : Option Session) → Leaves (close_session m number o)
+  leaves_close number apart None = refl
+  leaves_close number apart (Some s) = without_other number i apart m.sessions
+
+  leaves_after : (number : ℕ) → nat_eq i number ≡ false → (s : Session) (t : Transition) → SessionsAfter m number s t → Leaves t
+  leaves_after number apart s t (all_stay is) = ap (entries_of i) is
+  leaves_after number apart s t (one_changes changed login block is) = ap (entries_of i) is ∙ with_other number i apart changed m.sessions
+
+  leaves_execute : (number : ℕ) → nat_eq i number ≡ false → (reading : Reading) (o : Option Session) → Leaves (execute m number reading o)
+  leaves_execute number apart reading None = refl
+  leaves_execute number apart reading (Some s) = leaves_after number apart s (execute_in m number s reading) (after_reading m number s reading)
+
+  leaves_running : (event : Event Reading) → nat_eq i (number_of event) ≡ false → Leaves (running_transition m event)
+  leaves_running (opens number login) apart = leaves_open number apart login (is_some (session_of number m.sessions)) (nat_le 256 (length m.sessions)) (may_log_in m.committed login)
+  leaves_running (executes number reading) apart = leaves_execute number apart reading (session_of number m.sessions)
+  leaves_running (closes number) apart = leaves_close number apart (session_of number m.sessions)
+
+  entries_stay : (event : Event Reading) → nat_eq i (number_of event) ≡ false → Leaves (transition m event)
+  entries_stay event apart = by m.stopped where
+    by : (b : Bool) → Leaves (cond b (refuses m IoError) (running_transition m event))
+    by true = refl
+    by false = leaves_running event apart
+
+-- ---- the slot, given up
+
+held_after : (number i : ℕ) (g : Option Holder) → holds_slot i (released number g) ≡ cond (holds_slot number g) false (holds_slot i g)
+held_after number i None = refl
+held_after number i (Some h) = by (h.session == number) where
+  by : (b : Bool) → holds_slot i (cond b None (Some h)) ≡ cond b false (h.session == i)
+  by true = refl
+  by false = refl
+
+slot_after : (number i : ℕ) (g h : Option Holder) → holds_slot number g ≡ holds_slot number h → holds_slot i g ≡ holds_slot i h → holds_slot i (released number g) ≡ holds_slot i (released number h)
+slot_after number i g h own other =
+    held_after number i g
+    ∙ ap (λ (b : Bool). cond b false (holds_slot i g)) own
+    ∙ ap (λ (b : Bool). cond (holds_slot number h) false b) other
+    ∙ sym (held_after number i h)
+
+released_at : (number : ℕ) (g : Option Holder) (b : Bool) → holds_slot number g ≡ b → released number g ≡ cond b None g
+released_at number None true e = refl
+released_at number None false e = refl
+released_at number (Some h) b e = ap (λ (c : Bool). cond c None (Some h)) e
+
+module _ (logins : TheName → Bool) (number i : ℕ) (g h : Option Holder) (c f : Database) (own : holds_slot number g ≡ holds_slot number h)
+    (committed : SameApparentRowsForLogin logins c f) (sees : SameApparentRowsForLogin logins (seen_by i g c) (seen_by i h f)) where
+  seen_after : SameApparentRowsForLogin logins (seen_by i (released number g) c) (seen_by i (released number h) f)
+  seen_after = by (holds_slot number g) refl where
+    by : (b : Bool) → holds_slot number g ≡ b → SameApparentRowsForLogin logins (seen_by i (released number g) c) (seen_by i (released number h) f)
+    by true e =
+        subst (λ (o : Option Holder). SameApparentRowsForLogin logins (seen_by i o c) (seen_by i (released number h) f)) (sym (released_at number g true e))
+        (subst (λ (o : Option Holder). SameApparentRowsForLogin logins c (seen_by i o f)) (sym (released_at number h true (sym own ∙ e))) committed)
+    by false e =
+        subst (λ (o : Option Holder). SameApparentRowsForLogin logins (seen_by i o c) (seen_by i (released number h) f)) (sym (released_at number g false e))
+        (subst (λ (o : Option Holder). SameApparentRowsForLogin logins (seen_by i g c) (seen_by i o f)) (sym (released_at number h false (sym own ∙ e))) sees)
+
+-- ---- machines
+
+module _ (a : Tenant) where
+  pub for_one : (m k : Machine) → IsAlikeTo a m k → (number : ℕ) → a.sessions number ≡ true → MachinesAlikeForSession number a.logins m k
+  for_one m k st number own = record {
+    session = looked number m.sessions ∙ ap (session_of number) (st.sessions number own) ∙ sym (looked number k.sessions);
+    opened_for = λ s h. all_found a.logins number (entries_of number m.sessions) (st.opened_for number own) s (sym (looked number m.sessions) ∙ h);
+    stopped = st.stopped;
+    slot = st.slot number own;
+    committed = st.committed;
+    seen = st.seen number own;
+  }
+
+  pub turned : (m k : Machine) → IsAlikeTo a m k → IsAlikeTo a k m
+  turned m k st = record {
+    sessions = λ i own. sym (st.sessions i own);
+    opened_for = λ i own. subst (AllFor a.logins) (st.sessions i own) (st.opened_for i own);
+    stopped = sym st.stopped;
+    slot = λ i own. sym (st.slot i own);
+    committed = all_turned a.logins m.committed k.committed st.committed;
+    seen = λ i own. all_turned a.logins (seen m i) (seen k i) (st.seen i own);
+  }
+
+  -- ---- an event of another
+
+  own_apart : (event : Event Reading) → is_of a (happens event) ≡ false → (i : ℕ) → a.sessions i ≡ true → nat_eq i (number_of event) ≡ false
+  own_apart event not_own i own = by (nat_eq i (number_of event)) refl where
+    by : (b : Bool) → nat_eq i (number_of event) ≡ b → b ≡ false
+    by false e = refl
+    by true e = let contrary : true ≡ false = sym (subst (λ (j : ℕ). a.sessions j ≡ true) (eqb-true i (number_of event) e) own) ∙ not_own in cc
+
+  pub after_another : (m k : Machine) → IsAlikeTo a m k → (event : Event Reading) → is_of a (happens event) ≡ false → SameApparentRowsForLogin a.logins m.committed (after m event).committed → IsAlikeTo a (after m event) k
+  after_another m k st event not_own hides =
+      let each = λ (i : ℕ) (own : a.sessions i ≡ true). alike_after_others i a.logins m k (for_one m k st i own) event (own_apart event not_own i own) hides in
+      let stays = λ (i : ℕ) (own : a.sessions i ≡ true). entries_stay m i event (own_apart event not_own i own) in
+      record {
+        sessions = λ i own. stays i own ∙ st.sessions i own;
+        opened_for = λ i own. subst (AllFor a.logins) (sym (stays i own)) (st.opened_for i own);
+        stopped = stops_alike m k st event;
+        slot = λ i own. (each i own).slot;
+        committed = committed_after m k st event hides;
+        seen = λ i own. (each i own).seen;
+      }
+    where
+      stops_alike : (m k : Machine) → IsAlikeTo a m k → (event : Event Reading) → (after m event).stopped ≡ k.stopped
+      stops_alike m k st event = (turns m event).stopped ∙ st.stopped
+
+      committed_after : (m k : Machine) → IsAlikeTo a m k → (event : Event Reading) → SameApparentRowsForLogin a.logins m.committed (after m event).committed → SameApparentRowsForLogin a.logins (after m event).committed k.committed
+      committed_after m k st event hides = all_back a.logins m.committed (after m event).committed k.committed hides st.committed
+
+  -- ---- an event of its own
+
+  module _ (m k : Machine) (st : IsAlikeTo a m k) (number : ℕ) (own : a.sessions number ≡ true) where
+    entries_moved : (n j : Machine) → MoveAlike number a.logins m k n j → (i : ℕ) → a.sessions i ≡ true → entries_of i n.sessions ≡ entries_of i j.sessions
+    entries_moved n j stay i at = st.sessions i at
+    entries_moved n j (change s l) i at = with_both number i s m.sessions k.sessions (st.sessions i at)
+    entries_moved n j (end s role d e l are) i at = with_both number i (record { login = s.login; role = role; block = Outside }) m.sessions k.sessions (st.sessions i at)
+    entries_moved n j (commit_at_once d e are) i at = st.sessions i at
+    entries_moved n j (hold d e are) i at = st.sessions i at
+
+    logins_moved : (n j : Machine) → MoveAlike number a.logins m k n j → (i : ℕ) → a.sessions i ≡ true → AllFor a.logins (entries_of i n.sessions)
+    logins_moved n j stay i at = st.opened_for i at
+    logins_moved n j (change s l) i at = after_with a.logins number i s m.sessions l (st.opened_for i at)
+    logins_moved n j (end s role d e l are) i at = after_with a.logins number i (record { login = s.login; role = role; block = Outside }) m.sessions l (st.opened_for i at)
+    logins_moved n j (commit_at_once d e are) i at = st.opened_for i at
+    logins_moved n j (hold d e are) i at = st.opened_for i at
+
+    slot_moved : (n j : Machine) → MoveAlike number a.logins m k n j → (i : ℕ) → a.sessions i ≡ true → holds_slot i n.holder ≡ holds_slot i j.holder
+    slot_moved n j stay i at = st.slot i at
+    slot_moved n j (change s l) i at = st.slot i at
+    slot_moved n j (end s role d e l are) i at = slot_after number i m.holder k.holder (st.slot number own) (st.slot i at)
+    slot_moved n j (commit_at_once d e are) i at = st.slot i at
+    slot_moved n j (hold d e are) i at = refl
+
+    seen_moved : (n j : Machine) → MoveAlike number a.logins m k n j → (i : ℕ) → a.sessions i ≡ true → SameApparentRowsForLogin a.logins (seen n i) (seen j i)
+    seen_moved n j stay i at = st.seen i at
+    seen_moved n j (change s l) i at = st.seen i at
+    seen_moved n j (end s role d e l are) i at =
+        seen_where a.logins i (released number m.holder) (released number k.holder) m.committed k.committed d e (slot_after number i m.holder k.holder (st.slot number own) (st.slot i at))
+        (seen_after a.logins number i m.holder k.holder m.committed k.committed (st.slot number own) st.committed (st.seen i at)) are
+    seen_moved n j (commit_at_once d e are) i at = seen_where a.logins i m.holder k.holder m.committed k.committed d e (st.slot i at) (st.seen i at) are
+    seen_moved n j (hold d e are) i at = by (number == i) where
+      by : (b : Bool) → SameApparentRowsForLogin a.logins (cond b d m.committed) (cond b e k.committed)
+      by true = are
+      by false = st.committed
+
+    all_moved : (n j : Machine) → MoveAlike number a.logins m k n j → IsAlikeTo a n j
+    all_moved n j move =
+        let one = moved number a.logins m k (for_one m k st number own) n j move in
+        record {
+          sessions = entries_moved n j move;
+          opened_for = logins_moved n j move;
+          stopped = one.stopped;
+          slot = slot_moved n j move;
+          committed = one.committed;
+          seen = seen_moved n j move;
+        }
+
+    -- closed, both give up the slot
+    all_closed : IsAlikeTo a (record m { sessions = without_session number m.sessions; holder = released number m.holder }) (record k { sessions = without_session number k.sessions; holder = released number k.holder })
+    all_closed = record {
+      sessions = λ i at. without_both number i m.sessions k.sessions (st.sessions i at);
+      opened_for = λ i at. after_without a.logins number i m.sessions (st.opened_for i at);
+      stopped = st.stopped;
+      slot = λ i at. slot_after number i m.holder k.holder (st.slot number own) (st.slot i at);
+      committed = st.committed;
+      seen = λ i at. seen_after a.logins number i m.holder k.holder m.committed k.committed (st.slot number own) st.committed (st.seen i at);
+    }
+
+    closes_at : (o : Option Session) → IsAlikeTo a (close_session m number o).machine (close_session k number o).machine
+    closes_at None = st
+    closes_at (Some s) = all_closed
+
+    closes_so : IsAlikeTo a (after m (closes number)) (after k (closes number))
+    closes_so = by m.stopped refl where
+      by : (b : Bool) → m.stopped ≡ b → IsAlikeTo a (after m (closes number)) (after k (closes number))
+      by true on =
+          subst (λ (x : Machine). IsAlikeTo a x (after k (closes number))) (sym (ap (λ (b : Bool). (cond b (refuses m IoError) (running_transition m (closes number))).machine) on))
+          (subst (λ (x : Machine). IsAlikeTo a m x) (sym (ap (λ (b : Bool). (cond b (refuses k IoError) (running_transition k (closes number))).machine) (sym st.stopped ∙ on))) st)
+      by false on =
+          subst (λ (x : Machine). IsAlikeTo a x (after k (closes number))) (sym (ap (λ (b : Bool). (cond b (refuses m IoError) (running_transition m (closes number))).machine) on))
+          (subst (λ (x : Machine). IsAlikeTo a (close_session m number (session_of number m.sessions)).machine x) (sym (ap (λ (b : Bool). (cond b (refuses k IoError) (running_transition k (closes number))).machine) (sym st.stopped ∙ on)))
+          (subst (λ (o : Option Session). IsAlikeTo a (close_session m number (session_of number m.sessions)).machine (close_session k number o).machine) (for_one m k st number own).session (closes_at (session_of number m.sessions))))
+
+  -- restarted, each has what is committed
+  restarted : (m k : Machine) → IsAlikeTo a m k → IsAlikeTo a (machine_over m.committed) (machine_over k.committed)
+  restarted m k st = record { sessions = λ i at. refl; opened_for = λ i at. tt; stopped = refl; slot = λ i at. refl; committed = st.committed; seen = λ i at. st.committed }
+
+  pub sound_follows : (m : Machine) (x : Act) → AreSound m → AreSound (follows m x)
+  sound_follows m (happens event) on = sound_after m event on
+  sound_follows m (declares event) on = sound_after m event on
+  sound_follows m restarts on = record { committed = on.committed; holder = tt }
+
+  after_others : (m k : Machine) → IsAlikeTo a m k → (x : Act) → is_of a x ≡ false → SameApparentRowsForLogin a.logins m.committed (follows m x).committed → IsAlikeTo a (follows m x) k
+  after_others m k st (happens event) not_own hides = after_another m k st event not_own hides
+  after_others m k st (declares event) not_own hides = cc
+  after_others m k st restarts not_own hides = cc
+
+  -- ---- what comes of it
+
+  module _ (m k : Machine) (st : IsAlikeTo a m k) (on_m : AreSound m) (on_k : AreSound k) where
+    pub data Told (x : Act) : Type 0 where
+      differs : IsExceptionFor m k x → Told x
+      same : IsAnsweredAlike m k x → IsAlikeTo a (follows m x) (follows k x) → Told x
+      waits : (event : Event Reading) → declares event ≡ x → Told x
+
+    of_step : (number : ℕ) → a.sessions number ≡ true → (event : Event Reading) → number_of event ≡ number → Step number a.logins m k event → Told (happens event)
+    of_step number own event at (inl exception) = differs (inl (subst (λ (n : ℕ). IsException n m k event) (sym at) exception))
+    of_step number own event at (inr both) = same both.answers (all_moved m k st number own (after m event) (after k event) both.move)
+
+    same_or_not : (b c : Bool) → (b ≡ c) ⊎ (b ≡ c → ⊥)
+    same_or_not true true = inl refl
+    same_or_not false false = inl refl
+    same_or_not true false = inr (λ e. cc)
+    same_or_not false true = inr (λ e. cc)
+
+    one_of : (x y : Statement) → ◌≡◌ {A = Reading} (Ok x) (Ok y) → x ≡ y
+    one_of x y is = cc
+
+    runs_with : (number : ℕ) → a.sessions number ≡ true → (x : Statement) → (is_writing x && is_held_by_other number m.holder) ≡ (is_writing x && is_held_by_other number k.holder) → Told (happens (executes number (Ok x)))
+    runs_with number own x slot = of_step number own (executes number (Ok x)) refl (executed number a.logins m k (for_one m k st number own) on_m on_k (Ok x)
+        (λ y is. subst (λ (z : Statement). (is_writing z && is_held_by_other number m.holder) ≡ (is_writing z && is_held_by_other number k.holder)) (one_of x y is) slot))
+
+    told_statement : (number : ℕ) → a.sessions number ≡ true → (x : Statement) (w : Bool) → is_writing x ≡ w → Told (happens (executes number (Ok x)))
+    told_statement number own x false reads = runs_with number own x (ap (λ (b : Bool). b && is_held_by_other number m.holder) reads ∙ sym (ap (λ (b : Bool). b && is_held_by_other number k.holder) reads))
+    told_statement number own x true writes = elim (same_or_not (is_held_by_other number m.holder) (is_held_by_other number k.holder)) [
+      | inl held ↦ runs_with number own x (ap (λ (b : Bool). is_writing x && b) held)
+      | inr other ↦ differs (inr (by_slot x writes other))
+    ]
+
+    pub told_act : (x : Act) → is_of a x ≡ true → OpensItsOwn a x → Told x
+    told_act (happens (opens number login)) own opens_own = elim (same_or_not (nat_le 256 (length m.sessions)) (nat_le 256 (length k.sessions))) [
+      | inl room ↦ of_step number own (opens number login) refl (opened number a.logins m k (for_one m k st number own) on_m on_k login opens_own room)
+      | inr other ↦ differs (inr (by_number login other))
+    ]
+    told_act (happens (executes number (Err code))) own opens_own =
+        of_step number own (executes number (Err code)) refl (executed number a.logins m k (for_one m k st number own) on_m on_k (Err code) (λ x is. let contrary : ◌≡◌ {A = Reading} (Err code) (Ok x) = is in cc))
+    told_act (happens (executes number (Ok x))) own opens_own = told_statement number own x (is_writing x) refl
+    told_act (happens (closes number)) own opens_own = same (closes_alike number a.logins m k (for_one m k st number own) on_m on_k) (closes_so m k st number own)
+    told_act (declares event) own opens_own = waits event refl
+    told_act restarts own opens_own = same tt (restarted m k st)
+
+  -- ---- runs
+
+  abbrev Goes : List Act → Type 0
+  Goes later = (m k : Machine) (others : List Act) → IsAlikeTo a m k → AreSound m → AreSound k → OthersKeepOutOfSight a m later → OthersKeepOutOfSight a k others → noticed a later ≡ noticed a others → IsToldAlike a m k later others
+
+  first_same : (x y : Act) (xs ys : List Act) → (x ∷ xs) ≡ (y ∷ ys) → (x ≡ y) × (xs ≡ ys)
+  first_same x y xs ys e = (ap first_of e, ap rest_of e) where
+    first_of : List Act → Act
+    first_of [] = x
+    first_of (z ∷ zs) = z
+
+    rest_of : List Act → List Act
+    rest_of [] = []
+    rest_of (z ∷ zs) = zs
+
+  told_here : (event : Act) (later others : List Act) (m k : Machine) → IsAlikeTo a m k → AreSound m → AreSound k → is_of a event ≡ true → OpensItsOwn a event →
+      OthersKeepOutOfSight a (follows m event) later → OthersKeepOutOfSight a (follows k event) others → noticed a later ≡ noticed a others → Goes later → IsToldAlike a m k (event ∷ later) (event ∷ others)
+  told_here event later others m k st on_m on_k own opens_own act act_k equal go = at (told_act m k st on_m on_k event own opens_own) where
+    at : Told m k st on_m on_k event → IsToldAlike a m k (event ∷ later) (event ∷ others)
+    at (differs exception) = told_apart own exception
+    at (same answers next) = told_alike own answers (go (follows m event) (follows k event) others next (sound_follows m event on_m) (sound_follows k event on_k) act act_k equal)
+    at (waits e is) =
+        subst (λ (x : Act). IsToldAlike a m k (x ∷ later) (x ∷ others)) is
+        (declared (λ alike. go (after m e) (after k e) others alike (sound_after m e on_m) (sound_after k e on_k)
+        (subst (λ (x : Act). OthersKeepOutOfSight a (follows m x) later) (sym is) act) (subst (λ (x : Act). OthersKeepOutOfSight a (follows k x) others) (sym is) act_k) equal))
+
+  -- an own event in the first run: the second comes to it, too
+  abbrev ReachesOwn : Act → List Act → List Act → Type 0
+  ReachesOwn event later others = (m k : Machine) → IsAlikeTo a m k → AreSound m → AreSound k → OpensItsOwn a event → OthersKeepOutOfSight a (follows m event) later → OthersKeepOutOfSight a k others →
+      (event ∷ noticed a later) ≡ noticed a others → IsToldAlike a m k (event ∷ later) others
+
+  to_own : (event : Act) (later : List Act) → is_of a event ≡ true → Goes later → (others : List Act) → ReachesOwn event later others
+  to_own event later own go [] m k st on_m on_k opens_own act act_k equal = let contrary : (event ∷ noticed a later) ≡ [] = equal in cc
+  to_own event later own go (f ∷ fs) m k st on_m on_k opens_own act act_k equal = by (is_of a f) refl (to_own event later own go fs) where
+    by : (b : Bool) → is_of a f ≡ b → ReachesOwn event later fs → IsToldAlike a m k (event ∷ later) (f ∷ fs)
+    by true own_f on =
+        let both = first_same event f (noticed a later) (noticed a fs) (equal ∙ ap (λ (b : Bool). cond b (f ∷ noticed a fs) (noticed a fs)) own_f) in
+        subst (λ (x : Act). IsToldAlike a m k (event ∷ later) (x ∷ fs)) both.0
+        (told_here event later fs m k st on_m on_k own opens_own act (subst (λ (x : Act). OthersKeepOutOfSight a (follows k x) fs) (sym both.0) act_k.1) both.1 go)
+    by false other on =
+        untold_there other (on m (follows k f) (turned (follows k f) m (after_others k m (turned m k st) f other (act_k.0.1 other))) on_m (sound_follows k f on_k) opens_own act act_k.1
+        (equal ∙ ap (λ (b : Bool). cond b (f ∷ noticed a fs) (noticed a fs)) other))
+
+  abbrev NoneMore : List Act → Type 0
+  NoneMore others = (m k : Machine) → IsAlikeTo a m k → OthersKeepOutOfSight a k others → [] ≡ noticed a others → IsToldAlike a m k [] others
+
+  none_more : (others : List Act) → NoneMore others
+  none_more [] m k st act_k equal = all_told
+  none_more (f ∷ fs) m k st act_k equal = by (is_of a f) refl (none_more fs) where
+    by : (b : Bool) → is_of a f ≡ b → NoneMore fs → IsToldAlike a m k [] (f ∷ fs)
+    by true own_f on = let contrary : [] ≡ (f ∷ noticed a fs) = equal ∙ ap (λ (b : Bool). cond b (f ∷ noticed a fs) (noticed a fs)) own_f in cc
+    by false other on =
+        untold_there other (on m (follows k f) (turned (follows k f) m (after_others k m (turned m k st) f other (act_k.0.1 other))) act_k.1
+        (equal ∙ ap (λ (b : Bool). cond b (f ∷ noticed a fs) (noticed a fs)) other))
+
+  goes : (events : List Act) → Goes events
+  goes [] m k others st on_m on_k act act_k equal = none_more others m k st act_k equal
+  goes (event ∷ later) m k others st on_m on_k act act_k equal = by (is_of a event) refl (goes later) where
+    by : (b : Bool) → is_of a event ≡ b → Goes later → IsToldAlike a m k (event ∷ later) others
+    by true own on =
+        to_own event later own on others m k st on_m on_k (act.0.0 own) act.1 act_k
+        (sym (ap (λ (b : Bool). cond b (event ∷ noticed a later) (noticed a later)) own) ∙ equal)
+    by false other on =
+        untold_here other (on (follows m event) k others (after_others m k st event other (act.0.1 other)) (sound_follows m event on_m) on_k act.1 act_k
+        (sym (ap (λ (b : Bool). cond b (event ∷ noticed a later) (noticed a later)) other) ∙ equal))
+
+pub told : what_a_tenant_is_told
+told a m k events others st on_m on_k act act_k equal = goes a events m k others st on_m on_k act act_k equal

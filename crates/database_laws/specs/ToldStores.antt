@@ -1,0 +1,62 @@
+-- What a tenant is told by two servers, each over a store of its own, with whatever others do out of its sight.
+use Rattle.std.specs.Prelude.{◌≡◌, ◌⊎◌, ℕ, Bool, true, false, List, [], ◌∷◌, filter}
+use Rattle.sql_types.specs.declared.state.SqlState.TheVariants.{IoError}
+use Rattle.sql_types.specs.declared.answer.Answer.{Answer}
+use Rattle.sql_types.specs.declared.answer.Answer.TheVariants as answer
+use Rattle.abstract_database.specs.Machine.{Event, opens, executes, closes, Reading, is_writing, is_held_by_other}
+use Rattle.abstract_database.specs.Database.{Database}
+use Rattle.sql_ast.specs.declared.statement.Statement.{Statement}
+use Rattle.abstract_database.specs.Runs.{TheText, ReadingRelation, IsReadAs, RanBy, Stops, At, Happens}
+use Rattle.database_laws.specs.HiddenRuns.{SameApparentRowsForLogin, AreSound, IsInPlace}
+use Rattle.database_laws.specs.Runs.{ReadsOnce}
+use Rattle.database_laws.specs.Sessions.{number_of}
+use Rattle.database_laws.specs.Told.{Tenant, IsAlikeTo, happens, IsExceptionFor}
+
+abbrev pub is_text_of : Tenant → Event TheText → Bool
+is_text_of a event = a.sessions (number_of event)
+
+-- the events of the tenant's sessions, as texts
+abbrev pub own_texts : Tenant → List (Event TheText) → List (Event TheText)
+own_texts a events = filter (is_text_of a) events
+
+-- the tenant opens its sessions for its login roles alone
+abbrev pub OpensAsOwn : Tenant → Event TheText → Type 0
+OpensAsOwn a (opens number login) = a.logins login ≡ true
+OpensAsOwn a (executes number text) = Unit {0}
+OpensAsOwn a (closes number) = Unit {0}
+
+-- in a run each event of another leaves what is committed as it looks to all that the tenant may act as
+abbrev pub KeepOutOfSight : (Reads : ReadingRelation) (Leave : Stops) → Tenant → (w end : At) (events : List (Event TheText)) (answers : List Answer) → RanBy (Happens Reads Leave) w events answers end → Type 0
+KeepOutOfSight Reads Leave a w end [] [] ran = Unit {0}
+KeepOutOfSight Reads Leave a w end (event ∷ events) (x ∷ answers) ran =
+    ((is_text_of a event ≡ true → OpensAsOwn a event) × (is_text_of a event ≡ false → SameApparentRowsForLogin a.logins w.standing.machine.committed ran.0.standing.machine.committed))
+    × KeepOutOfSight Reads Leave a ran.0 end events answers ran.2
+KeepOutOfSight Reads Leave a w end [] (x ∷ answers) ran = Unit {0}
+KeepOutOfSight Reads Leave a w end (event ∷ events) [] ran = Unit {0}
+
+-- the answers to the tenant's own events are the same, up to the first exception, to the first own event that one store refuses and
+-- the other does not for the same, or to the first failure of a device
+pub data IsToldAlikeBy (Reads : ReadingRelation) (Leave LeaveOther : Stops) (a : Tenant) : At → At → List (Event TheText) → List Answer → List (Event TheText) → List Answer → Type 0 where
+  all_told : {w v : At} → IsAlikeTo a w.standing.machine v.standing.machine → IsToldAlikeBy Reads Leave LeaveOther a w v [] [] [] []
+  told_apart : {w v : At} {event : Event TheText} {events others : List (Event TheText)} {x y : Answer} {answers told : List Answer} → is_text_of a event ≡ true → (read : Event Reading) →
+      IsReadAs Reads w.standing.machine event read → IsExceptionFor w.standing.machine v.standing.machine (happens read) → IsToldAlikeBy Reads Leave LeaveOther a w v (event ∷ events) (x ∷ answers) (event ∷ others) (y ∷ told)
+  refused_alone : (next later : At) {w v : At} {event : Event TheText} {events others : List (Event TheText)} {x y : Answer} {answers told : List Answer} → is_text_of a event ≡ true →
+      Happens Reads Leave w event x next → Happens Reads LeaveOther v event y later → IsInPlace w.counts next.counts x ⊎ IsInPlace v.counts later.counts y → IsToldAlikeBy Reads Leave LeaveOther a w v (event ∷ events) (x ∷ answers) (event ∷ others) (y ∷ told)
+  told_alike : (next later : At) {w v : At} {event : Event TheText} {events others : List (Event TheText)} {x : Answer} {answers told : List Answer} → is_text_of a event ≡ true →
+      Happens Reads Leave w event x next → Happens Reads LeaveOther v event x later → IsToldAlikeBy Reads Leave LeaveOther a next later events answers others told → IsToldAlikeBy Reads Leave LeaveOther a w v (event ∷ events) (x ∷ answers) (event ∷ others) (x ∷ told)
+  untold_here : (next : At) {w v : At} {event : Event TheText} {events others : List (Event TheText)} {x : Answer} {answers told : List Answer} → is_text_of a event ≡ false →
+      Happens Reads Leave w event x next → IsToldAlikeBy Reads Leave LeaveOther a next v events answers others told → IsToldAlikeBy Reads Leave LeaveOther a w v (event ∷ events) (x ∷ answers) others told
+  untold_there : (later : At) {w v : At} {event : Event TheText} {events others : List (Event TheText)} {x : Answer} {answers told : List Answer} → is_text_of a event ≡ false →
+      Happens Reads LeaveOther v event x later → IsToldAlikeBy Reads Leave LeaveOther a w later events answers others told → IsToldAlikeBy Reads Leave LeaveOther a w v events answers (event ∷ others) (x ∷ told)
+  failed_here : {w v : At} {event : Event TheText} {events others : List (Event TheText)} {x : Answer} {answers told : List Answer} → is_text_of a event ≡ false → x ≡ answer.Refused IoError →
+      IsToldAlikeBy Reads Leave LeaveOther a w v (event ∷ events) (x ∷ answers) others told
+  failed_there : {w v : At} {event : Event TheText} {events others : List (Event TheText)} {x : Answer} {answers told : List Answer} → is_text_of a event ≡ false → x ≡ answer.Refused IoError →
+      IsToldAlikeBy Reads Leave LeaveOther a w v events answers (event ∷ others) (x ∷ told)
+
+-- two servers over stores of their own, of which the tenant asks the same, tell it the same
+abbrev pub what_stores_tell_a_tenant : ReadingRelation → Stops → Stops → Type 0
+what_stores_tell_a_tenant Reads Leave LeaveOther = ReadsOnce Reads → (a : Tenant) (w v end other_end : At) (events others : List (Event TheText)) (answers told : List Answer) →
+    IsAlikeTo a w.standing.machine v.standing.machine → AreSound w.standing.machine → AreSound v.standing.machine →
+    (ran : RanBy (Happens Reads Leave) w events answers end) (ran_there : RanBy (Happens Reads LeaveOther) v others told other_end) →
+    KeepOutOfSight Reads Leave a w end events answers ran → KeepOutOfSight Reads LeaveOther a v other_end others told ran_there → own_texts a events ≡ own_texts a others →
+    IsToldAlikeBy Reads Leave LeaveOther a w v events answers others told
