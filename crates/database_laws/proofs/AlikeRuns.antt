@@ -12,6 +12,7 @@ use Rattle.sql_ast.specs.declared.statement.DatabaseStatement.TheVariants as on_
 use Rattle.sql_ast.specs.declared.statement.DefiningStatement.{DefiningStatement}
 use Rattle.sql_ast.specs.declared.statement.RowStatement.{RowStatement}
 use Rattle.sql_ast.specs.declared.statement.SessionStatement.{SessionStatement}
+use Rattle.sql_ast.specs.declared.statement.SetRole.{SetRole}
 use Rattle.sql_ast.specs.declared.statement.SessionStatement.TheVariants as of_session
 use Rattle.expressions.specs.Stages.{◌>>=◌, require}
 use Rattle.abstract_database.specs.Lists.{TheName}
@@ -23,7 +24,7 @@ use Rattle.database_laws.specs.Stages.{apart_from_rows}
 use Rattle.abstract_database.specs.Machine.{Block, Outside, Inside, Failed, Session, Event, executes, Reading, Machine, Holder, Transition, refuses, succeeds, session_of, with_session, users_of, in_block, as_role, with_session_changed, is_held_by_other, released, seen_by, seen, after_refusal, refused, transition_or_refusal, changes_database, is_writing, sets_role, has_failed, keeps_role, may_execute, begin, with_role_set, with_block_ended, commit, rollback, with_changes, applied, where_admitted, execute_of_session, execute_on_database, execute_in, execute, running_transition}
 use Rattle.abstract_database.proofs.ResultLemmas.{require_ok, Every, every_bind, every_ok}
 use Rattle.database_laws.specs.Invariants.{HoldsOfHolder, IsSound}
-use Rattle.database_laws.specs.HiddenRuns.{MayActAs, SameApparentRowsForLogin, holds_slot, MachinesAlikeForSession, AreSound, answer_to, goes_by_visible, may_unhide, IsException, by_key, by_count, by_definition}
+use Rattle.database_laws.specs.HiddenRuns.{MayActAs, SameApparentRowsForPairs, ActsWithin, RollsBackWithin, holds_slot, MachinesAlikeForSession, AreSound, answer_to, goes_by_visible, may_unhide, IsException, by_key, by_count, by_definition}
 use Rattle.database_laws.proofs.CommitLemmas.{session_there}
 use Rattle.database_laws.proofs.StatementLemmas.{exec_answers, staged, reads_no_rows}
 use Rattle.database_laws.proofs.AllAlikeRows.{EndAll, rows_end}
@@ -34,23 +35,23 @@ use Rattle.database_laws.proofs.AllAlikeDefinitions.{definition_ends, refused_al
 pub held_at : (number : ℕ) (h : Holder) (committed : Database) (b : Bool) → (h.session == number) ≡ b → seen_by number (Some h) committed ≡ cond b h.database committed
 held_at number h committed b e = ap (λ (x : Bool). cond x h.database committed) e
 
-module _ (login : TheName → Bool) where
+module _ (pairs : UserPair → Bool) where
   -- where both hold the slot, or neither does, other databases may be committed
-  pub seen_where : (number : ℕ) (g h : Option Holder) (old c new f : Database) → holds_slot number g ≡ holds_slot number h → SameApparentRowsForLogin login (seen_by number g old) (seen_by number h c) → SameApparentRowsForLogin login new f →
-      SameApparentRowsForLogin login (seen_by number g new) (seen_by number h f)
+  pub seen_where : (number : ℕ) (g h : Option Holder) (old c new f : Database) → holds_slot number g ≡ holds_slot number h → SameApparentRowsForPairs pairs (seen_by number g old) (seen_by number h c) → SameApparentRowsForPairs pairs new f →
+      SameApparentRowsForPairs pairs (seen_by number g new) (seen_by number h f)
   seen_where number None None old c new f same alike next = next
-  seen_where number None (Some h) old c new f same alike next = subst (λ (x : Database). SameApparentRowsForLogin login new x) (sym (held_at number h f false (sym same))) next
-  seen_where number (Some g) None old c new f same alike next = subst (λ (x : Database). SameApparentRowsForLogin login x f) (sym (held_at number g new false same)) next
+  seen_where number None (Some h) old c new f same alike next = subst (λ (x : Database). SameApparentRowsForPairs pairs new x) (sym (held_at number h f false (sym same))) next
+  seen_where number (Some g) None old c new f same alike next = subst (λ (x : Database). SameApparentRowsForPairs pairs x f) (sym (held_at number g new false same)) next
   seen_where number (Some g) (Some h) old c new f same alike next = by_slot (g.session == number) refl where
-    by_slot : (b : Bool) → (g.session == number) ≡ b → SameApparentRowsForLogin login (seen_by number (Some g) new) (seen_by number (Some h) f)
+    by_slot : (b : Bool) → (g.session == number) ≡ b → SameApparentRowsForPairs pairs (seen_by number (Some g) new) (seen_by number (Some h) f)
     by_slot true e =
         let e' : (h.session == number) ≡ true = sym same ∙ e in
-        subst (λ (x : Database). SameApparentRowsForLogin login x (seen_by number (Some h) f)) (held_at number g old true e ∙ sym (held_at number g new true e))
-        (subst (λ (x : Database). SameApparentRowsForLogin login (seen_by number (Some g) old) x) (held_at number h c true e' ∙ sym (held_at number h f true e')) alike)
+        subst (λ (x : Database). SameApparentRowsForPairs pairs x (seen_by number (Some h) f)) (held_at number g old true e ∙ sym (held_at number g new true e))
+        (subst (λ (x : Database). SameApparentRowsForPairs pairs (seen_by number (Some g) old) x) (held_at number h c true e' ∙ sym (held_at number h f true e')) alike)
     by_slot false e =
         let e' : (h.session == number) ≡ false = sym same ∙ e in
-        subst (λ (x : Database). SameApparentRowsForLogin login x (seen_by number (Some h) f)) (sym (held_at number g new false e))
-        (subst (λ (x : Database). SameApparentRowsForLogin login new x) (sym (held_at number h f false e')) next)
+        subst (λ (x : Database). SameApparentRowsForPairs pairs x (seen_by number (Some h) f)) (sym (held_at number g new false e))
+        (subst (λ (x : Database). SameApparentRowsForPairs pairs new x) (sym (held_at number h f false e')) next)
 
 -- once it is given up, the committed database is seen, and the slot is not held
 given_up_at : (number : ℕ) (h : Holder) (db : Database) (b : Bool) → (h.session == number) ≡ b → (seen_by number (cond b None (Some h)) db ≡ db) × (holds_slot number (cond b None (Some h)) ≡ false)
@@ -74,28 +75,27 @@ own_slot number db c = let e : (number == number) ≡ true = eq-eqb number numbe
 
 -- ---- both machines move alike
 
-module _ (number : ℕ) (login : TheName → Bool) where
+module _ (number : ℕ) (pairs : UserPair → Bool) where
   pub data MoveAlike (m k : Machine) : Machine → Machine → Type 0 where
     stay : MoveAlike m k m k
-    change : (s : Session) → login s.login ≡ true → MoveAlike m k (with_session_changed m number s) (with_session_changed k number s)
-    end : (s : Session) (role : TheName) (d e : Database) → login s.login ≡ true → SameApparentRowsForLogin login d e → MoveAlike m k (with_block_ended m number s d role) (with_block_ended k number s e role)
-    commit_at_once : (d e : Database) → SameApparentRowsForLogin login d e → MoveAlike m k (record m { committed = d }) (record k { committed = e })
-    hold : (d e : Database) → SameApparentRowsForLogin login d e → MoveAlike m k (record m { holder = Some (record { session = number; database = d }) }) (record k { holder = Some (record { session = number; database = e }) })
+    change : (s : Session) → ActsWithin pairs s → MoveAlike m k (with_session_changed m number s) (with_session_changed k number s)
+    end : (s : Session) (role : TheName) (d e : Database) → ActsWithin pairs (in_block Outside (as_role role s)) → SameApparentRowsForPairs pairs d e → MoveAlike m k (with_block_ended m number s d role) (with_block_ended k number s e role)
+    commit_at_once : (d e : Database) → SameApparentRowsForPairs pairs d e → MoveAlike m k (record m { committed = d }) (record k { committed = e })
+    hold : (d e : Database) → SameApparentRowsForPairs pairs d e → MoveAlike m k (record m { holder = Some (record { session = number; database = d }) }) (record k { holder = Some (record { session = number; database = e }) })
 
   there_alike : (m k : Machine) (s : Session) → session_of number (with_session m.sessions number s) ≡ session_of number (with_session k.sessions number s)
   there_alike m k s = session_there m.sessions number s ∙ sym (session_there k.sessions number s)
 
-  login_after : (sessions : List (ℕ × Session)) (s : Session) → login s.login ≡ true → (t : Session) → session_of number (with_session sessions number s) ≡ Some t → login t.login ≡ true
-  login_after sessions s own t h = let same : ◌≡◌ {A = Option Session} (Some s) (Some t) = sym (session_there sessions number s) ∙ h in ap (λ (o : Option Session). login (login_of o)) (sym same) ∙ own where
-    login_of : Option Session → TheName
-    login_of None = []
-    login_of (Some x) = x.login
+  acts_after : (sessions : List (ℕ × Session)) (s : Session) → ActsWithin pairs s → (t : Session) → session_of number (with_session sessions number s) ≡ Some t → ActsWithin pairs t
+  acts_after sessions s own t h = subst (ActsWithin pairs) (one_of s t (sym (session_there sessions number s) ∙ h)) own where
+    one_of : (x y : Session) → ◌≡◌ {A = Option Session} (Some x) (Some y) → x ≡ y
+    one_of x y e = cc
 
-  pub moved : (m k : Machine) → MachinesAlikeForSession number login m k → (n j : Machine) → MoveAlike m k n j → MachinesAlikeForSession number login n j
+  pub moved : (m k : Machine) → MachinesAlikeForSession number pairs m k → (n j : Machine) → MoveAlike m k n j → MachinesAlikeForSession number pairs n j
   moved m k st n j stay = st
   moved m k st n j (change s own) = record {
     session = there_alike m k s;
-    opened_for = login_after m.sessions s own;
+    opened_for = acts_after m.sessions s own;
     stopped = st.stopped;
     slot = st.slot;
     committed = st.committed;
@@ -106,11 +106,11 @@ module _ (number : ℕ) (login : TheName → Bool) where
       let free_e = given_up number k.holder e in
       record {
         session = there_alike m k (in_block Outside (as_role role s));
-        opened_for = login_after m.sessions (in_block Outside (as_role role s)) own;
+        opened_for = acts_after m.sessions (in_block Outside (as_role role s)) own;
         stopped = st.stopped;
         slot = free_d.1 ∙ sym free_e.1;
         committed = are;
-        seen = subst (λ (x : Database). SameApparentRowsForLogin login x (seen_by number (released number k.holder) e)) (sym free_d.0) (subst (λ (x : Database). SameApparentRowsForLogin login d x) (sym free_e.0) are);
+        seen = subst (λ (x : Database). SameApparentRowsForPairs pairs x (seen_by number (released number k.holder) e)) (sym free_d.0) (subst (λ (x : Database). SameApparentRowsForPairs pairs d x) (sym free_e.0) are);
       }
   moved m k st n j (commit_at_once d e are) = record {
     session = st.session;
@@ -118,7 +118,7 @@ module _ (number : ℕ) (login : TheName → Bool) where
     stopped = st.stopped;
     slot = st.slot;
     committed = are;
-    seen = seen_where login number m.holder k.holder m.committed k.committed d e st.slot st.seen are;
+    seen = seen_where pairs number m.holder k.holder m.committed k.committed d e st.slot st.seen are;
   }
   moved m k st n j (hold d e are) =
       let on_d = own_slot number d m.committed in
@@ -129,8 +129,24 @@ module _ (number : ℕ) (login : TheName → Bool) where
         stopped = st.stopped;
         slot = on_d.1 ∙ sym on_e.1;
         committed = st.committed;
-        seen = subst (λ (x : Database). SameApparentRowsForLogin login x (seen_by number (Some (record { session = number; database = e })) k.committed)) (sym on_d.0) (subst (λ (x : Database). SameApparentRowsForLogin login d x) (sym on_e.0) are);
+        seen = subst (λ (x : Database). SameApparentRowsForPairs pairs x (seen_by number (Some (record { session = number; database = e })) k.committed)) (sym on_d.0) (subst (λ (x : Database). SameApparentRowsForPairs pairs d x) (sym on_e.0) are);
       }
+
+  -- where a statement of the session sets a role, it is one of the pairs
+  abbrev pub SetsWithin : Machine → Session → SetRole → Type 0
+  SetsWithin m s x = (free : Unit {0}) → may_execute m number s (statement.OfSession (of_session.SetRole x)) ≡ Ok free → Every (λ (c : Session). pairs (users_of c) ≡ true) (with_role_set (seen m number) s x.role)
+
+  abbrev pub StatementWithin : Machine → Session → SessionStatement → Type 0
+  StatementWithin m s (of_session.SetRole x) = SetsWithin m s x
+  StatementWithin m s of_session.ResetRole = Unit {0}
+  StatementWithin m s of_session.Begin = Unit {0}
+  StatementWithin m s of_session.Commit = Unit {0}
+  StatementWithin m s of_session.Rollback = Unit {0}
+
+  abbrev pub ReadsWithin : Machine → Session → Reading → Type 0
+  ReadsWithin m s (Err code) = Unit {0}
+  ReadsWithin m s (Ok (statement.OnDatabase x)) = Unit {0}
+  ReadsWithin m s (Ok (statement.OfSession x)) = StatementWithin m s x
 
   -- one answer, and both move alike
   pub record Alike (m k : Machine) (t u : Transition) : Type 0 where
@@ -139,7 +155,7 @@ module _ (number : ℕ) (login : TheName → Bool) where
 
   -- ---- one statement of the session
 
-  module _ (m k : Machine) (st : MachinesAlikeForSession number login m k) (on_m : AreSound m) (on_k : AreSound k) (s : Session) (own : login s.login ≡ true) where
+  module _ (m k : Machine) (st : MachinesAlikeForSession number pairs m k) (on_m : AreSound m) (on_k : AreSound k) (s : Session) (own : ActsWithin pairs s) where
     abbrev Both : Transition → Transition → Type 0
     Both t u = Alike m k t u
 
@@ -149,13 +165,13 @@ module _ (number : ℕ) (login : TheName → Bool) where
     DoAlike (Ok t) (Err i) = ⊥
     DoAlike (Err c) (Ok u) = ⊥
 
-    refused_at : (code : SqlState) (b : Block) → Both (refuses (after_refusal m number s b) code) (refuses (after_refusal k number s b) code)
-    refused_at code Outside = record { answers = refl; move = stay }
-    refused_at code (Inside role) = record { answers = refl; move = change (in_block (Failed role) s) own }
-    refused_at code (Failed role) = record { answers = refl; move = stay }
+    refused_at : (code : SqlState) (b : Block) → RollsBackWithin pairs s.login b → Both (refuses (after_refusal m number s b) code) (refuses (after_refusal k number s b) code)
+    refused_at code Outside kept = record { answers = refl; move = stay }
+    refused_at code (Inside role) kept = record { answers = refl; move = change (in_block (Failed role) s) (record { now = own.now; reset = own.reset; rolled_back = kept }) }
+    refused_at code (Failed role) kept = record { answers = refl; move = stay }
 
     refused_both : (code : SqlState) → Both (refused m number s code) (refused k number s code)
-    refused_both code = refused_at code s.block
+    refused_both code = refused_at code s.block own.rolled_back
 
     settled : (r q : Result Transition SqlState) → DoAlike r q → Both (transition_or_refusal m number s r) (transition_or_refusal k number s q)
     settled (Ok t) (Ok u) h = h
@@ -196,48 +212,60 @@ module _ (number : ℕ) (login : TheName → Bool) where
         (subst (λ (r : Result (Unit {0}) SqlState). DoAlike (may_execute m number s x >>= λ free. t) (r >>= λ free. u)) (may_alike x same)
         (after_checks (may_execute m number s x) t u h))
 
-    commit_both : (b : Block) → Both (commit m number s b) (commit k number s b)
-    commit_both Outside = record { answers = refl; move = stay }
-    commit_both (Inside role) = record { answers = refl; move = end s s.role (seen m number) (seen k number) own st.seen }
-    commit_both (Failed role) = record { answers = refl; move = end s role m.committed k.committed own st.committed }
+    -- out of its block, with this role
+    out_with : (role : TheName) → pairs (record { current = role; session = s.login }) ≡ true → ActsWithin pairs (in_block Outside (as_role role s))
+    out_with role acts = record { now = acts; reset = own.reset; rolled_back = tt }
 
-    rollback_both : (b : Block) → Both (rollback m number s b) (rollback k number s b)
-    rollback_both Outside = record { answers = refl; move = stay }
-    rollback_both (Inside role) = record { answers = refl; move = end s role m.committed k.committed own st.committed }
-    rollback_both (Failed role) = record { answers = refl; move = end s role m.committed k.committed own st.committed }
+    commit_both : (b : Block) → RollsBackWithin pairs s.login b → Both (commit m number s b) (commit k number s b)
+    commit_both Outside kept = record { answers = refl; move = stay }
+    commit_both (Inside role) kept = record { answers = refl; move = end s s.role (seen m number) (seen k number) (out_with s.role own.now) st.seen }
+    commit_both (Failed role) kept = record { answers = refl; move = end s role m.committed k.committed (out_with role kept) st.committed }
+
+    rollback_both : (b : Block) → RollsBackWithin pairs s.login b → Both (rollback m number s b) (rollback k number s b)
+    rollback_both Outside kept = record { answers = refl; move = stay }
+    rollback_both (Inside role) kept = record { answers = refl; move = end s role m.committed k.committed (out_with role kept) st.committed }
+    rollback_both (Failed role) kept = record { answers = refl; move = end s role m.committed k.committed (out_with role kept) st.committed }
 
     begin_both : (b : Block) → Both (begin m number s b) (begin k number s b)
-    begin_both Outside = record { answers = refl; move = change (in_block (Inside s.role) s) own }
+    begin_both Outside = record { answers = refl; move = change (in_block (Inside s.role) s) (record { now = own.now; reset = own.reset; rolled_back = own.now }) }
     begin_both (Inside role) = record { answers = refl; move = stay }
     begin_both (Failed role) = record { answers = refl; move = stay }
 
     role_set : (role : Option TheName) → with_role_set (seen m number) s role ≡ with_role_set (seen k number) s role
     role_set role = ap (λ (db : Database). with_role_set db s role) st.seen.definitions
 
-    keeps_login : (db : Database) (role : Option TheName) → Every (λ (c : Session). login c.login ≡ true) (with_role_set db s role)
-    keeps_login db None = every_ok (λ (c : Session). login c.login ≡ true) (as_role s.login s) own
-    keeps_login db (Some role) =
-        every_bind (λ (c : Session). login c.login ≡ true) (require (has_role db role) UndefinedObject) _ (λ u a.
-        every_bind (λ (c : Session). login c.login ≡ true) (require (may_set_role db s.login role) InsufficientPrivilege) _ (λ v b.
-        every_ok (λ (c : Session). login c.login ≡ true) (as_role role s) own))
+    -- a role that is set keeps the login role, and the one that a ROLLBACK brings back
+    sets_within : (role : Option TheName) → Every (λ (c : Session). pairs (users_of c) ≡ true) (with_role_set (seen m number) s role) → Every (ActsWithin pairs) (with_role_set (seen m number) s role)
+    sets_within None acts c is = every_ok (ActsWithin pairs) (as_role s.login s) (record { now = own.reset; reset = own.reset; rolled_back = own.rolled_back }) c is
+    sets_within (Some role) acts c is = only (require (has_role (seen m number) role) UndefinedObject) (require (may_set_role (seen m number) s.login role) InsufficientPrivilege) is (acts c is) where
+      only : (p q : Result (Unit {0}) SqlState) → (p >>= λ named. q >>= λ allowed. Ok (as_role role s)) ≡ Ok c → pairs (users_of c) ≡ true → ActsWithin pairs c
+      only (Ok u) (Ok v) e now = subst (ActsWithin pairs) (one_of (as_role role s) c e) (record { now = subst (λ (x : Session). pairs (users_of x) ≡ true) (sym (one_of (as_role role s) c e)) now; reset = own.reset; rolled_back = own.rolled_back }) where
+        one_of : (x y : Session) → ◌≡◌ {A = Result Session SqlState} (Ok x) (Ok y) → x ≡ y
+        one_of x y e = cc
+      only (Err code) q e now = cc
+      only (Ok u) (Err code) e now = cc
 
-    set_both : (r : Result Session SqlState) → Every (λ (c : Session). login c.login ≡ true) r →
+    set_both : (r : Result Session SqlState) → Every (ActsWithin pairs) r →
         DoAlike (r >>= λ changed. Ok (succeeds tag.Set (with_session_changed m number changed))) (r >>= λ changed. Ok (succeeds tag.Set (with_session_changed k number changed)))
     set_both (Ok c) keeps = record { answers = refl; move = change c (keeps c refl) }
     set_both (Err code) keeps = refl
 
+    -- a role that the session sets is one that it may act as
+    abbrev StaysWithin : SessionStatement → Type 0
+    StaysWithin x = StatementWithin m s x
+
     -- a statement of the session writes nothing
-    of_session_both : (x : SessionStatement) → Both (execute_of_session m number s x) (execute_of_session k number s x)
-    of_session_both of_session.Commit = commit_both s.block
-    of_session_both of_session.Rollback = rollback_both s.block
-    of_session_both of_session.Begin = admitted (statement.OfSession of_session.Begin) (Ok (begin m number s s.block)) (Ok (begin k number s s.block)) refl (λ v is. begin_both s.block)
-    of_session_both (of_session.SetRole x) =
+    of_session_both : (x : SessionStatement) → StaysWithin x → Both (execute_of_session m number s x) (execute_of_session k number s x)
+    of_session_both of_session.Commit stays = commit_both s.block own.rolled_back
+    of_session_both of_session.Rollback stays = rollback_both s.block own.rolled_back
+    of_session_both of_session.Begin stays = admitted (statement.OfSession of_session.Begin) (Ok (begin m number s s.block)) (Ok (begin k number s s.block)) refl (λ v is. begin_both s.block)
+    of_session_both (of_session.SetRole x) stays =
         admitted (statement.OfSession (of_session.SetRole x)) _ _ refl (λ v is.
         subst (λ (r : Result Session SqlState). DoAlike (with_role_set (seen m number) s x.role >>= λ changed. Ok (succeeds tag.Set (with_session_changed m number changed))) (r >>= λ changed. Ok (succeeds tag.Set (with_session_changed k number changed))))
-        (role_set x.role) (set_both (with_role_set (seen m number) s x.role) (keeps_login (seen m number) x.role)))
-    of_session_both of_session.ResetRole =
+        (role_set x.role) (set_both (with_role_set (seen m number) s x.role) (sets_within x.role (stays v is))))
+    of_session_both of_session.ResetRole stays =
         admitted (statement.OfSession of_session.ResetRole) (Ok (succeeds tag.Reset (with_session_changed m number (as_role s.login s)))) (Ok (succeeds tag.Reset (with_session_changed k number (as_role s.login s)))) refl
-        (λ v is. record { answers = refl; move = change (as_role s.login s) own })
+        (λ v is. record { answers = refl; move = change (as_role s.login s) (record { now = own.reset; reset = own.reset; rolled_back = own.rolled_back }) })
 
     -- ---- statements of the database
 
@@ -245,8 +273,8 @@ module _ (number : ℕ) (login : TheName → Bool) where
     pair = users_of s
 
     -- a role that may execute a statement of the database is one that the login role may set
-    acts_of : (x : DatabaseStatement) (v : Unit {0}) → may_execute m number s (statement.OnDatabase x) ≡ Ok v → MayActAs (seen m number) login pair
-    acts_of x v is = (own, allowed v is) where
+    acts_of : (x : DatabaseStatement) (v : Unit {0}) → may_execute m number s (statement.OnDatabase x) ≡ Ok v → MayActAs (seen m number) pairs pair
+    acts_of x v is = (own.now, allowed v is) where
       allowed : Every (λ (u : Unit {0}). may_set_role (seen m number) s.login s.role ≡ true) (may_execute m number s (statement.OnDatabase x))
       allowed =
           every_bind (λ (u : Unit {0}). may_set_role (seen m number) s.login s.role ≡ true) (require (not (has_failed s.block)) InFailedTransaction) _ (λ a a-is.
@@ -254,12 +282,12 @@ module _ (number : ℕ) (login : TheName → Bool) where
           every_bind (λ (u : Unit {0}). may_set_role (seen m number) s.login s.role ≡ true) (require (keeps_role (seen m number) s) InsufficientPrivilege) _ (λ c c-is.
           λ u u-is. (and_parts (has_role (seen m number) s.role) (may_set_role (seen m number) s.login s.role) (require_ok (keeps_role (seen m number) s) InsufficientPrivilege c c-is)).1)))
 
-    with_changes_both : (b : Block) (d e : Database) → SameApparentRowsForLogin login d e → MoveAlike m k (with_changes m number b d) (with_changes k number b e)
+    with_changes_both : (b : Block) (d e : Database) → SameApparentRowsForPairs pairs d e → MoveAlike m k (with_changes m number b d) (with_changes k number b e)
     with_changes_both Outside d e are = commit_at_once d e are
     with_changes_both (Inside role) d e are = hold d e are
     with_changes_both (Failed role) d e are = stay
 
-    applied_both : (writing : Bool) (a b : Effect) → a.answer ≡ b.answer → SameApparentRowsForLogin login a.database b.database → Both (applied m number s writing a) (applied k number s writing b)
+    applied_both : (writing : Bool) (a b : Effect) → a.answer ≡ b.answer → SameApparentRowsForPairs pairs a.database b.database → Both (applied m number s writing a) (applied k number s writing b)
     applied_both true a b same are = record { answers = same; move = with_changes_both s.block a.database b.database are }
     applied_both false a b same are = record { answers = same; move = stay }
 
@@ -267,7 +295,7 @@ module _ (number : ℕ) (login : TheName → Bool) where
     other_exec : (x : DatabaseStatement) → exec_as (seen k number) (as_seen pair (seen m number)) x ≡ exec (seen k number) pair x
     other_exec x = ap (λ (db : Database). exec_as (seen k number) (as_seen pair db) x) st.seen.definitions
 
-    ends_both : (x : DatabaseStatement) (r q : Result Effect SqlState) → EndAll login r q →
+    ends_both : (x : DatabaseStatement) (r q : Result Effect SqlState) → EndAll pairs r q →
         DoAlike (r >>= λ e. Ok (applied m number s (changes_database x) e)) (q >>= λ e. Ok (applied k number s (changes_database x) e))
     ends_both x (Ok a) (Ok b) h = applied_both (changes_database x) a b h.0 h.1
     ends_both x (Err c) (Err i) h = h
@@ -275,7 +303,7 @@ module _ (number : ℕ) (login : TheName → Bool) where
     ends_both x (Err c) (Ok b) h = h
 
     database_both : (x : DatabaseStatement) → SameSlot (statement.OnDatabase x) →
-        ((v : Unit {0}) → may_execute m number s (statement.OnDatabase x) ≡ Ok v → EndAll login (exec (seen m number) pair x) (exec (seen k number) pair x)) →
+        ((v : Unit {0}) → may_execute m number s (statement.OnDatabase x) ≡ Ok v → EndAll pairs (exec (seen m number) pair x) (exec (seen k number) pair x)) →
         Both (execute_on_database m number s x) (execute_on_database k number s x)
     database_both x same h =
         admitted (statement.OnDatabase x) _ _ same (λ v is. ends_both x (exec (seen m number) pair x) (exec (seen k number) pair x) (h v is))
@@ -352,8 +380,8 @@ module _ (number : ℕ) (login : TheName → Bool) where
       on_seen_k : IsSound (seen k number)
       on_seen_k = sound_seen number k.holder k.committed on_k.committed on_k.holder
 
-      both_refuse : (r q : Result Effect SqlState) (code : SqlState) → r ≡ Err code → q ≡ Err code → EndAll login r q
-      both_refuse r q code e f = subst (λ (x : Result Effect SqlState). EndAll login x q) (sym e) (subst (λ (y : Result Effect SqlState). EndAll login (Err code) y) (sym f) refl)
+      both_refuse : (r q : Result Effect SqlState) (code : SqlState) → r ≡ Err code → q ≡ Err code → EndAll pairs r q
+      both_refuse r q code e f = subst (λ (x : Result Effect SqlState). EndAll pairs x q) (sym e) (subst (λ (y : Result Effect SqlState). EndAll pairs (Err code) y) (sym f) refl)
 
       told_step : (x : RowStatement) → goes_by_visible (seen m number) s.role x ≡ true → SameSlot (statement.OnDatabase (on_database.OverRows x)) → (v : Unit {0}) → may_execute m number s (statement.OnDatabase (on_database.OverRows x)) ≡ Ok v → Step (on_database.OverRows x)
       told_step x told same v free =
@@ -371,8 +399,8 @@ module _ (number : ℕ) (login : TheName → Bool) where
                   answer_of k there_k on_running_k (Ok (statement.OnDatabase y)) ∙ refused_with k y v UniqueViolation free_k key,
                   not_told m y v UniqueViolation there on free (exec (seen m number) pair y) refl other)))
               | inr none ↦ inr (database_both y same (λ u is.
-                  subst (λ (r : Result Effect SqlState). EndAll login (exec (seen m number) pair y) r) (other_exec y)
-                  (rows_end login (seen m number) (seen k number) st.seen on_seen_m on_seen_k pair (acts_of y u is) x told other (λ e. none (sym (other_exec y) ∙ e)))))
+                  subst (λ (r : Result Effect SqlState). EndAll pairs (exec (seen m number) pair y) r) (other_exec y)
+                  (rows_end pairs (seen m number) (seen k number) st.seen on_seen_m on_seen_k pair (acts_of y u is) x told other (λ e. none (sym (other_exec y) ∙ e)))))
             ]
           ]
 
@@ -410,8 +438,8 @@ module _ (number : ℕ) (login : TheName → Bool) where
       plain_step x told same =
           let y = on_database.Defining x in
           inr (database_both y same (λ u is.
-          subst (λ (r : Result Effect SqlState). EndAll login (exec (seen m number) pair y) r) (other_exec y)
-          (definition_ends login (seen m number) (seen k number) st.seen pair (acts_of y u is) x (λ p p-is. told))))
+          subst (λ (r : Result Effect SqlState). EndAll pairs (exec (seen m number) pair y) r) (other_exec y)
+          (definition_ends pairs (seen m number) (seen k number) st.seen pair (acts_of y u is) x (λ p p-is. told))))
 
       unhiding_step : (x : DefiningStatement) → may_unhide x ≡ true → SameSlot (statement.OnDatabase (on_database.Defining x)) → (v : Unit {0}) → may_execute m number s (statement.OnDatabase (on_database.Defining x)) ≡ Ok v →
           (r : Result Effect SqlState) → exec (seen m number) pair (on_database.Defining x) ≡ r → Step (on_database.Defining x)
@@ -419,7 +447,7 @@ module _ (number : ℕ) (login : TheName → Bool) where
           let y = on_database.Defining x in
           inr (database_both y same (λ u free-is.
           both_refuse (exec (seen m number) pair y) (exec (seen k number) pair y) code is
-          (sym (other_exec y) ∙ refused_alike login (seen m number) (seen k number) st.seen pair (acts_of y u free-is) x code is)))
+          (sym (other_exec y) ∙ refused_alike pairs (seen m number) (seen k number) st.seen pair (acts_of y u free-is) x code is)))
       unhiding_step x told same v free (Ok p) is =
           let y = on_database.Defining x in
           inl (by_definition x told (λ refusal.
@@ -431,10 +459,10 @@ module _ (number : ℕ) (login : TheName → Bool) where
       definition_step x true told same (Ok v) is = unhiding_step x told same v is (exec (seen m number) pair (on_database.Defining x)) refl
       definition_step x false told same (Ok v) is = plain_step x told same
 
-      pub step_in : (reading : Reading) → ((x : Statement) → reading ≡ Ok x → SameSlot x) → StepIn reading
-      step_in (Err code) same = inr (refused_both code)
-      step_in (Ok (statement.OfSession x)) same = inr (of_session_both x)
-      step_in (Ok (statement.OnDatabase (on_database.OverRows x))) same =
+      pub step_in : (reading : Reading) → ((x : Statement) → reading ≡ Ok x → SameSlot x) → ReadsWithin m s reading → StepIn reading
+      step_in (Err code) same stays = inr (refused_both code)
+      step_in (Ok (statement.OfSession x)) same stays = inr (of_session_both x stays)
+      step_in (Ok (statement.OnDatabase (on_database.OverRows x))) same stays =
           rows_step x (goes_by_visible (seen m number) s.role x) refl (same (statement.OnDatabase (on_database.OverRows x)) refl) (may_execute m number s (statement.OnDatabase (on_database.OverRows x))) refl
-      step_in (Ok (statement.OnDatabase (on_database.Defining x))) same =
+      step_in (Ok (statement.OnDatabase (on_database.Defining x))) same stays =
           definition_step x (may_unhide x) refl (same (statement.OnDatabase (on_database.Defining x)) refl) (may_execute m number s (statement.OnDatabase (on_database.Defining x))) refl

@@ -39,7 +39,7 @@ use Rattle.abstract_database.proofs.ElementLemmas.{any_holds}
 use Rattle.abstract_database.proofs.ListLemmas.{bytes_same, same_bytes}
 use Rattle.abstract_database.proofs.ResultLemmas.{ok_inside, bind_ok, require_ok, Every, every_bind, every_ok}
 use Rattle.database_laws.specs.Worlds.{is_unmet, has_value, is_silent, SameApparentRows}
-use Rattle.database_laws.specs.HiddenRuns.{MayActAs, SameApparentRowsForLogin, may_unhide}
+use Rattle.database_laws.specs.HiddenRuns.{MayActAs, SameApparentRowsForPairs, may_unhide}
 use Rattle.database_laws.proofs.EachDefinition.{each_definition}
 use Rattle.database_laws.proofs.StageLemmas.{bared}
 use Rattle.database_laws.proofs.WholeRoles.{names_same}
@@ -223,18 +223,18 @@ drop_role_keeps db users s = every_bind (KeepsTables db) (checked_drop_role db u
 
 -- ---- two databases afterwards
 
-module _ (login : TheName → Bool) (d e : Database) (alike : SameApparentRowsForLogin login d e) (pair : UserPair) (may : MayActAs d login pair) where
+module _ (pairs : UserPair → Bool) (d e : Database) (alike : SameApparentRowsForPairs pairs d e) (pair : UserPair) (may : MayActAs d pairs pair) where
   abbrev users : UserNames
   users = as_seen pair d
 
   abbrev SameDefinitions : Database → Database → Type 0
   SameDefinitions a b = without_rows a ≡ without_rows b
 
-  with_other_descriptors : (a b : Database) (ds fs : List Descriptor) → a ≡ record d { descriptors = ds } → b ≡ record e { descriptors = fs } → SameDefinitions a b → SameApparentRowsForLogin login a b
+  with_other_descriptors : (a b : Database) (ds fs : List Descriptor) → a ≡ record d { descriptors = ds } → b ≡ record e { descriptors = fs } → SameDefinitions a b → SameApparentRowsForPairs pairs a b
   with_other_descriptors a b ds fs on_d on_e same =
       let there : SameDefinitions (record d { descriptors = ds }) (record e { descriptors = fs }) = sym (ap without_rows on_d) ∙ same ∙ ap without_rows on_e in
-      subst (λ (x : Database). SameApparentRowsForLogin login x b) (sym on_d)
-      (subst (λ (y : Database). SameApparentRowsForLogin login (record d { descriptors = ds }) y) (sym on_e)
+      subst (λ (x : Database). SameApparentRowsForPairs pairs x b) (sym on_d)
+      (subst (λ (y : Database). SameApparentRowsForPairs pairs (record d { descriptors = ds }) y) (sym on_e)
       (record { definitions = there; rows = λ v acts. record { definitions = there; rows = λ t h. (alike.rows v acts).rows t h } }))
 
   -- ---- a new table
@@ -269,7 +269,7 @@ module _ (login : TheName → Bool) (d e : Database) (alike : SameApparentRowsFo
     rows_beside_new v look t true own h = new_rows_at v t own
     rows_beside_new v look t false own h = old_rows_at v look t own h
 
-    with_new_table : SameDefinitions a b → SameApparentRowsForLogin login a b
+    with_new_table : SameDefinitions a b → SameApparentRowsForPairs pairs a b
     with_new_table same = record {
       definitions = same;
       rows = λ v acts. record { definitions = same; rows = λ t h. rows_beside_new (as_seen v d) (alike.rows v acts) t (bytes_eq s.table t.name) refl h };
@@ -303,7 +303,7 @@ module _ (login : TheName → Bool) (d e : Database) (alike : SameApparentRowsFo
         ∙ sym (ap (λ (o : Option Table). drop_where (is_silent e v t) (rows_in o)) on_e)
         ∙ sym (ap (λ (g : Row → Bool). drop_where g (rows_named f t.name)) (same_silent e name t own v))
 
-    with_less : SameDefinitions c f → SameApparentRowsForLogin login c f
+    with_less : SameDefinitions c f → SameApparentRowsForPairs pairs c f
     with_less same = record {
       definitions = same;
       rows = λ v acts. record { definitions = same; rows = λ t h. left_rows_at (as_seen v d) (alike.rows v acts) t (bytes_eq t.name name) refl h };
@@ -321,7 +321,7 @@ module _ (login : TheName → Bool) (d e : Database) (alike : SameApparentRowsFo
       let on_e : is_superuser e pair.current ≡ true = ap (λ (x : Database). is_superuser x pair.current) (sym own.definitions) ∙ super_of super in
       sym (all_apparent d users t (super_of super) (rows_named d t.name)) ∙ own.rows t h ∙ all_apparent e users t on_e (rows_named e t.name)
 
-  with_other_roles : (a b : Database) → IsSuperuser d pair.current → a.tables ≡ d.tables → b.tables ≡ e.tables → SameDefinitions a b → SameApparentRowsForLogin login a b
+  with_other_roles : (a b : Database) → IsSuperuser d pair.current → a.tables ≡ d.tables → b.tables ≡ e.tables → SameDefinitions a b → SameApparentRowsForPairs pairs a b
   with_other_roles a b super on_d on_e same = record {
     definitions = same;
     rows = λ v acts. record {
@@ -338,7 +338,7 @@ module _ (login : TheName → Bool) (d e : Database) (alike : SameApparentRowsFo
   -- ---- each statement
 
   abbrev Carried : DefiningStatement → Effect → Effect → Type 0
-  Carried x p q = define d users x ≡ Ok p → define e users x ≡ Ok q → SameDefinitions p.database q.database → SameApparentRowsForLogin login p.database q.database
+  Carried x p q = define d users x ≡ Ok p → define e users x ≡ Ok q → SameDefinitions p.database q.database → SameApparentRowsForPairs pairs p.database q.database
 
   carried : (x : DefiningStatement) → may_unhide x ≡ false → (p q : Effect) → Carried x p q
   carried (defining.CreateRole s) told p q on_d on_e same =
@@ -351,14 +351,14 @@ module _ (login : TheName → Bool) (d e : Database) (alike : SameApparentRowsFo
       let m = create_table_leaves d users s p on_d in
       let n = create_table_leaves e users s q on_e in
       let there : SameDefinitions (with_table s.table users.current m.1.0 d) (with_table s.table users.current n.1.0 e) = sym (ap without_rows m.1.1) ∙ same ∙ ap without_rows n.1.1 in
-      subst (λ (x : Database). SameApparentRowsForLogin login x q.database) (sym m.1.1)
-      (subst (λ (y : Database). SameApparentRowsForLogin login (with_table s.table users.current m.1.0 d) y) (sym n.1.1) (with_new_table s m.1.0 n.1.0 m.0 n.0 there))
+      subst (λ (x : Database). SameApparentRowsForPairs pairs x q.database) (sym m.1.1)
+      (subst (λ (y : Database). SameApparentRowsForPairs pairs (with_table s.table users.current m.1.0 d) y) (sym n.1.1) (with_new_table s m.1.0 n.1.0 m.0 n.0 there))
   carried (defining.DropTable s) told p q on_d on_e same =
       let m = drop_table_leaves d users s p on_d in
       let n = drop_table_leaves e users s q on_e in
       let there : SameDefinitions (without_table s.table d) (without_table s.table e) = sym (ap without_rows m) ∙ same ∙ ap without_rows n in
-      subst (λ (x : Database). SameApparentRowsForLogin login x q.database) (sym m)
-      (subst (λ (y : Database). SameApparentRowsForLogin login (without_table s.table d) y) (sym n) (with_less s.table there))
+      subst (λ (x : Database). SameApparentRowsForPairs pairs x q.database) (sym m)
+      (subst (λ (y : Database). SameApparentRowsForPairs pairs (without_table s.table d) y) (sym n) (with_less s.table there))
   carried (defining.AlterTable s) told p q on_d on_e same = cc
   carried (defining.CreatePolicy s) told p q on_d on_e same = cc
   carried (defining.DropPolicy s) told p q on_d on_e same = cc
@@ -377,7 +377,7 @@ module _ (login : TheName → Bool) (d e : Database) (alike : SameApparentRowsFo
   bare_alike : (x : DefiningStatement) → BareAlike (define d users x) (define e users x)
   bare_alike x = sym (each_definition d users x).apart ∙ ap (λ (y : Database). define y users x) alike.definitions ∙ (each_definition e users x).apart
 
-  ended_at : (x : DefiningStatement) (r k : Result Effect SqlState) → define d users x ≡ r → define e users x ≡ k → BareAlike r k → ((p : Effect) → r ≡ Ok p → may_unhide x ≡ false) → EndAll login r k
+  ended_at : (x : DefiningStatement) (r k : Result Effect SqlState) → define d users x ≡ r → define e users x ≡ k → BareAlike r k → ((p : Effect) → r ≡ Ok p → may_unhide x ≡ false) → EndAll pairs r k
   ended_at x (Ok p) (Ok q) on_d on_e bare told =
       let same = ok_inside (bared p) (bared q) bare in
       (ap (λ (y : Effect). y.answer) same, carried x (told p refl) p q on_d on_e (ap (λ (y : Effect). y.database) same))
@@ -386,7 +386,7 @@ module _ (login : TheName → Bool) (d e : Database) (alike : SameApparentRowsFo
   ended_at x (Err i) (Ok q) on_d on_e bare told = cc
 
   -- refused alike; and carried out alike, if it brings nothing hidden to light
-  pub definition_ends : (x : DefiningStatement) → ((p : Effect) → define d users x ≡ Ok p → may_unhide x ≡ false) → EndAll login (define d users x) (define e users x)
+  pub definition_ends : (x : DefiningStatement) → ((p : Effect) → define d users x ≡ Ok p → may_unhide x ≡ false) → EndAll pairs (define d users x) (define e users x)
   definition_ends x told = ended_at x (define d users x) (define e users x) refl refl (bare_alike x) told
 
   -- and one that may bring it is refused alike

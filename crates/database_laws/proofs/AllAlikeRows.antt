@@ -31,7 +31,7 @@ use Rattle.database_laws.specs.Readings.{columns_read_by_update, columns_read_by
 use Rattle.database_laws.specs.Invariants.{IsSound}
 use Rattle.database_laws.specs.Worlds.{SameApparentRows, EndAlike}
 use Rattle.database_laws.specs.OnePolicy.{Concerns, HasPoliciesForAll}
-use Rattle.database_laws.specs.HiddenRuns.{MayActAs, SameApparentRowsForLogin, is_for_all_commands, has_policies_for_all, goes_by_visible}
+use Rattle.database_laws.specs.HiddenRuns.{MayActAs, SameApparentRowsForPairs, is_for_all_commands, has_policies_for_all, goes_by_visible}
 use Rattle.database_laws.proofs.RowLemmas.{all_of_list}
 use Rattle.database_laws.proofs.RowChangeLemmas.{rows_of_one}
 use Rattle.database_laws.proofs.ConcernLemmas.{deleted_in_its_table}
@@ -44,23 +44,23 @@ use Rattle.database_laws.proofs.OnePolicy.{update_over, delete_over}
 
 -- ---- databases afterwards
 
-module _ (login : TheName → Bool) (d e : Database) (alike : SameApparentRowsForLogin login d e) where
-  pub acts_before : (a : Database) → without_rows a ≡ without_rows d → (pair : UserPair) → MayActAs a login pair → MayActAs d login pair
+module _ (pairs : UserPair → Bool) (d e : Database) (alike : SameApparentRowsForPairs pairs d e) where
+  pub acts_before : (a : Database) → without_rows a ≡ without_rows d → (pair : UserPair) → MayActAs a pairs pair → MayActAs d pairs pair
   acts_before a same pair acts = (acts.0, sym (ap (λ (x : Database). may_set_role x pair.session pair.current) same) ∙ acts.1)
 
   -- the definitions stay, and what is left looks alike to each to whom the databases did
-  pub all_after : (a b : Database) → without_rows a ≡ without_rows d → without_rows b ≡ without_rows e → ((pair : UserPair) → MayActAs d login pair → SameApparentRows (as_seen pair d) a b) → SameApparentRowsForLogin login a b
+  pub all_after : (a b : Database) → without_rows a ≡ without_rows d → without_rows b ≡ without_rows e → ((pair : UserPair) → MayActAs d pairs pair → SameApparentRows (as_seen pair d) a b) → SameApparentRowsForPairs pairs a b
   all_after a b on_d on_e each = record {
     definitions = on_d ∙ alike.definitions ∙ sym on_e;
     rows = λ pair acts. subst (λ (u : UserNames). SameApparentRows u a b) (ap (λ (x : Database). as_seen pair x) (sym on_d)) (each pair (acts_before a on_d pair acts));
   }
 
 -- refused with one code, or carried out with one answer, and what they leave looks alike again to all
-abbrev pub EndAll : (TheName → Bool) → Result Effect SqlState → Result Effect SqlState → Type 0
-EndAll login (Ok a) (Ok b) = (a.answer ≡ b.answer) × SameApparentRowsForLogin login a.database b.database
-EndAll login (Err c) (Err k) = c ≡ k
-EndAll login (Ok a) (Err k) = ⊥
-EndAll login (Err c) (Ok b) = ⊥
+abbrev pub EndAll : (UserPair → Bool) → Result Effect SqlState → Result Effect SqlState → Type 0
+EndAll pairs (Ok a) (Ok b) = (a.answer ≡ b.answer) × SameApparentRowsForPairs pairs a.database b.database
+EndAll pairs (Err c) (Err k) = c ≡ k
+EndAll pairs (Ok a) (Err k) = ⊥
+EndAll pairs (Err c) (Ok b) = ⊥
 
 -- ---- policies for all commands
 
@@ -94,17 +94,17 @@ select_leaves db users s =
     every_bind (λ (x : Effect). x.database ≡ db) (query (map (source_of db users) c.tables) users c.query) _ (λ rows rows-is.
     every_ok (λ (x : Effect). x.database ≡ db) (effect (answer.Rows rows) db) refl))
 
-module _ (login : TheName → Bool) (d e : Database) (alike : SameApparentRowsForLogin login d e) (on_d : IsSound d) (on_e : IsSound e) (pair : UserPair) (may : MayActAs d login pair) where
+module _ (pairs : UserPair → Bool) (d e : Database) (alike : SameApparentRowsForPairs pairs d e) (on_d : IsSound d) (on_e : IsSound e) (pair : UserPair) (may : MayActAs d pairs pair) where
   abbrev users : UserNames
   users = as_seen pair d
 
   own : SameApparentRows users d e
   own = alike.rows pair may
 
-  wrote : (x : RowStatement) (r k : Result Effect SqlState) → exec_as d users (on_database.OverRows x) ≡ r → exec_as e users (on_database.OverRows x) ≡ k → WriteAlike users d e own r k → EndAll login r k
+  wrote : (x : RowStatement) (r k : Result Effect SqlState) → exec_as d users (on_database.OverRows x) ≡ r → exec_as e users (on_database.OverRows x) ≡ k → WriteAlike users d e own r k → EndAll pairs r k
   wrote x (Ok a) (Ok b) f g w = (
     w.answers,
-    all_after login d e alike a.database b.database
+    all_after pairs d e alike a.database b.database
         (ap without_rows w.first_is ∙ (rows_of_one w.t.name w.rows d).definitions)
         (ap without_rows w.second_is ∙ (rows_of_one w.t.name w.others e).definitions)
         (λ v acts. left_alike users d e own (on_database.OverRows x) on_d on_e (as_seen v d) (alike.rows v acts) a b f g w),
@@ -113,10 +113,10 @@ module _ (login : TheName → Bool) (d e : Database) (alike : SameApparentRowsFo
   wrote x (Ok a) (Err k) f g w = w
   wrote x (Err c) (Ok b) f g w = w
 
-  deleted_at : (s : Delete) (r k : Result Effect SqlState) → delete d users s ≡ r → delete e users s ≡ k → EndAlike users r k → EndAll login r k
+  deleted_at : (s : Delete) (r k : Result Effect SqlState) → delete d users s ≡ r → delete e users s ≡ k → EndAlike users r k → EndAll pairs r k
   deleted_at s (Ok a) (Ok b) f g h = (
     h.0,
-    all_after login d e alike a.database b.database
+    all_after pairs d e alike a.database b.database
         (deleted_in_its_table d users s a f).definitions (deleted_in_its_table e users s b g).definitions
         (λ v acts. delete_for_others users (as_seen v d) d e s a b (alike.rows v acts) f g),
   )
@@ -124,11 +124,11 @@ module _ (login : TheName → Bool) (d e : Database) (alike : SameApparentRowsFo
   deleted_at s (Ok a) (Err k) f g h = h
   deleted_at s (Err c) (Ok b) f g h = h
 
-  selected_at : (s : Select) (r k : Result Effect SqlState) → select d users s ≡ r → select e users s ≡ k → EndAlike users r k → EndAll login r k
+  selected_at : (s : Select) (r k : Result Effect SqlState) → select d users s ≡ r → select e users s ≡ k → EndAlike users r k → EndAll pairs r k
   selected_at s (Ok a) (Ok b) f g h = (
     h.0,
-    subst (λ (x : Database). SameApparentRowsForLogin login x b.database) (sym (select_leaves d users s a f))
-        (subst (λ (x : Database). SameApparentRowsForLogin login d x) (sym (select_leaves e users s b g)) alike),
+    subst (λ (x : Database). SameApparentRowsForPairs pairs x b.database) (sym (select_leaves d users s a f))
+        (subst (λ (x : Database). SameApparentRowsForPairs pairs d x) (sym (select_leaves e users s b g)) alike),
   )
   selected_at s (Err c) (Err k) f g h = h
   selected_at s (Ok a) (Err k) f g h = h
@@ -148,7 +148,7 @@ module _ (login : TheName → Bool) (d e : Database) (alike : SameApparentRowsFo
   delete_by s false reads told c is = delete_over users d e own on_d on_e s (policies_for_all d users.current s.table told) c is
 
   pub rows_end : (x : RowStatement) → goes_by_visible d users.current x ≡ true → (FailsByKey (exec_as d users (on_database.OverRows x)) → ⊥) → (FailsByKey (exec_as e users (on_database.OverRows x)) → ⊥) →
-      EndAll login (exec_as d users (on_database.OverRows x)) (exec_as e users (on_database.OverRows x))
+      EndAll pairs (exec_as d users (on_database.OverRows x)) (exec_as e users (on_database.OverRows x))
   rows_end (over_rows.Select s) told m n = selected_at s (select d users s) (select e users s) refl refl (select_ends_alike users d e own s)
   rows_end (over_rows.Insert s) told m n = wrote (over_rows.Insert s) (insert d users s) (insert e users s) refl refl (insert_writes users d e own s (insert_checks users d e own s m n))
   rows_end (over_rows.Update s) told m n =

@@ -52,7 +52,6 @@ pub mod AllAlikeDefinitions
 pub mod AlikeRuns
 pub mod RunsAlike
 pub mod OthersLeftOut
-pub mod StoresAlike
 pub mod ClosedLemmas
 pub mod ToldRuns
 pub mod ToldStores
@@ -90,7 +89,6 @@ pub mod ColumnPrivilegeLemmas
 pub mod OutOfSight
 pub mod UnseenEvents
 pub mod Tenants
-pub mod UnseenRuns
 pub mod WholeTenants
 pub mod BeforeOthers
 pub mod ValueLemmas

@@ -1,4 +1,4 @@
--- Runs of a session among others, whose events may be left out as long as they change only rows that are hidden from it.
+-- An event of another session, which changes only rows that are hidden from all that a session may act as.
 use Rattle.std.proofs.Common.{◌≡◌, ◌==◌, ◌&&◌, ◌||◌, ℕ, nat_eq, nat_le, Bool, true, false, not, cond, length, List, [], ◌∷◌, Option, Some, None, Result, Ok, Err, refl, sym, ap, ◌∙◌, subst, inl, inr}
 use Rattle.std.proofs.lemmas.Bool.{and_parts, eqb-true, eq-eqb}
 use Rattle.sql_types.specs.declared.state.SqlState.{SqlState}
@@ -12,20 +12,19 @@ use Rattle.expressions.specs.Meaning.{UserNames}
 use Rattle.expressions.specs.Stages.{◌>>=◌}
 use Rattle.abstract_database.specs.Lists.{TheName}
 use Rattle.abstract_database.specs.Database.{Database}
-use Rattle.abstract_database.specs.Statements.{Effect, as_seen, exec}
+use Rattle.abstract_database.specs.Statements.{Effect, as_seen, exec, UserPair}
 use Rattle.abstract_database.specs.Whole.{Each}
 use Rattle.abstract_database.specs.Machine.{Block, Outside, Inside, Failed, Session, Event, opens, executes, closes, Reading, Machine, Holder, Transition, refuses, succeeds, session_of, users_of, as_role, with_session_changed, is_held_by_other, released, seen_by, seen, open_session, close_session, after_refusal, transition_or_refusal, is_writing, may_execute, begin, with_role_set, commit, rollback, applied, where_admitted, changes_database, execute_of_session, execute_in, execute, running_transition, transition}
 use Rattle.abstract_database.proofs.ResultLemmas.{Every, every_bind, every_ok}
 use Rattle.database_laws.specs.Sessions.{number_of}
 use Rattle.database_laws.specs.Worlds.{SameApparentRows}
-use Rattle.database_laws.specs.HiddenRuns.{SameApparentRowsForLogin, holds_slot, MachinesAlikeForSession, AreSound, IsOwn, after, IsUnaffectedByOthers, ended, closed, excepted, kept_waiting, crowded_out, answered, left_out, IsOwnOrOthers, others_may_be_left_out}
+use Rattle.database_laws.specs.HiddenRuns.{SameApparentRowsForPairs, holds_slot, MachinesAlikeForSession, after}
 use Rattle.database_laws.proofs.MachineLemmas.{Same, opened_same}
 use Rattle.database_laws.proofs.SlotLemmas.{transition_preserves}
 use Rattle.database_laws.proofs.SessionLemmas.{others_stay}
 use Rattle.database_laws.proofs.AlikeLemmas.{defined_alike}
 use Rattle.database_laws.proofs.AllAlikeRows.{acts_before}
-use Rattle.database_laws.proofs.AlikeRuns.{held_at, moved}
-use Rattle.database_laws.proofs.RunsAlike.{Step, sound_after, executed, opened, closes_alike}
+use Rattle.database_laws.proofs.AlikeRuns.{held_at}
 
 -- ---- what an event makes of the slot
 
@@ -152,36 +151,36 @@ look_back v d a e p q = record {
   rows = λ t h. let named = defined_alike v d a p t.name ∙ h in sym (p.rows t named) ∙ q.rows t named;
 }
 
-pub all_back : (login : TheName → Bool) (d a e : Database) → SameApparentRowsForLogin login d a → SameApparentRowsForLogin login d e → SameApparentRowsForLogin login a e
-all_back login d a e p q = record {
+pub all_back : (pairs : UserPair → Bool) (d a e : Database) → SameApparentRowsForPairs pairs d a → SameApparentRowsForPairs pairs d e → SameApparentRowsForPairs pairs a e
+all_back pairs d a e p q = record {
   definitions = sym p.definitions ∙ q.definitions;
   rows = λ pair acts.
-      let before = acts_before login d e q a (sym p.definitions) pair acts in
+      let before = acts_before pairs d e q a (sym p.definitions) pair acts in
       subst (λ (u : UserNames). SameApparentRows u a e) (ap (λ (x : Database). as_seen pair x) p.definitions) (look_back (as_seen pair d) d a e (p.rows pair before) (q.rows pair before));
 }
 
-module _ (number : ℕ) (login : TheName → Bool) (m k : Machine) (st : MachinesAlikeForSession number login m k) (event : Event Reading) (apart : nat_eq number (number_of event) ≡ false)
-    (hides : SameApparentRowsForLogin login m.committed (after m event).committed) where
-  committed_alike : SameApparentRowsForLogin login (after m event).committed k.committed
-  committed_alike = all_back login m.committed (after m event).committed k.committed hides st.committed
+module _ (number : ℕ) (pairs : UserPair → Bool) (m k : Machine) (st : MachinesAlikeForSession number pairs m k) (event : Event Reading) (apart : nat_eq number (number_of event) ≡ false)
+    (hides : SameApparentRowsForPairs pairs m.committed (after m event).committed) where
+  committed_alike : SameApparentRowsForPairs pairs (after m event).committed k.committed
+  committed_alike = all_back pairs m.committed (after m event).committed k.committed hides st.committed
 
   session_stays : session_of number (after m event).sessions ≡ session_of number m.sessions
   session_stays = others_stay m event number apart
 
-  slot_and_seen : (b : Bool) → holds_slot number m.holder ≡ b → (holds_slot number (after m event).holder ≡ holds_slot number m.holder) × SameApparentRowsForLogin login (seen (after m event) number) (seen k number)
+  slot_and_seen : (b : Bool) → holds_slot number m.holder ≡ b → (holds_slot number (after m event).holder ≡ holds_slot number m.holder) × SameApparentRowsForPairs pairs (seen (after m event) number) (seen k number)
   slot_and_seen true own =
       let same = transition_preserves m event (holder_is_other number (number_of event) m.holder apart own) in (
         ap (holds_slot number) same.1,
-        subst (λ (x : Database). SameApparentRowsForLogin login x (seen k number)) (sym (ap (λ (h : Option Holder). seen_by number h (after m event).committed) same.1 ∙ ap (seen_by number m.holder) same.0)) st.seen,
+        subst (λ (x : Database). SameApparentRowsForPairs pairs x (seen k number)) (sym (ap (λ (h : Option Holder). seen_by number h (after m event).committed) same.1 ∙ ap (seen_by number m.holder) same.0)) st.seen,
       )
   slot_and_seen false own =
       let free = not_held_at number (number_of event) m.holder (after m event).holder apart own (turns m event).slot in (
         free ∙ sym own,
-        subst (λ (x : Database). SameApparentRowsForLogin login x (seen k number)) (sym (seen_free number (after m event).holder (after m event).committed free))
-            (subst (λ (x : Database). SameApparentRowsForLogin login (after m event).committed x) (sym (seen_free number k.holder k.committed (sym st.slot ∙ own))) committed_alike),
+        subst (λ (x : Database). SameApparentRowsForPairs pairs x (seen k number)) (sym (seen_free number (after m event).holder (after m event).committed free))
+            (subst (λ (x : Database). SameApparentRowsForPairs pairs (after m event).committed x) (sym (seen_free number k.holder k.committed (sym st.slot ∙ own))) committed_alike),
       )
 
-  pub alike_after_others : MachinesAlikeForSession number login (after m event) k
+  pub alike_after_others : MachinesAlikeForSession number pairs (after m event) k
   alike_after_others =
       let places = slot_and_seen (holds_slot number m.holder) refl in
       record {
@@ -192,67 +191,3 @@ module _ (number : ℕ) (login : TheName → Bool) (m k : Machine) (st : Machine
         committed = committed_alike;
         seen = places.1;
       }
-
--- ---- a list of events
-
-or_false : (a b : Bool) → (a || b) ≡ false → (a ≡ false) × (b ≡ false)
-or_false true b e = cc
-or_false false b e = (refl, e)
-
-module _ (number : ℕ) (login : TheName → Bool) where
-  abbrev Continues : Machine → Machine → List (Event Reading) → Type 0
-  Continues m k later = (n j : Machine) → MachinesAlikeForSession number login n j → AreSound n → AreSound j → IsUnaffectedByOthers number login n j later
-
-  abbrev Unaffected : Machine → Machine → List (Event Reading) → Type 0
-  Unaffected m k events = IsUnaffectedByOthers number login m k events
-
-  module _ (m k : Machine) (st : MachinesAlikeForSession number login m k) (on_m : AreSound m) (on_k : AreSound k) (later : List (Event Reading)) (go : Continues m k later) where
-    next : (event : Event Reading) → IsOwn number login event → Step number login m k event → Unaffected m k (event ∷ later)
-    next event own (inl exception) = excepted own exception
-    next event own (inr both) = answered own both.answers (go (after m event) (after k event) (moved number login m k st (after m event) (after k event) both.move) (sound_after m event on_m) (sound_after k event on_k))
-
-    opened_at : (l : TheName) → login l ≡ true → (b : Bool) → (nat_le 256 (length m.sessions) || nat_le 256 (length k.sessions)) ≡ b → Unaffected m k (opens number l ∷ later)
-    opened_at l own true e = crowded_out own e
-    opened_at l own false e =
-        let both = or_false (nat_le 256 (length m.sessions)) (nat_le 256 (length k.sessions)) e in
-        next (opens number l) (refl, own) (opened number login m k st on_m on_k l own (both.0 ∙ sym both.1))
-
-    abbrev held : Bool
-    held = is_held_by_other number m.holder || is_held_by_other number k.holder
-
-    same_slot : (w a b : Bool) → (w && (a || b)) ≡ false → (w && a) ≡ (w && b)
-    same_slot false a b e = refl
-    same_slot true a b e = let both = or_false a b e in both.0 ∙ sym both.1
-
-    executed_at : (x : Statement) (b : Bool) → (is_writing x && held) ≡ b → Unaffected m k (executes number (Ok x) ∷ later)
-    executed_at x true e = let both = and_parts (is_writing x) held e in kept_waiting x both.0 both.1
-    executed_at x false e =
-        next (executes number (Ok x)) refl (executed number login m k st on_m on_k (Ok x) (λ y is.
-        subst (λ (z : Statement). (is_writing z && is_held_by_other number m.holder) ≡ (is_writing z && is_held_by_other number k.holder)) (one_of x y is)
-        (same_slot (is_writing x) (is_held_by_other number m.holder) (is_held_by_other number k.holder) e)))
-      where
-        one_of : (y z : Statement) → ◌≡◌ {A = Reading} (Ok y) (Ok z) → y ≡ z
-        one_of y z is = cc
-
-    read_at : (reading : Reading) → Unaffected m k (executes number reading ∷ later)
-    read_at (Ok x) = executed_at x (is_writing x && held) refl
-    read_at (Err code) = next (executes number (Err code)) refl (executed number login m k st on_m on_k (Err code) (λ x is. let contrary : ◌≡◌ {A = Reading} (Err code) (Ok x) = is in cc))
-
-    own_event : (event : Event Reading) → IsOwn number login event → Unaffected m k (event ∷ later)
-    own_event (opens n l) own =
-        subst (λ (x : ℕ). Unaffected m k (opens x l ∷ later)) (sym own.0)
-        (opened_at l own.1 (nat_le 256 (length m.sessions) || nat_le 256 (length k.sessions)) refl)
-    own_event (executes n reading) own = subst (λ (x : ℕ). Unaffected m k (executes x reading ∷ later)) (sym own) (read_at reading)
-    own_event (closes n) own = subst (λ (x : ℕ). Unaffected m k (closes x ∷ later)) (sym own) (closed (closes_alike number login m k st on_m on_k))
-
-    one : (event : Event Reading) → IsOwnOrOthers number login event → Unaffected m k (event ∷ later)
-    one event (inl own) = own_event event own
-    one event (inr apart) = left_out apart (λ hides. go (after m event) k (alike_after_others number login m k st event apart hides) (sound_after m event on_m) on_k)
-
-  runs : (m k : Machine) (events : List (Event Reading)) → MachinesAlikeForSession number login m k → AreSound m → AreSound k → Each (IsOwnOrOthers number login) events → Unaffected m k events
-  runs m k [] st on_m on_k are = ended
-  runs m k (event ∷ later) st on_m on_k are =
-      one m k st on_m on_k later (λ n j there on_n on_j. runs n j later there on_n on_j (λ x h. are x (inr h))) event (are event (inl refl))
-
-pub others_left_out : others_may_be_left_out
-others_left_out number login m k events st on_m on_k are = runs number login m k events st on_m on_k are

@@ -5,15 +5,20 @@ use Rattle.sql_types.specs.declared.state.SqlState.{SqlState}
 use Rattle.sql_types.specs.declared.state.SqlState.TheVariants.{ConnectionDoesNotExist, ConnectionNameInUse, TooManyConnections, InvalidAuthorization, IoError}
 use Rattle.sql_types.specs.declared.tag.Tag.TheVariants as tag
 use Rattle.sql_ast.specs.declared.statement.Statement.{Statement}
+use Rattle.sql_ast.specs.declared.statement.Statement.TheVariants as statement
+use Rattle.sql_ast.specs.declared.statement.SetRole.{SetRole}
+use Rattle.sql_ast.specs.declared.statement.SessionStatement.TheVariants as of_session
 use Rattle.abstract_database.specs.Lists.{TheName}
 use Rattle.abstract_database.specs.Database.{Database}
 use Rattle.abstract_database.specs.Roles.{may_log_in}
-use Rattle.abstract_database.specs.Machine.{Outside, Session, Event, opens, executes, closes, Reading, Machine, Holder, Transition, refuses, succeeds, machine_over, session_of, with_session, without_session, with_session_changed, is_held_by_other, released, seen_by, seen, open_session, close_session, is_writing, execute, execute_in, running_transition, transition}
+use Rattle.abstract_database.specs.Statements.{UserPair}
+use Rattle.abstract_database.specs.Machine.{Outside, Session, Event, opens, executes, closes, Reading, Machine, Holder, Transition, refuses, succeeds, machine_over, session_of, with_session, without_session, with_session_changed, users_of, may_execute, with_role_set, is_held_by_other, released, seen_by, seen, open_session, close_session, is_writing, execute, execute_in, running_transition, transition}
+use Rattle.abstract_database.proofs.ResultLemmas.{Every}
 use Rattle.database_laws.specs.Sessions.{number_of}
-use Rattle.database_laws.specs.HiddenRuns.{SameApparentRowsForLogin, holds_slot, MachinesAlikeForSession, AreSound, answer_to, after, IsException}
-use Rattle.database_laws.specs.Told.{Tenant, entries_of, AllFor, IsAlikeTo, Act, happens, declares, restarts, follows, is_of, OpensItsOwn, OthersKeepOutOfSight, noticed, IsCrowded, by_slot, by_number, IsExceptionFor, IsAnsweredAlike, IsToldAlike, all_told, told_apart, told_alike, declared, untold_here, untold_there, what_a_tenant_is_told}
+use Rattle.database_laws.specs.HiddenRuns.{SameApparentRowsForPairs, ActsWithin, holds_slot, MachinesAlikeForSession, AreSound, answer_to, after, IsException}
+use Rattle.database_laws.specs.Told.{Tenant, entries_of, AllFor, IsAlikeTo, Act, happens, declares, restarts, follows, is_of, OpensItsOwn, OthersKeepOutOfSight, noticed, by_slot, by_number, by_role, IsExceptionFor, IsAnsweredAlike, IsToldAlike, all_told, told_apart, told_alike, declared, untold_here, untold_there, what_a_tenant_is_told}
 use Rattle.database_laws.proofs.SessionLemmas.{SessionsAfter, all_stay, one_changes, after_reading}
-use Rattle.database_laws.proofs.AlikeRuns.{MoveAlike, stay, change, end, commit_at_once, hold, moved, Alike, seen_where}
+use Rattle.database_laws.proofs.AlikeRuns.{MoveAlike, stay, change, end, commit_at_once, hold, moved, ReadsWithin, SetsWithin, seen_where}
 use Rattle.database_laws.proofs.RunsAlike.{Step, sound_after, executed, opened, closes_alike}
 use Rattle.database_laws.proofs.OthersLeftOut.{turns, all_back, alike_after_others}
 use Rattle.database_laws.proofs.UnseenEvents.{all_turned}
@@ -85,50 +90,50 @@ without_both number i es fs same = by (nat_eq i number) refl where
       subst (λ (j : ℕ). entries_of j (without_session number es) ≡ entries_of j (without_session number fs)) (sym at)
       (without_own number es ∙ ap (without_session number) here ∙ sym (without_own number fs))
 
--- ---- all of them for the login roles
+-- ---- all of them act as the pairs
 
-module _ (logins : TheName → Bool) where
-  all_with : (number : ℕ) (s : Session) (es : List (ℕ × Session)) → logins s.login ≡ true → AllFor logins es → AllFor logins (with_session es number s)
+module _ (pairs : UserPair → Bool) where
+  all_with : (number : ℕ) (s : Session) (es : List (ℕ × Session)) → ActsWithin pairs s → AllFor pairs es → AllFor pairs (with_session es number s)
   all_with number s [] own all = (own, tt)
   all_with number s (e ∷ es) own all = by (nat_eq number e.0) (all_with number s es own all.1) where
-    by : (b : Bool) → AllFor logins (with_session es number s) → AllFor logins (cond b ((e.0, s) ∷ es) (e ∷ with_session es number s))
+    by : (b : Bool) → AllFor pairs (with_session es number s) → AllFor pairs (cond b ((e.0, s) ∷ es) (e ∷ with_session es number s))
     by true go = (own, all.1)
     by false go = (all.0, go)
 
-  all_without : (number : ℕ) (es : List (ℕ × Session)) → AllFor logins es → AllFor logins (without_session number es)
+  all_without : (number : ℕ) (es : List (ℕ × Session)) → AllFor pairs es → AllFor pairs (without_session number es)
   all_without number [] all = tt
   all_without number (e ∷ es) all = by (nat_eq number e.0) (all_without number es all.1) where
-    by : (b : Bool) → AllFor logins (without_session number es) → AllFor logins (cond b es (e ∷ without_session number es))
+    by : (b : Bool) → AllFor pairs (without_session number es) → AllFor pairs (cond b es (e ∷ without_session number es))
     by true go = all.1
     by false go = (all.0, go)
 
-  all_found : (number : ℕ) (es : List (ℕ × Session)) → AllFor logins es → (s : Session) → session_of number es ≡ Some s → logins s.login ≡ true
+  all_found : (number : ℕ) (es : List (ℕ × Session)) → AllFor pairs es → (s : Session) → session_of number es ≡ Some s → ActsWithin pairs s
   all_found number [] all s h = cc
   all_found number (e ∷ es) all s h = by (nat_eq number e.0) (all_found number es all.1 s) h where
     one_of : (x y : Session) → ◌≡◌ {A = Option Session} (Some x) (Some y) → x ≡ y
     one_of x y is = cc
 
-    by : (b : Bool) → (session_of number es ≡ Some s → logins s.login ≡ true) → cond b (Some e.1) (session_of number es) ≡ Some s → logins s.login ≡ true
-    by true go is = subst (λ (x : Session). logins x.login ≡ true) (one_of e.1 s is) all.0
+    by : (b : Bool) → (session_of number es ≡ Some s → ActsWithin pairs s) → cond b (Some e.1) (session_of number es) ≡ Some s → ActsWithin pairs s
+    by true go is = subst (ActsWithin pairs) (one_of e.1 s is) all.0
     by false go is = go is
 
-  after_with : (number i : ℕ) (s : Session) (es : List (ℕ × Session)) → logins s.login ≡ true → AllFor logins (entries_of i es) → AllFor logins (entries_of i (with_session es number s))
+  after_with : (number i : ℕ) (s : Session) (es : List (ℕ × Session)) → ActsWithin pairs s → AllFor pairs (entries_of i es) → AllFor pairs (entries_of i (with_session es number s))
   after_with number i s es own all = by (nat_eq i number) refl where
-    by : (b : Bool) → nat_eq i number ≡ b → AllFor logins (entries_of i (with_session es number s))
-    by false apart = subst (AllFor logins) (sym (with_other number i apart s es)) all
+    by : (b : Bool) → nat_eq i number ≡ b → AllFor pairs (entries_of i (with_session es number s))
+    by false apart = subst (AllFor pairs) (sym (with_other number i apart s es)) all
     by true is =
         let at : i ≡ number = eqb-true i number is in
-        subst (λ (j : ℕ). AllFor logins (entries_of j (with_session es number s))) (sym at)
-        (subst (AllFor logins) (sym (with_own number s es)) (all_with number s (entries_of number es) own (subst (λ (j : ℕ). AllFor logins (entries_of j es)) at all)))
+        subst (λ (j : ℕ). AllFor pairs (entries_of j (with_session es number s))) (sym at)
+        (subst (AllFor pairs) (sym (with_own number s es)) (all_with number s (entries_of number es) own (subst (λ (j : ℕ). AllFor pairs (entries_of j es)) at all)))
 
-  after_without : (number i : ℕ) (es : List (ℕ × Session)) → AllFor logins (entries_of i es) → AllFor logins (entries_of i (without_session number es))
+  after_without : (number i : ℕ) (es : List (ℕ × Session)) → AllFor pairs (entries_of i es) → AllFor pairs (entries_of i (without_session number es))
   after_without number i es all = by (nat_eq i number) refl where
-    by : (b : Bool) → nat_eq i number ≡ b → AllFor logins (entries_of i (without_session number es))
-    by false apart = subst (AllFor logins) (sym (without_other number i apart es)) all
+    by : (b : Bool) → nat_eq i number ≡ b → AllFor pairs (entries_of i (without_session number es))
+    by false apart = subst (AllFor pairs) (sym (without_other number i apart es)) all
     by true is =
         let at : i ≡ number = eqb-true i number is in
-        subst (λ (j : ℕ). AllFor logins (entries_of j (without_session number es))) (sym at)
-        (subst (AllFor logins) (sym (without_own number es)) (all_without number (entries_of number es) (subst (λ (j : ℕ). AllFor logins (entries_of j es)) at all)))
+        subst (λ (j : ℕ). AllFor pairs (entries_of j (without_session number es))) (sym at)
+        (subst (AllFor pairs) (sym (without_own number es)) (all_without number (entries_of number es) (subst (λ (j : ℕ). AllFor pairs (entries_of j es)) at all)))
 
 -- ---- an event of another leaves the tenant's sessions
 
@@ -187,25 +192,25 @@ released_at number None true e = refl
 released_at number None false e = refl
 released_at number (Some h) b e = ap (λ (c : Bool). cond c None (Some h)) e
 
-module _ (logins : TheName → Bool) (number i : ℕ) (g h : Option Holder) (c f : Database) (own : holds_slot number g ≡ holds_slot number h)
-    (committed : SameApparentRowsForLogin logins c f) (sees : SameApparentRowsForLogin logins (seen_by i g c) (seen_by i h f)) where
-  seen_after : SameApparentRowsForLogin logins (seen_by i (released number g) c) (seen_by i (released number h) f)
+module _ (pairs : UserPair → Bool) (number i : ℕ) (g h : Option Holder) (c f : Database) (own : holds_slot number g ≡ holds_slot number h)
+    (committed : SameApparentRowsForPairs pairs c f) (sees : SameApparentRowsForPairs pairs (seen_by i g c) (seen_by i h f)) where
+  seen_after : SameApparentRowsForPairs pairs (seen_by i (released number g) c) (seen_by i (released number h) f)
   seen_after = by (holds_slot number g) refl where
-    by : (b : Bool) → holds_slot number g ≡ b → SameApparentRowsForLogin logins (seen_by i (released number g) c) (seen_by i (released number h) f)
+    by : (b : Bool) → holds_slot number g ≡ b → SameApparentRowsForPairs pairs (seen_by i (released number g) c) (seen_by i (released number h) f)
     by true e =
-        subst (λ (o : Option Holder). SameApparentRowsForLogin logins (seen_by i o c) (seen_by i (released number h) f)) (sym (released_at number g true e))
-        (subst (λ (o : Option Holder). SameApparentRowsForLogin logins c (seen_by i o f)) (sym (released_at number h true (sym own ∙ e))) committed)
+        subst (λ (o : Option Holder). SameApparentRowsForPairs pairs (seen_by i o c) (seen_by i (released number h) f)) (sym (released_at number g true e))
+        (subst (λ (o : Option Holder). SameApparentRowsForPairs pairs c (seen_by i o f)) (sym (released_at number h true (sym own ∙ e))) committed)
     by false e =
-        subst (λ (o : Option Holder). SameApparentRowsForLogin logins (seen_by i o c) (seen_by i (released number h) f)) (sym (released_at number g false e))
-        (subst (λ (o : Option Holder). SameApparentRowsForLogin logins (seen_by i g c) (seen_by i o f)) (sym (released_at number h false (sym own ∙ e))) sees)
+        subst (λ (o : Option Holder). SameApparentRowsForPairs pairs (seen_by i o c) (seen_by i (released number h) f)) (sym (released_at number g false e))
+        (subst (λ (o : Option Holder). SameApparentRowsForPairs pairs (seen_by i g c) (seen_by i o f)) (sym (released_at number h false (sym own ∙ e))) sees)
 
 -- ---- machines
 
 module _ (a : Tenant) where
-  pub for_one : (m k : Machine) → IsAlikeTo a m k → (number : ℕ) → a.sessions number ≡ true → MachinesAlikeForSession number a.logins m k
+  pub for_one : (m k : Machine) → IsAlikeTo a m k → (number : ℕ) → a.sessions number ≡ true → MachinesAlikeForSession number a.pairs m k
   for_one m k st number own = record {
     session = looked number m.sessions ∙ ap (session_of number) (st.sessions number own) ∙ sym (looked number k.sessions);
-    opened_for = λ s h. all_found a.logins number (entries_of number m.sessions) (st.opened_for number own) s (sym (looked number m.sessions) ∙ h);
+    opened_for = λ s h. all_found a.pairs number (entries_of number m.sessions) (st.opened_for number own) s (sym (looked number m.sessions) ∙ h);
     stopped = st.stopped;
     slot = st.slot number own;
     committed = st.committed;
@@ -215,11 +220,11 @@ module _ (a : Tenant) where
   pub turned : (m k : Machine) → IsAlikeTo a m k → IsAlikeTo a k m
   turned m k st = record {
     sessions = λ i own. sym (st.sessions i own);
-    opened_for = λ i own. subst (AllFor a.logins) (st.sessions i own) (st.opened_for i own);
+    opened_for = λ i own. subst (AllFor a.pairs) (st.sessions i own) (st.opened_for i own);
     stopped = sym st.stopped;
     slot = λ i own. sym (st.slot i own);
-    committed = all_turned a.logins m.committed k.committed st.committed;
-    seen = λ i own. all_turned a.logins (seen m i) (seen k i) (st.seen i own);
+    committed = all_turned a.pairs m.committed k.committed st.committed;
+    seen = λ i own. all_turned a.pairs (seen m i) (seen k i) (st.seen i own);
   }
 
   -- ---- an event of another
@@ -230,13 +235,13 @@ module _ (a : Tenant) where
     by false e = refl
     by true e = let contrary : true ≡ false = sym (subst (λ (j : ℕ). a.sessions j ≡ true) (eqb-true i (number_of event) e) own) ∙ not_own in cc
 
-  pub after_another : (m k : Machine) → IsAlikeTo a m k → (event : Event Reading) → is_of a (happens event) ≡ false → SameApparentRowsForLogin a.logins m.committed (after m event).committed → IsAlikeTo a (after m event) k
+  pub after_another : (m k : Machine) → IsAlikeTo a m k → (event : Event Reading) → is_of a (happens event) ≡ false → SameApparentRowsForPairs a.pairs m.committed (after m event).committed → IsAlikeTo a (after m event) k
   after_another m k st event not_own hides =
-      let each = λ (i : ℕ) (own : a.sessions i ≡ true). alike_after_others i a.logins m k (for_one m k st i own) event (own_apart event not_own i own) hides in
+      let each = λ (i : ℕ) (own : a.sessions i ≡ true). alike_after_others i a.pairs m k (for_one m k st i own) event (own_apart event not_own i own) hides in
       let stays = λ (i : ℕ) (own : a.sessions i ≡ true). entries_stay m i event (own_apart event not_own i own) in
       record {
         sessions = λ i own. stays i own ∙ st.sessions i own;
-        opened_for = λ i own. subst (AllFor a.logins) (sym (stays i own)) (st.opened_for i own);
+        opened_for = λ i own. subst (AllFor a.pairs) (sym (stays i own)) (st.opened_for i own);
         stopped = stops_alike m k st event;
         slot = λ i own. (each i own).slot;
         committed = committed_after m k st event hides;
@@ -246,48 +251,48 @@ module _ (a : Tenant) where
       stops_alike : (m k : Machine) → IsAlikeTo a m k → (event : Event Reading) → (after m event).stopped ≡ k.stopped
       stops_alike m k st event = (turns m event).stopped ∙ st.stopped
 
-      committed_after : (m k : Machine) → IsAlikeTo a m k → (event : Event Reading) → SameApparentRowsForLogin a.logins m.committed (after m event).committed → SameApparentRowsForLogin a.logins (after m event).committed k.committed
-      committed_after m k st event hides = all_back a.logins m.committed (after m event).committed k.committed hides st.committed
+      committed_after : (m k : Machine) → IsAlikeTo a m k → (event : Event Reading) → SameApparentRowsForPairs a.pairs m.committed (after m event).committed → SameApparentRowsForPairs a.pairs (after m event).committed k.committed
+      committed_after m k st event hides = all_back a.pairs m.committed (after m event).committed k.committed hides st.committed
 
   -- ---- an event of its own
 
   module _ (m k : Machine) (st : IsAlikeTo a m k) (number : ℕ) (own : a.sessions number ≡ true) where
-    entries_moved : (n j : Machine) → MoveAlike number a.logins m k n j → (i : ℕ) → a.sessions i ≡ true → entries_of i n.sessions ≡ entries_of i j.sessions
+    entries_moved : (n j : Machine) → MoveAlike number a.pairs m k n j → (i : ℕ) → a.sessions i ≡ true → entries_of i n.sessions ≡ entries_of i j.sessions
     entries_moved n j stay i at = st.sessions i at
     entries_moved n j (change s l) i at = with_both number i s m.sessions k.sessions (st.sessions i at)
     entries_moved n j (end s role d e l are) i at = with_both number i (record { login = s.login; role = role; block = Outside }) m.sessions k.sessions (st.sessions i at)
     entries_moved n j (commit_at_once d e are) i at = st.sessions i at
     entries_moved n j (hold d e are) i at = st.sessions i at
 
-    logins_moved : (n j : Machine) → MoveAlike number a.logins m k n j → (i : ℕ) → a.sessions i ≡ true → AllFor a.logins (entries_of i n.sessions)
+    logins_moved : (n j : Machine) → MoveAlike number a.pairs m k n j → (i : ℕ) → a.sessions i ≡ true → AllFor a.pairs (entries_of i n.sessions)
     logins_moved n j stay i at = st.opened_for i at
-    logins_moved n j (change s l) i at = after_with a.logins number i s m.sessions l (st.opened_for i at)
-    logins_moved n j (end s role d e l are) i at = after_with a.logins number i (record { login = s.login; role = role; block = Outside }) m.sessions l (st.opened_for i at)
+    logins_moved n j (change s l) i at = after_with a.pairs number i s m.sessions l (st.opened_for i at)
+    logins_moved n j (end s role d e l are) i at = after_with a.pairs number i (record { login = s.login; role = role; block = Outside }) m.sessions l (st.opened_for i at)
     logins_moved n j (commit_at_once d e are) i at = st.opened_for i at
     logins_moved n j (hold d e are) i at = st.opened_for i at
 
-    slot_moved : (n j : Machine) → MoveAlike number a.logins m k n j → (i : ℕ) → a.sessions i ≡ true → holds_slot i n.holder ≡ holds_slot i j.holder
+    slot_moved : (n j : Machine) → MoveAlike number a.pairs m k n j → (i : ℕ) → a.sessions i ≡ true → holds_slot i n.holder ≡ holds_slot i j.holder
     slot_moved n j stay i at = st.slot i at
     slot_moved n j (change s l) i at = st.slot i at
     slot_moved n j (end s role d e l are) i at = slot_after number i m.holder k.holder (st.slot number own) (st.slot i at)
     slot_moved n j (commit_at_once d e are) i at = st.slot i at
     slot_moved n j (hold d e are) i at = refl
 
-    seen_moved : (n j : Machine) → MoveAlike number a.logins m k n j → (i : ℕ) → a.sessions i ≡ true → SameApparentRowsForLogin a.logins (seen n i) (seen j i)
+    seen_moved : (n j : Machine) → MoveAlike number a.pairs m k n j → (i : ℕ) → a.sessions i ≡ true → SameApparentRowsForPairs a.pairs (seen n i) (seen j i)
     seen_moved n j stay i at = st.seen i at
     seen_moved n j (change s l) i at = st.seen i at
     seen_moved n j (end s role d e l are) i at =
-        seen_where a.logins i (released number m.holder) (released number k.holder) m.committed k.committed d e (slot_after number i m.holder k.holder (st.slot number own) (st.slot i at))
-        (seen_after a.logins number i m.holder k.holder m.committed k.committed (st.slot number own) st.committed (st.seen i at)) are
-    seen_moved n j (commit_at_once d e are) i at = seen_where a.logins i m.holder k.holder m.committed k.committed d e (st.slot i at) (st.seen i at) are
+        seen_where a.pairs i (released number m.holder) (released number k.holder) m.committed k.committed d e (slot_after number i m.holder k.holder (st.slot number own) (st.slot i at))
+        (seen_after a.pairs number i m.holder k.holder m.committed k.committed (st.slot number own) st.committed (st.seen i at)) are
+    seen_moved n j (commit_at_once d e are) i at = seen_where a.pairs i m.holder k.holder m.committed k.committed d e (st.slot i at) (st.seen i at) are
     seen_moved n j (hold d e are) i at = by (number == i) where
-      by : (b : Bool) → SameApparentRowsForLogin a.logins (cond b d m.committed) (cond b e k.committed)
+      by : (b : Bool) → SameApparentRowsForPairs a.pairs (cond b d m.committed) (cond b e k.committed)
       by true = are
       by false = st.committed
 
-    all_moved : (n j : Machine) → MoveAlike number a.logins m k n j → IsAlikeTo a n j
+    all_moved : (n j : Machine) → MoveAlike number a.pairs m k n j → IsAlikeTo a n j
     all_moved n j move =
-        let one = moved number a.logins m k (for_one m k st number own) n j move in
+        let one = moved number a.pairs m k (for_one m k st number own) n j move in
         record {
           sessions = entries_moved n j move;
           opened_for = logins_moved n j move;
@@ -301,11 +306,11 @@ module _ (a : Tenant) where
     all_closed : IsAlikeTo a (record m { sessions = without_session number m.sessions; holder = released number m.holder }) (record k { sessions = without_session number k.sessions; holder = released number k.holder })
     all_closed = record {
       sessions = λ i at. without_both number i m.sessions k.sessions (st.sessions i at);
-      opened_for = λ i at. after_without a.logins number i m.sessions (st.opened_for i at);
+      opened_for = λ i at. after_without a.pairs number i m.sessions (st.opened_for i at);
       stopped = st.stopped;
       slot = λ i at. slot_after number i m.holder k.holder (st.slot number own) (st.slot i at);
       committed = st.committed;
-      seen = λ i at. seen_after a.logins number i m.holder k.holder m.committed k.committed (st.slot number own) st.committed (st.seen i at);
+      seen = λ i at. seen_after a.pairs number i m.holder k.holder m.committed k.committed (st.slot number own) st.committed (st.seen i at);
     }
 
     closes_at : (o : Option Session) → IsAlikeTo a (close_session m number o).machine (close_session k number o).machine
@@ -332,7 +337,7 @@ module _ (a : Tenant) where
   sound_follows m (declares event) on = sound_after m event on
   sound_follows m restarts on = record { committed = on.committed; holder = tt }
 
-  after_others : (m k : Machine) → IsAlikeTo a m k → (x : Act) → is_of a x ≡ false → SameApparentRowsForLogin a.logins m.committed (follows m x).committed → IsAlikeTo a (follows m x) k
+  after_others : (m k : Machine) → IsAlikeTo a m k → (x : Act) → is_of a x ≡ false → SameApparentRowsForPairs a.pairs m.committed (follows m x).committed → IsAlikeTo a (follows m x) k
   after_others m k st (happens event) not_own hides = after_another m k st event not_own hides
   after_others m k st (declares event) not_own hides = cc
   after_others m k st restarts not_own hides = cc
@@ -341,11 +346,11 @@ module _ (a : Tenant) where
 
   module _ (m k : Machine) (st : IsAlikeTo a m k) (on_m : AreSound m) (on_k : AreSound k) where
     pub data Told (x : Act) : Type 0 where
-      differs : IsExceptionFor m k x → Told x
+      differs : IsExceptionFor a m k x → Told x
       same : IsAnsweredAlike m k x → IsAlikeTo a (follows m x) (follows k x) → Told x
       waits : (event : Event Reading) → declares event ≡ x → Told x
 
-    of_step : (number : ℕ) → a.sessions number ≡ true → (event : Event Reading) → number_of event ≡ number → Step number a.logins m k event → Told (happens event)
+    of_step : (number : ℕ) → a.sessions number ≡ true → (event : Event Reading) → number_of event ≡ number → Step number a.pairs m k event → Told (happens event)
     of_step number own event at (inl exception) = differs (inl (subst (λ (n : ℕ). IsException n m k event) (sym at) exception))
     of_step number own event at (inr both) = same both.answers (all_moved m k st number own (after m event) (after k event) both.move)
 
@@ -358,26 +363,74 @@ module _ (a : Tenant) where
     one_of : (x y : Statement) → ◌≡◌ {A = Reading} (Ok x) (Ok y) → x ≡ y
     one_of x y is = cc
 
-    runs_with : (number : ℕ) → a.sessions number ≡ true → (x : Statement) → (is_writing x && is_held_by_other number m.holder) ≡ (is_writing x && is_held_by_other number k.holder) → Told (happens (executes number (Ok x)))
-    runs_with number own x slot = of_step number own (executes number (Ok x)) refl (executed number a.logins m k (for_one m k st number own) on_m on_k (Ok x)
-        (λ y is. subst (λ (z : Statement). (is_writing z && is_held_by_other number m.holder) ≡ (is_writing z && is_held_by_other number k.holder)) (one_of x y is) slot))
+    abbrev Stays : ℕ → Reading → Type 0
+    Stays number reading = (s : Session) → session_of number m.sessions ≡ Some s → ReadsWithin number a.pairs m s reading
 
-    told_statement : (number : ℕ) → a.sessions number ≡ true → (x : Statement) (w : Bool) → is_writing x ≡ w → Told (happens (executes number (Ok x)))
-    told_statement number own x false reads = runs_with number own x (ap (λ (b : Bool). b && is_held_by_other number m.holder) reads ∙ sym (ap (λ (b : Bool). b && is_held_by_other number k.holder) reads))
-    told_statement number own x true writes = elim (same_or_not (is_held_by_other number m.holder) (is_held_by_other number k.holder)) [
-      | inl held ↦ runs_with number own x (ap (λ (b : Bool). is_writing x && b) held)
-      | inr other ↦ differs (inr (by_slot x writes other))
+    runs_with : (number : ℕ) → a.sessions number ≡ true → (x : Statement) → Stays number (Ok x) → (is_writing x && is_held_by_other number m.holder) ≡ (is_writing x && is_held_by_other number k.holder) → Told (happens (executes number (Ok x)))
+    runs_with number own x stays slot = of_step number own (executes number (Ok x)) refl (executed number a.pairs m k (for_one m k st number own) on_m on_k (Ok x)
+        (λ y is. subst (λ (z : Statement). (is_writing z && is_held_by_other number m.holder) ≡ (is_writing z && is_held_by_other number k.holder)) (one_of x y is) slot) stays)
+
+    -- ---- a role that is set is one of the tenant's, or it leaves the tenant
+
+    of_refusal : (r : Result Session SqlState) (code : SqlState) → r ≡ Err code → Every (λ (c : Session). a.pairs (users_of c) ≡ true) r
+    of_refusal r code e c is = let contrary : ◌≡◌ {A = Result Session SqlState} (Err code) (Ok c) = sym e ∙ is in cc
+
+    of_one : (r : Result Session SqlState) (c : Session) → r ≡ Ok c → a.pairs (users_of c) ≡ true → Every (λ (s : Session). a.pairs (users_of s) ≡ true) r
+    of_one r c e acts d is = subst (λ (s : Session). a.pairs (users_of s) ≡ true) (the_same c d (sym e ∙ is)) acts where
+      the_same : (x y : Session) → ◌≡◌ {A = Result Session SqlState} (Ok x) (Ok y) → x ≡ y
+      the_same x y p = cc
+
+    module _ (number : ℕ) (own : a.sessions number ≡ true) (x : SetRole) where
+      abbrev sets : Statement
+      sets = statement.OfSession (of_session.SetRole x)
+
+      goes_on : Stays number (Ok sets) → Told (happens (executes number (Ok sets)))
+      goes_on stays = runs_with number own sets stays refl
+
+      alone_there : (s : Session) → session_of number m.sessions ≡ Some s → SetsWithin number a.pairs m s x → Stays number (Ok sets)
+      alone_there s there within t is = subst (λ (y : Session). SetsWithin number a.pairs m y x) (the_same s t (sym there ∙ is)) within where
+        the_same : (y z : Session) → ◌≡◌ {A = Option Session} (Some y) (Some z) → y ≡ z
+        the_same y z p = cc
+
+      sets_to : (s : Session) → session_of number m.sessions ≡ Some s → (free : Unit {0}) → may_execute m number s sets ≡ Ok free → (r : Result Session SqlState) → with_role_set (seen m number) s x.role ≡ r → Told (happens (executes number (Ok sets)))
+      sets_to s there free may (Err code) is = goes_on (alone_there s there (λ u v. of_refusal (with_role_set (seen m number) s x.role) code is))
+      sets_to s there free may (Ok c) is = by (a.pairs (users_of c)) refl where
+        by : (b : Bool) → a.pairs (users_of c) ≡ b → Told (happens (executes number (Ok sets)))
+        by true acts = goes_on (alone_there s there (λ u v. of_one (with_role_set (seen m number) s x.role) c is acts))
+        by false apart = differs (inr (inr (by_role s c x free there may is apart)))
+
+      admitted_to : (s : Session) → session_of number m.sessions ≡ Some s → (r : Result (Unit {0}) SqlState) → may_execute m number s sets ≡ r → Told (happens (executes number (Ok sets)))
+      admitted_to s there (Err code) may = goes_on (alone_there s there (λ u v. let contrary : ◌≡◌ {A = Result (Unit {0}) SqlState} (Err code) (Ok u) = sym may ∙ v in cc))
+      admitted_to s there (Ok free) may = sets_to s there free may (with_role_set (seen m number) s x.role) refl
+
+      told_set : (o : Option Session) → session_of number m.sessions ≡ o → Told (happens (executes number (Ok sets)))
+      told_set None there = goes_on (λ s is. let contrary : ◌≡◌ {A = Option Session} None (Some s) = sym there ∙ is in cc)
+      told_set (Some s) there = admitted_to s there (may_execute m number s sets) refl
+
+    told_statement : (number : ℕ) → a.sessions number ≡ true → (x : Statement) → Stays number (Ok x) → (w : Bool) → is_writing x ≡ w → Told (happens (executes number (Ok x)))
+    told_statement number own x stays false reads = runs_with number own x stays (ap (λ (b : Bool). b && is_held_by_other number m.holder) reads ∙ sym (ap (λ (b : Bool). b && is_held_by_other number k.holder) reads))
+    told_statement number own x stays true writes = elim (same_or_not (is_held_by_other number m.holder) (is_held_by_other number k.holder)) [
+      | inl held ↦ runs_with number own x stays (ap (λ (b : Bool). is_writing x && b) held)
+      | inr other ↦ differs (inr (inl (by_slot x writes other)))
     ]
 
-    pub told_act : (x : Act) → is_of a x ≡ true → OpensItsOwn a x → Told x
+    told_reading : (number : ℕ) → a.sessions number ≡ true → (reading : Reading) → Told (happens (executes number reading))
+    told_reading number own (Err code) =
+        of_step number own (executes number (Err code)) refl (executed number a.pairs m k (for_one m k st number own) on_m on_k (Err code) (λ x is. let contrary : ◌≡◌ {A = Reading} (Err code) (Ok x) = is in cc) (λ s is. tt))
+    told_reading number own (Ok (statement.OfSession (of_session.SetRole x))) = told_set number own x (session_of number m.sessions) refl
+    told_reading number own (Ok (statement.OfSession of_session.ResetRole)) = told_statement number own (statement.OfSession of_session.ResetRole) (λ s is. tt) false refl
+    told_reading number own (Ok (statement.OfSession of_session.Begin)) = told_statement number own (statement.OfSession of_session.Begin) (λ s is. tt) false refl
+    told_reading number own (Ok (statement.OfSession of_session.Commit)) = told_statement number own (statement.OfSession of_session.Commit) (λ s is. tt) false refl
+    told_reading number own (Ok (statement.OfSession of_session.Rollback)) = told_statement number own (statement.OfSession of_session.Rollback) (λ s is. tt) false refl
+    told_reading number own (Ok (statement.OnDatabase x)) = told_statement number own (statement.OnDatabase x) (λ s is. tt) (is_writing (statement.OnDatabase x)) refl
+
+    pub told_act : (x : Act) → is_of a x ≡ true → OpensItsOwn a m x → Told x
     told_act (happens (opens number login)) own opens_own = elim (same_or_not (nat_le 256 (length m.sessions)) (nat_le 256 (length k.sessions))) [
-      | inl room ↦ of_step number own (opens number login) refl (opened number a.logins m k (for_one m k st number own) on_m on_k login opens_own room)
-      | inr other ↦ differs (inr (by_number login other))
+      | inl room ↦ of_step number own (opens number login) refl (opened number a.pairs m k (for_one m k st number own) on_m on_k login opens_own room)
+      | inr other ↦ differs (inr (inl (by_number login other)))
     ]
-    told_act (happens (executes number (Err code))) own opens_own =
-        of_step number own (executes number (Err code)) refl (executed number a.logins m k (for_one m k st number own) on_m on_k (Err code) (λ x is. let contrary : ◌≡◌ {A = Reading} (Err code) (Ok x) = is in cc))
-    told_act (happens (executes number (Ok x))) own opens_own = told_statement number own x (is_writing x) refl
-    told_act (happens (closes number)) own opens_own = same (closes_alike number a.logins m k (for_one m k st number own) on_m on_k) (closes_so m k st number own)
+    told_act (happens (executes number reading)) own opens_own = told_reading number own reading
+    told_act (happens (closes number)) own opens_own = same (closes_alike number a.pairs m k (for_one m k st number own) on_m on_k) (closes_so m k st number own)
     told_act (declares event) own opens_own = waits event refl
     told_act restarts own opens_own = same tt (restarted m k st)
 
@@ -396,7 +449,7 @@ module _ (a : Tenant) where
     rest_of [] = []
     rest_of (z ∷ zs) = zs
 
-  told_here : (event : Act) (later others : List Act) (m k : Machine) → IsAlikeTo a m k → AreSound m → AreSound k → is_of a event ≡ true → OpensItsOwn a event →
+  told_here : (event : Act) (later others : List Act) (m k : Machine) → IsAlikeTo a m k → AreSound m → AreSound k → is_of a event ≡ true → OpensItsOwn a m event →
       OthersKeepOutOfSight a (follows m event) later → OthersKeepOutOfSight a (follows k event) others → noticed a later ≡ noticed a others → Goes later → IsToldAlike a m k (event ∷ later) (event ∷ others)
   told_here event later others m k st on_m on_k own opens_own act act_k equal go = at (told_act m k st on_m on_k event own opens_own) where
     at : Told m k st on_m on_k event → IsToldAlike a m k (event ∷ later) (event ∷ others)
@@ -409,7 +462,7 @@ module _ (a : Tenant) where
 
   -- an own event in the first run: the second comes to it, too
   abbrev ReachesOwn : Act → List Act → List Act → Type 0
-  ReachesOwn event later others = (m k : Machine) → IsAlikeTo a m k → AreSound m → AreSound k → OpensItsOwn a event → OthersKeepOutOfSight a (follows m event) later → OthersKeepOutOfSight a k others →
+  ReachesOwn event later others = (m k : Machine) → IsAlikeTo a m k → AreSound m → AreSound k → OpensItsOwn a m event → OthersKeepOutOfSight a (follows m event) later → OthersKeepOutOfSight a k others →
       (event ∷ noticed a later) ≡ noticed a others → IsToldAlike a m k (event ∷ later) others
 
   to_own : (event : Act) (later : List Act) → is_of a event ≡ true → Goes later → (others : List Act) → ReachesOwn event later others

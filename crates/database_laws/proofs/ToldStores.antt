@@ -9,7 +9,7 @@ use Rattle.abstract_database.specs.Runs.{TheText, ReadingRelation, IsReadAs, IsT
 use Rattle.abstract_database.specs.Runs as step
 use Rattle.database_laws.specs.Runs.{ReadsOnce, for_memory, for_space, for_number}
 use Rattle.database_laws.specs.Sessions.{number_of}
-use Rattle.database_laws.specs.HiddenRuns.{SameApparentRowsForLogin, AreSound, IsInPlace, not_issued, failed, after}
+use Rattle.database_laws.specs.HiddenRuns.{SameApparentRowsForPairs, AreSound, IsInPlace, not_issued, failed, after}
 use Rattle.database_laws.specs.Told.{Tenant, IsAlikeTo, happens, declares, is_of, OpensItsOwn, IsExceptionFor}
 use Rattle.database_laws.specs.ToldStores.{is_text_of, own_texts, OpensAsOwn, KeepOutOfSight, IsToldAlikeBy, all_told, told_apart, refused_alone, told_alike, untold_here, untold_there, failed_here, failed_there, what_stores_tell_a_tenant}
 use Rattle.database_laws.proofs.RunLemmas.{only_transition}
@@ -44,10 +44,10 @@ module _ (Reads : ReadingRelation) (Leave LeaveOther : Stops) (once : ReadsOnce 
   read_there m k st (executes n text) x own (reading, is, reads) =
       (reading, is, λ may. reads (st.stopped ∙ may.0, subst (λ (o : Option Session). IsSome o) (sym (for_one a m k st n own).session) may.1))
 
-  opens_own : (m : Machine) (event : Event TheText) (read : Event Reading) → IsReadAs Reads m event read → OpensAsOwn a event → OpensItsOwn a (happens read)
-  opens_own m (opens n l) read is own = subst (λ (e : Event Reading). OpensItsOwn a (happens e)) (sym is) own
-  opens_own m (closes n) read is own = subst (λ (e : Event Reading). OpensItsOwn a (happens e)) (sym is) tt
-  opens_own m (executes n text) read (reading, is, reads) own = subst (λ (e : Event Reading). OpensItsOwn a (happens e)) (sym is) tt
+  opens_own : (m : Machine) (event : Event TheText) (read : Event Reading) → IsReadAs Reads m event read → OpensAsOwn a m event → OpensItsOwn a m (happens read)
+  opens_own m (opens n l) read is own = subst (λ (e : Event Reading). OpensItsOwn a m (happens e)) (sym is) own
+  opens_own m (closes n) read is own = subst (λ (e : Event Reading). OpensItsOwn a m (happens e)) (sym is) tt
+  opens_own m (executes n text) read (reading, is, reads) own = subst (λ (e : Event Reading). OpensItsOwn a m (happens e)) (sym is) tt
 
   own_read : (m : Machine) (event : Event TheText) (read : Event Reading) → IsReadAs Reads m event read → (b : Bool) → is_text_of a event ≡ b → is_of a (happens read) ≡ b
   own_read m event read is b own = ap a.sessions (number_read Reads m event read is) ∙ own
@@ -58,13 +58,13 @@ module _ (Reads : ReadingRelation) (Leave LeaveOther : Stops) (once : ReadsOnce 
     passes : IsAlikeTo a n k → AreSound n → Passed m n k x
     ends : x ≡ answer.Refused IoError → Passed m n k x
 
-  passed : (old new : Counts) (m n k : Machine) (event : Event TheText) (x : Answer) → IsAlikeTo a m k → AreSound m → is_text_of a event ≡ false → SameApparentRowsForLogin a.logins m.committed n.committed →
+  passed : (old new : Counts) (m n k : Machine) (event : Event TheText) (x : Answer) → IsAlikeTo a m k → AreSound m → is_text_of a event ≡ false → SameApparentRowsForPairs a.pairs m.committed n.committed →
       Did Reads old new m event x n → Passed m n k x
   passed old new m n k event x st on other hides (moves is) =
       let here : n ≡ after m is.as_read = ap (λ (t : Transition). t.machine) is.is in
       passes
       (subst (λ (z : Machine). IsAlikeTo a z k) (sym here)
-      (after_another a m k st is.as_read (own_read m event is.as_read is.read false other) (subst (λ (z : Machine). SameApparentRowsForLogin a.logins m.committed z.committed) here hides)))
+      (after_another a m k st is.as_read (own_read m event is.as_read is.read false other) (subst (λ (z : Machine). SameApparentRowsForPairs a.pairs m.committed z.committed) here hides)))
       (subst AreSound (sym here) (sound_after m is.as_read on))
   passed old new m n k event x st on other hides (stays place kept) = passes (subst (λ (z : Machine). IsAlikeTo a z k) (sym kept) st) (subst AreSound (sym kept) on)
   passed old new m n k event x st on other hides (fails place e) = ends e
@@ -72,12 +72,12 @@ module _ (Reads : ReadingRelation) (Leave LeaveOther : Stops) (once : ReadsOnce 
   -- ---- an own event
 
   data Went (w v n j : At) (event : Event TheText) (x y : Answer) : Type 0 where
-    parts : (read : Event Reading) → IsReadAs Reads w.standing.machine event read → IsExceptionFor w.standing.machine v.standing.machine (happens read) → Went w v n j event x y
+    parts : (read : Event Reading) → IsReadAs Reads w.standing.machine event read → IsExceptionFor a w.standing.machine v.standing.machine (happens read) → Went w v n j event x y
     refused : IsInPlace w.counts n.counts x ⊎ IsInPlace v.counts j.counts y → Went w v n j event x y
     goes : x ≡ y → IsAlikeTo a n.standing.machine j.standing.machine → AreSound n.standing.machine → AreSound j.standing.machine → Went w v n j event x y
 
   module _ (w v n j : At) (st : IsAlikeTo a w.standing.machine v.standing.machine) (on_w : AreSound w.standing.machine) (on_v : AreSound v.standing.machine) (event : Event TheText) (x y : Answer)
-      (own : is_text_of a event ≡ true) (opens_so : OpensAsOwn a event) where
+      (own : is_text_of a event ≡ true) (opens_so : OpensAsOwn a w.standing.machine event) where
     abbrev m : Machine
     m = w.standing.machine
 
@@ -142,7 +142,7 @@ module _ (Reads : ReadingRelation) (Leave LeaveOther : Stops) (once : ReadsOnce 
       (ran_there : RanBy (Happens Reads LeaveOther) v others told other_end) → KeepOutOfSight Reads LeaveOther a v other_end others told ran_there →
       (event ∷ own_texts a events) ≡ own_texts a others → Tells w v (event ∷ events) (x ∷ answers) others told
 
-  module _ (w n end : At) (event : Event TheText) (x : Answer) (events : List (Event TheText)) (answers : List Answer) (on_w : AreSound w.standing.machine) (own : is_text_of a event ≡ true) (opens_so : OpensAsOwn a event)
+  module _ (w n end : At) (event : Event TheText) (x : Answer) (events : List (Event TheText)) (answers : List Answer) (on_w : AreSound w.standing.machine) (own : is_text_of a event ≡ true) (opens_so : OpensAsOwn a w.standing.machine event)
       (here : Happens Reads Leave w event x n) (ran : RanBy (Happens Reads Leave) n events answers end) (keep : KeepOutOfSight Reads Leave a n end events answers ran) (go : Goes events answers end) where
     meets : (v j other_end : At) (y : Answer) (fs : List (Event TheText)) (told : List Answer) → AreSound v.standing.machine → (ran_there : RanBy (Happens Reads LeaveOther) j fs told other_end) →
         KeepOutOfSight Reads LeaveOther a j other_end fs told ran_there → own_texts a events ≡ own_texts a fs → Happens Reads LeaveOther v event y j → Went w v n j event x y → Tells w v (event ∷ events) (x ∷ answers) (event ∷ fs) (y ∷ told)

@@ -21,10 +21,10 @@ use Rattle.abstract_database.proofs.ResultLemmas.{ok_inside}
 use Rattle.database_laws.specs.Invariants.{IsSound}
 use Rattle.database_laws.specs.Worlds.{is_silent, SameApparentRows}
 use Rattle.database_laws.specs.OnePolicy.{HasPoliciesForAll, IsOfKey, SpeaksOfKeys}
-use Rattle.database_laws.specs.HiddenRuns.{MayActAs, SameApparentRowsForLogin, holds_slot}
+use Rattle.database_laws.specs.HiddenRuns.{MayActAs, SameApparentRowsForPairs, ActsWithin, holds_slot}
 use Rattle.database_laws.specs.Told.{entries_of, AllFor, IsAlikeTo}
 use Rattle.database_laws.specs.OutOfSight.{IsOfTenants}
-use Rattle.database_laws.specs.TwoTenants.{notes, own_notes, note, with_notes, first, second, ann, bob, of_ann, with_bob_before, with_bob_behind, MeetThePremises}
+use Rattle.database_laws.specs.TwoTenants.{notes, own_notes, note, with_notes, first, second, ann, bob, by_ann, of_ann, idle, working, with_bob_before, with_bob_behind, MeetThePremises}
 use Rattle.database_laws.proofs.WholeSound.{whole_sound}
 use Rattle.database_laws.proofs.WholeTenants.{first_whole, second_whole}
 use Rattle.database_laws.proofs.Tenants.{tenants_unseen}
@@ -116,22 +116,22 @@ one_name : (b : Bool) → (b || false) ≡ true → b ≡ true
 one_name true e = refl
 one_name false e = cc
 
-acts_as_ann : (pair : UserPair) → MayActAs first (bytes_eq (codes "ann")) pair → ann ≡ pair
+acts_as_ann : (pair : UserPair) → MayActAs first by_ann pair → ann ≡ pair
 acts_as_ann pair acts =
     let login : codes "ann" ≡ pair.session = bytes_same (codes "ann") pair.session acts.0 in
     let own : codes "ann" ≡ pair.current = bytes_same (codes "ann") pair.current (one_name (bytes_eq (codes "ann") pair.current) (ap (λ (n : TheName). may_set_role first n pair.current) login ∙ acts.1)) in
     ap (λ (n : TheName). record { current = n; session = codes "ann" }) own ∙ ap (λ (n : TheName). record { current = pair.current; session = n }) login
 
-all_to_ann : (rows others : List Row) → SameOfAnn rows others → SameApparentRowsForLogin (bytes_eq (codes "ann")) (with_notes rows) (with_notes others)
+all_to_ann : (rows others : List Row) → SameOfAnn rows others → SameApparentRowsForPairs by_ann (with_notes rows) (with_notes others)
 all_to_ann rows others same = record {
   definitions = refl;
   rows = λ pair acts. subst (λ (p : UserPair). SameApparentRows (as_seen p first) (with_notes rows) (with_notes others)) (acts_as_ann pair acts) (both_to_ann rows others same);
 }
 
-to_all : SameApparentRowsForLogin (bytes_eq (codes "ann")) first second
+to_all : SameApparentRowsForPairs by_ann first second
 to_all = all_to_ann (note "ann" 1 ∷ note "bob" 1 ∷ []) (note "ann" 1 ∷ note "bob" 2 ∷ note "bob" 3 ∷ []) refl
 
-in_block : SameApparentRowsForLogin (bytes_eq (codes "ann")) (with_notes (note "ann" 1 ∷ note "ann" 2 ∷ note "bob" 1 ∷ [])) (with_notes (note "ann" 1 ∷ note "ann" 2 ∷ note "bob" 2 ∷ note "bob" 3 ∷ []))
+in_block : SameApparentRowsForPairs by_ann (with_notes (note "ann" 1 ∷ note "ann" 2 ∷ note "bob" 1 ∷ [])) (with_notes (note "ann" 1 ∷ note "ann" 2 ∷ note "bob" 2 ∷ note "bob" 3 ∷ []))
 in_block = all_to_ann (note "ann" 1 ∷ note "ann" 2 ∷ note "bob" 1 ∷ []) (note "ann" 1 ∷ note "ann" 2 ∷ note "bob" 2 ∷ note "bob" 3 ∷ []) refl
 
 one_or_two : (number : ℕ) → (nat_eq number 1 || nat_eq number 2) ≡ true → (1 ≡ number) ⊎ (2 ≡ number)
@@ -145,14 +145,20 @@ one_or_two number h = by (nat_eq number 1) (nat_eq number 2) refl refl h where
 of_both : (P : ℕ → Type 0) → P 1 → P 2 → (number : ℕ) → (nat_eq number 1 || nat_eq number 2) ≡ true → P number
 of_both P p q number h = elim (one_or_two number h) [ inl is ↦ subst P is p | inr is ↦ subst P is q ]
 
+idle_acts : ActsWithin by_ann (idle "ann")
+idle_acts = record { now = refl; reset = refl; rolled_back = tt }
+
+working_acts : ActsWithin by_ann (working "ann")
+working_acts = record { now = refl; reset = refl; rolled_back = refl }
+
 both_sessions : IsAlikeTo of_ann with_bob_before with_bob_behind
 both_sessions = record {
   sessions = of_both (λ n. entries_of n with_bob_before.sessions ≡ entries_of n with_bob_behind.sessions) refl refl;
-  opened_for = of_both (λ n. AllFor of_ann.logins (entries_of n with_bob_before.sessions)) (refl, tt) (refl, tt);
+  opened_for = of_both (λ n. AllFor of_ann.pairs (entries_of n with_bob_before.sessions)) (idle_acts, tt) (working_acts, tt);
   stopped = refl;
   slot = of_both (λ n. holds_slot n with_bob_before.holder ≡ holds_slot n with_bob_behind.holder) refl refl;
   committed = to_all;
-  seen = of_both (λ n. SameApparentRowsForLogin of_ann.logins (seen with_bob_before n) (seen with_bob_behind n)) to_all in_block;
+  seen = of_both (λ n. SameApparentRowsForPairs of_ann.pairs (seen with_bob_before n) (seen with_bob_behind n)) to_all in_block;
 }
 
 abbrev ann_session : Session
@@ -175,7 +181,7 @@ premises_met = record {
   unseen = tenants_unseen first (as_seen bob first) (as_seen ann first) notes tenant_column by_tenant refl refl apart;
   machines = record {
     session = refl;
-    opened_for = λ s h. ap (λ (x : Session). bytes_eq (codes "ann") x.login) (sym (some_same s h));
+    opened_for = λ s h. subst (ActsWithin by_ann) (some_same s h) idle_acts;
     stopped = refl;
     slot = refl;
     committed = to_all;

@@ -20,7 +20,7 @@ use Rattle.abstract_database.specs.Statements.{Effect, UserPair, as_seen, exec}
 use Rattle.abstract_database.specs.Machine.{Session, Event, opens, executes, closes, Reading, Machine, Holder, session_of, users_of, is_held_by_other, is_writing, seen}
 use Rattle.database_laws.specs.Invariants.{IsSound}
 use Rattle.database_laws.specs.Sessions.{number_of}
-use Rattle.database_laws.specs.HiddenRuns.{MayActAs, SameApparentRowsForLogin, MachinesAlikeForSession, AreSound, IsOwn, answer_to, after, IsException}
+use Rattle.database_laws.specs.HiddenRuns.{MayActAs, SameApparentRowsForPairs, AreSound, after}
 use Rattle.database_laws.specs.OnePolicy.{target_of, HasPoliciesForAll}
 use Rattle.database_laws.specs.Writes.{Passes}
 use Rattle.database_laws.specs.Worlds.{is_unmet, is_silent, SameApparentRows}
@@ -45,78 +45,43 @@ abbrev pub unseen_by_others : Type 0
 unseen_by_others = (pair : UserPair) (others : UserNames) (db : Database) (x : RowStatement) (e : Effect) → IsSound db → WritesOutOfSight db (as_seen pair db) others x →
     exec db pair (on_database.OverRows x) ≡ Ok e → SameApparentRows others db e.database
 
--- ---- all that a login role may act as
+-- ---- all the pairs as which sessions act
 
--- the statement is out of the sight of all that the login role may act as
-abbrev pub IsOutOfSightOf : (TheName → Bool) → Database → UserNames → RowStatement → Type 0
-IsOutOfSightOf login db users x = (pair : UserPair) → MayActAs db login pair → WritesOutOfSight db users (as_seen pair db) x
+-- the statement is out of the sight of each of these pairs
+abbrev pub IsOutOfSightOf : (UserPair → Bool) → Database → UserNames → RowStatement → Type 0
+IsOutOfSightOf pairs db users x = (pair : UserPair) → MayActAs db pairs pair → WritesOutOfSight db users (as_seen pair db) x
 
 -- what it leaves looks to all of them as it did before
 abbrev pub unseen_by_all : Type 0
-unseen_by_all = (pair : UserPair) (login : TheName → Bool) (db : Database) (x : RowStatement) (e : Effect) → IsSound db → IsOutOfSightOf login db (as_seen pair db) x →
-    exec db pair (on_database.OverRows x) ≡ Ok e → SameApparentRowsForLogin login db e.database
+unseen_by_all = (pair : UserPair) (pairs : UserPair → Bool) (db : Database) (x : RowStatement) (e : Effect) → IsSound db → IsOutOfSightOf pairs db (as_seen pair db) x →
+    exec db pair (on_database.OverRows x) ≡ Ok e → SameApparentRowsForPairs pairs db e.database
 
 -- ---- events of sessions
 
--- what the session of this number sees looks, to all that the login role may act as, like what is committed
-abbrev pub LooksCommitted : (TheName → Bool) → ℕ → Machine → Type 0
-LooksCommitted login number m = SameApparentRowsForLogin login m.committed (seen m number)
+-- what the session of this number sees looks, to all of the pairs, like what is committed
+abbrev pub LooksCommitted : (UserPair → Bool) → ℕ → Machine → Type 0
+LooksCommitted pairs number m = SameApparentRowsForPairs pairs m.committed (seen m number)
 
 -- a statement over rows that is out of their sight, or one that concerns the session alone
-abbrev pub IsUnseenIn : (TheName → Bool) → Database → UserPair → Statement → Type 0
-IsUnseenIn login db pair (statement.OnDatabase (on_database.OverRows x)) = IsOutOfSightOf login db (as_seen pair db) x
-IsUnseenIn login db pair (statement.OnDatabase (on_database.Defining x)) = ⊥
-IsUnseenIn login db pair (statement.OfSession x) = Unit {0}
+abbrev pub IsUnseenIn : (UserPair → Bool) → Database → UserPair → Statement → Type 0
+IsUnseenIn pairs db pair (statement.OnDatabase (on_database.OverRows x)) = IsOutOfSightOf pairs db (as_seen pair db) x
+IsUnseenIn pairs db pair (statement.OnDatabase (on_database.Defining x)) = ⊥
+IsUnseenIn pairs db pair (statement.OfSession x) = Unit {0}
 
-abbrev pub IsUnseenReading : (TheName → Bool) → Machine → ℕ → Reading → Type 0
-IsUnseenReading login m number (Ok x) = (s : Session) → session_of number m.sessions ≡ Some s → IsUnseenIn login (seen m number) (users_of s) x
-IsUnseenReading login m number (Err code) = Unit {0}
+abbrev pub IsUnseenReading : (UserPair → Bool) → Machine → ℕ → Reading → Type 0
+IsUnseenReading pairs m number (Ok x) = (s : Session) → session_of number m.sessions ≡ Some s → IsUnseenIn pairs (seen m number) (users_of s) x
+IsUnseenReading pairs m number (Err code) = Unit {0}
 
 -- an event that makes no statement but such a one
-abbrev pub IsUnseen : (TheName → Bool) → Machine → Event Reading → Type 0
-IsUnseen login m (opens number l) = Unit {0}
-IsUnseen login m (executes number reading) = IsUnseenReading login m number reading
-IsUnseen login m (closes number) = Unit {0}
+abbrev pub IsUnseen : (UserPair → Bool) → Machine → Event Reading → Type 0
+IsUnseen pairs m (opens number l) = Unit {0}
+IsUnseen pairs m (executes number reading) = IsUnseenReading pairs m number reading
+IsUnseen pairs m (closes number) = Unit {0}
 
--- it changes what is committed, and what its session sees, only out of the sight of all that the login role may act as
+-- it changes what is committed, and what its session sees, only out of the sight of all of the pairs
 abbrev pub unseen_events : Type 0
-unseen_events = (login : TheName → Bool) (m : Machine) (event : Event Reading) → AreSound m → LooksCommitted login (number_of event) m → IsUnseen login m event →
-    SameApparentRowsForLogin login m.committed (after m event).committed × LooksCommitted login (number_of event) (after m event)
-
--- ---- runs among others
-
--- what another session has done, which holds the writer lock, looks to all that the login role may act as like what is committed
-abbrev pub OthersHoldUnseen : ℕ → (TheName → Bool) → Machine → Type 0
-OthersHoldUnseen number login m = (h : Holder) → m.holder ≡ Some h → nat_eq number h.session ≡ false → SameApparentRowsForLogin login m.committed h.database
-
--- an event of the session, or of another one, out of the sight of all that the login role may act as
-abbrev pub IsOwnOrUnseen : ℕ → (TheName → Bool) → Machine → Event Reading → Type 0
-IsOwnOrUnseen number login m event = IsOwn number login event ⊎ ((nat_eq number (number_of event) ≡ false) × IsUnseen login m event)
-
--- each event is such a one in the machine before it
-abbrev pub OthersActUnseen : ℕ → (TheName → Bool) → Machine → List (Event Reading) → Type 0
-OthersActUnseen number login m [] = Unit {0}
-OthersActUnseen number login m (event ∷ later) = IsOwnOrUnseen number login m event × OthersActUnseen number login (after m event) later
-
--- the answers to the session's own events are the same, where all events are run and where the others' are left out, up to its
--- close, the first exception, an own write while another holds the slot, or an opening where there are 256 sessions
-pub data IsUndisturbed (number : ℕ) (login : TheName → Bool) : Machine → Machine → List (Event Reading) → Type 0 where
-  no_more : {m k : Machine} → IsUndisturbed number login m k []
-  is_closed : {m k : Machine} {later : List (Event Reading)} → answer_to m (closes number) ≡ answer_to k (closes number) → IsUndisturbed number login m k (closes number ∷ later)
-  is_excepted : {m k : Machine} {event : Event Reading} {later : List (Event Reading)} → IsOwn number login event → IsException number m k event → IsUndisturbed number login m k (event ∷ later)
-  is_kept_waiting : {m k : Machine} {later : List (Event Reading)} (x : Statement) → is_writing x ≡ true → (is_held_by_other number m.holder || is_held_by_other number k.holder) ≡ true →
-      IsUndisturbed number login m k (executes number (Ok x) ∷ later)
-  is_crowded_out : {m k : Machine} {l : TheName} {later : List (Event Reading)} → login l ≡ true → (nat_le 256 (length m.sessions) || nat_le 256 (length k.sessions)) ≡ true →
-      IsUndisturbed number login m k (opens number l ∷ later)
-  is_answered : {m k : Machine} {event : Event Reading} {later : List (Event Reading)} → IsOwn number login event → answer_to m event ≡ answer_to k event →
-      IsUndisturbed number login (after m event) (after k event) later → IsUndisturbed number login m k (event ∷ later)
-  passes_over : {m k : Machine} {event : Event Reading} {later : List (Event Reading)} → nat_eq number (number_of event) ≡ false →
-      IsUndisturbed number login (after m event) k later → IsUndisturbed number login m k (event ∷ later)
-
--- so they are where each other event is out of sight
-abbrev pub others_are_not_noticed : Type 0
-others_are_not_noticed = (number : ℕ) (login : TheName → Bool) (m k : Machine) (events : List (Event Reading)) → MachinesAlikeForSession number login m k → AreSound m → AreSound k →
-    OthersHoldUnseen number login m → OthersActUnseen number login m events → IsUndisturbed number login m k events
+unseen_events = (pairs : UserPair → Bool) (m : Machine) (event : Event Reading) → AreSound m → LooksCommitted pairs (number_of event) m → IsUnseen pairs m event →
+    SameApparentRowsForPairs pairs m.committed (after m event).committed × LooksCommitted pairs (number_of event) (after m event)
 
 -- ---- tables of tenants
 

@@ -3,11 +3,10 @@ use Rattle.std.specs.Prelude.{◌≡◌, ◌⊎◌, ℕ, Bool, true, false, List
 use Rattle.sql_types.specs.declared.state.SqlState.TheVariants.{IoError}
 use Rattle.sql_types.specs.declared.answer.Answer.{Answer}
 use Rattle.sql_types.specs.declared.answer.Answer.TheVariants as answer
-use Rattle.abstract_database.specs.Machine.{Event, opens, executes, closes, Reading, is_writing, is_held_by_other}
-use Rattle.abstract_database.specs.Database.{Database}
-use Rattle.sql_ast.specs.declared.statement.Statement.{Statement}
+use Rattle.abstract_database.specs.Roles.{may_log_in}
+use Rattle.abstract_database.specs.Machine.{Event, opens, executes, closes, Reading, Machine}
 use Rattle.abstract_database.specs.Runs.{TheText, ReadingRelation, IsReadAs, RanBy, Stops, At, Happens}
-use Rattle.database_laws.specs.HiddenRuns.{SameApparentRowsForLogin, AreSound, IsInPlace}
+use Rattle.database_laws.specs.HiddenRuns.{SameApparentRowsForPairs, as_itself, AreSound, IsInPlace}
 use Rattle.database_laws.specs.Runs.{ReadsOnce}
 use Rattle.database_laws.specs.Sessions.{number_of}
 use Rattle.database_laws.specs.Told.{Tenant, IsAlikeTo, happens, IsExceptionFor}
@@ -19,17 +18,17 @@ is_text_of a event = a.sessions (number_of event)
 abbrev pub own_texts : Tenant → List (Event TheText) → List (Event TheText)
 own_texts a events = filter (is_text_of a) events
 
--- the tenant opens its sessions for its login roles alone
-abbrev pub OpensAsOwn : Tenant → Event TheText → Type 0
-OpensAsOwn a (opens number login) = a.logins login ≡ true
-OpensAsOwn a (executes number text) = Unit {0}
-OpensAsOwn a (closes number) = Unit {0}
+-- the tenant opens its sessions for its own login roles alone, but for attempts that are refused
+abbrev pub OpensAsOwn : Tenant → Machine → Event TheText → Type 0
+OpensAsOwn a m (opens number login) = may_log_in m.committed login ≡ true → a.pairs (as_itself login) ≡ true
+OpensAsOwn a m (executes number text) = Unit {0}
+OpensAsOwn a m (closes number) = Unit {0}
 
 -- in a run each event of another leaves what is committed as it looks to all that the tenant may act as
 abbrev pub KeepOutOfSight : (Reads : ReadingRelation) (Leave : Stops) → Tenant → (w end : At) (events : List (Event TheText)) (answers : List Answer) → RanBy (Happens Reads Leave) w events answers end → Type 0
 KeepOutOfSight Reads Leave a w end [] [] ran = Unit {0}
 KeepOutOfSight Reads Leave a w end (event ∷ events) (x ∷ answers) ran =
-    ((is_text_of a event ≡ true → OpensAsOwn a event) × (is_text_of a event ≡ false → SameApparentRowsForLogin a.logins w.standing.machine.committed ran.0.standing.machine.committed))
+    ((is_text_of a event ≡ true → OpensAsOwn a w.standing.machine event) × (is_text_of a event ≡ false → SameApparentRowsForPairs a.pairs w.standing.machine.committed ran.0.standing.machine.committed))
     × KeepOutOfSight Reads Leave a ran.0 end events answers ran.2
 KeepOutOfSight Reads Leave a w end [] (x ∷ answers) ran = Unit {0}
 KeepOutOfSight Reads Leave a w end (event ∷ events) [] ran = Unit {0}
@@ -39,7 +38,7 @@ KeepOutOfSight Reads Leave a w end (event ∷ events) [] ran = Unit {0}
 pub data IsToldAlikeBy (Reads : ReadingRelation) (Leave LeaveOther : Stops) (a : Tenant) : At → At → List (Event TheText) → List Answer → List (Event TheText) → List Answer → Type 0 where
   all_told : {w v : At} → IsAlikeTo a w.standing.machine v.standing.machine → IsToldAlikeBy Reads Leave LeaveOther a w v [] [] [] []
   told_apart : {w v : At} {event : Event TheText} {events others : List (Event TheText)} {x y : Answer} {answers told : List Answer} → is_text_of a event ≡ true → (read : Event Reading) →
-      IsReadAs Reads w.standing.machine event read → IsExceptionFor w.standing.machine v.standing.machine (happens read) → IsToldAlikeBy Reads Leave LeaveOther a w v (event ∷ events) (x ∷ answers) (event ∷ others) (y ∷ told)
+      IsReadAs Reads w.standing.machine event read → IsExceptionFor a w.standing.machine v.standing.machine (happens read) → IsToldAlikeBy Reads Leave LeaveOther a w v (event ∷ events) (x ∷ answers) (event ∷ others) (y ∷ told)
   refused_alone : (next later : At) {w v : At} {event : Event TheText} {events others : List (Event TheText)} {x y : Answer} {answers told : List Answer} → is_text_of a event ≡ true →
       Happens Reads Leave w event x next → Happens Reads LeaveOther v event y later → IsInPlace w.counts next.counts x ⊎ IsInPlace v.counts later.counts y → IsToldAlikeBy Reads Leave LeaveOther a w v (event ∷ events) (x ∷ answers) (event ∷ others) (y ∷ told)
   told_alike : (next later : At) {w v : At} {event : Event TheText} {events others : List (Event TheText)} {x : Answer} {answers told : List Answer} → is_text_of a event ≡ true →

@@ -1,5 +1,5 @@
 -- Two databases that differ in the rows of one tenant alone: with them the premises of the laws of hidden rows are met.
-use Rattle.std.specs.Prelude.{◌≡◌, ◌||◌, ℕ, nat_eq, true, false, pos, List, [], ◌∷◌, flat_map, codes, bytes_eq, Some, None, Ok}
+use Rattle.std.specs.Prelude.{◌≡◌, ◌||◌, ℕ, nat_eq, Bool, true, false, pos, List, [], ◌∷◌, flat_map, codes, bytes_eq, Some, None, Ok}
 use Prim.Native.String.{String}
 use Rattle.sql_types.specs.Row.{Row}
 use Rattle.sql_types.specs.declared.value.Value.TheVariants.{Int, Text}
@@ -107,9 +107,13 @@ ann_asks = executes 1 (Ok (statement.OnDatabase (on_database.OverRows (over_rows
 abbrev pub her_note : Answer
 her_note = answer.Rows (note "ann" 1 ∷ [])
 
+-- whatever role ann sets
+abbrev pub by_ann : UserPair → Bool
+by_ann pair = bytes_eq (codes "ann") pair.session
+
 -- a tenant of one login role, and of the sessions 1 and 2
 abbrev pub of_ann : Tenant
-of_ann = record { logins = bytes_eq (codes "ann"); sessions = λ n. nat_eq n 1 || nat_eq n 2 }
+of_ann = record { pairs = by_ann; sessions = λ n. nat_eq n 1 || nat_eq n 2 }
 
 abbrev pub idle : String → Session
 idle name = record { login = codes name; role = codes name; block = Outside }
@@ -147,7 +151,7 @@ pub record MeetThePremises : Type 0 where
   -- what bob may write is out of ann's sight
   pub of_tenants : IsOfTenants first notes (record { table = None; column = codes "tenant" })
   pub unseen : IsOutOfSight first (as_seen bob first) (as_seen ann first) notes
-  pub machines : MachinesAlikeForSession 1 (bytes_eq (codes "ann")) (opened_by_ann first) (opened_by_ann second)
+  pub machines : MachinesAlikeForSession 1 by_ann (opened_by_ann first) (opened_by_ann second)
   pub both_sessions : IsAlikeTo of_ann with_bob_before with_bob_behind
   pub sound_machines : AreSound (opened_by_ann first) × AreSound (opened_by_ann second)
   pub told : (answer_to (opened_by_ann first) ann_asks ≡ her_note) × (answer_to (opened_by_ann second) ann_asks ≡ her_note)

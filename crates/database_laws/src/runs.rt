@@ -1,7 +1,6 @@
 //! Laws of runs: of the machine, and of a server over a store.
 
 ghost use Rattle.abstract_database.specs.Runs.{ReadingRelation, Stops};
-ghost use Rattle.database_laws.specs.HiddenRuns.{stores_are_alike, stores_go_alike};
 ghost use Rattle.database_laws.specs.ToldStores.{what_stores_tell_a_tenant};
 ghost use Rattle.database_laws.specs.StoreRuns.{long_texts_are_answered_for_their_length, full_machines_answer_openings, machines_answer_closes, commit_numbers_never_fall, stops_leave_what_was_answered};
 ghost use Rattle.database_laws.specs.Runs.{one_transition, one_run, machine_runs_join, store_runs_join, stores_make_transitions, stores_run_the_machine, refusals_over_a_store};
@@ -40,16 +39,10 @@ pub fn stores_run_the_machine<R: Reader, S: Stopping>()
     ensures refused { refusals_over_a_store R.Reads S.Leave }
 {}
 
-/// The same over two stores, each with stops of its own: where their databases differ only in rows that are hidden from all that a
-/// session may act as, its events are answered the same, up to its close, the first exception of
-/// `sessions_are_told_what_they_see`, or the first refusal that comes from one of the stores: for memory,
-/// for space, after the last commit number, or of the device.
-pub fn stores_tell_sessions_what_they_see<R: Reader, S: Stopping, T: Stopping>()
-    ensures event { stores_go_alike R.Reads S.Leave T.Leave }
-    ensures run { stores_are_alike R.Reads S.Leave T.Leave }
-{}
-
-/// What a tenant is told by two servers.
+/// The same as `tenants_are_told_what_they_see` over two stores, each with stops of its own: the tenant's own
+/// events are answered the same, up to the first exception, the first own event that one of the stores refuses
+/// and the other does not for the same (for memory, for space, after the last commit number, or of the device),
+/// or the first failure of a device under an event of another.
 pub fn stores_tell_tenants_what_they_see<R: Reader, S: Stopping, T: Stopping>()
     ensures { what_stores_tell_a_tenant R.Reads S.Leave T.Leave }
 {}

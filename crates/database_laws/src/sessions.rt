@@ -1,7 +1,6 @@
 //! Laws of sessions: of refusals, of what one leaves of the others, and of the writer lock.
 
-ghost use Rattle.database_laws.specs.HiddenRuns.{runs_are_alike, others_may_be_left_out};
-ghost use Rattle.database_laws.specs.OutOfSight.{unseen_by_others, unseen_by_all, unseen_events, others_are_not_noticed, apart_is_out_of_sight, tenants_are_out_of_sight};
+ghost use Rattle.database_laws.specs.OutOfSight.{unseen_by_others, unseen_by_all, unseen_events, apart_is_out_of_sight, tenants_are_out_of_sight};
 ghost use Rattle.database_laws.specs.Told.{what_a_tenant_is_told, unseen_acts_are_out_of_sight};
 ghost use Rattle.database_laws.specs.TwoTenants.{MeetThePremises};
 ghost use Rattle.database_laws.specs.Openings.{only_logins_open, logins_are_authorized};
@@ -34,22 +33,20 @@ pub fn one_holder()
     ensures unseen { uncommitted_is_not_seen }
 {}
 
-/// What a session is answered goes by what it may see: over two machines that differ only in rows that
-/// are hidden from all that its login role may act as, a list of its events is answered the same, from
-/// its opening to its close. It is up to the first exception: a key stands already over one of them; an
+/// What a tenant is told goes by what it may see. A tenant is some sessions, and the pairs of users as
+/// which they act: each a login role and a role that it sets. Take two machines that differ in rows which
+/// policies hide from all of these pairs, in the sessions of others and in who of the others holds the
+/// writer lock. The tenant's events are the same in two runs, one over each; events of others stand between
+/// them, different ones in each run, and change what is committed out of the sight of all of the pairs.
+/// Then the tenant's own events are answered the same, in blocks, over sessions that are closed and opened
+/// again, and over restarts, up to the first exception: a key stands already over one of the machines; an
 /// UPDATE or DELETE that reads no column passes its checks, and not all policies of its table for the set
-/// role are FOR ALL without WITH CHECK; or it changes policies, row security or memberships, by which it
-/// may come to see what was hidden.
+/// role are FOR ALL without WITH CHECK; the tenant changes policies, row security or memberships; it writes
+/// while another session holds the writer lock over one of the machines alone, or opens a session beside 256
+/// over one alone; or it sets a role that is none of its pairs.
 ///
-/// Events of other sessions may stand between its own, and be left out over one of the machines: as long
-/// as they change only rows that are hidden from all that it may act as, its own are answered the same,
-/// up to a write of its own while another session holds the slot, or its opening beside 256 sessions.
-pub fn sessions_are_told_what_they_see()
-    ensures alone { runs_are_alike }
-    ensures among_others { others_may_be_left_out }
-{}
-
-/// What a tenant is told.
+/// A statement over rows that the others may write only where they are silent for all of the pairs changes
+/// what is committed out of their sight.
 pub fn tenants_are_told_what_they_see()
     ensures told { what_a_tenant_is_told }
     ensures unseen { unseen_acts_are_out_of_sight }
@@ -58,13 +55,11 @@ pub fn tenants_are_told_what_they_see()
 /// What others do out of sight looks as before: a statement over rows each of which its users may write
 /// only where it is silent for others leaves a database that looks to these as it did. So an event of
 /// another session, in a block or outside one, that makes no statement but such a one changes what is
-/// committed only out of sight. Such events may stand between those of a session or be left out: its own are
-/// answered the same, up to the exceptions of `sessions_are_told_what_they_see`.
+/// committed only out of sight.
 pub fn others_act_out_of_sight()
     ensures one { unseen_by_others }
     ensures all { unseen_by_all }
     ensures events { unseen_events }
-    ensures runs { others_are_not_noticed }
 {}
 
 /// Tables of tenants: where each policy of a table that is for one of two roles is FOR ALL without WITH

@@ -10,7 +10,7 @@ use Rattle.abstract_database.specs.Machine.{Holder, machine_over}
 use Rattle.abstract_database.specs.Runs.{At}
 use Rattle.stored_database.specs.Definitions.{Definitions}
 use Rattle.stored_database.specs.Records.{Shows, StandsFor}
-use Rattle.database_laws.specs.HiddenRuns.{SameApparentRowsForLogin, DifferInHiddenRows, AreSoundUnlessStopped, IsOwnText}
+use Rattle.database_laws.specs.HiddenRuns.{SameApparentRowsForPairs, DifferInHiddenRows, AreSoundUnlessStopped, IsOwnText}
 use Rattle.database_laws.specs.Invariants.{HoldsOfHolder, IsSound}
 use Rattle.database_laws.specs.Runs.{ReadsOnce}
 use Rattle.database_laws.specs.WholeDatabases.{whole_databases_are_sound}
@@ -66,7 +66,7 @@ module _ (once : ReadsOnce ReadsText) (whole : (records : Records) (db : Databas
             s.differ (machine_sound state before s.here s.stands_here) (machine_sound other_state other_before s.there s.stands_there) own one.2 two.2;
       }
 
-  opened : (number : ℕ) (login : TheName → Bool) (d e : Database) → SameApparentRowsForLogin login d e → DifferInHiddenRows number login (machine_over d) (machine_over e)
+  opened : (number : ℕ) (login : TheName → Bool) (d e : Database) → SameApparentRowsForPairs login d e → DifferInHiddenRows number login (machine_over d) (machine_over e)
   opened number login d e all = record {
     sessions = refl;
     holder = refl;

@@ -7,7 +7,7 @@ use Rattle.abstract_database.specs.Lists.{TheName}
 use Rattle.abstract_database.specs.Database.{Database}
 use Rattle.abstract_database.specs.Whole.{Each}
 use Rattle.abstract_database.specs.Runs.{At}
-use Rattle.database_laws.specs.HiddenRuns.{SameApparentRowsForLogin, DifferInHiddenRows, IsOwnText, GoesAlike, AnswersAgree}
+use Rattle.database_laws.specs.HiddenRuns.{SameApparentRowsForPairs, DifferInHiddenRows, IsOwnText, GoesAlike, AnswersAgree}
 use Rattle.server.specs.declared.server.Server.{Server}
 use Rattle.server.specs.Standing.{event_of, events_of, stops_of, Represents, at_start}
 use Rattle.server.specs.Runs.{Steps, Runs}
@@ -70,6 +70,6 @@ servers_step_alike S T X Y state other_state =
 abbrev pub opened_servers_are_alike : (S T X Y : Type 0) → (S → StoreState) → (T → StoreState) → Type 0
 opened_servers_are_alike S T X Y state other_state =
     (number : ℕ) (login : TheName → Bool) (d e : Database) (events : List Event) (answers others : List Answer) (before after : Server S X) (other_before other_after : Server T Y) →
-    SameApparentRowsForLogin login d e → Each (IsOwnEvent number login) events →
+    SameApparentRowsForPairs login d e → Each (IsOwnEvent number login) events →
     HasRunFrom state (at_start (state before.store) d) events answers before after → HasRunFrom other_state (at_start (other_state other_before.store) e) events others other_before other_after →
     AreAnsweredAlike state other_state number (at_start (state before.store) d) (at_start (other_state other_before.store) e) events answers others after other_after

@@ -1,6 +1,5 @@
 use Rattle.database_laws.proofs.OutOfSight.{others_unseen, unseen_all}
 use Rattle.database_laws.proofs.UnseenEvents.{event_unseen}
-use Rattle.database_laws.proofs.UnseenRuns.{not_noticed}
 use Rattle.database_laws.proofs.sessions.others_act_out_of_sight.Goals as goal
 
 pub returns-clause-one : goal.returns-clause-one
@@ -11,6 +10,3 @@ returns-clause-all c = unseen_all
 
 pub returns-clause-events : goal.returns-clause-events
 returns-clause-events c = event_unseen
-
-pub returns-clause-runs : goal.returns-clause-runs
-returns-clause-runs c = not_noticed
