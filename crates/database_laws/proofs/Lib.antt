@@ -53,6 +53,7 @@ pub mod AlikeRuns
 pub mod RunsAlike
 pub mod OthersLeftOut
 pub mod ClosedLemmas
+pub mod ToldApart
 pub mod ToldRuns
 pub mod ToldStores
 pub mod ToldUnseen

@@ -11,7 +11,7 @@ use Rattle.database_laws.specs.Runs.{ReadsOnce, for_memory, for_space, for_numbe
 use Rattle.database_laws.specs.Sessions.{number_of}
 use Rattle.database_laws.specs.HiddenRuns.{SameApparentRowsForPairs, AreSound, IsInPlace, not_issued, failed, after}
 use Rattle.database_laws.specs.Told.{Tenant, IsAlikeTo, happens, declares, is_of, OpensItsOwn, IsExceptionFor}
-use Rattle.database_laws.specs.ToldStores.{is_text_of, own_texts, OpensAsOwn, KeepOutOfSight, IsToldAlikeBy, all_told, told_apart, refused_alone, told_alike, untold_here, untold_there, failed_here, failed_there, what_stores_tell_a_tenant}
+use Rattle.database_laws.specs.ToldStores.{is_text_of, own_texts, OpensAsOwn, KeepOutOfSight, IsToldAlikeBy, all_told, told_apart, refused_alone, told_alike, untold_here, untold_there, failed_here, failed_there, what_stores_tell_a_tenant, GoesAlike, goes_apart, goes_refused, goes_on, own_events_go_alike, others_go_unseen}
 use Rattle.database_laws.proofs.RunLemmas.{only_transition}
 use Rattle.database_laws.proofs.RunsAlike.{sound_after}
 use Rattle.database_laws.proofs.ToldRuns.{Told, differs, same, waits, for_one, turned, after_another, told_act}
@@ -205,3 +205,24 @@ module _ (Reads : ReadingRelation) (Leave LeaveOther : Stops) (once : ReadsOnce 
 pub told_by_stores : (Reads : ReadingRelation) (Leave LeaveOther : Stops) → what_stores_tell_a_tenant Reads Leave LeaveOther
 told_by_stores Reads Leave LeaveOther once a w v end other_end events others answers told st on_w on_v ran ran_there keep keeps equal =
     runs Reads Leave LeaveOther once a events answers end w v other_end others told st on_w on_v ran ran_there keep keeps equal
+
+-- ---- one event
+
+pub goes_alike : (Reads : ReadingRelation) (Leave LeaveOther : Stops) → own_events_go_alike Reads Leave LeaveOther
+goes_alike Reads Leave LeaveOther once a w v next later event x y st on_w on_v own opens_so here there =
+    at (went Reads Leave LeaveOther once a w v next later st on_w on_v event x y own opens_so
+    (did Reads w.counts next.counts w.standing.machine event x next.standing.machine here.step) (did Reads v.counts later.counts v.standing.machine event y later.standing.machine there.step))
+  where
+    at : Went Reads Leave LeaveOther once a w v next later event x y → GoesAlike Reads a w v next later event x y
+    at (parts read is exception) = goes_apart read is exception
+    at (refused place) = goes_refused place
+    at (goes is alike on_n on_j) = goes_on is alike
+
+pub goes_unseen : (Reads : ReadingRelation) (Leave : Stops) → others_go_unseen Reads Leave
+goes_unseen Reads Leave once a w v next event x st on_w other hides here =
+    at (passed Reads Leave Leave once a w.counts next.counts w.standing.machine next.standing.machine v.standing.machine event x st on_w other hides
+    (did Reads w.counts next.counts w.standing.machine event x next.standing.machine here.step))
+  where
+    at : Passed Reads Leave Leave once a w.standing.machine next.standing.machine v.standing.machine x → IsAlikeTo a next.standing.machine v.standing.machine ⊎ (x ≡ answer.Refused IoError)
+    at (passes alike on_n) = inl alike
+    at (ends e) = inr e

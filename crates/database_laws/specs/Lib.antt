@@ -8,6 +8,7 @@ pub mod HiddenRuns
 pub mod OutOfSight
 pub mod Closed
 pub mod Told
+pub mod ToldApart
 pub mod ToldStores
 pub mod TwoTenants
 pub mod Selections

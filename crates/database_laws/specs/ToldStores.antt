@@ -59,3 +59,24 @@ what_stores_tell_a_tenant Reads Leave LeaveOther = ReadsOnce Reads → (a : Tena
     (ran : RanBy (Happens Reads Leave) w events answers end) (ran_there : RanBy (Happens Reads LeaveOther) v others told other_end) →
     KeepOutOfSight Reads Leave a w end events answers ran → KeepOutOfSight Reads LeaveOther a v other_end others told ran_there → own_texts a events ≡ own_texts a others →
     IsToldAlikeBy Reads Leave LeaveOther a w v events answers others told
+
+-- ---- one event
+
+-- one own event over two stores: an exception; or refused by a store, and not by the other for the same; or answered the same, and such
+-- that the machines are alike to the tenant again
+pub data GoesAlike (Reads : ReadingRelation) (a : Tenant) (w v next later : At) (event : Event TheText) (x y : Answer) : Type 0 where
+  goes_apart : (read : Event Reading) → IsReadAs Reads w.standing.machine event read → IsExceptionFor a w.standing.machine v.standing.machine (happens read) → GoesAlike Reads a w v next later event x y
+  goes_refused : IsInPlace w.counts next.counts x ⊎ IsInPlace v.counts later.counts y → GoesAlike Reads a w v next later event x y
+  goes_on : x ≡ y → IsAlikeTo a next.standing.machine later.standing.machine → GoesAlike Reads a w v next later event x y
+
+-- so goes each own event
+abbrev pub own_events_go_alike : ReadingRelation → Stops → Stops → Type 0
+own_events_go_alike Reads Leave LeaveOther = ReadsOnce Reads → (a : Tenant) (w v next later : At) (event : Event TheText) (x y : Answer) →
+    IsAlikeTo a w.standing.machine v.standing.machine → AreSound w.standing.machine → AreSound v.standing.machine → is_text_of a event ≡ true → OpensAsOwn a w.standing.machine event →
+    Happens Reads Leave w event x next → Happens Reads LeaveOther v event y later → GoesAlike Reads a w v next later event x y
+
+-- an event of another, out of sight of all that the tenant acts as, leaves the machines alike to it, or the device of its store has failed
+abbrev pub others_go_unseen : ReadingRelation → Stops → Type 0
+others_go_unseen Reads Leave = ReadsOnce Reads → (a : Tenant) (w v next : At) (event : Event TheText) (x : Answer) → IsAlikeTo a w.standing.machine v.standing.machine → AreSound w.standing.machine →
+    is_text_of a event ≡ false → SameApparentRowsForPairs a.pairs w.standing.machine.committed next.standing.machine.committed →
+    Happens Reads Leave w event x next → IsAlikeTo a next.standing.machine v.standing.machine ⊎ (x ≡ answer.Refused IoError)

@@ -2,6 +2,7 @@
 
 ghost use Rattle.database_laws.specs.OutOfSight.{unseen_by_others, unseen_by_all, unseen_events, apart_is_out_of_sight, tenants_are_out_of_sight};
 ghost use Rattle.database_laws.specs.Told.{what_a_tenant_is_told, unseen_acts_are_out_of_sight};
+ghost use Rattle.database_laws.specs.ToldApart.{machines_part_at_exceptions, machines_part_behind_others};
 ghost use Rattle.database_laws.specs.TwoTenants.{MeetThePremises};
 ghost use Rattle.database_laws.specs.Openings.{only_logins_open, logins_are_authorized};
 ghost use Rattle.database_laws.specs.Sessions.{effects_are_no_refusals, other_sessions_stay, blocks_keep_their_role, only_the_holder_changes, others_see_the_committed, uncommitted_is_not_seen};
@@ -50,6 +51,13 @@ pub fn one_holder()
 pub fn tenants_are_told_what_they_see()
     ensures told { what_a_tenant_is_told }
     ensures unseen { unseen_acts_are_out_of_sight }
+{}
+
+/// What `tenants_are_told_what_they_see` forbids: two different answers to an own event, alone or behind an act
+/// of another, are told alike only at an exception of the machines as this act left them.
+pub fn tenants_part_at_exceptions()
+    ensures own { machines_part_at_exceptions }
+    ensures behind { machines_part_behind_others }
 {}
 
 /// What others do out of sight looks as before: a statement over rows each of which its users may write

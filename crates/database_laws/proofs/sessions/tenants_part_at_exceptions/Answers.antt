@@ -1,0 +1,8 @@
+use Rattle.database_laws.proofs.ToldApart.{machines_part, machines_part_behind}
+use Rattle.database_laws.proofs.sessions.tenants_part_at_exceptions.Goals as goal
+
+pub returns-clause-own : goal.returns-clause-own
+returns-clause-own c = machines_part
+
+pub returns-clause-behind : goal.returns-clause-behind
+returns-clause-behind c = machines_part_behind
