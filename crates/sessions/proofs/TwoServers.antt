@@ -42,12 +42,12 @@ module _ (once : ReadsOnce ReadsText) (whole : (records : Records) (db : Databas
       }
 
   pub told : {S T X Y : Type 0} (state : S → StoreState) (other_state : T → StoreState) → servers_tell_a_tenant S T X Y state other_state
-  told state other_state a w v events others answers told before after other_before other_after alike same here unseen there unseen_there =
+  told state other_state a w v events others answers answers_there before after other_before other_after alike same here unseen there unseen_there =
       let one = here.ran here.sound w here.stood in
       let two = there.ran there.sound v there.stood in
-      told_by_stores ReadsText (stops_of (state after.store).time) (stops_of (other_state other_after.store).time) once a w v one.0 two.0 (events_of events) (events_of others) answers told
+      told_by_stores ReadsText (stops_of (state after.store).time) (stops_of (other_state other_after.store).time) once a w v one.0 two.0 (events_of events) (events_of others) answers answers_there
       alike (machine_sound state before w here.stood here.works) (machine_sound other_state other_before v there.stood there.works)
-      one.2.1 two.2.1 unseen unseen_there same
+      one.2 two.2 unseen unseen_there same
 
   pub steps_alike : {S T X Y : Type 0} (state : S → StoreState) (other_state : T → StoreState) → servers_step_alike S T X Y state other_state
   steps_alike state other_state a e x y before after other_before other_after s own opens_so first second =
@@ -59,14 +59,14 @@ module _ (once : ReadsOnce ReadsText) (whole : (records : Records) (db : Databas
         stands_here = one.1;
         stands_there = two.1;
         goes = goes_alike ReadsText (stops_of (state after.store).time) (stops_of (other_state other_after.store).time) once a s.here s.there one.0 two.0 (event_of e) x y
-            s.alike (machine_sound state before s.here s.stands_here s.works) (machine_sound other_state other_before s.there s.stands_there (sym s.alike.stopped ∙ s.works)) own opens_so one.2.0 two.2.0;
+            s.alike (machine_sound state before s.here s.stands_here s.works) (machine_sound other_state other_before s.there s.stands_there (sym s.alike.stopped ∙ s.works)) own opens_so one.2 two.2;
       }
 
   pub others_unseen : {S T X Y : Type 0} (state : S → StoreState) (other_state : T → StoreState) → steps_of_others_go_unseen S T X Y state other_state
   others_unseen state other_state a e x before after other s foreign first =
       let one = first s.sound_here s.here s.stands_here in
       (one.0, one.1, λ hides.
-      goes_unseen ReadsText (stops_of (state after.store).time) once a s.here s.there one.0 (event_of e) x s.alike (machine_sound state before s.here s.stands_here s.works) foreign hides one.2.0)
+      goes_unseen ReadsText (stops_of (state after.store).time) once a s.here s.there one.0 (event_of e) x s.alike (machine_sound state before s.here s.stands_here s.works) foreign hides one.2)
 
   opened : (a : Tenant) (d e : Database) → SameApparentRowsForPairs a.pairs d e → IsAlikeTo a (machine_over d) (machine_over e)
   opened a d e all = record { sessions = λ number own. refl; opened_for = λ number own. tt; stopped = refl; slot = λ number own. refl; committed = all; seen = λ number own. all }

@@ -28,7 +28,7 @@ pub record HasRunFrom {S X : Type 0} (state : S → StoreState) (w : At) (events
 -- sessions for its own login roles alone
 abbrev pub OthersAreOutOfSight : {S X : Type 0} (state : S → StoreState) (a : Tenant) (w : At) (events : List Event) (answers : List Answer) (before after : Server S X) → HasRunFrom state w events answers before after → Type 0
 OthersAreOutOfSight state a w events answers before after run =
-    let ran = run.ran run.sound w run.stood in KeepOutOfSight ReadsText (stops_of (state after.store).time) a w ran.0 (events_of events) answers ran.2.1
+    let ran = run.ran run.sound w run.stood in KeepOutOfSight ReadsText (stops_of (state after.store).time) a w ran.0 (events_of events) answers ran.2
 
 -- the answers of both servers to the tenant's own events are the same, up to the first exception, the first refusal of one store
 -- alone, or the first failure of a device

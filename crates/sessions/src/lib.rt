@@ -19,4 +19,4 @@ mod visible;
 
 pub use handler::SessionHandler;
 pub use laws::one_reading;
-pub use two_servers::servers_tell_sessions_what_they_see;
+pub use two_servers::servers_tell_tenants_what_they_see;
