@@ -1,8 +1,9 @@
 -- Two databases of tenants that look alike to one of them.
-use Rattle.std.proofs.Common.{◌≡◌, ◌⊎◌, ◌||◌, ℕ, nat_eq, Bool, true, false, cond, codes, length, bytes_eq, List, [], ◌∷◌, Option, Some, None, refl, sym, ap, ◌∙◌, subst, inl, inr}
-use Rattle.std.proofs.lemmas.Bool.{eqb-true}
+use Rattle.std.proofs.Common.{◌≡◌, ◌⊎◌, ◌||◌, ◌&&◌, ℕ, nat_eq, Bool, true, false, cond, codes, length, bytes_eq, List, [], ◌∷◌, Option, Some, None, refl, sym, ap, ◌∙◌, subst, inl, inr}
+use Rattle.std.proofs.lemmas.Bool.{and_parts, eqb-true}
 use Rattle.std.specs.Option.{option_map}
 use Rattle.std.proofs.lemmas.Option.{same_Some}
+use Prim.Native.String.{String}
 use Rattle.sql_types.specs.Row.{Row}
 use Rattle.sql_ast.specs.declared.expression.ColumnName.{ColumnName}
 use Rattle.sql_ast.specs.declared.expression.Comparison.TheVariants as comparing
@@ -24,7 +25,7 @@ use Rattle.database_laws.specs.OnePolicy.{HasPoliciesForAll, IsOfKey, SpeaksOfKe
 use Rattle.database_laws.specs.HiddenRuns.{MayActAs, SameApparentRowsForPairs, ActsWithin, holds_slot}
 use Rattle.database_laws.specs.Told.{entries_of, AllFor, IsAlikeTo}
 use Rattle.database_laws.specs.OutOfSight.{IsOfTenants}
-use Rattle.database_laws.specs.TwoTenants.{notes, own_notes, note, with_notes, first, second, ann, bob, by_ann, of_ann, idle, working, with_bob_before, with_bob_behind, MeetThePremises}
+use Rattle.database_laws.specs.TwoTenants.{notes, own_notes, note, with_notes, first, second, ann, bob, by_ann, by_app_for_ann, one_and_two, of_ann, of_ann_by_app, idle, working, as_tenants, as_app, with_bob_before, with_bob_behind, MeetThePremises}
 use Rattle.database_laws.proofs.WholeSound.{whole_sound}
 use Rattle.database_laws.proofs.WholeTenants.{first_whole, second_whole}
 use Rattle.database_laws.proofs.Tenants.{tenants_unseen}
@@ -49,19 +50,19 @@ of_option (Some x) = refl
 one_table : (rows : List Row) (t : TableOf) → definition_named (with_notes rows) t.name ≡ Some t → notes ≡ t
 one_table rows t h = one_at rows t (bytes_eq notes.name t.name) (of_option (found_by rows (bytes_eq notes.name t.name)) ∙ h)
 
--- two lists of notes of which the same are ann's
-abbrev SameOfAnn : List Row → List Row → Type 0
-SameOfAnn rows others = drop_where (is_silent first (as_seen ann first) notes) rows ≡ drop_where (is_silent first (as_seen ann first) notes) others
+-- two lists of notes of which the same say something to these users
+abbrev SameTo : UserPair → List Row → List Row → Type 0
+SameTo pair rows others = drop_where (is_silent first (as_seen pair first) notes) rows ≡ drop_where (is_silent first (as_seen pair first) notes) others
 
-both_to_ann : (rows others : List Row) → SameOfAnn rows others → SameApparentRows (as_seen ann first) (with_notes rows) (with_notes others)
-both_to_ann rows others same = record {
+both_to : (pair : UserPair) (rows others : List Row) → SameTo pair rows others → SameApparentRows (as_seen pair first) (with_notes rows) (with_notes others)
+both_to pair rows others same = record {
   definitions = refl;
-  rows = λ t h. subst (λ (u : TableOf). drop_where (is_silent (with_notes rows) (as_seen ann first) u) (rows_named (with_notes rows) u.name) ≡ drop_where (is_silent (with_notes others) (as_seen ann first) u) (rows_named (with_notes others) u.name))
+  rows = λ t h. subst (λ (u : TableOf). drop_where (is_silent (with_notes rows) (as_seen pair first) u) (rows_named (with_notes rows) u.name) ≡ drop_where (is_silent (with_notes others) (as_seen pair first) u) (rows_named (with_notes others) u.name))
       (one_table rows t h) same;
 }
 
 to_ann : SameApparentRows (as_seen ann first) first second
-to_ann = both_to_ann (note "ann" 1 ∷ note "bob" 1 ∷ []) (note "ann" 1 ∷ note "bob" 2 ∷ note "bob" 3 ∷ []) refl
+to_ann = both_to ann (note "ann" 1 ∷ note "bob" 1 ∷ []) (note "ann" 1 ∷ note "bob" 2 ∷ note "bob" 3 ∷ []) refl
 
 -- ---- what is sound
 
@@ -112,27 +113,76 @@ apart same = let wrong : false ≡ true = ap (λ (name : TheName). bytes_eq name
 
 -- ---- ann's session
 
+-- the only roles that ann may set, or the application among these, are
 one_name : (b : Bool) → (b || false) ≡ true → b ≡ true
 one_name true e = refl
 one_name false e = cc
 
+alone : (b c : Bool) → (b || ((b && false) || ((c && false) || false))) ≡ true → (b || false) ≡ true
+alone true c e = refl
+alone false true e = cc
+alone false false e = cc
+
 acts_as_ann : (pair : UserPair) → MayActAs first by_ann pair → ann ≡ pair
 acts_as_ann pair acts =
     let login : codes "ann" ≡ pair.session = bytes_same (codes "ann") pair.session acts.0 in
-    let own : codes "ann" ≡ pair.current = bytes_same (codes "ann") pair.current (one_name (bytes_eq (codes "ann") pair.current) (ap (λ (n : TheName). may_set_role first n pair.current) login ∙ acts.1)) in
+    let own : codes "ann" ≡ pair.current = bytes_same (codes "ann") pair.current (one_name (bytes_eq (codes "ann") pair.current) (by_membership (ap (λ (n : TheName). may_set_role first n pair.current) login ∙ acts.1))) in
     ap (λ (n : TheName). record { current = n; session = codes "ann" }) own ∙ ap (λ (n : TheName). record { current = pair.current; session = n }) login
+  where
+    by_membership : may_set_role first (codes "ann") pair.current ≡ true → (bytes_eq (codes "ann") pair.current || false) ≡ true
+    by_membership may = alone (bytes_eq (codes "ann") pair.current) (bytes_eq (codes "bob") pair.current) may
 
-all_to_ann : (rows others : List Row) → SameOfAnn rows others → SameApparentRowsForPairs by_ann (with_notes rows) (with_notes others)
+abbrev app : UserPair
+app = record { current = codes "app"; session = codes "app" }
+
+abbrev app_as_ann : UserPair
+app_as_ann = record { current = codes "ann"; session = codes "app" }
+
+acts_by_app : (pair : UserPair) → MayActAs first by_app_for_ann pair → (app ≡ pair) ⊎ (app_as_ann ≡ pair)
+acts_by_app pair acts = by (bytes_eq (codes "app") pair.current) (bytes_eq (codes "ann") pair.current) refl refl parts.1 where
+  parts : (bytes_eq (codes "app") pair.session ≡ true) × ((bytes_eq (codes "app") pair.current || bytes_eq (codes "ann") pair.current) ≡ true)
+  parts = and_parts (bytes_eq (codes "app") pair.session) (bytes_eq (codes "app") pair.current || bytes_eq (codes "ann") pair.current) acts.0
+
+  login : codes "app" ≡ pair.session
+  login = bytes_same (codes "app") pair.session parts.0
+
+  acting : (name : TheName) → bytes_eq name pair.current ≡ true → record { current = name; session = codes "app" } ≡ pair
+  acting name e = ap (λ (n : TheName). record { current = n; session = codes "app" }) (bytes_same name pair.current e) ∙ ap (λ (n : TheName). record { current = pair.current; session = n }) login
+
+  by : (b c : Bool) → bytes_eq (codes "app") pair.current ≡ b → bytes_eq (codes "ann") pair.current ≡ c → (b || c) ≡ true → (app ≡ pair) ⊎ (app_as_ann ≡ pair)
+  by true c e f g = inl (acting (codes "app") e)
+  by false true e f g = inr (acting (codes "ann") f)
+  by false false e f g = cc
+
+all_to_ann : (rows others : List Row) → SameTo ann rows others → SameApparentRowsForPairs by_ann (with_notes rows) (with_notes others)
 all_to_ann rows others same = record {
   definitions = refl;
-  rows = λ pair acts. subst (λ (p : UserPair). SameApparentRows (as_seen p first) (with_notes rows) (with_notes others)) (acts_as_ann pair acts) (both_to_ann rows others same);
+  rows = λ pair acts. subst (λ (p : UserPair). SameApparentRows (as_seen p first) (with_notes rows) (with_notes others)) (acts_as_ann pair acts) (both_to ann rows others same);
 }
 
-to_all : SameApparentRowsForPairs by_ann first second
-to_all = all_to_ann (note "ann" 1 ∷ note "bob" 1 ∷ []) (note "ann" 1 ∷ note "bob" 2 ∷ note "bob" 3 ∷ []) refl
+all_to_app : (rows others : List Row) → SameTo app rows others → SameTo app_as_ann rows others → SameApparentRowsForPairs by_app_for_ann (with_notes rows) (with_notes others)
+all_to_app rows others same same_as_ann = record {
+  definitions = refl;
+  rows = λ pair acts. elim (acts_by_app pair acts) [
+    | inl is ↦ subst (λ (p : UserPair). SameApparentRows (as_seen p first) (with_notes rows) (with_notes others)) is (both_to app rows others same)
+    | inr is ↦ subst (λ (p : UserPair). SameApparentRows (as_seen p first) (with_notes rows) (with_notes others)) is (both_to app_as_ann rows others same_as_ann)
+  ];
+}
 
-in_block : SameApparentRowsForPairs by_ann (with_notes (note "ann" 1 ∷ note "ann" 2 ∷ note "bob" 1 ∷ [])) (with_notes (note "ann" 1 ∷ note "ann" 2 ∷ note "bob" 2 ∷ note "bob" 3 ∷ []))
-in_block = all_to_ann (note "ann" 1 ∷ note "ann" 2 ∷ note "bob" 1 ∷ []) (note "ann" 1 ∷ note "ann" 2 ∷ note "bob" 2 ∷ note "bob" 3 ∷ []) refl
+abbrev bobs_first : List Row
+bobs_first = note "ann" 1 ∷ note "bob" 1 ∷ []
+
+abbrev bobs_second : List Row
+bobs_second = note "ann" 1 ∷ note "bob" 2 ∷ note "bob" 3 ∷ []
+
+abbrev held_first : List Row
+held_first = note "ann" 1 ∷ note "ann" 2 ∷ note "bob" 1 ∷ []
+
+abbrev held_second : List Row
+held_second = note "ann" 1 ∷ note "ann" 2 ∷ note "bob" 2 ∷ note "bob" 3 ∷ []
+
+to_all : SameApparentRowsForPairs by_ann first second
+to_all = all_to_ann bobs_first bobs_second refl
 
 one_or_two : (number : ℕ) → (nat_eq number 1 || nat_eq number 2) ≡ true → (1 ≡ number) ⊎ (2 ≡ number)
 one_or_two number h = by (nat_eq number 1) (nat_eq number 2) refl refl h where
@@ -145,21 +195,27 @@ one_or_two number h = by (nat_eq number 1) (nat_eq number 2) refl refl h where
 of_both : (P : ℕ → Type 0) → P 1 → P 2 → (number : ℕ) → (nat_eq number 1 || nat_eq number 2) ≡ true → P number
 of_both P p q number h = elim (one_or_two number h) [ inl is ↦ subst P is p | inr is ↦ subst P is q ]
 
-idle_acts : ActsWithin by_ann (idle "ann")
+idle_acts : ActsWithin by_ann (idle as_tenants "ann")
 idle_acts = record { now = refl; reset = refl; rolled_back = tt }
 
-working_acts : ActsWithin by_ann (working "ann")
-working_acts = record { now = refl; reset = refl; rolled_back = refl }
-
-both_sessions : IsAlikeTo of_ann with_bob_before with_bob_behind
-both_sessions = record {
-  sessions = of_both (λ n. entries_of n with_bob_before.sessions ≡ entries_of n with_bob_behind.sessions) refl refl;
-  opened_for = of_both (λ n. AllFor of_ann.pairs (entries_of n with_bob_before.sessions)) (idle_acts, tt) (working_acts, tt);
+-- machines with both sessions are alike to a tenant that acts as these pairs
+alike_with : (pairs : UserPair → Bool) (login : String → String) → ActsWithin pairs (idle login "ann") → ActsWithin pairs (working login "ann") → SameApparentRowsForPairs pairs first second →
+    SameApparentRowsForPairs pairs (with_notes held_first) (with_notes held_second) → IsAlikeTo (record { pairs = pairs; sessions = one_and_two }) (with_bob_before login) (with_bob_behind login)
+alike_with pairs login is_idle is_working committed held = record {
+  sessions = of_both (λ n. entries_of n (with_bob_before login).sessions ≡ entries_of n (with_bob_behind login).sessions) refl refl;
+  opened_for = of_both (λ n. AllFor pairs (entries_of n (with_bob_before login).sessions)) (is_idle, tt) (is_working, tt);
   stopped = refl;
-  slot = of_both (λ n. holds_slot n with_bob_before.holder ≡ holds_slot n with_bob_behind.holder) refl refl;
-  committed = to_all;
-  seen = of_both (λ n. SameApparentRowsForPairs of_ann.pairs (seen with_bob_before n) (seen with_bob_behind n)) to_all in_block;
+  slot = of_both (λ n. holds_slot n (with_bob_before login).holder ≡ holds_slot n (with_bob_behind login).holder) refl refl;
+  committed = committed;
+  seen = of_both (λ n. SameApparentRowsForPairs pairs (seen (with_bob_before login) n) (seen (with_bob_behind login) n)) committed held;
 }
+
+both_sessions : IsAlikeTo of_ann (with_bob_before as_tenants) (with_bob_behind as_tenants)
+both_sessions = alike_with by_ann as_tenants idle_acts (record { now = refl; reset = refl; rolled_back = refl }) to_all (all_to_ann held_first held_second refl)
+
+by_one_login : IsAlikeTo of_ann_by_app (with_bob_before as_app) (with_bob_behind as_app)
+by_one_login = alike_with by_app_for_ann as_app (record { now = refl; reset = refl; rolled_back = tt }) (record { now = refl; reset = refl; rolled_back = refl })
+    (all_to_app bobs_first bobs_second refl refl) (all_to_app held_first held_second refl refl)
 
 abbrev ann_session : Session
 ann_session = record { login = codes "ann"; role = codes "ann"; block = Outside }
@@ -188,6 +244,7 @@ premises_met = record {
     seen = to_all;
   };
   both_sessions = both_sessions;
+  by_one_login = by_one_login;
   sound_machines = (record { committed = sound_first; holder = tt }, record { committed = sound_second; holder = tt });
   told = (refl, refl);
 }

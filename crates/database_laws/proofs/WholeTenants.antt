@@ -1,7 +1,7 @@
 -- The databases of two tenants are whole.
-use Rattle.std.proofs.Common.{◌≡◌, ◌≢◌, ◌<◌, ◌^◌, ◌&&◌, ℕ, zero, suc, nat_lt, nat_le, pos, Bool, true, false, codes, length, List, [], ◌∷◌, slice_get, slice_index_or, IsAscii, FitsSigned, None, refl, sym, ap, ◌∙◌, subst, inl, inr, arith, Less}
+use Rattle.std.proofs.Common.{◌≡◌, ◌≢◌, ◌<◌, ◌^◌, ◌&&◌, ◌||◌, ℕ, zero, suc, nat_lt, nat_le, pos, Bool, true, false, codes, length, bytes_eq, List, [], ◌∷◌, slice_get, slice_index_or, IsAscii, FitsSigned, None, refl, sym, ap, ◌∙◌, subst, inl, inr, arith, Less}
 use Rattle.std.specs.Int.{w64}
-use Rattle.std.specs.List.{list_all}
+use Rattle.std.specs.List.{list_all, list_any}
 use Rattle.std.specs.Ordering.{is_lt}
 use Rattle.std.specs.declared.cmp.Ordering.{Ordering}
 use Rattle.std.specs.declared.cmp.Ordering.TheVariants.{Equal, Greater}
@@ -18,14 +18,17 @@ use Rattle.sql_ast.specs.declared.privilege.Action.TheVariants as action
 use Rattle.sql_ast.specs.declared.privilege.Grantor.TheVariants as grantor
 use Rattle.sql_ast.specs.declared.privilege.Grantee.TheVariants as grantee
 use Rattle.sql_ast.specs.declared.privilege.Descriptor.{Descriptor}
+use Rattle.sql_ast.specs.declared.role.Membership.{Membership}
 use Rattle.sql_ast.specs.Fits.{FitsColumnIfAny, FitsTable}
 use Rattle.sql_ast.specs.Rows.{row_cmp, KeepsLimits}
-use Rattle.abstract_database.specs.Lists.{Among, Rising}
-use Rattle.abstract_database.specs.Chains.{by_start, by_step}
-use Rattle.abstract_database.specs.Database.{Table, Database, role_cmp, table_cmp, descriptor_cmp, policy_cmp}
+use Rattle.abstract_database.specs.Lists.{TheName, Among, Rising}
+use Rattle.abstract_database.specs.Chains.{IsLedTo, by_start, by_step}
+use Rattle.abstract_database.specs.Roles.{is_of_member, leads_on}
+use Rattle.abstract_database.specs.Database.{Table, Database, role_cmp, membership_cmp, table_cmp, descriptor_cmp, policy_cmp}
 use Rattle.abstract_database.specs.Privileges.{supports, owner_descriptor, owner_descriptors}
-use Rattle.abstract_database.specs.Whole.{Each, OneOf, IsWholeRole, IsWholeTable, AreWholeRows, IsWholeDescriptor, IsDescriptorOf, HasOwnerDescriptors, IsWholePolicy, IsPolicyOf, HasWholeDefinitions, HasWholeRows, IsWhole}
-use Rattle.database_laws.specs.TwoTenants.{notes, own_notes, note, with_notes, first, second}
+use Rattle.abstract_database.specs.Whole.{Each, OneOf, IsRoleOf, IsWholeRole, IsWholeMembership, IsWholeTable, AreWholeRows, IsWholeDescriptor, IsDescriptorOf, HasOwnerDescriptors, IsWholePolicy, IsPolicyOf, HasWholeDefinitions, HasWholeRows, IsWhole}
+use Rattle.abstract_database.proofs.ListLemmas.{same_bytes}
+use Rattle.database_laws.specs.TwoTenants.{notes, own_notes, note, of_app, with_notes, first, second}
 use Rattle.database_laws.proofs.RowLemmas.{all_of_list}
 
 -- ---- lists, element by element
@@ -100,6 +103,9 @@ text_of bytes plain = record { utf8 = IsUtf8-from_ascii bytes (all_ascii bytes p
 ann_name : IsUtf8Name (codes "ann")
 ann_name = name_of (codes "ann") refl refl
 
+app_name : IsUtf8Name (codes "app")
+app_name = name_of (codes "app") refl refl
+
 bob_name : IsUtf8Name (codes "bob")
 bob_name = name_of (codes "bob") refl refl
 
@@ -117,6 +123,38 @@ k_name = name_of (codes "k") refl refl
 
 own_name : IsUtf8Name (codes "own")
 own_name = name_of (codes "own") refl refl
+
+-- ---- memberships
+
+abbrev memberships_of_app : List Membership
+memberships_of_app = of_app "ann" ∷ of_app "bob" ∷ []
+
+none_starts : (name : TheName) (ms : List Membership) → list_any (is_of_member name) ms ≡ false → (m : Membership) → Among m ms → is_of_member name m ≡ true → ⊥
+none_starts name [] none m among start = absurd among
+none_starts name (x ∷ xs) none m (inl is) start = by (is_of_member name x) (ap (λ (y : Membership). is_of_member name y) is ∙ start) none where
+  by : (b : Bool) → b ≡ true → (b || list_any (is_of_member name) xs) ≡ false → ⊥
+  by true e f = cc
+  by false e f = cc
+none_starts name (x ∷ xs) none m (inr among) start = none_starts name xs (rest (is_of_member name x) none) m among start where
+  rest : (b : Bool) → (b || list_any (is_of_member name) xs) ≡ false → list_any (is_of_member name) xs ≡ false
+  rest true e = cc
+  rest false e = e
+
+-- a role that is a member of none leads to none
+leads_nowhere : (name : TheName) (ms : List Membership) → list_any (is_of_member name) ms ≡ false → (m : Membership) → IsLedTo (is_of_member name) leads_on ms m → ⊥
+leads_nowhere name ms none m (by_start x among start) = none_starts name ms none x among start
+leads_nowhere name ms none m (by_step p x led among step) = leads_nowhere name ms none p led
+
+of_app_whole : (role : String) → list_any (is_of_member (codes role)) memberships_of_app ≡ false → bytes_eq (codes role) (codes "app") ≡ false → (rows : List Row) →
+    IsRoleOf (with_notes rows).roles (codes role) → IsWholeMembership (with_notes rows).roles memberships_of_app (of_app role)
+of_app_whole role none other rows there = record {
+  role = there;
+  member = refl;
+  no_circle = λ in_app. elim in_app [
+    | inl same ↦ (let wrong : true ≡ false = sym (same_bytes (codes role) (codes "app") same) ∙ other in cc)
+    | inr chain ↦ leads_nowhere (codes role) memberships_of_app none chain.0 chain.1
+  ];
+}
 
 -- ---- rows
 
@@ -255,14 +293,14 @@ module _ (rows : List Row) where
   definitions_whole = record {
     order = record {
       roles = rising_if role_cmp db.roles refl;
-      memberships = tt;
+      memberships = rising_if membership_cmp db.memberships refl;
       tables = rising_if table_cmp db.tables refl;
       descriptors = rising_if descriptor_cmp db.descriptors refl;
       policies = rising_if policy_cmp db.policies refl;
     };
     roles = record {
-      roles = each_in IsWholeRole db.roles (ann_name, (bob_name, (root_name, tt)));
-      memberships = λ m h. absurd h;
+      roles = each_in IsWholeRole db.roles (ann_name, (app_name, (bob_name, (root_name, tt))));
+      memberships = each_in (IsWholeMembership db.roles db.memberships) db.memberships (of_app_whole "ann" refl refl rows refl, (of_app_whole "bob" refl refl rows refl, tt));
     };
     tables = record {
       tables = each_in (λ (t : Table). IsWholeTable db.roles t.definition) db.tables (notes_whole, tt);

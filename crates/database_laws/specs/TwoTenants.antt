@@ -1,5 +1,5 @@
 -- Two databases that differ in the rows of one tenant alone: with them the premises of the laws of hidden rows are met.
-use Rattle.std.specs.Prelude.{◌≡◌, ◌||◌, ℕ, nat_eq, Bool, true, false, pos, List, [], ◌∷◌, flat_map, codes, bytes_eq, Some, None, Ok}
+use Rattle.std.specs.Prelude.{◌≡◌, ◌||◌, ◌&&◌, ℕ, nat_eq, Bool, true, false, pos, List, [], ◌∷◌, flat_map, codes, bytes_eq, Some, None, Ok}
 use Prim.Native.String.{String}
 use Rattle.sql_types.specs.Row.{Row}
 use Rattle.sql_types.specs.declared.value.Value.TheVariants.{Int, Text}
@@ -16,6 +16,7 @@ use Rattle.sql_ast.specs.declared.privilege.Grantor.TheVariants as grantor
 use Rattle.sql_ast.specs.declared.privilege.Grantee.TheVariants as grantee
 use Rattle.sql_ast.specs.declared.privilege.Descriptor.{Descriptor}
 use Rattle.sql_ast.specs.declared.role.Role.{Role}
+use Rattle.sql_ast.specs.declared.role.Membership.{Membership}
 use Rattle.sql_ast.specs.declared.statement.Statement.TheVariants as statement
 use Rattle.sql_ast.specs.declared.statement.DatabaseStatement.TheVariants as on_database
 use Rattle.sql_ast.specs.declared.statement.RowStatement.TheVariants as over_rows
@@ -67,13 +68,17 @@ own_notes = record {
 abbrev pub login_role : String → Role
 login_role name = record { name = codes name; attributes = record { superuser = false; login = true; bypass_rls = false } }
 
+-- GRANT ann TO app: an application logs in as app, and sets the role of each tenant
+abbrev pub of_app : String → Membership
+of_app role = record { role = codes role; member = codes "app"; admin = false }
+
 abbrev pub note : String → ℕ → Row
 note tenant k = Text (codes tenant) ∷ Int (pos k) ∷ []
 
 abbrev pub with_notes : List Row → Database
 with_notes rows = record {
-  roles = login_role "ann" ∷ login_role "bob" ∷ record { name = codes "root"; attributes = record { superuser = true; login = true; bypass_rls = false } } ∷ [];
-  memberships = [];
+  roles = login_role "ann" ∷ login_role "app" ∷ login_role "bob" ∷ record { name = codes "root"; attributes = record { superuser = true; login = true; bypass_rls = false } } ∷ [];
+  memberships = of_app "ann" ∷ of_app "bob" ∷ [];
   tables = record { definition = notes; rows = rows } ∷ [];
   descriptors = flat_map privileges_for all_actions;
   policies = own_notes ∷ [];
@@ -111,33 +116,52 @@ her_note = answer.Rows (note "ann" 1 ∷ [])
 abbrev pub by_ann : UserPair → Bool
 by_ann pair = bytes_eq (codes "ann") pair.session
 
+-- the application, as itself and with ann's role
+abbrev pub by_app_for_ann : UserPair → Bool
+by_app_for_ann pair = bytes_eq (codes "app") pair.session && (bytes_eq (codes "app") pair.current || bytes_eq (codes "ann") pair.current)
+
+abbrev pub one_and_two : ℕ → Bool
+one_and_two n = nat_eq n 1 || nat_eq n 2
+
 -- a tenant of one login role, and of the sessions 1 and 2
 abbrev pub of_ann : Tenant
-of_ann = record { pairs = by_ann; sessions = λ n. nat_eq n 1 || nat_eq n 2 }
+of_ann = record { pairs = by_ann; sessions = one_and_two }
 
-abbrev pub idle : String → Session
-idle name = record { login = codes name; role = codes name; block = Outside }
+-- the same tenant, where one login role serves them all
+abbrev pub of_ann_by_app : Tenant
+of_ann_by_app = record { pairs = by_app_for_ann; sessions = one_and_two }
 
-abbrev pub working : String → Session
-working name = record { login = codes name; role = codes name; block = Inside (codes name) }
+-- sessions by the login role that each tenant's are opened for
+abbrev pub idle : (String → String) → String → Session
+idle login tenant = record { login = codes (login tenant); role = codes tenant; block = Outside }
+
+abbrev pub working : (String → String) → String → Session
+working login tenant = record { login = codes (login tenant); role = codes tenant; block = Inside (codes tenant) }
 
 -- both of hers are open, the second in a block that has written a note of hers, and one of bob's
-abbrev pub with_bob_before : Machine
-with_bob_before = record {
+abbrev pub with_bob_before : (String → String) → Machine
+with_bob_before login = record {
   committed = first;
   holder = Some (record { session = 2; database = with_notes (note "ann" 1 ∷ note "ann" 2 ∷ note "bob" 1 ∷ []) });
-  sessions = (7, idle "bob") ∷ (1, idle "ann") ∷ (2, working "ann") ∷ [];
+  sessions = (7, idle login "bob") ∷ (1, idle login "ann") ∷ (2, working login "ann") ∷ [];
   stopped = false;
 }
 
 -- bob has other notes, and other sessions
-abbrev pub with_bob_behind : Machine
-with_bob_behind = record {
+abbrev pub with_bob_behind : (String → String) → Machine
+with_bob_behind login = record {
   committed = second;
   holder = Some (record { session = 2; database = with_notes (note "ann" 1 ∷ note "ann" 2 ∷ note "bob" 2 ∷ note "bob" 3 ∷ []) });
-  sessions = (1, idle "ann") ∷ (2, working "ann") ∷ (8, idle "bob") ∷ (9, working "bob") ∷ [];
+  sessions = (1, idle login "ann") ∷ (2, working login "ann") ∷ (8, idle login "bob") ∷ (9, working login "bob") ∷ [];
   stopped = false;
 }
+
+-- each tenant logs in as itself, or the application for all of them
+abbrev pub as_tenants : String → String
+as_tenants tenant = tenant
+
+abbrev pub as_app : String → String
+as_app tenant = "app"
 
 pub record MeetThePremises : Type 0 where
   pub differ : first ≡ second → ⊥
@@ -152,6 +176,7 @@ pub record MeetThePremises : Type 0 where
   pub of_tenants : IsOfTenants first notes (record { table = None; column = codes "tenant" })
   pub unseen : IsOutOfSight first (as_seen bob first) (as_seen ann first) notes
   pub machines : MachinesAlikeForSession 1 by_ann (opened_by_ann first) (opened_by_ann second)
-  pub both_sessions : IsAlikeTo of_ann with_bob_before with_bob_behind
+  pub both_sessions : IsAlikeTo of_ann (with_bob_before as_tenants) (with_bob_behind as_tenants)
+  pub by_one_login : IsAlikeTo of_ann_by_app (with_bob_before as_app) (with_bob_behind as_app)
   pub sound_machines : AreSound (opened_by_ann first) × AreSound (opened_by_ann second)
   pub told : (answer_to (opened_by_ann first) ann_asks ≡ her_note) × (answer_to (opened_by_ann second) ann_asks ≡ her_note)
