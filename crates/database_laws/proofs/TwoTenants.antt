@@ -1,10 +1,19 @@
 -- Two databases of tenants that look alike to one of them.
-use Rattle.std.proofs.Common.{◌≡◌, ◌⊎◌, ◌||◌, ◌&&◌, ℕ, nat_eq, Bool, true, false, cond, codes, length, bytes_eq, List, [], ◌∷◌, Option, Some, None, refl, sym, ap, ◌∙◌, subst, inl, inr}
+use Rattle.std.proofs.Common.{◌≡◌, ◌⊎◌, ◌||◌, ◌&&◌, ℕ, nat_eq, pos, Bool, true, false, cond, codes, length, bytes_eq, List, [], ◌∷◌, Option, Some, None, Ok, refl, sym, ap, ◌∙◌, subst, inl, inr}
 use Rattle.std.proofs.lemmas.Bool.{and_parts, eqb-true}
 use Rattle.std.specs.Option.{option_map}
 use Rattle.std.proofs.lemmas.Option.{same_Some}
 use Prim.Native.String.{String}
 use Rattle.sql_types.specs.Row.{Row}
+use Rattle.sql_types.specs.declared.value.Value.TheVariants.{Int, Text}
+use Rattle.sql_types.specs.declared.state.SqlState.TheVariants.{UniqueViolation}
+use Rattle.sql_types.specs.declared.answer.Answer.{Answer}
+use Rattle.sql_types.specs.declared.answer.Answer.TheVariants as answer
+use Rattle.sql_ast.specs.declared.statement.Statement.{Statement}
+use Rattle.sql_ast.specs.declared.statement.Statement.TheVariants as statement
+use Rattle.sql_ast.specs.declared.statement.DatabaseStatement.TheVariants as on_database
+use Rattle.sql_ast.specs.declared.statement.RowStatement.{RowStatement}
+use Rattle.sql_ast.specs.declared.statement.RowStatement.TheVariants as over_rows
 use Rattle.sql_ast.specs.declared.expression.ColumnName.{ColumnName}
 use Rattle.sql_ast.specs.declared.expression.Comparison.TheVariants as comparing
 use Rattle.sql_ast.specs.declared.scope.ColumnIndex.{ColumnIndex}
@@ -16,19 +25,20 @@ use Rattle.abstract_database.specs.Roles.{may_set_role}
 use Rattle.abstract_database.specs.Database.{TableOf, Table, Database, definition_named, rows_named}
 use Rattle.abstract_database.specs.Expressions.{columns_in}
 use Rattle.abstract_database.specs.Statements.{UserPair, as_seen}
-use Rattle.abstract_database.specs.Machine.{Outside, Session, seen}
+use Rattle.abstract_database.specs.Machine.{Outside, Session, Event, executes, Reading, Machine, is_writing, seen}
 use Rattle.abstract_database.proofs.ListLemmas.{bytes_same}
 use Rattle.abstract_database.proofs.ResultLemmas.{ok_inside}
 use Rattle.database_laws.specs.Invariants.{IsSound}
 use Rattle.database_laws.specs.Worlds.{is_silent, SameApparentRows}
 use Rattle.database_laws.specs.OnePolicy.{HasPoliciesForAll, IsOfKey, SpeaksOfKeys}
-use Rattle.database_laws.specs.HiddenRuns.{MayActAs, SameApparentRowsForPairs, ActsWithin, holds_slot}
-use Rattle.database_laws.specs.Told.{entries_of, AllFor, IsAlikeTo}
+use Rattle.database_laws.specs.HiddenRuns.{MayActAs, SameApparentRowsForPairs, ActsWithin, holds_slot, answer_to, goes_by_visible, TellsAlone, IsException, by_key, by_count, by_definition}
+use Rattle.database_laws.specs.Told.{entries_of, AllFor, IsAlikeTo, IsCrowded, by_slot, by_number, LeavesTenant, by_role}
 use Rattle.database_laws.specs.OutOfSight.{IsOfTenants}
-use Rattle.database_laws.specs.TwoTenants.{notes, own_notes, note, with_notes, first, second, ann, bob, by_ann, by_app_for_ann, one_and_two, of_ann, of_ann_by_app, idle, working, as_tenants, as_app, with_bob_before, with_bob_behind, MeetThePremises}
+use Rattle.database_laws.specs.TwoTenants.{notes, own_notes, note, with_notes, first, second, ann, bob, by_ann, by_app_for_ann, one_and_two, of_ann, of_ann_by_app, idle, working, as_tenants, as_app, with_bob_before, with_bob_behind, opened_by_ann, ann_asks, with_her_other, PartsHere, MeetThePremises}
 use Rattle.database_laws.proofs.WholeSound.{whole_sound}
 use Rattle.database_laws.proofs.WholeTenants.{first_whole, second_whole}
 use Rattle.database_laws.proofs.Tenants.{tenants_unseen}
+use Rattle.database_laws.proofs.ToldApart.{machines_part}
 
 -- ---- the one table
 
@@ -217,6 +227,67 @@ by_one_login : IsAlikeTo of_ann_by_app (with_bob_before as_app) (with_bob_behind
 by_one_login = alike_with by_app_for_ann as_app (record { now = refl; reset = refl; rolled_back = tt }) (record { now = refl; reset = refl; rolled_back = refl })
     (all_to_app bobs_first bobs_second refl refl) (all_to_app held_first held_second refl refl)
 
+-- ---- her own rows differ
+
+abbrev m : Machine
+m = opened_by_ann first
+
+abbrev k : Machine
+k = opened_by_ann with_her_other
+
+abbrev is_of_select : Event Reading → Bool
+is_of_select (executes number (Ok (statement.OnDatabase (on_database.OverRows (over_rows.Select x))))) = true
+is_of_select _ = false
+
+abbrev is_key_told : Answer → Bool
+is_key_told (answer.Refused UniqueViolation) = true
+is_key_told _ = false
+
+clash : true ≡ false → ⊥
+clash e = cc
+
+select_by_visible : (x : RowStatement) → is_of_select (executes 1 (Ok (statement.OnDatabase (on_database.OverRows x)))) ≡ true → (db : Database) (role : TheName) → goes_by_visible db role x ≡ false → ⊥
+select_by_visible (over_rows.Select x) is db role goes = clash goes
+select_by_visible (over_rows.Insert x) is db role goes = clash (sym is)
+select_by_visible (over_rows.Update x) is db role goes = clash (sym is)
+select_by_visible (over_rows.Delete x) is db role goes = clash (sym is)
+
+select_writes_not : (x : Statement) → is_of_select (executes 1 (Ok x)) ≡ true → is_writing x ≡ true → ⊥
+select_writes_not (statement.OnDatabase (on_database.OverRows (over_rows.Select x))) is writes = clash (sym writes)
+select_writes_not (statement.OnDatabase (on_database.OverRows (over_rows.Insert x))) is writes = clash (sym is)
+select_writes_not (statement.OnDatabase (on_database.OverRows (over_rows.Update x))) is writes = clash (sym is)
+select_writes_not (statement.OnDatabase (on_database.OverRows (over_rows.Delete x))) is writes = clash (sym is)
+select_writes_not (statement.OnDatabase (on_database.Defining x)) is writes = clash (sym is)
+select_writes_not (statement.OfSession x) is writes = clash (sym is)
+
+no_key : (event : Event Reading) → is_key_told (answer_to m event) ≡ false → is_key_told (answer_to k event) ≡ false → TellsAlone UniqueViolation (answer_to m event) (answer_to k event) → ⊥
+no_key event first_not second_not (inl tells) = clash (sym (ap is_key_told tells.0) ∙ first_not)
+no_key event first_not second_not (inr tells) = clash (sym (ap is_key_told tells.0) ∙ second_not)
+
+no_exception : (number : ℕ) (event : Event Reading) → is_of_select event ≡ true → is_key_told (answer_to m event) ≡ false → is_key_told (answer_to k event) ≡ false → IsException number m k event → ⊥
+no_exception number event is f s (by_key e tells) = no_key event f s tells
+no_exception number event is f s (by_count session x c there goes checks) = select_by_visible x is (seen m number) session.role goes
+no_exception number event is f s (by_definition x unhides refused) = clash (sym is)
+
+no_crowd : (number : ℕ) (event : Event Reading) → is_of_select event ≡ true → IsCrowded number m k event → ⊥
+no_crowd number event is (by_slot x writes other) = select_writes_not x is writes
+no_crowd number event is (by_number login other) = clash (sym is)
+
+stays_hers : (number : ℕ) (event : Event Reading) → is_of_select event ≡ true → LeavesTenant of_ann number m event → ⊥
+stays_hers number event is (by_role s changed x free there may sets foreign) = clash (sym is)
+
+abbrev her_first : Answer → ℕ
+her_first (answer.Rows ((Text t ∷ Int (pos n) ∷ []) ∷ rows)) = n
+her_first _ = 0
+
+parts_here : PartsHere
+parts_here told =
+    elim (machines_part of_ann m k ann_asks refl (λ same. let wrong : 1 ≡ 2 = ap her_first same in cc) told) [
+      | inl exception ↦ no_exception 1 ann_asks refl refl refl exception
+      | inr (inl crowd) ↦ no_crowd 1 ann_asks refl crowd
+      | inr (inr leaves) ↦ stays_hers 1 ann_asks refl leaves
+    ]
+
 abbrev ann_session : Session
 ann_session = record { login = codes "ann"; role = codes "ann"; block = Outside }
 
@@ -246,5 +317,6 @@ premises_met = record {
   both_sessions = both_sessions;
   by_one_login = by_one_login;
   sound_machines = (record { committed = sound_first; holder = tt }, record { committed = sound_second; holder = tt });
+  parts = parts_here;
   told = (refl, refl);
 }

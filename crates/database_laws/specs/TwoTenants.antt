@@ -33,7 +33,7 @@ use Rattle.database_laws.specs.Worlds.{SameApparentRows}
 use Rattle.database_laws.specs.OnePolicy.{HasPoliciesForAll, SpeaksOfKeys}
 use Rattle.database_laws.specs.HiddenRuns.{MachinesAlikeForSession, AreSound, answer_to}
 use Rattle.database_laws.specs.OutOfSight.{IsOutOfSight, IsOfTenants}
-use Rattle.database_laws.specs.Told.{Tenant, IsAlikeTo}
+use Rattle.database_laws.specs.Told.{Tenant, IsAlikeTo, happens, IsToldAlike}
 
 -- CREATE TABLE notes (tenant TEXT, k BIGINT, PRIMARY KEY (tenant, k)), with row security enabled and forced
 abbrev pub notes : TableOf
@@ -163,6 +163,14 @@ as_tenants tenant = tenant
 abbrev pub as_app : String → String
 as_app tenant = "app"
 
+-- ann has another note of her own in it: the laws speak of no such pair of databases
+abbrev pub with_her_other : Database
+with_her_other = with_notes (note "ann" 2 ∷ note "bob" 1 ∷ [])
+
+-- two machines that tell ann two different answers are not told alike
+abbrev pub PartsHere : Type 0
+PartsHere = IsToldAlike of_ann (opened_by_ann first) (opened_by_ann with_her_other) (happens ann_asks ∷ []) (happens ann_asks ∷ []) → ⊥
+
 pub record MeetThePremises : Type 0 where
   pub differ : first ≡ second → ⊥
   pub alike : SameApparentRows (as_seen ann first) first second
@@ -179,4 +187,5 @@ pub record MeetThePremises : Type 0 where
   pub both_sessions : IsAlikeTo of_ann (with_bob_before as_tenants) (with_bob_behind as_tenants)
   pub by_one_login : IsAlikeTo of_ann_by_app (with_bob_before as_app) (with_bob_behind as_app)
   pub sound_machines : AreSound (opened_by_ann first) × AreSound (opened_by_ann second)
+  pub parts : PartsHere
   pub told : (answer_to (opened_by_ann first) ann_asks ≡ her_note) × (answer_to (opened_by_ann second) ann_asks ≡ her_note)
