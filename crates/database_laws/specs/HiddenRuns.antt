@@ -76,10 +76,6 @@ pub record AreSound (m : Machine) : Type 0 where
   pub committed : IsSound m.committed
   pub holder : HoldsOfHolder IsSound m.holder
 
--- the same of a machine that has not stopped; one that has refuses every event
-abbrev pub AreSoundUnlessStopped : Machine → Type 0
-AreSoundUnlessStopped m = m.stopped ≡ false → AreSound m
-
 -- ---- events
 
 abbrev pub answer_to : Machine → Event Reading → Answer
