@@ -40,7 +40,7 @@ RETIRED = {
     r'(?:first|second) spellings?|spellings? of (?:the )?records': 'record format',
     'foundrows': 'collected rows', 'listedrows': 'unsorted rows', 'keyedrows': 'sorted rows', 'keptrows': 'top rows',
     'besidedevice|write_beside': 'write_protected', 'copywatch|watch_copy': 'CopyProgress', 'regranted|regranting': 'descriptor edit',
-    'agreefor': 'SameVisibleRows', 'lookalike': 'SameApparentRows', 'allalike': 'SameApparentRowsForLogin',
+    'agreefor': 'SameVisibleRows', 'lookalike': 'SameApparentRows', 'allalike': 'SameApparentRowsForPairs',
     'seealike': 'MachinesAlikeForStatement', 'isalikefor': 'MachinesAlikeForSession',
     # crates that are part of another one; some of the names are files in it, and plain words where no backticks are around them
     'journal_chain|journal_records|sector_journal': 'journal', 'device_store|journal_switches': 'journal_store',

@@ -1,5 +1,5 @@
 -- A session over two machines that look alike to all that it may act as: one event, and runs.
-use Rattle.std.proofs.Common.{◌≡◌, ◌⊎◌, ◌==◌, ◌&&◌, ◌||◌, ℕ, Bool, true, false, not, cond, List, [], Option, Some, None, Result, Ok, Err, refl, sym, ap, ◌∙◌, subst, inl, inr}
+use Rattle.std.proofs.Common.{◌≡◌, ◌⊎◌, ◌==◌, ◌&&◌, ◌||◌, ℕ, Bool, true, false, not, cond, List, Option, Some, None, Result, Ok, Err, refl, sym, ap, ◌∙◌, subst, inl, inr}
 use Rattle.std.proofs.lemmas.Bool.{and_parts, eq-eqb}
 use Rattle.sql_types.specs.declared.state.SqlState.{SqlState}
 use Rattle.sql_types.specs.declared.state.SqlState.TheVariants.{UndefinedObject, InsufficientPrivilege, InFailedTransaction, LockNotAvailable, InvalidAuthorization, IoError, UniqueViolation}
@@ -391,13 +391,15 @@ module _ (number : ℕ) (pairs : UserPair → Bool) where
             | inl key ↦ elim (key_or_not (exec (seen k number) pair y)) [
               | inl both ↦ inr (database_both y same (λ u is. both_refuse (exec (seen m number) pair y) (exec (seen k number) pair y) UniqueViolation key both))
               | inr none ↦ inl (by_key (shown y) (inl (
-                  answer_of m there on (Ok (statement.OnDatabase y)) ∙ refused_with m y v UniqueViolation free key,
-                  not_told k y v UniqueViolation there_k on_running_k free_k (exec (seen k number) pair y) refl none)))
+                answer_of m there on (Ok (statement.OnDatabase y)) ∙ refused_with m y v UniqueViolation free key,
+                not_told k y v UniqueViolation there_k on_running_k free_k (exec (seen k number) pair y) refl none,
+              )))
             ]
             | inr other ↦ elim (key_or_not (exec (seen k number) pair y)) [
               | inl key ↦ inl (by_key (shown y) (inr (
-                  answer_of k there_k on_running_k (Ok (statement.OnDatabase y)) ∙ refused_with k y v UniqueViolation free_k key,
-                  not_told m y v UniqueViolation there on free (exec (seen m number) pair y) refl other)))
+                answer_of k there_k on_running_k (Ok (statement.OnDatabase y)) ∙ refused_with k y v UniqueViolation free_k key,
+                not_told m y v UniqueViolation there on free (exec (seen m number) pair y) refl other,
+              )))
               | inr none ↦ inr (database_both y same (λ u is.
                   subst (λ (r : Result Effect SqlState). EndAll pairs (exec (seen m number) pair y) r) (other_exec y)
                   (rows_end pairs (seen m number) (seen k number) st.seen on_seen_m on_seen_k pair (acts_of y u is) x told other (λ e. none (sym (other_exec y) ∙ e)))))

@@ -5,7 +5,6 @@ use Rattle.std.proofs.lemmas.Bool.{and_parts}
 use Rattle.sql_types.specs.Row.{Row}
 use Rattle.sql_types.specs.declared.state.SqlState.{SqlState}
 use Rattle.sql_types.specs.declared.answer.Answer.TheVariants as answer
-use Rattle.sql_types.specs.declared.tag.Tag.{Tag}
 use Rattle.sql_types.specs.declared.tag.Tag.TheVariants as tag
 use Rattle.sql_ast.specs.declared.privilege.Action.{Action}
 use Rattle.sql_ast.specs.declared.privilege.Action.TheVariants as action
@@ -19,20 +18,19 @@ use Rattle.sql_ast.specs.declared.statement.Update.{Update}
 use Rattle.sql_ast.specs.declared.statement.Delete.{Delete}
 use Rattle.sql_ast.specs.declared.statement.Select.{Select}
 use Rattle.expressions.specs.Meaning.{UserNames}
-use Rattle.expressions.specs.Outcome.{Outcome}
 use Rattle.expressions.specs.Stages.{◌>>=◌}
 use Rattle.abstract_database.specs.Database.{same_action}
 use Rattle.abstract_database.specs.Lists.{TheName}
-use Rattle.abstract_database.specs.Database.{TableOf, Database, definition_named, rows_named, without_rows}
+use Rattle.abstract_database.specs.Database.{TableOf, Database, definition_named, rows_named}
 use Rattle.abstract_database.specs.Roles.{is_superuser}
 use Rattle.abstract_database.specs.Privileges.{covers, is_for, reaches, has_privilege, has_on_some_column, has_some_privilege, on_table, on_column}
 use Rattle.abstract_database.specs.Guards.{existing_guard, new_guard}
-use Rattle.abstract_database.specs.Needs.{Need, privilege, some_column, on_columns, columns_read, on_columns_or_one, columns_of_query, needs_of_tables}
+use Rattle.abstract_database.specs.Needs.{privilege, on_columns, columns_read, on_columns_or_one, columns_of_query, needs_of_tables}
 use Rattle.abstract_database.specs.Queries.{BoundQuery, Source, query, CheckedSelect}
 use Rattle.abstract_database.specs.Changes.{CheckedInsert, CheckedUpdate, CheckedDelete, Changed, rows_inserted, rows_updated, rows_deleted}
 use Rattle.abstract_database.specs.Checks.{has_needed, checked_insert, checked_update, checked_delete, checked_select}
 use Rattle.abstract_database.specs.Definitions.{with_rows_of}
-use Rattle.abstract_database.specs.Statements.{Effect, effect, counted, inserted, updated, deleted, source_of, selected, insert, update, delete, select, UserPair, as_seen, exec, exec_as}
+use Rattle.abstract_database.specs.Statements.{Effect, effect, counted, inserted, updated, deleted, source_of, selected, insert, update, delete, select, as_seen, exec, exec_as}
 use Rattle.abstract_database.proofs.CheckLemmas.{insert_checked, update_checked, delete_checked, select_checked}
 use Rattle.abstract_database.proofs.ElementLemmas.{any_found, any_holds}
 use Rattle.abstract_database.proofs.ListLemmas.{bytes_same}
@@ -175,7 +173,7 @@ module _ (closed : TheName → Bool) (users : UserNames) (d e : Database) (shut 
   deletes_so s (Ok c) is =
       let facts = delete_checked d users s c is in
       let unclosed = is_open c.table.name (of_privilege d users.current c.table.name (on_table action.Delete)
-          (and_parts (has_privilege d users.current c.table.name (on_table action.Delete)) (list_all (has_needed d users) (on_columns c.table.name action.Select (columns_read 0 (option_to_list c.condition)))) facts.allowed).0) in
+      (and_parts (has_privilege d users.current c.table.name (on_table action.Delete)) (list_all (has_needed d users) (on_columns c.table.name action.Select (columns_read 0 (option_to_list c.condition)))) facts.allowed).0) in
       subst (λ (k : Result Changed SqlState). Ends (deleted d users c) (k >>= λ changed. Ok (counted tag.Delete changed.count (with_rows_of c.table.name changed.rows e))))
       (ap (λ (l : List Row). rows_deleted (existing_guard d users c.table action.Delete c.reads) users c l) (differ.rows c.table.name unclosed)
       ∙ ap (λ (x : Database). rows_deleted (existing_guard x users c.table action.Delete c.reads) users c (rows_named e c.table.name)) differ.definitions)
@@ -193,8 +191,8 @@ module _ (closed : TheName → Bool) (users : UserNames) (d e : Database) (shut 
       let parts = all_parts (has_needed d users) (on_columns_or_one t.name action.Select (columns_of_query q number t.layout)) (needs_of_tables q (number + 1) ts) h in
       let unclosed = is_open t.name (first_need t.name action.Select (columns_of_query q number t.layout) parts.0) in
       let here : source_of d users t ≡ source_of e users t =
-          ap (λ (l : List Row). record { guard = existing_guard d users t action.Select true; rows = l }) (differ.rows t.name unclosed)
-          ∙ ap (λ (x : Database). record { guard = existing_guard x users t action.Select true; rows = rows_named e t.name }) differ.definitions in
+      ap (λ (l : List Row). record { guard = existing_guard d users t action.Select true; rows = l }) (differ.rows t.name unclosed)
+      ∙ ap (λ (x : Database). record { guard = existing_guard x users t action.Select true; rows = rows_named e t.name }) differ.definitions in
       ap (λ (x : Source). x ∷ map (source_of d users) ts) here ∙ ap (λ (l : List Source). source_of e users t ∷ l) (same_sources q (number + 1) ts parts.1)
 
   shown_in : (r : Result (List Row) SqlState) → Ends (r >>= λ rows. Ok (effect (answer.Rows rows) d)) (r >>= λ rows. Ok (effect (answer.Rows rows) e))

@@ -89,6 +89,7 @@ pub mod WarningLemmas
 pub mod ColumnPrivilegeLemmas
 pub mod OutOfSight
 pub mod UnseenEvents
+pub mod TenantSessions
 pub mod Tenants
 pub mod WholeTenants
 pub mod BeforeOthers

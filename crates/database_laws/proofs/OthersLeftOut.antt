@@ -1,6 +1,6 @@
 -- An event of another session, which changes only rows that are hidden from all that a session may act as.
-use Rattle.std.proofs.Common.{◌≡◌, ◌==◌, ◌&&◌, ◌||◌, ℕ, nat_eq, nat_le, Bool, true, false, not, cond, length, List, [], ◌∷◌, Option, Some, None, Result, Ok, Err, refl, sym, ap, ◌∙◌, subst, inl, inr}
-use Rattle.std.proofs.lemmas.Bool.{and_parts, eqb-true, eq-eqb}
+use Rattle.std.proofs.Common.{◌≡◌, ◌==◌, ℕ, nat_eq, Bool, true, false, not, cond, Option, Some, None, Result, Ok, Err, refl, sym, ap, ◌∙◌, subst}
+use Rattle.std.proofs.lemmas.Bool.{eqb-true, eq-eqb}
 use Rattle.sql_types.specs.declared.state.SqlState.{SqlState}
 use Rattle.sql_types.specs.declared.state.SqlState.TheVariants.{IoError}
 use Rattle.sql_types.specs.declared.tag.Tag.TheVariants as tag
@@ -10,11 +10,9 @@ use Rattle.sql_ast.specs.declared.statement.SessionStatement.{SessionStatement}
 use Rattle.sql_ast.specs.declared.statement.SessionStatement.TheVariants as of_session
 use Rattle.expressions.specs.Meaning.{UserNames}
 use Rattle.expressions.specs.Stages.{◌>>=◌}
-use Rattle.abstract_database.specs.Lists.{TheName}
 use Rattle.abstract_database.specs.Database.{Database}
 use Rattle.abstract_database.specs.Statements.{Effect, as_seen, exec, UserPair}
-use Rattle.abstract_database.specs.Whole.{Each}
-use Rattle.abstract_database.specs.Machine.{Block, Outside, Inside, Failed, Session, Event, opens, executes, closes, Reading, Machine, Holder, Transition, refuses, succeeds, session_of, users_of, as_role, with_session_changed, is_held_by_other, released, seen_by, seen, open_session, close_session, after_refusal, transition_or_refusal, is_writing, may_execute, begin, with_role_set, commit, rollback, applied, where_admitted, changes_database, execute_of_session, execute_in, execute, running_transition, transition}
+use Rattle.abstract_database.specs.Machine.{Block, Outside, Inside, Failed, Session, Event, opens, executes, closes, Reading, Machine, Holder, Transition, refuses, succeeds, session_of, users_of, as_role, with_session_changed, is_held_by_other, released, seen_by, seen, open_session, close_session, after_refusal, transition_or_refusal, may_execute, begin, with_role_set, commit, rollback, applied, where_admitted, changes_database, execute_of_session, execute_in, execute, running_transition, transition}
 use Rattle.abstract_database.proofs.ResultLemmas.{Every, every_bind, every_ok}
 use Rattle.database_laws.specs.Sessions.{number_of}
 use Rattle.database_laws.specs.Worlds.{SameApparentRows}

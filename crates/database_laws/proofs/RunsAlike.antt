@@ -1,15 +1,14 @@
 -- One event of a session over two machines that look alike to all that it may act as.
-use Rattle.std.proofs.Common.{◌≡◌, ◌⊎◌, ◌==◌, ◌&&◌, ℕ, nat_le, Bool, true, false, not, cond, length, is_some, List, [], ◌∷◌, Option, Some, None, Ok, refl, sym, ap, ◌∙◌, subst, inl, inr}
+use Rattle.std.proofs.Common.{◌≡◌, ◌⊎◌, ◌&&◌, ℕ, nat_le, Bool, true, false, cond, length, is_some, Option, Some, None, Ok, refl, sym, ap, ◌∙◌, subst, inl, inr}
 use Rattle.sql_types.specs.declared.state.SqlState.TheVariants.{InvalidAuthorization, TooManyConnections, ConnectionDoesNotExist, ConnectionNameInUse, IoError}
 use Rattle.sql_types.specs.declared.tag.Tag.TheVariants as tag
 use Rattle.sql_ast.specs.declared.statement.Statement.{Statement}
 use Rattle.abstract_database.specs.Lists.{TheName}
 use Rattle.abstract_database.specs.Database.{Database}
 use Rattle.abstract_database.specs.Roles.{may_log_in}
-use Rattle.abstract_database.specs.Whole.{Each}
-use Rattle.abstract_database.specs.Machine.{Outside, Session, Event, opens, executes, closes, Reading, Machine, Holder, Transition, refuses, succeeds, session_of, with_session, with_session_changed, is_held_by_other, released, open_session, close_session, is_writing, execute, execute_in, running_transition, transition}
+use Rattle.abstract_database.specs.Machine.{Outside, Session, Event, opens, executes, closes, Reading, Machine, Transition, refuses, succeeds, session_of, with_session_changed, is_held_by_other, open_session, close_session, is_writing, execute, execute_in, running_transition, transition}
 use Rattle.database_laws.specs.Invariants.{IsSound}
-use Rattle.database_laws.specs.HiddenRuns.{as_itself, ActsWithin, MachinesAlikeForSession, AreSound, answer_to, after, IsException}
+use Rattle.database_laws.specs.HiddenRuns.{as_itself, MachinesAlikeForSession, AreSound, answer_to, after, IsException}
 use Rattle.database_laws.proofs.LastingLemmas.{transition_holds}
 use Rattle.database_laws.proofs.SoundLemmas.{sound}
 use Rattle.database_laws.proofs.AlikeRuns.{stay, change, Alike, ReadsWithin, step_in}

@@ -1,10 +1,10 @@
 -- Two servers over stores of their own, of which a tenant asks the same.
-use Rattle.std.proofs.Common.{◌≡◌, ◌⊎◌, ℕ, Bool, true, false, cond, filter, List, [], ◌∷◌, Option, IsSome, refl, sym, ap, ◌∙◌, subst, inl, inr}
+use Rattle.std.proofs.Common.{◌≡◌, ◌⊎◌, Bool, true, false, cond, List, [], ◌∷◌, Option, IsSome, refl, sym, ap, ◌∙◌, subst, inl, inr}
 use Rattle.sql_types.specs.declared.answer.Answer.{Answer}
 use Rattle.sql_types.specs.declared.answer.Answer.TheVariants as answer
 use Rattle.sql_types.specs.declared.state.SqlState.{SqlState}
 use Rattle.sql_types.specs.declared.state.SqlState.TheVariants.{OutOfMemory, DiskFull, ProgramLimitExceeded, IoError}
-use Rattle.abstract_database.specs.Machine.{Session, Event, opens, executes, closes, Reading, Machine, Transition, transition_to, session_of, transition}
+use Rattle.abstract_database.specs.Machine.{Session, Event, opens, executes, closes, Reading, Machine, Transition, transition_to, transition}
 use Rattle.abstract_database.specs.Runs.{TheText, ReadingRelation, IsReadAs, IsTransition, RanBy, Counts, Stops, At, Happens, IsStep, by_transition, for_device}
 use Rattle.abstract_database.specs.Runs as step
 use Rattle.database_laws.specs.Runs.{ReadsOnce, for_memory, for_space, for_number}
@@ -93,14 +93,14 @@ module _ (Reads : ReadingRelation) (Leave LeaveOther : Stops) (once : ReadsOnce 
         let here : n.standing.machine ≡ after m t.as_read = ap (λ (z : Transition). z.machine) t.is in
         let beyond : j.standing.machine ≡ after k t.as_read = ap (λ (z : Transition). z.machine) is_k in
         goes (ap (λ (z : Transition). z.answer) t.is ∙ answers ∙ sym (ap (λ (z : Transition). z.answer) is_k))
-            (subst (λ (z : Machine). IsAlikeTo a z j.standing.machine) (sym here) (subst (λ (z : Machine). IsAlikeTo a (after m t.as_read) z) (sym beyond) next))
-            (subst AreSound (sym here) (sound_after m t.as_read on_w)) (subst AreSound (sym beyond) (sound_after k t.as_read on_v))
+        (subst (λ (z : Machine). IsAlikeTo a z j.standing.machine) (sym here) (subst (λ (z : Machine). IsAlikeTo a (after m t.as_read) z) (sym beyond) next))
+        (subst AreSound (sym here) (sound_after m t.as_read on_w)) (subst AreSound (sym beyond) (sound_after k t.as_read on_v))
 
     same_codes : (c d : SqlState) → x ≡ answer.Refused c → y ≡ answer.Refused d → c ≡ d → n.standing.machine ≡ m → j.standing.machine ≡ k → Went w v n j event x y
     same_codes c d e f is here beyond =
         goes (e ∙ ap (λ (z : SqlState). answer.Refused z) is ∙ sym f)
-            (subst (λ (z : Machine). IsAlikeTo a z j.standing.machine) (sym here) (subst (λ (z : Machine). IsAlikeTo a m z) (sym beyond) st))
-            (subst AreSound (sym here) on_w) (subst AreSound (sym beyond) on_v)
+        (subst (λ (z : Machine). IsAlikeTo a z j.standing.machine) (sym here) (subst (λ (z : Machine). IsAlikeTo a m z) (sym beyond) st))
+        (subst AreSound (sym here) on_w) (subst AreSound (sym beyond) on_v)
 
     both_stay : IsInPlace w.counts n.counts x → IsInPlace v.counts j.counts y → n.standing.machine ≡ m → j.standing.machine ≡ k → Went w v n j event x y
     both_stay (not_issued OutOfMemory e for_memory) (not_issued OutOfMemory f for_memory) here beyond = same_codes OutOfMemory OutOfMemory e f refl here beyond
@@ -166,9 +166,9 @@ module _ (Reads : ReadingRelation) (Leave LeaveOther : Stops) (once : ReadsOnce 
           (went w v n j st on_w on_v event x y own opens_so (did Reads w.counts n.counts w.standing.machine event x n.standing.machine here.step) (did Reads v.counts j.counts v.standing.machine event y j.standing.machine it_same.step)))
       by false other on =
           at (passed v.counts j.counts v.standing.machine j.standing.machine w.standing.machine f y (turned a w.standing.machine v.standing.machine st) on_v other (keeps.0.1 other) (did Reads v.counts j.counts v.standing.machine f y j.standing.machine it.step)) where
-        at : Passed v.standing.machine j.standing.machine w.standing.machine y → Tells w v (event ∷ events) (x ∷ answers) (f ∷ fs) (y ∷ told)
-        at (passes next on_j) = untold_there j other it (on j other_end (turned a j.standing.machine w.standing.machine next) on_j its keeps.1 (equal ∙ ap (λ (b : Bool). cond b (f ∷ own_texts a fs) (own_texts a fs)) other))
-        at (ends e) = failed_there other e
+            at : Passed v.standing.machine j.standing.machine w.standing.machine y → Tells w v (event ∷ events) (x ∷ answers) (f ∷ fs) (y ∷ told)
+            at (passes next on_j) = untold_there j other it (on j other_end (turned a j.standing.machine w.standing.machine next) on_j its keeps.1 (equal ∙ ap (λ (b : Bool). cond b (f ∷ own_texts a fs) (own_texts a fs)) other))
+            at (ends e) = failed_there other e
 
   abbrev NoneMore : List (Event TheText) → List Answer → Type 0
   NoneMore others told = (w v other_end : At) → IsAlikeTo a w.standing.machine v.standing.machine → AreSound v.standing.machine → (ran_there : RanBy (Happens Reads LeaveOther) v others told other_end) →
@@ -183,9 +183,9 @@ module _ (Reads : ReadingRelation) (Leave LeaveOther : Stops) (once : ReadsOnce 
     by true own_f on = let contrary : [] ≡ (f ∷ own_texts a fs) = equal ∙ ap (λ (b : Bool). cond b (f ∷ own_texts a fs) (own_texts a fs)) own_f in cc
     by false other on =
         at (passed v.counts j.counts v.standing.machine j.standing.machine w.standing.machine f y (turned a w.standing.machine v.standing.machine st) on_v other (keeps.0.1 other) (did Reads v.counts j.counts v.standing.machine f y j.standing.machine it.step)) where
-      at : Passed v.standing.machine j.standing.machine w.standing.machine y → Tells w v [] [] (f ∷ fs) (y ∷ told)
-      at (passes next on_j) = untold_there j other it (on w j other_end (turned a j.standing.machine w.standing.machine next) on_j its keeps.1 (equal ∙ ap (λ (b : Bool). cond b (f ∷ own_texts a fs) (own_texts a fs)) other))
-      at (ends e) = failed_there other e
+          at : Passed v.standing.machine j.standing.machine w.standing.machine y → Tells w v [] [] (f ∷ fs) (y ∷ told)
+          at (passes next on_j) = untold_there j other it (on w j other_end (turned a j.standing.machine w.standing.machine next) on_j its keeps.1 (equal ∙ ap (λ (b : Bool). cond b (f ∷ own_texts a fs) (own_texts a fs)) other))
+          at (ends e) = failed_there other e
 
   runs : (events : List (Event TheText)) (answers : List Answer) (end : At) → Goes events answers end
   runs [] [] end w v other_end others told st on_w on_v ran ran_there keep keeps equal = none_more others told w v other_end st on_v ran_there keeps equal
@@ -198,9 +198,9 @@ module _ (Reads : ReadingRelation) (Leave LeaveOther : Stops) (once : ReadsOnce 
         (sym (ap (λ (b : Bool). cond b (event ∷ own_texts a events) (own_texts a events)) own) ∙ equal)
     by false other go =
         at (passed w.counts n.counts w.standing.machine n.standing.machine v.standing.machine event x st on_w other (keep.0.1 other) (did Reads w.counts n.counts w.standing.machine event x n.standing.machine it.step)) where
-      at : Passed w.standing.machine n.standing.machine v.standing.machine x → Tells w v (event ∷ events) (x ∷ answers) others told
-      at (passes next on_n) = untold_here n other it (go n v other_end others told next on_n on_v its ran_there keep.1 keeps (sym (ap (λ (b : Bool). cond b (event ∷ own_texts a events) (own_texts a events)) other) ∙ equal))
-      at (ends e) = failed_here other e
+          at : Passed w.standing.machine n.standing.machine v.standing.machine x → Tells w v (event ∷ events) (x ∷ answers) others told
+          at (passes next on_n) = untold_here n other it (go n v other_end others told next on_n on_v its ran_there keep.1 keeps (sym (ap (λ (b : Bool). cond b (event ∷ own_texts a events) (own_texts a events)) other) ∙ equal))
+          at (ends e) = failed_here other e
 
 pub told_by_stores : (Reads : ReadingRelation) (Leave LeaveOther : Stops) → what_stores_tell_a_tenant Reads Leave LeaveOther
 told_by_stores Reads Leave LeaveOther once a w v end other_end events others answers told st on_w on_v ran ran_there keep keeps equal =

@@ -1,12 +1,12 @@
 -- Others that make no statement but those over rows out of a tenant's sight.
-use Rattle.std.proofs.Common.{◌≡◌, ◌==◌, ℕ, nat_eq, Bool, true, false, not, cond, List, [], ◌∷◌, Option, Some, None, refl, sym, ap, ◌∙◌, subst}
+use Rattle.std.proofs.Common.{◌≡◌, ◌==◌, ℕ, Bool, true, false, not, cond, List, [], ◌∷◌, Option, Some, None, refl, sym, ap, ◌∙◌, subst}
 use Rattle.std.proofs.lemmas.Bool.{eqb-true, eq-eqb}
 use Rattle.abstract_database.specs.Database.{Database}
 use Rattle.abstract_database.specs.Machine.{Event, Reading, Machine, Holder, is_held_by_other, seen_by}
 use Rattle.database_laws.specs.Sessions.{number_of}
 use Rattle.database_laws.specs.HiddenRuns.{SameApparentRowsForPairs, AreSound, after}
 use Rattle.database_laws.specs.OutOfSight.{LooksCommitted, IsUnseen}
-use Rattle.database_laws.specs.Told.{Tenant, Act, happens, declares, restarts, follows, is_of, OthersHoldOutOfSight, OthersActOutOfSight, OthersKeepOutOfSight, unseen_acts_are_out_of_sight}
+use Rattle.database_laws.specs.Told.{Tenant, Act, happens, declares, restarts, follows, OthersHoldOutOfSight, OthersActOutOfSight, OthersKeepOutOfSight, unseen_acts_are_out_of_sight}
 use Rattle.database_laws.proofs.SlotLemmas.{transition_preserves}
 use Rattle.database_laws.proofs.OthersLeftOut.{SlotAfter, kept, freed, taken, turns}
 use Rattle.database_laws.proofs.UnseenEvents.{all_same, event_unseen}

@@ -1,5 +1,5 @@
 -- Machines that look alike to a session, whatever rows are hidden from all that it may act as, and the events that may be answered by such rows.
-use Rattle.std.specs.Prelude.{◌≡◌, ◌⊎◌, ◌==◌, ◌||◌, ◌&&◌, not, ℕ, nat_eq, nat_le, Bool, true, false, List, [], ◌∷◌, length, bytes_eq, is_none, Option, Some, None, Ok}
+use Rattle.std.specs.Prelude.{◌≡◌, ◌⊎◌, ◌==◌, ◌||◌, ◌&&◌, not, ℕ, Bool, true, false, bytes_eq, is_none, Option, Some, None, Ok}
 use Rattle.std.specs.List.{list_all}
 use Rattle.sql_types.specs.declared.state.SqlState.{SqlState}
 use Rattle.sql_types.specs.declared.state.SqlState.TheVariants.{UniqueViolation, IoError}
@@ -7,7 +7,6 @@ use Rattle.sql_types.specs.declared.answer.Answer.{Answer}
 use Rattle.sql_types.specs.declared.answer.Answer.TheVariants as answer
 use Rattle.sql_ast.specs.declared.policy.PolicyCommand.{PolicyCommand}
 use Rattle.sql_ast.specs.declared.policy.PolicyCommand.TheVariants as command
-use Rattle.sql_ast.specs.declared.statement.Statement.{Statement}
 use Rattle.sql_ast.specs.declared.statement.Statement.TheVariants as statement
 use Rattle.sql_ast.specs.declared.statement.DatabaseStatement.TheVariants as on_database
 use Rattle.sql_ast.specs.declared.statement.DefiningStatement.{DefiningStatement}
@@ -18,14 +17,12 @@ use Rattle.abstract_database.specs.Database.{Database, without_rows}
 use Rattle.abstract_database.specs.Roles.{may_set_role}
 use Rattle.abstract_database.specs.Guards.{is_for_role}
 use Rattle.abstract_database.specs.Statements.{UserPair, as_seen, Checked, checked}
-use Rattle.abstract_database.specs.Whole.{Each}
-use Rattle.abstract_database.specs.Machine.{Session, Event, opens, executes, closes, Reading, Machine, Holder, session_of, users_of, is_held_by_other, is_writing, seen, transition, Block, Inside, Failed, Outside}
-use Rattle.abstract_database.specs.Runs.{TheText, ReadingRelation, IsReadAs, Counts, HasFailed, RanBy, Stops, At, Happens}
+use Rattle.abstract_database.specs.Machine.{Session, Event, executes, Reading, Machine, Holder, session_of, users_of, seen, transition, Block, Inside, Failed, Outside}
+use Rattle.abstract_database.specs.Runs.{Counts, HasFailed}
 use Rattle.database_laws.specs.Blocks.{IsRefused}
 use Rattle.database_laws.specs.Invariants.{HoldsOfHolder, IsSound}
 use Rattle.database_laws.specs.OnePolicy.{target_of}
-use Rattle.database_laws.specs.Runs.{ReadsOnce, CountsAsNotIssued}
-use Rattle.database_laws.specs.Sessions.{number_of}
+use Rattle.database_laws.specs.Runs.{CountsAsNotIssued}
 use Rattle.database_laws.specs.Worlds.{SameApparentRows, is_told}
 
 -- ---- the pairs of users as which sessions act, and databases that look alike to them

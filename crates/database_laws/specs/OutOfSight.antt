@@ -1,5 +1,5 @@
 -- Statements over rows that are out of the sight of others: what they leave looks to these as it did before.
-use Rattle.std.specs.Prelude.{◌≡◌, ◌⊎◌, ◌||◌, ℕ, nat_eq, nat_le, Bool, true, false, List, [], ◌∷◌, filter, length, bytes_eq, Some, None, Ok, Err}
+use Rattle.std.specs.Prelude.{◌≡◌, ℕ, Bool, true, [], ◌∷◌, filter, bytes_eq, Some, None, Ok, Err}
 use Rattle.sql_types.specs.Row.{Row}
 use Rattle.sql_ast.specs.declared.expression.ColumnName.{ColumnName}
 use Rattle.sql_ast.specs.declared.expression.Comparison.TheVariants.{Equal}
@@ -13,11 +13,10 @@ use Rattle.sql_ast.specs.declared.statement.DatabaseStatement.TheVariants as on_
 use Rattle.sql_ast.specs.declared.statement.RowStatement.{RowStatement}
 use Rattle.sql_ast.specs.Term.{column, current_user, comparison}
 use Rattle.expressions.specs.Meaning.{UserNames}
-use Rattle.abstract_database.specs.Lists.{TheName}
 use Rattle.abstract_database.specs.Database.{TableOf, Database, definition_named}
 use Rattle.abstract_database.specs.Guards.{is_guarded, guard, using_clause, check_clause}
 use Rattle.abstract_database.specs.Statements.{Effect, UserPair, as_seen, exec}
-use Rattle.abstract_database.specs.Machine.{Session, Event, opens, executes, closes, Reading, Machine, Holder, session_of, users_of, is_held_by_other, is_writing, seen}
+use Rattle.abstract_database.specs.Machine.{Session, Event, opens, executes, closes, Reading, Machine, session_of, users_of, seen}
 use Rattle.database_laws.specs.Invariants.{IsSound}
 use Rattle.database_laws.specs.Sessions.{number_of}
 use Rattle.database_laws.specs.HiddenRuns.{MayActAs, SameApparentRowsForPairs, AreSound, after}

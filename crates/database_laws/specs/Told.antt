@@ -1,5 +1,5 @@
 -- What a tenant is told: the answers to all of its sessions, whatever else is done out of the sight of all that they act as.
-use Rattle.std.specs.Prelude.{◌≡◌, ◌⊎◌, ℕ, nat_eq, nat_le, Bool, true, false, List, [], ◌∷◌, filter, length, Option, Some, None, Result, Ok, Err}
+use Rattle.std.specs.Prelude.{◌≡◌, ◌⊎◌, ℕ, nat_eq, nat_le, Bool, true, false, List, [], ◌∷◌, filter, length, Some, Ok}
 use Rattle.sql_ast.specs.declared.statement.Statement.{Statement}
 use Rattle.sql_ast.specs.declared.statement.Statement.TheVariants as statement
 use Rattle.sql_ast.specs.declared.statement.SetRole.{SetRole}

@@ -1,5 +1,5 @@
 -- What a tenant is told by two servers, each over a store of its own, with whatever others do out of its sight.
-use Rattle.std.specs.Prelude.{◌≡◌, ◌⊎◌, ℕ, Bool, true, false, List, [], ◌∷◌, filter}
+use Rattle.std.specs.Prelude.{◌≡◌, ◌⊎◌, Bool, true, false, List, [], ◌∷◌, filter}
 use Rattle.sql_types.specs.declared.state.SqlState.TheVariants.{IoError}
 use Rattle.sql_types.specs.declared.answer.Answer.{Answer}
 use Rattle.sql_types.specs.declared.answer.Answer.TheVariants as answer

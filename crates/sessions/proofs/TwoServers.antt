@@ -1,9 +1,7 @@
 -- Two servers, of which a tenant asks the same.
-use Rattle.std.proofs.Common.{◌≡◌, Bool, true, false, Option, Some, None, refl, sym, ◌∙◌}
-use Rattle.sql_types.specs.declared.event.Event.{Event}
+use Rattle.std.proofs.Common.{◌≡◌, false, Option, Some, None, refl, sym, ◌∙◌}
 use Rattle.store.specs.Records.{Records}
 use Rattle.store.specs.Store.{StoreState}
-use Rattle.abstract_database.specs.Lists.{TheName}
 use Rattle.abstract_database.specs.Database.{Database}
 use Rattle.abstract_database.specs.Whole.{IsWhole}
 use Rattle.abstract_database.specs.Machine.{Holder, machine_over}
@@ -64,9 +62,12 @@ module _ (once : ReadsOnce ReadsText) (whole : (records : Records) (db : Databas
 
   pub others_unseen : {S T X Y : Type 0} (state : S → StoreState) (other_state : T → StoreState) → steps_of_others_go_unseen S T X Y state other_state
   others_unseen state other_state a e x before after other s foreign first =
-      let one = first s.sound_here s.here s.stands_here in
-      (one.0, one.1, λ hides.
-      goes_unseen ReadsText (stops_of (state after.store).time) once a s.here s.there one.0 (event_of e) x s.alike (machine_sound state before s.here s.stands_here s.works) foreign hides one.2)
+      let one = first s.sound_here s.here s.stands_here in (
+        one.0,
+        one.1,
+        λ hides.
+            goes_unseen ReadsText (stops_of (state after.store).time) once a s.here s.there one.0 (event_of e) x s.alike (machine_sound state before s.here s.stands_here s.works) foreign hides one.2,
+      )
 
   opened : (a : Tenant) (d e : Database) → SameApparentRowsForPairs a.pairs d e → IsAlikeTo a (machine_over d) (machine_over e)
   opened a d e all = record { sessions = λ number own. refl; opened_for = λ number own. tt; stopped = refl; slot = λ number own. refl; committed = all; seen = λ number own. all }
