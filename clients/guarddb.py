@@ -6,6 +6,7 @@
         ann.ask('SELECT k, x FROM t', int, int)         # [[1, None]]
         ann.ask('DELETE FROM t WHERE k = ? OR x = ?', values=(7, "it's"))   # each ? stands for a value
         ann.ask('DROP TABLE other')                     # raises Refused, whose code is '42P01'
+        ann.ask('DROP other')                           # raises Refused, whose text shows where the syntax goes wrong
 
 A connection is for one thread, and carries one event at a time, of up to 256 sessions. The server takes the next connection
 when this one is closed, and answers it nothing before: connect with a timeout. Where a connection ends before an answer has
@@ -15,8 +16,11 @@ import collections
 import re
 import socket
 import struct
+import threading
 import time
 import warnings
+
+import guarddb_syntax
 
 OPEN, STATEMENT, CLOSE, ANSWER = 1, 2, 3, 4     # the kinds of frames
 MAX_TEXT = 131067                               # bytes that one frame carries
@@ -34,6 +38,7 @@ TAKEN = {
     'TABLESAMPLE': 'all rows are read'}
 ANY_TAKEN = re.compile(rf"\b({'|'.join(TAKEN)})\b", re.IGNORECASE)
 TOKEN = re.compile(rf'({QUOTED})|[^\W\d][\w$]*|[^\s\w]|\d+')
+SYNTAX = '42601'
 LEAST, GREATEST = -2 ** 63, 2 ** 63 - 1         # of BIGINT
 Done = collections.namedtuple('Done', 'tag count warning')      # such as ('INSERT', 3, None), ('GRANT', None, '01007')
 Code = collections.namedtuple('Code', 'name meaning')
@@ -78,11 +83,19 @@ CODES = {code: Code(name, meaning) for code, name, meaning in (line.split(None, 
 
 
 class Refused(Exception):
-    """The event was refused. `code` is a code of five characters, such as '42501', of which CODES has the name and the meaning."""
+    """The event was refused. `code` is a code of five characters, such as '42501', of which CODES has the name and the meaning.
+    `statement` is the text that was sent, None where the event was no statement."""
     code = property(lambda self: self.args[0])
+    statement = property(lambda self: self.args[1] if len(self.args) > 1 else None)
+
+    @property
+    def place(self):
+        """Where a statement that was refused for its syntax goes wrong: an index, or None where that is not in its grammar."""
+        return guarddb_syntax.error_place(self.statement) if self.code == SYNTAX and self.statement is not None else None
 
     def __str__(self):
-        return described(self.code)
+        is_syntax = self.code == SYNTAX and self.statement is not None
+        return '\n'.join(filter(None, [described(self.code), guarddb_syntax.pointed(self.statement) if is_syntax else '']))
 
 
 class TakenForAlias(UserWarning):
@@ -145,6 +158,7 @@ class Connection(ClosedAtItsEnd):
         if stream.family == socket.AF_INET:
             stream.setsockopt(socket.IPPROTO_TCP, socket.TCP_NODELAY, 1)
         self.socket, self.input, self.last = stream, stream.makefile('rb'), 0
+        self.turn = threading.Lock()        # of the event that is under way
 
     def open(self, login):
         """A session for a role that may log in; the name is taken letter for letter."""
@@ -153,16 +167,21 @@ class Connection(ClosedAtItsEnd):
         return Session(self, self.last)
 
     def exchange(self, kind, number, text=''):
-        """Sends an event of the session of this number, and gives the text of its answer."""
+        """Sends an event of the session of this number, and gives the text of its answer. A RuntimeError, before anything is sent,
+        where another thread waits for an answer."""
         payload = text.encode()
         if len(payload) > MAX_TEXT:
             raise ValueError(f'{len(payload)} bytes are more than a frame carries')
+        if not self.turn.acquire(blocking=False):
+            raise RuntimeError('another thread waits for an answer on this connection, which is for one thread')
         try:
             self.socket.sendall(HEAD.pack(5 + len(payload), kind, number) + payload)
             return self._answer(number)
         except BaseException:       # the frame that comes next may belong to this event
             self.close()
             raise
+        finally:
+            self.turn.release()
 
     def _answer(self, number):
         pieces, lines, expected = [], 0, None
@@ -203,7 +222,11 @@ class Session(ClosedAtItsEnd):
         text = statement if values is None else filled(statement, values)
         for told in taken_for_aliases(text):
             warnings.warn(told, TakenForAlias, stacklevel=2)
-        return read_answer(self.connection.exchange(STATEMENT, self.number, text), types)
+        answer = self.connection.exchange(STATEMENT, self.number, text)
+        try:
+            return read_answer(answer, types)
+        except Refused as refused:
+            raise Refused(refused.code, text) from None
 
     def close(self):
         """Closes the session; an open block of it is rolled back."""

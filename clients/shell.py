@@ -22,6 +22,7 @@ import threading
 import time
 
 import guarddb
+from guarddb_syntax import pointed
 from shell_display import command_at, first_word, heads, in_columns, in_lines, is_blank, names_in, open_quote, shown, split, width
 from shell_help import HELP, KEYWORDS, explained, forms
 from shell_hints import told, warn_of_aliases
@@ -30,13 +31,13 @@ from shell_place import (CONNECTION, NO_READER, OWN, REFUSED, End, Fault, Place,
 from shell_typing import line_editing, readline
 
 PATIENCE = 3                                    # seconds after which it is said that an open is not answered yet
-SYNTAX = '42601'
 KEEP_BLOCK = ('53100', '53200', '58030')        # refusals that leave a block as it was
 WORD = re.compile(r'"((?:[^"]|"")*)"|\S+')
 LIST_COMMAND = re.compile(r'\\(d\w*\+?|l\+?|z)')
 WITHOUT_BACKSLASH = {'quit': r'\q', 'exit': r'\q', 'help': r'\?'}
 MARK = b'\xef\xbb\xbf'                           # with which some editors begin a file of UTF-8
-NO_CATALOGUE = 'There is no catalogue to ask: no statement lists tables, roles or privileges.'
+NO_CATALOGUE = ("There is no catalogue to ask: no statement lists tables, roles or privileges. Of a file that no server has open 'guarddb "
+                "describe FILE' prints them.")
 NO_SESSION = r'No session is open: \c ROLE opens one.'
 NOTHING_TYPED = 'Nothing is typed so far.'
 NOT_RUN = '\nThe rest of the line was not run.'
@@ -189,8 +190,9 @@ class Shell:
         except Fault as fault:
             code = fault.__cause__.code
             opened.follow(statement, code)
-            if code == SYNTAX:
-                raise Fault(fault.status, fault.text + told(statement)) from fault.__cause__
+            if code == guarddb.SYNTAX:
+                text = explained(code, pointed(statement, shown, width)) + told(statement)
+                raise Fault(fault.status, text) from fault.__cause__
             warn_of_aliases(statement)
             raise
         opened.follow(statement, answer)

@@ -2,64 +2,8 @@
 import re
 
 import guarddb
+from guarddb_syntax import EXPRESSIONS, GRAMMAR, PARTS
 
-# The statements and their parts, as docs/sql.md has them.
-GRAMMAR = '''
-SELECT list [FROM source]
-SELECT COUNT "(" "*" ")" [FROM source]
-INSERT INTO name ["(" names ")"] VALUES row {"," row}
-UPDATE name SET assignment {"," assignment} [WHERE expr]
-DELETE FROM name [WHERE expr]
-
-CREATE TABLE name "(" element {"," element} ")"
-DROP TABLE name
-ALTER TABLE name (ENABLE | DISABLE | FORCE | NO FORCE) ROW LEVEL SECURITY
-CREATE POLICY name ON name [AS kind] [FOR command] [TO grantees] [USING "(" expr ")"] [WITH CHECK "(" expr ")"]
-DROP POLICY name ON name
-
-CREATE ROLE name [WITH] {attribute}
-DROP ROLE name
-GRANT names TO names [WITH ADMIN OPTION]
-REVOKE [ADMIN OPTION FOR] names FROM names [CASCADE | RESTRICT]
-SET ROLE (NONE | name)
-RESET ROLE
-
-GRANT privileges ON [TABLE] name TO grantees [WITH GRANT OPTION]
-REVOKE [GRANT OPTION FOR] privileges ON [TABLE] name FROM grantees [CASCADE | RESTRICT]
-
-BEGIN [WORK | TRANSACTION]
-START TRANSACTION
-COMMIT [WORK | TRANSACTION]
-ROLLBACK [WORK | TRANSACTION]
-'''
-PARTS = '''
-element    = name type {NOT NULL | PRIMARY KEY}  |  PRIMARY KEY "(" names ")"
-type       = BIGINT | TEXT | BOOLEAN | BOOL
-names      = name {"," name}
-row        = "(" expr {"," expr} ")"
-list       = "*" | expr {"," expr}
-source     = tables [WHERE expr] [ORDER BY key {"," key}] [LIMIT number]
-tables     = table {"," table}  |  table {join}
-table      = name [[AS] name]
-join       = CROSS JOIN table  |  [INNER] JOIN table ON expr
-key        = expr [ASC | DESC]
-assignment = name "=" expr
-attribute  = SUPERUSER | NOSUPERUSER | LOGIN | NOLOGIN | BYPASSRLS | NOBYPASSRLS
-privileges = ALL [PRIVILEGES] ["(" names ")"]  |  item {"," item}
-item       = action ["(" names ")"]
-action     = SELECT | INSERT | UPDATE | DELETE
-grantees   = grantee {"," grantee}
-grantee    = PUBLIC | name
-kind       = PERMISSIVE | RESTRICTIVE
-command    = ALL | SELECT | INSERT | UPDATE | DELETE
-'''
-# Expressions, with the operators of the page: the loosest first.
-EXPRESSIONS = '''
-expr       = expr OR expr  |  expr AND expr  |  NOT expr  |  expr IS [NOT] NULL  |  expr comparison expr  |  term
-term       = term ("+" | "-") term  |  term ("*" | "/" | "%") term  |  "-" term  |  operand
-comparison = "="  |  "<>"  |  "!="  |  "<"  |  "<="  |  ">"  |  ">="
-operand    = number | text | TRUE | FALSE | NULL | CURRENT_USER | SESSION_USER | [name "."] name | "(" expr ")" | MEMBER OF operand
-'''
 KEYWORDS = sorted({*re.findall('[A-Z_]+', GRAMMAR + PARTS + EXPRESSIONS)})
 
 HELP = r'''Statements end with ; and may take several lines. Ctrl-C discards the text typed so far.
@@ -85,9 +29,10 @@ ADVICE = {
     '23502': 'Give the column a value; a column that an INSERT does not name is null.',
     '23505': 'Use another key, or UPDATE the existing row, which a policy may hide.',
     '25P02': 'ROLLBACK ends the block.',
-    '28000': r"A superuser can create it: CREATE ROLE name LOGIN. If an open session's role is gone, \close ends the session.",
+    '28000': r"The case of the name counts. A superuser can create the role: CREATE ROLE name LOGIN. If an open session's role is gone, "
+             r'\close ends the session.',
     '2B000': 'REVOKE .. CASCADE also takes what depends on it.',
-    '2BP01': 'Drop its tables and the policies that name it, and revoke what it was granted and what it has granted.',
+    '2BP01': 'Drop its tables and the policies that name it, and revoke what it was granted and what it has granted. No role drops itself.',
     '42501': r"A table's owner can GRANT privileges and write policies; RESET ROLE and \c ROLE change the acting role.",
     '42601': r'\h shows the syntax of statements.',
     '42622': 'Use a shorter name.',
@@ -109,9 +54,10 @@ ADVICE = {
 }
 
 
-def explained(code):
-    """A refusal: the code, its name and its meaning, and what to do."""
-    return f'ERROR:  {guarddb.described(code)}' + (f'\nHINT:  {ADVICE[code]}' if code in ADVICE else '')
+def explained(code, where=''):
+    """A refusal: the code, its name and its meaning, where it came, if that is known, and what to do."""
+    hint = f'HINT:  {ADVICE[code]}' if code in ADVICE else ''
+    return '\n'.join(filter(None, [f'ERROR:  {guarddb.described(code)}', where, hint]))
 
 
 def forms(words):

@@ -1,8 +1,11 @@
 #!/usr/bin/env python3
-"""Builds the package around a program that stands in for Guarddb, unpacks it, and looks at its files, its pages and its unit."""
+"""Builds the package and installs it below a folder of its own. Looks at its files, its pages and its unit, and starts the server as the
+unit does, and the shell over it. The program is the one in the environment variable GUARDDB, or else tests/fake_guarddb.py.
+"""
 import gzip
 import os
 import re
+import shlex
 import shutil
 import stat
 import subprocess
@@ -11,8 +14,14 @@ import tempfile
 import unittest
 
 TOP = os.path.dirname(os.path.dirname(os.path.realpath(__file__)))
-PROGRAM = '#!/bin/sh\necho "guarddb 0.0.0, a stand-in"\n'
+sys.dont_write_bytecode = True
+sys.path.insert(0, os.path.join(TOP, 'tests'))
+from program import PATIENCE, PROGRAM       # noqa: E402
+import guarddb      # noqa: E402
+
+STARTS = f'#!/bin/sh\nexec {shlex.quote(PROGRAM)} "$@"\n'     # what is packed, since the program may find its parts by its own path
 PRESENT = [('usr/bin/guarddb', 0o755), ('usr/bin/guarddb-shell', 0o755), ('usr/lib/python3/dist-packages/guarddb.py', 0o644),
+           ('usr/lib/python3/dist-packages/guarddb_syntax.py', 0o644),
            ('usr/share/guarddb/shell.py', 0o644), ('usr/share/guarddb/shell_display.py', 0o644),
            ('usr/lib/systemd/system/guarddb@.service', 0o644), ('usr/lib/sysusers.d/guarddb.conf', 0o644),
            ('etc/guarddb/example.conf.sample', 0o644), ('usr/share/man/man1/guarddb.1.gz', 0o644),
@@ -36,7 +45,7 @@ class Package(unittest.TestCase):
         cls.folder = cls.held.name
         program = os.path.join(cls.folder, 'program')
         with open(program, 'w') as file:
-            file.write(PROGRAM)
+            file.write(STARTS)
         os.chmod(program, 0o755)
         built = run(os.path.join(TOP, 'package'), '--out', cls.folder, program)
         assert built.returncode == 0, built.stderr
@@ -63,7 +72,7 @@ class Package(unittest.TestCase):
                 self.assertEqual(stat.S_IMODE(os.stat(os.path.join(self.root, path)).st_mode), mode)
 
     def test_the_program_is_the_given_one(self):
-        self.assertEqual(self.read('usr/bin/guarddb'), PROGRAM)
+        self.assertEqual(self.read('usr/bin/guarddb'), STARTS)
 
     def test_files_belong_to_root(self):
         for line in run('dpkg-deb', '-c', self.deb).stdout.splitlines():
@@ -89,6 +98,69 @@ class Package(unittest.TestCase):
         environment = {**os.environ, 'PYTHONPATH': os.path.join(self.root, 'usr/lib/python3/dist-packages')}
         said = run(sys.executable, '-B', os.path.join(self.root, 'usr/share/guarddb/shell.py'), '--help', env=environment)
         self.assertEqual(said.returncode, 0, said.stderr)
+
+    def installed(self):
+        """The folder below which the package is installed: by dpkg, which only root may do, or else unpacked."""
+        if os.geteuid() or not shutil.which('dpkg'):
+            return self.root
+        root = os.path.join(self.folder, 'installed')
+        for name in ('info', 'updates', 'triggers'):
+            os.makedirs(os.path.join(root, 'var/lib/dpkg', name), exist_ok=True)
+        for name in ('status', 'available'):
+            with open(os.path.join(root, 'var/lib/dpkg', name), 'w', encoding='utf-8'):
+                pass
+        done = run('dpkg', f'--root={root}', f'--log={root}/log', '--force-depends', '--force-bad-path', '--no-triggers', '--unpack', self.deb)
+        self.assertEqual(done.returncode, 0, done.stderr)
+        self.assertRegex(run('dpkg-query', f'--admindir={root}/var/lib/dpkg', '-W').stdout, r'\Aguarddb\s')
+        return root
+
+    def started_by(self, root, place):
+        """The words and the environment with which the unit starts a server, below a folder, on another socket."""
+        unit = self.unit()
+        environment = dict(pair.split('=', 1) for line in re.findall(r'(?m)^Environment=(.*)$', unit) for pair in line.split())
+        line = re.search(r'(?m)^ExecStart=(.*)$', unit)[1].replace('%i', 'shop').replace('/run/guarddb/shop/sock', place)
+        words = [re.sub(r'\$\{(\w+)\}', lambda found: environment[found[1]], word) for word in line.split()]
+        return [root + words[0], *words[1:]], {**os.environ, **environment}
+
+    def test_it_is_installed_and_started(self):
+        """As packaging/README.md has it: a database is made, the unit's server started, and the shell run over it."""
+        root, state, place = self.installed(), os.path.join(self.folder, 'state'), os.path.join(self.folder, 'sock')
+        os.mkdir(state)
+        words, environment = self.started_by(root, place)
+        made = run(words[0], 'format', 'shop.db', '--pages', '64', '--admin', 'root', cwd=state)
+        self.assertEqual((made.returncode, made.stdout), (0, 'ok FORMAT\n'), made.stderr)
+        server = subprocess.Popen(words, cwd=state, env=environment, stdout=subprocess.DEVNULL, stderr=subprocess.DEVNULL)
+        try:
+            with guarddb.connect(place, wait=PATIENCE, timeout=PATIENCE) as connection:
+                connection.open('root').ask('CREATE TABLE t (k BIGINT PRIMARY KEY)')
+            with open(os.path.join(root, 'usr/bin/guarddb-shell'), encoding='utf-8') as file:
+                text = file.read().replace('/usr/', f'{root}/usr/')
+            environment['PYTHONPATH'] = os.path.join(root, 'usr/lib/python3/dist-packages')
+            environment['PYTHONDONTWRITEBYTECODE'] = '1'
+            said = run('sh', '-c', text, 'guarddb-shell', place, 'root', '-c', 'SELECT current_user, count FROM t', '-c', 'SELECT 1', env=environment)
+            self.assertEqual((said.returncode, said.stdout), (3, ''), said.stderr)
+            self.assertIn('42703', said.stderr)
+            said = run('sh', '-c', text, 'guarddb-shell', place, 'root', '-A', '-c', 'SELECT current_user, 1 FROM t', '-c', 'SELECT count(*) FROM t',
+                       env=environment)
+            self.assertEqual((said.returncode, said.stdout, said.stderr), (0, '0\n', ''))
+        finally:
+            server.terminate()
+            server.wait(PATIENCE)
+        self.assertEqual(run(words[0], 'check', 'shop.db', cwd=state).stdout, 'ok CHECK\n')
+
+    def test_what_the_installation_does(self):
+        """It makes the user, and the folder for that user alone. Programs that stand in for those that it calls tell of it."""
+        control, tools = os.path.join(self.folder, 'scripts'), os.path.join(self.folder, 'tools')
+        run('dpkg-deb', '-e', self.deb, control)
+        os.mkdir(tools)
+        for name in ('systemd-sysusers', 'install', 'systemctl'):
+            with open(os.path.join(tools, name), 'w', encoding='utf-8') as file:
+                file.write('#!/bin/sh\necho "${0##*/} $*"\n')
+            os.chmod(file.name, 0o755)
+        done = run('sh', os.path.join(control, 'postinst'), 'configure', env={'PATH': f'{tools}:{os.environ["PATH"]}'})
+        self.assertEqual(done.returncode, 0, done.stderr)
+        self.assertEqual(done.stdout.split('\n')[:2],
+                         ['systemd-sysusers guarddb.conf', 'install -d -m 0700 -o guarddb -g guarddb /var/lib/guarddb'])
 
     def test_the_manual_has_each_command(self):
         page = self.read('usr/share/man/man1/guarddb.1.gz')

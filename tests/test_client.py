@@ -180,6 +180,22 @@ class Client(unittest.TestCase):
             with self.assertRaises(Refused):            # the connection goes on
                 session.ask('x' * MAX_TEXT)
 
+    def test_two_threads(self):
+        """The second one is told so, and sends nothing; the first one gets its answer."""
+        ours, theirs = socket.socketpair()
+        with theirs, guarddb.Connection(ours) as connection:
+            answers = []
+            first = threading.Thread(target=lambda: answers.append(connection.exchange(guarddb.STATEMENT, 1, 'SELECT 1')))
+            first.start()
+            theirs.settimeout(300)
+            sent = frame(2, 1, b'SELECT 1')
+            self.assertEqual(theirs.recv(len(sent), socket.MSG_WAITALL), sent)
+            with self.assertRaises(RuntimeError):
+                connection.exchange(guarddb.STATEMENT, 2, 'SELECT 2')
+            theirs.sendall(frames(1, b'ok SET\n'))
+            first.join()
+            self.assertEqual(answers, ['ok SET\n'])
+
     def test_a_server_that_is_not_there(self):
         with socket.create_server(('127.0.0.1', 0)) as listener:
             port = listener.getsockname()[1]
@@ -363,6 +379,19 @@ class Codes(unittest.TestCase):
         self.assertEqual(str(Refused('42P01')), '42P01 undefined_table: no such table')
         self.assertEqual(str(Refused('99999')), '99999')
         self.assertEqual(Refused('42P01').args, ('42P01',))
+        self.assertEqual((Refused('42P01').statement, Refused('42P01').place, Refused('42601', 'DROP t').place), (None, None, 5))
+
+    def test_a_syntax_error_is_shown(self):
+        """The exception of a statement has its text, and shows where it goes wrong, or which rule of form it may break."""
+        head, sent = str(Refused('42601')), frames(1, b'ok OPEN\n') + frames(1, b'refused 42601\n') * 2 + frames(1, b'refused 42P01\n')
+        with Peer(sent) as connection, connection:
+            root = connection.open('root')
+            for statement, place, text in [('DELETE t', 7, f'{head}\nLINE 1: DELETE t\n               ^\nEXPECTED:  FROM'),
+                                           ('SELECT *', None, f'{head}\nFORM:  * and count(*) need FROM, and count(*) takes no ORDER BY and no LIMIT.'),
+                                           ('DELETE FROM t', None, '42P01 undefined_table: no such table')]:
+                with self.assertRaises(Refused) as found:
+                    root.ask(statement)
+                self.assertEqual((found.exception.statement, found.exception.place, str(found.exception)), (statement, place, text))
 
 
 class OverADatabase(unittest.TestCase):

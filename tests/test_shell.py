@@ -52,6 +52,11 @@ def told(text):
     return text.replace(NOT_YET if isinstance(text, str) else NOT_YET.encode(), text[:0])
 
 
+def syntax(line, column=0):
+    """What is told of a statement of one line that is refused for its syntax, and goes wrong at a column."""
+    return shell_help.explained('42601', f'LINE 1: {line}\n{" " * (8 + column)}^')
+
+
 class Terminal:
     """A program in a terminal of its own, with what it has shown, but for what tells of a slow answer."""
     def __init__(self, words, folder, columns=200, tells_all=False):
@@ -441,27 +446,27 @@ class Batch(InAFolder):
 
     def test_scripts(self):
         one, in_lines = ' 1\n---\n 1\n(1 row)\n', '-[ 1 ]-----\n1 | 1\n(1 row)\n'
-        syntax = shell_help.explained('42601')
+        selec, selected = syntax('SELEC'), syntax('SELECT', 6)
         scripts = [
             (b'', (0, '', '')), (b'\n-- nothing\n', (0, '', '')), (b';;', (0, '', '')), (b'SELECT 1', (0, one, '')),
             (b'SELECT 1;', (0, one, '')), (b'SELECT 1 -- a comment', (0, one, '')), (b'\r\nSELECT\r\n1;\r\n', (0, one, '')),
-            (b'SELECT 1;\nSELEC;\nSELECT 1', (3, one, f'line 2: {syntax}\n')), (b"SELECT 1;\n'", (3, one, f'line 2: {syntax}\n')),
-            (b'SELECT 1; BEGIN; SELEC; SELECT 1', (3, one + 'BEGIN\n', f'line 1: {syntax}\n')),
-            (b'SELECT 1;\n\\q\nSELEC', (0, one, '')), (b'SELECT\n\\g\nSELECT 1', (3, '', f'line 2: {syntax}\n')),
+            (b'SELECT 1;\nSELEC;\nSELECT 1', (3, one, f'line 2: {selec}\n')), (b"SELECT 1;\n'", (3, one, f'line 2: {syntax(chr(39))}\n')),
+            (b'SELECT 1; BEGIN; SELEC; SELECT 1', (3, one + 'BEGIN\n', f'line 1: {selec}\n')),
+            (b'SELECT 1;\n\\q\nSELEC', (0, one, '')), (b'SELECT\n\\g\nSELECT 1', (3, '', f'line 2: {selected}\n')),
             (b'SELEC\n\\r\nSELECT 1', (0, one, '')), (b'SELECT\n\\p\n1', (0, 'SELECT\n' + one, '')),
-            (b'SELECT 1;\n\xff;', (1, one, 'line 2: The text is not UTF-8.\n')), (b'SELECT 1\0', (3, '', f'line 1: {syntax}\n')),
+            (b'SELECT 1;\n\xff;', (1, one, 'line 2: The text is not UTF-8.\n')), (b'SELECT 1\0', (3, '', 'line 1: ' + syntax(r'SELECT 1\x00', 8) + '\n')),
             (b'\\nothing', (3, '', 'line 1: Invalid command \\nothing; \\? lists the commands.\n')),
             (b'\\c', (3, '', 'line 1: Wrong arguments for \\c; \\? shows them.\n')),
             (b'\\', (3, '', 'line 1: Invalid command \\; \\? lists the commands.\n')),
             (b'\\i nothing', (1, '', 'line 1: nothing cannot be read: No such file or directory.\n')),
             (b'SELECT 1 \\g\n', (0, one, '')), (b'SELECT\\p\n1;', (0, 'SELECT\n' + one, '')),
-            (b'SELECT 1; \\q\nSELEC', (0, one, '')), (b'SELEC; \\q', (3, '', f'line 1: {syntax}\n')),
-            (b'SELECT\\gx', (3, '', f'line 1: {syntax}\n')), (b'SELECT 1\\gx', (0, in_lines, '')),
+            (b'SELECT 1; \\q\nSELEC', (0, one, '')), (b'SELEC; \\q', (3, '', f'line 1: {selec}\n')),
+            (b'SELECT\\gx', (3, '', f'line 1: {selected}\n')), (b'SELECT 1\\gx', (0, in_lines, '')),
             (b'SELECT 1\\gx\nSELECT 1', (0, in_lines + one, '')),
             (b'\\g', (3, '', 'line 1: Nothing is typed so far.\n')), (b'\\p\n', (0, 'Nothing is typed so far.\n', '')),
-            (b'\\timing maybe', (3, '', 'line 1: \\timing takes on or off.\n')), (b'quit', (3, '', f'line 1: {syntax}\n')),
+            (b'\\timing maybe', (3, '', 'line 1: \\timing takes on or off.\n')), (b'quit', (3, '', 'line 1: ' + syntax('quit') + '\n')),
             (b'\xef\xbb\xbfSELECT 1;\n', (0, one, '')), (b'\xef\xbb\xbf', (0, '', '')),
-            (b'SELECT 1;\n\xef\xbb\xbfSELECT 1;\n', (3, one, f'line 2: {syntax}\n')),
+            (b'SELECT 1;\n\xef\xbb\xbfSELECT 1;\n', (3, one, 'line 2: ' + syntax(r'\ufeffSELECT 1') + '\n')),
             (b"'" + (b'x' * 99 + b'\n') * 2000, (3, '', f'line 1311: {NO_END}\n')),
             (b'SELECT ' + b'(' * 131068, (3, '', f'line 1: {NO_END}\n')),
             (b'SELECT ' + b'\xc3\xa9' * 65534, (3, '', 'line 1: Not sent: 131075 bytes are more than a frame carries.\n')),
@@ -483,7 +488,7 @@ class Batch(InAFolder):
 
     def test_words_that_are_left_out(self):
         lines = '\nLEFT OUT:  IN, BETWEEN, LIKE, ILIKE, regular expressions\n'
-        self.tells(self.run_shell('root', 'SELECT k FROM t WHERE k IN (1)'), 3, '', shell_help.explained('42601') + lines)
+        self.tells(self.run_shell('root', 'SELECT k FROM t WHERE k IN (1)'), 3, '', syntax('SELECT k FROM t WHERE k IN (1)', 24) + lines)
         self.tells(self.run_shell('root', 'SELECT likes FROM t'), 3, '', shell_help.explained('42703') + '\n')
 
     def test_a_line_that_begins_with_a_dot(self):
@@ -524,7 +529,7 @@ class Batch(InAFolder):
         write('d.sql', '\\i d.sql')
         self.tells(self.run_shell('root', '\\i a.sql', 'COMMIT'), 0, ' k\n---\n 1\n 2\n(2 rows)\nCOMMIT\n',
                    'WARNING:  ' + guarddb.described('25P01') + '\n')
-        text_told = f"b.sql: line 3: c.sql: line 2: {shell_help.explained('42601')}\n"
+        text_told = f"b.sql: line 3: c.sql: line 2: {syntax('SELEC')}\n"
         self.tells(self.run_shell('root', '\\i b.sql'), 3, 'BEGIN\n', text_told)
         done = self.run_shell('root', '\\i d.sql')
         self.assertEqual((done.returncode, done.stdout), (1, ''))
@@ -534,11 +539,11 @@ class Batch(InAFolder):
         for name, text in [('a.sql', b'\xef\xbb\xbfSELECT 1;\n\\q\nSELEC'), ('b.sql', b'\nSELEC;')]:
             with open(os.path.join(self.folder, name), 'wb') as file:
                 file.write(text)
-        syntax = shell_help.explained('42601')
+        selec = syntax('SELEC')
         for words, given, status, out, err in [
             (['-f', 'a.sql'], '', 0, '1\n', ''), (['-c', 'SELECT 2', '-f', 'a.sql', '-c', 'SELECT 3'], '', 0, '2\n1\n3\n', ''),
-            (['-f', '-', '-c', 'SELECT 3'], 'SELECT 4', 0, '4\n3\n', ''), (['-f', '-'], 'SELEC', 3, '', f'line 1: {syntax}\n'),
-            (['-f', 'a.sql', '-f', 'b.sql', '-f', 'a.sql'], '', 3, '1\n', f'b.sql: line 2: {syntax}\n'),
+            (['-f', '-', '-c', 'SELECT 3'], 'SELECT 4', 0, '4\n3\n', ''), (['-f', '-'], 'SELEC', 3, '', f'line 1: {selec}\n'),
+            (['-f', 'a.sql', '-f', 'b.sql', '-f', 'a.sql'], '', 3, '1\n', f'b.sql: line 2: {selec}\n'),
             (['-f', 'none'], 'SELECT 1', 1, '', 'none cannot be read: No such file or directory.\n'),
             (['-f', '.'], 'SELECT 1', 1, '', '. cannot be read: Is a directory.\n'),
         ]:
@@ -930,13 +935,13 @@ class Keys(InAFolder):
 
     def test_a_paste(self):
         """Its lines are taken one after the other, also behind one that is refused, up to one that ends the shell."""
-        one, syntax = ' 1\n---\n 1\n(1 row)\n', shell_help.explained('42601') + '\n'
+        one, selec = ' 1\n---\n 1\n(1 row)\n', syntax('SELEC') + '\n'
         with Terminal(['env', 'TERM=xterm', *self.words(self.path, 'root')], self.folder) as terminal:
             terminal.until('root=> ')
             since = len(terminal.text())
             terminal.type('\x1b[200~SELEC;\rSELECT\r1;\rSELEC; SELECT 2;\r\x1b[201~\r')
             rest = 'The rest of the line was not run.\n'
-            self.assertIn(f'{syntax}{one}{syntax}{rest}root=> ', terminal.until(f'{rest}root=> ', since))
+            self.assertIn(f'{selec}{one}{selec}{rest}root=> ', terminal.until(f'{rest}root=> ', since))
             terminal.type('\x1b[200~SELECT 1;\rexit\rSELECT 3;\r\x1b[201~\r')
             self.assertEqual(terminal.end(), 0)
             self.assertTrue(terminal.text().endswith(one), terminal.text())
