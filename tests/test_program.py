@@ -19,7 +19,7 @@ import tempfile
 import time
 import unittest
 
-from program import IS_FAKE, PROGRAM, TOP, make_database, run, served
+from program import IS_FAKE, PATIENCE, PROGRAM, TOP, make_database, run, served
 import guarddb
 
 sys.path.insert(0, os.path.join(TOP, 'crates', 'storage_tests'))
@@ -51,7 +51,7 @@ def events(script):
 
 def over_a_connection(path, script, socket_path=None):
     numbers = {}
-    with served(path, socket_path=socket_path) as place, guarddb.connect(place, wait=10, timeout=20) as connection:
+    with served(path, socket_path=socket_path) as place, guarddb.connect(place, wait=PATIENCE, timeout=PATIENCE) as connection:
         return ''.join(connection.exchange(kind, numbers.setdefault(name, len(numbers) + 1), text)
                        for kind, name, text in events(script))
 
@@ -187,7 +187,7 @@ class Program(unittest.TestCase):
         path = self.path('db')
         make_database(path)
         script = self.write('script', 'open r root\n')
-        with served(path) as port, guarddb.connect(port, wait=10, timeout=20) as connection:
+        with served(path) as port, guarddb.connect(port, wait=PATIENCE, timeout=PATIENCE) as connection:
             connection.open('root')
             in_use = (1, '', f'guarddb: InUse\nguarddb: {path}: another process has it open\n')
             self.assertEqual(run('check', path), in_use)
@@ -200,7 +200,7 @@ class Program(unittest.TestCase):
         make_database(path)
         os.link(path, hard)
         os.symlink(path, soft)
-        with served(hard) as port, guarddb.connect(port, wait=10, timeout=20) as connection:
+        with served(hard) as port, guarddb.connect(port, wait=PATIENCE, timeout=PATIENCE) as connection:
             connection.open('root')
             for other in (path, soft):
                 self.assertEqual(run('check', other), (1, '', f'guarddb: InUse\nguarddb: {other}: another process has it open\n'))
@@ -336,7 +336,7 @@ class Program(unittest.TestCase):
             done = subprocess.run([PROGRAM, 'describe', path], stdout=full, stderr=subprocess.PIPE, check=False)
         told = 'guarddb: Output\nguarddb: standard output: closed, or it takes no more\n'
         self.assertEqual((done.returncode, done.stderr.decode()), (1, told))
-        with served(path) as port, guarddb.connect(port, wait=10, timeout=20) as connection:
+        with served(path) as port, guarddb.connect(port, wait=PATIENCE, timeout=PATIENCE) as connection:
             connection.open('root')
             self.assertEqual(run('describe', path), self.told('InUse', path, 'another process has it open'))
         self.assertEqual(run('check', path), (0, 'ok CHECK\n', ''))
@@ -510,7 +510,7 @@ class Program(unittest.TestCase):
             self.described(path)
             self.assertEqual(run('check', path), self.told('InUse', path, in_use))
         os.remove(new)
-        with served(path) as port, guarddb.connect(port, wait=10, timeout=20) as connection:
+        with served(path) as port, guarddb.connect(port, wait=PATIENCE, timeout=PATIENCE) as connection:
             connection.open('root')
             self.refuses_copy(self.told('InUse', path, in_use), path, new)
 
@@ -593,7 +593,7 @@ class Program(unittest.TestCase):
         self.assertEqual(run('check', below), self.told('Device', below, 'a part of the path is not a folder'))
         new = self.path('none/db')
         self.assertEqual(run('format', new, '--pages', '64', '--admin', 'root'), self.told('Device', new, 'no such file or folder'))
-        with served(path, socket_path=self.path('at')) as place, guarddb.connect(place, wait=10, timeout=20):
+        with served(path, socket_path=self.path('at')) as place, guarddb.connect(place, wait=PATIENCE, timeout=PATIENCE):
             other = self.path('other')
             make_database(other)
             self.assertEqual(run('serve', other, '--socket', place, '--connections', '1'),
@@ -628,7 +628,7 @@ class Program(unittest.TestCase):
                 before = os.umask(umask)
                 try:
                     make_database(path)
-                    with served(path, socket_path=place) as place, guarddb.connect(place, wait=10, timeout=20):
+                    with served(path, socket_path=place) as place, guarddb.connect(place, wait=PATIENCE, timeout=PATIENCE):
                         self.assertEqual(os.stat(place).st_mode & 0o777, 0o600)
                 finally:
                     os.umask(before)

@@ -14,7 +14,7 @@ import subprocess
 import tempfile
 import unittest
 
-from program import IS_FAKE, PROGRAM, free_port, make_database, served
+from program import IS_FAKE, PATIENCE, PROGRAM, free_port, make_database, served
 import guarddb
 from guarddb import Refused
 
@@ -88,7 +88,7 @@ class Refusals(unittest.TestCase):
 
     def test_statements_and_sessions(self):
         make_database(self.path)
-        with served(self.path) as port, guarddb.connect(port, wait=300, timeout=300) as connection:
+        with served(self.path) as port, guarddb.connect(port, wait=PATIENCE, timeout=PATIENCE) as connection:
             root = self.started(connection)
             ann = connection.open('ann')
             for code, statement in BY_ROOT:
@@ -123,14 +123,14 @@ class Refusals(unittest.TestCase):
 
     def test_a_bad_frame(self):
         make_database(self.path)
-        with served(self.path) as port, guarddb.connect(port, wait=300, timeout=300) as connection:
+        with served(self.path) as port, guarddb.connect(port, wait=PATIENCE, timeout=PATIENCE) as connection:
             connection.socket.sendall(bytes.fromhex('000000050900000001'))
             self.assertEqual(connection.input.read(), bytes.fromhex('000000130400000000') + b'refused 08P01\n')
 
     @unittest.skipIf(IS_FAKE, 'needs the program')
     def test_no_room(self):
         make_database(self.path, pages=64)
-        with served(self.path) as port, guarddb.connect(port, wait=300, timeout=300) as connection:
+        with served(self.path) as port, guarddb.connect(port, wait=PATIENCE, timeout=PATIENCE) as connection:
             root = self.started(connection)
             count = 1
 
@@ -153,7 +153,7 @@ class Refusals(unittest.TestCase):
     def test_no_memory(self):
         make_database(self.path)
         with served_in_want(self.path, RLIMIT_AS=200_000_000) as (server, port):
-            with guarddb.connect(port, wait=300, timeout=300) as connection:
+            with guarddb.connect(port, wait=PATIENCE, timeout=PATIENCE) as connection:
                 root = self.started(connection)
                 for first in range(2, 402, 20):
                     rows = ', '.join(f"({k}, {k}, '{'o' * 100}')" for k in range(first, first + 20))
@@ -161,21 +161,21 @@ class Refusals(unittest.TestCase):
                 product = 'FROM t JOIN t AS u ON true JOIN t AS v ON true'
                 self.refused('53200', root.ask, f'SELECT t.o, u.o, v.o {product} ORDER BY v.x, u.x, t.x')
                 self.assertEqual(root.ask('SELECT count(*) FROM t', int), [[401]])
-            self.assertEqual(server.wait(20), 0)
+            self.assertEqual(server.wait(PATIENCE), 0)
 
     @unittest.skipIf(IS_FAKE, 'needs the program')
     def test_a_device_that_fails(self):
         make_database(self.path)
-        with served(self.path) as port, guarddb.connect(port, wait=300, timeout=300) as connection:
+        with served(self.path) as port, guarddb.connect(port, wait=PATIENCE, timeout=PATIENCE) as connection:
             self.started(connection)
         with served_in_want(self.path, RLIMIT_FSIZE=4096) as (server, port):
-            with guarddb.connect(port, wait=300, timeout=300) as connection:
+            with guarddb.connect(port, wait=PATIENCE, timeout=PATIENCE) as connection:
                 root = connection.open('root')
                 self.assertEqual(root.ask('SELECT count(*) FROM t', int), [[1]])
                 self.refused('58030', root.ask, 'INSERT INTO t (k) VALUES (2)')
                 self.refused('58030', root.ask, 'SELECT 1')
-            self.assertEqual(server.wait(20), 1)
-        with served(self.path) as port, guarddb.connect(port, wait=300, timeout=300) as connection:
+            self.assertEqual(server.wait(PATIENCE), 1)
+        with served(self.path) as port, guarddb.connect(port, wait=PATIENCE, timeout=PATIENCE) as connection:
             self.assertIn(connection.open('root').ask('SELECT count(*) FROM t', int), ([[1]], [[2]]))
 
 

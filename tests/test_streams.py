@@ -14,7 +14,7 @@ import subprocess
 import tempfile
 import unittest
 
-from program import IS_FAKE, PROGRAM, free_port, make_database, run
+from program import IS_FAKE, PATIENCE, PROGRAM, free_port, make_database, run
 import guarddb
 
 INPUT, OUTPUT, MESSAGES = 0, 1, 2
@@ -38,7 +38,7 @@ def start(closed, *words):
 def ended(program, given=b''):
     """Its status, its output and its messages."""
     try:
-        output, messages = program.communicate(given, timeout=30)
+        output, messages = program.communicate(given, timeout=PATIENCE)
     finally:
         if program.poll() is None:
             program.kill()
@@ -172,7 +172,7 @@ class Streams(unittest.TestCase):
             self.assertEqual(ended(server), (1, '', ''))
         else:
             try:
-                with guarddb.connect(place, wait=10, timeout=20) as connection:
+                with guarddb.connect(place, wait=PATIENCE, timeout=PATIENCE) as connection:
                     self.assertEqual(connection.exchange(guarddb.OPEN, 1, 'root'), 'ok OPEN\n')
                     self.assertEqual(connection.exchange(guarddb.STATEMENT, 1, "INSERT INTO t VALUES (1, 'a')"), 'ok INSERT 1\n')
             finally:

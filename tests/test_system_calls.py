@@ -18,7 +18,7 @@ import subprocess
 import tempfile
 import unittest
 
-from program import IS_FAKE, PROGRAM, free_port, make_database, run
+from program import IS_FAKE, PATIENCE, PROGRAM, free_port, make_database, run
 import guarddb
 
 TRACED = 'openat,flock,ftruncate,fallocate,pread64,pwrite64,pwritev,write,writev,fsync,fdatasync'
@@ -194,10 +194,10 @@ class Files(unittest.TestCase):
             self.assertEqual(server.stderr.readline().decode(), f'guarddb: listening on 127.0.0.1:{port}\n')
             other = run('serve', self.path('db'), '--port', str(free_port()), '--connections', '1')
             self.assertEqual(other, (1, '', f'guarddb: InUse\nguarddb: {self.path("db")}: another process has it open\n'))
-            with guarddb.connect(port, wait=10, timeout=20) as connection:
+            with guarddb.connect(port, wait=PATIENCE, timeout=PATIENCE) as connection:
                 connection.open('root')
             said = server.stderr.read().decode()
-            self.assertEqual((server.wait(timeout=20), said.count('\n'), server.stdout.read()), (0, 1, b''))
+            self.assertEqual((server.wait(timeout=PATIENCE), said.count('\n'), server.stdout.read()), (0, 1, b''))
             self.assertTrue(said.startswith('guarddb: '), said)
 
     def test_a_port_that_is_bound(self):
@@ -224,9 +224,9 @@ class Files(unittest.TestCase):
             self.assertEqual(server.stderr.readline().decode(), f'guarddb: listening on {place}\n')
             self.assertTrue(stat.S_ISSOCK(os.stat(place).st_mode))
             self.assertEqual(os.stat(place).st_mode & 0o022, 0)     # nobody else may connect
-            with guarddb.connect(place, wait=10, timeout=20) as connection:
+            with guarddb.connect(place, wait=PATIENCE, timeout=PATIENCE) as connection:
                 connection.open('root')
-            self.assertEqual(server.wait(timeout=20), 0)
+            self.assertEqual(server.wait(timeout=PATIENCE), 0)
         self.assertFalse(os.path.exists(place))
 
         with self.serves('db', place, connections=2) as server:
@@ -237,9 +237,9 @@ class Files(unittest.TestCase):
             server.send_signal(signal.SIGKILL)
         self.assertTrue(os.path.exists(place))                      # nobody does now
         with self.serves('other', place) as server:
-            with guarddb.connect(place, wait=10, timeout=20) as connection:
+            with guarddb.connect(place, wait=PATIENCE, timeout=PATIENCE) as connection:
                 connection.open('root')
-            self.assertEqual(server.wait(timeout=20), 0)
+            self.assertEqual(server.wait(timeout=PATIENCE), 0)
 
         with open(self.path('db'), 'rb') as file:
             before = file.read()
@@ -263,11 +263,11 @@ class Files(unittest.TestCase):
         place = self.path('socket')
         with self.serves('db', place) as server, socket.socket(socket.AF_UNIX) as other:
             server.stderr.readline()
-            with guarddb.connect(place, timeout=20) as connection:
+            with guarddb.connect(place, timeout=PATIENCE) as connection:
                 os.remove(place)
                 other.bind(place)
                 connection.open('root')
-            self.assertEqual(server.wait(timeout=20), 0)
+            self.assertEqual(server.wait(timeout=PATIENCE), 0)
             self.assertTrue(os.path.exists(place))
 
     def test_an_output_that_takes_nothing(self):
