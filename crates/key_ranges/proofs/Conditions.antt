@@ -110,7 +110,7 @@ held p x y h = go (compare_values x y) refl h
     go None e t = cc
     go (Some r) e t = record { order = r; compared = sym e; holds_there = cc }
 
-held_less : (p : Comparison) → holds p Less ≡ holds (exchanged p) Greater
+pub held_less : (p : Comparison) → holds p Less ≡ holds (exchanged p) Greater
 held_less op.Equal = refl
 held_less op.NotEqual = refl
 held_less op.Less = refl
@@ -118,7 +118,7 @@ held_less op.LessOrEqual = refl
 held_less op.Greater = refl
 held_less op.GreaterOrEqual = refl
 
-held_greater : (p : Comparison) → holds p Greater ≡ holds (exchanged p) Less
+pub held_greater : (p : Comparison) → holds p Greater ≡ holds (exchanged p) Less
 held_greater op.Equal = refl
 held_greater op.NotEqual = refl
 held_greater op.Less = refl
@@ -126,7 +126,7 @@ held_greater op.LessOrEqual = refl
 held_greater op.Greater = refl
 held_greater op.GreaterOrEqual = refl
 
-held_equal : (p : Comparison) → holds p Equal ≡ holds (exchanged p) Equal
+pub held_equal : (p : Comparison) → holds p Equal ≡ holds (exchanged p) Equal
 held_equal op.Equal = refl
 held_equal op.NotEqual = refl
 held_equal op.Less = refl
@@ -153,7 +153,7 @@ record IsHeld (p : Comparison) (left right : Outcome) : Type 0 where
   pub right_is : right ≡ Ok y
   pub holding : HoldsIn p x y
 
-inside_ok : (v w : Value) → (let o : Outcome = Ok v in o) ≡ Ok w → v ≡ w
+pub inside_ok : (v w : Value) → (let o : Outcome = Ok v in o) ≡ Ok w → v ≡ w
 inside_ok v w e = cc
 
 comparison_true : (p : Comparison) (left right : Outcome) → with_both left right (λ x y. Ok (compared p x y)) ≡ Ok yes → IsHeld p left right
@@ -186,7 +186,7 @@ known_true front cell behind c v h = go (slice_get front c.table) (λ row e. beh
     go None is h = cc
     go (Some row) is h = let t = value_true (value_at row.now c.column) v h in (is row refl ∙ t.0, t.1)
 
-constant_true : (front : List (Bor Row)) (cell : ColumnIndex → Value) → IsBehind front cell → (users : UserNames) (b : Term ColumnIndex) (v : Value) → constant users front b ≡ Some v → (value_of cell users b ≡ Ok v) × (is_key_value v ≡ true)
+pub constant_true : (front : List (Bor Row)) (cell : ColumnIndex → Value) → IsBehind front cell → (users : UserNames) (b : Term ColumnIndex) (v : Value) → constant users front b ≡ Some v → (value_of cell users b ≡ Ok v) × (is_key_value v ≡ true)
 constant_true front cell behind users (literal w) v h = let t = value_true w v h in (ap (λ z. Ok z) t.0, t.1)
 constant_true front cell behind users (column c) v h = let t = known_true front cell behind c v h in (ap (λ z. Ok z) t.0, t.1)
 constant_true front cell behind users current_user v h = let t = value_true (Text users.current) v h in (ap (λ z. Ok z) t.0, t.1)
@@ -196,7 +196,7 @@ constant_true front cell behind users _ v h = cc
 pub same_number : (a b : ℕ) → nat_eq a b ≡ true → a ≡ b
 same_number a b e = grind (arith, nat_tests)
 
-same_index : (d c : ColumnIndex) → d.table ≡ c.table → d.column ≡ c.column → d ≡ c
+pub same_index : (d c : ColumnIndex) → d.table ≡ c.table → d.column ≡ c.column → d ≡ c
 same_index d c e f =
     let by_table : ℕ → ColumnIndex = λ n. record { table = n; column = d.column } in
     let by_column : ℕ → ColumnIndex = λ n. record { table = c.table; column = n } in

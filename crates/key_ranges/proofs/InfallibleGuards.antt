@@ -43,7 +43,7 @@ any_infallible : (ts : List (Term ColumnIndex)) → all_infallible ts ≡ true �
 any_infallible [] h = refl
 any_infallible (t ∷ ts) h = let both = and_parts (has_no_arithmetic t) (all_infallible ts) h in or_infallible t ts both.0 both.1
 
-formula_there : (users : UserNames) (f : Formula) (cells : Cells) → is_formula_infallible f ≡ true → HasValue (formula_value users f cells)
+pub formula_there : (users : UserNames) (f : Formula) (cells : Cells) → is_formula_infallible f ≡ true → HasValue (formula_value users f cells)
 formula_there users f cells h =
     let both = and_parts (are_lent_infallible f.permissive) (are_lent_infallible f.restrictive) h in
     infallible_value (cell_at cells) users (formula (terms f.permissive) (terms f.restrictive))

@@ -6,3 +6,10 @@ pub mod Within
 pub mod Records
 pub mod Products
 pub mod Unchanged
+pub mod LeftOut
+pub mod OutsideBoxes
+pub mod TableRanges
+pub mod BoxLists
+pub mod BoxFormulas
+pub mod InOrders
+pub mod Starts

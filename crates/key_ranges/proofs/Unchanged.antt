@@ -80,7 +80,7 @@ pub same_outcomes : (users : UserNames) (c : Combination) (ts : List TypedTerm) 
 same_outcomes users c [] = refl
 same_outcomes users c (t ∷ ts) = ap (λ os. value_of (cell_in c) users t.term ∷ os) (same_outcomes users c ts)
 
-condition_is : (users : UserNames) (terms : List (Term ColumnIndex)) (ts : List TypedTerm) → terms ≡ map (λ t. t.term) ts → (c : Combination) → condition_value users terms c ≡ all_of (outcomes users c ts)
+pub condition_is : (users : UserNames) (terms : List (Term ColumnIndex)) (ts : List TypedTerm) → terms ≡ map (λ t. t.term) ts → (c : Combination) → condition_value users terms c ≡ all_of (outcomes users c ts)
 condition_is users terms ts same c = ap (λ list. all_of (map (bound_value users c) list)) same ∙ ap all_of (same_outcomes users c ts)
 
 value_there : (o p : Outcome) → o ≡ p → HasValue p → HasValue o
@@ -99,7 +99,7 @@ module _ (id : ℕ) (layout : Layout) (table : ℕ) (users : UserNames) (guard :
   inside row = is_inside id layout range row
 
   -- where a table's row is outside the range, the conditions are not true
-  not_true : (c : Combination) (row : Row) → ((index : ℕ) → cell_in c (record { table = table; column = index }) ≡ value_at row index) → FitsTable layout row → inside row ≡ false
+  pub not_true : (c : Combination) (row : Row) → ((index : ℕ) → cell_in c (record { table = table; column = index }) ≡ value_at row index) → FitsTable layout row → inside row ≡ false
       → is_true (all_of (outcomes users c conditions)) ≡ false
   not_true c row beside fits out = go (is_true (all_of (outcomes users c conditions))) refl
     where
@@ -134,7 +134,7 @@ row_there : (front : Combination) (row : Row) (rest : Combination) → slice_get
 row_there [] row rest = refl
 row_there (first ∷ front) row rest = row_there front row rest
 
-cell_there : (front : Combination) (row : Row) (rest : Combination) (table index : ℕ) → length front ≡ table → cell_in (front ++ row ∷ rest) (record { table = table; column = index }) ≡ value_at row index
+pub cell_there : (front : Combination) (row : Row) (rest : Combination) (table index : ℕ) → length front ≡ table → cell_in (front ++ row ∷ rest) (record { table = table; column = index }) ≡ value_at row index
 cell_there front row rest table index long =
     let there : slice_get (front ++ row ∷ rest) table ≡ Some row = subst (λ n. slice_get (front ++ row ∷ rest) n ≡ Some row) long (row_there front row rest) in
     rw there refl

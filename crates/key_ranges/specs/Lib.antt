@@ -3,3 +3,9 @@ pub mod Infallible
 pub mod Ranges
 pub mod Laws
 pub mod Examples
+pub mod LeftOut
+pub mod Boxes
+pub mod InOrder
+pub mod TableRanges
+pub mod BoxCode
+pub mod BoxLoops

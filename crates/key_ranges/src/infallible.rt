@@ -19,7 +19,7 @@ pub fn is_guard_infallible(guard: &Guard<'_>) -> bool
 }
 
 // Whether no condition of these formulas fails on any row.
-fn are_formulas_infallible(formulas: &[Formula<'_>]) -> bool
+pub(crate) fn are_formulas_infallible(formulas: &[Formula<'_>]) -> bool
     ensures { result ≡ are_formulas_infallible formulas.now }
 {
     for formula in formulas {
@@ -31,7 +31,7 @@ fn are_formulas_infallible(formulas: &[Formula<'_>]) -> bool
 }
 
 // Whether no condition of a formula fails on any row.
-fn is_formula_infallible(formula: &Formula<'_>) -> bool
+pub(crate) fn is_formula_infallible(formula: &Formula<'_>) -> bool
     ensures { result ≡ is_formula_infallible formula.now }
 {
     are_lent_infallible(formula.permissive.as_slice())
@@ -39,7 +39,7 @@ fn is_formula_infallible(formula: &Formula<'_>) -> bool
 }
 
 // Whether no condition of these, which are lent, fails on any row.
-fn are_lent_infallible(conditions: &[&Typed]) -> bool
+pub(crate) fn are_lent_infallible(conditions: &[&Typed]) -> bool
     ensures { result ≡ are_lent_infallible conditions.now }
 {
     for condition in conditions {

@@ -1,5 +1,5 @@
 //! The range of keys that conditions leave of a table's records.
-ghost use Rattle.std.specs.Prelude.{◌≡◌, ◌++◌, ◌≤◌, length, IfOk, IfSome, OnOk};
+ghost use Rattle.std.specs.Prelude.{◌≡◌, [], ◌++◌, ◌≤◌, length, IfOk, IfSome, OnOk};
 ghost use Rattle.std.specs.Option.{option_map};
 ghost use Rattle.sql_types.specs.Value.{owned};
 ghost use Rattle.expressions.specs.Rows.{names_of};
@@ -101,6 +101,21 @@ pub fn key_range_behind(
     Ok(Some(range))
 }
 
+/// Whether one of these conditions, or an operand of its ANDs, compares the first of these columns of a
+/// key by itself, as [`key_range`] says. The table has this index in FROM.
+pub fn is_key_bounded(key: &[usize], table: usize, conditions: &[Typed], users: &Users<'_>) -> bool
+    ensures { result ≡ is_first_bounded
+        (bounds_of table (names_of users.now) [] conditions.now) key.now }
+{
+    let conditions = Conditions {
+        table,
+        list: conditions,
+        users,
+        front: &[],
+    };
+    conditions.is_first_bounded(key)
+}
+
 impl<'a> Conditions<'a> {
     // The value that bounds a column.
     fn bound(&self, kind: BoundKind, index: usize) -> Option<ValueRef<'a>>
@@ -181,7 +196,7 @@ impl<'a> Conditions<'a> {
 }
 
 // Appends the cell of a bound, if there is one.
-fn push_cell(out: &mut Vec<u8>, bound: Option<ValueRef<'_>>) -> Result<(), AllocError>
+pub(crate) fn push_cell(out: &mut Vec<u8>, bound: Option<ValueRef<'_>>) -> Result<(), AllocError>
     ensures { OnOk result
         (out.new.items ≡ out.old.items ++ cell_of (option_map owned bound.entry)) }
 {

@@ -1,0 +1,355 @@
+-- Ranges that are merged are in order, and have all keys that they had.
+use Rattle.std.proofs.Common.{◌≡◌, ◌<◌, ℕ, Bool, true, false, ◌&&◌, ◌||◌, if◌then◌else◌, nat_eq, List, [], ◌∷◌, refl, sym, ap, subst, ◌∙◌, arith}
+use Rattle.std.specs.List.{AllByRecursion}
+use Rattle.std.proofs.lemmas.Bool.Decides.{nat_tests}
+use Rattle.std.specs.declared.cmp.Ordering.{Ordering}
+use Rattle.std.specs.declared.cmp.Ordering.TheVariants.{Less, Equal, Greater}
+use Rattle.std.specs.Ordering.{nat_cmp, is_lt, is_eq, ordering_then}
+use Rattle.std.specs.Cmp.{nat_cmp_is, ranked}
+use Rattle.store.specs.Records.{key_cmp, is_from, is_not_less, has_prefix}
+use Rattle.store.specs.Walks.{is_within}
+use Rattle.store.proofs.Changes.{key_trans, same_key, itself, reversed, after}
+use Rattle.store.proofs.Walking.{stays_past}
+use Rattle.key_ranges.specs.declared.range.KeyRange.{KeyRange}
+use Rattle.key_ranges.specs.declared.range.KeyRange.TheVariants.{Point, Span}
+use Rattle.row_codec.specs.Rows.{row_prefix}
+use Rattle.key_ranges.specs.Ranges.{is_in, is_in_any, IsRangeOf, AreInOrder, ComesBefore}
+use Rattle.key_ranges.specs.TableRanges.{first_start, around}
+use Rattle.key_ranges.specs.InOrder.{start_of, stop_of, wider, hull, merged_after, StartFrom, StartsNeverFall, MergedLosesNothing}
+
+-- ---- numbers
+
+less_is : (a b : ℕ) → nat_cmp a b ≡ Less → a < b
+less_is a b h = ranked a b Less (sym h)
+
+is_less : (a b : ℕ) → a < b → nat_cmp a b ≡ Less
+is_less a b h = sym (nat_cmp_is a b Less h)
+
+-- ---- stops, byte by byte
+
+-- within a stop by the order of the first bytes of key and stop
+abbrev by_first : Ordering → Bool → Bool
+by_first Less rest = true
+by_first Equal rest = rest
+by_first Greater rest = false
+
+abbrev is_under : List ℕ → List ℕ → Bool
+is_under [] k = true
+is_under (x ∷ b) [] = true
+is_under (x ∷ b) (z ∷ k) = by_first (nat_cmp z x) (is_under b k)
+
+under_is : (b k : List ℕ) → is_within b k ≡ is_under b k
+under_is [] k = refl
+under_is (x ∷ b) [] = refl
+under_is (x ∷ b) (z ∷ k) = go (nat_cmp z x) refl (under_is b k)
+  where
+    go : (o : Ordering) → o ≡ nat_cmp z x → is_within b k ≡ is_under b k → ((nat_eq x z && has_prefix b k) || is_lt (ordering_then o (key_cmp k b))) ≡ by_first o (is_under b k)
+    go Less e later = either (nat_eq x z && has_prefix b k)
+      where
+        either : (t : Bool) → (t || true) ≡ true
+        either true = refl
+        either false = refl
+    go Equal e later =
+        let same : z ≡ x = ranked z x Equal e in
+        let t : nat_eq x z ≡ true = grind (arith, nat_tests) in
+        rw t later
+    go Greater e later =
+        let more : x < z = ranked z x Greater e in
+        let t : nat_eq x z ≡ false = grind (arith, nat_tests) in
+        rw t refl
+
+-- by the order of the first bytes in which two stops differ
+abbrev wider_by : Ordering → List ℕ → List ℕ → List ℕ → List ℕ
+wider_by Less same left right = right
+wider_by Equal same left right = same
+wider_by Greater same left right = left
+
+abbrev wider_bytes : List ℕ → List ℕ → List ℕ
+wider_bytes [] d = []
+wider_bytes (x ∷ b) [] = []
+wider_bytes (x ∷ b) (y ∷ d) = wider_by (nat_cmp x y) (x ∷ wider_bytes b d) (x ∷ b) (y ∷ d)
+
+wider_is : (b d : List ℕ) → wider b d ≡ wider_bytes b d
+wider_is [] d = refl
+wider_is (x ∷ b) [] = refl
+wider_is (x ∷ b) (y ∷ d) = go (nat_cmp x y) refl (wider_is b d)
+  where
+    chosen : Bool → Bool → Bool → List ℕ
+    chosen p q l = if p then (x ∷ b) else (if q || l then (y ∷ d) else (x ∷ b))
+
+    go : (o : Ordering) → o ≡ nat_cmp x y → wider b d ≡ wider_bytes b d
+        → chosen (nat_eq x y && has_prefix b d) (nat_eq y x && has_prefix d b) (is_lt (ordering_then o (key_cmp b d))) ≡ wider_by o (x ∷ wider_bytes b d) (x ∷ b) (y ∷ d)
+    go Less e later =
+        let less = less_is x y (sym e) in
+        let s : nat_eq x y ≡ false = grind (arith, nat_tests) in
+        let t : nat_eq y x ≡ false = grind (arith, nat_tests) in
+        rw (s, t) refl
+    go Equal e later =
+        let same : x ≡ y = ranked x y Equal e in
+        let s : nat_eq x y ≡ true = grind (arith, nat_tests) in
+        let t : nat_eq y x ≡ true = grind (arith, nat_tests) in
+        ap (λ p. chosen (p && has_prefix b d) (nat_eq y x && has_prefix d b) (is_lt (key_cmp b d))) s
+        ∙ ap (λ q. chosen (has_prefix b d) (q && has_prefix d b) (is_lt (key_cmp b d))) t
+        ∙ by_parts same (has_prefix b d) (has_prefix d b || is_lt (key_cmp b d))
+        ∙ ap (λ l. x ∷ l) later
+      where
+        by_parts : x ≡ y → (p q : Bool) → (if p then (x ∷ b) else (if q then (y ∷ d) else (x ∷ b))) ≡ x ∷ (if p then b else (if q then d else b))
+        by_parts same true q = refl
+        by_parts same false true = ap (λ z. z ∷ d) (sym same)
+        by_parts same false false = refl
+    go Greater e later =
+        let more : y < x = ranked x y Greater e in
+        let s : nat_eq x y ≡ false = grind (arith, nat_tests) in
+        let t : nat_eq y x ≡ false = grind (arith, nat_tests) in
+        rw (s, t) refl
+
+first_wider : (b d k : List ℕ) → is_under b k ≡ true → is_under (wider_bytes b d) k ≡ true
+first_wider [] d k h = refl
+first_wider (x ∷ b) [] k h = refl
+first_wider (x ∷ b) (y ∷ d) [] h = go (nat_cmp x y)
+  where
+    go : (o : Ordering) → is_under (wider_by o (x ∷ wider_bytes b d) (x ∷ b) (y ∷ d)) [] ≡ true
+    go Less = refl
+    go Equal = refl
+    go Greater = refl
+first_wider (x ∷ b) (y ∷ d) (z ∷ k) h = go (nat_cmp x y) refl (nat_cmp z x) refl h (first_wider b d k)
+  where
+    go : (o : Ordering) → o ≡ nat_cmp x y → (p : Ordering) → p ≡ nat_cmp z x → by_first p (is_under b k) ≡ true → (is_under b k ≡ true → is_under (wider_bytes b d) k ≡ true)
+        → is_under (wider_by o (x ∷ wider_bytes b d) (x ∷ b) (y ∷ d)) (z ∷ k) ≡ true
+    go Less e Less f g later =
+        let one = less_is x y (sym e) in
+        let two = less_is z x (sym f) in
+        let t : nat_cmp z y ≡ Less = is_less z y (omega arith) in
+        rw t refl
+    go Less e Equal f g later =
+        let one = less_is x y (sym e) in
+        let two : z ≡ x = ranked z x Equal f in
+        let t : nat_cmp z y ≡ Less = is_less z y (omega arith) in
+        rw t refl
+    go Equal e Less f g later = ap (λ q. by_first q (is_under (wider_bytes b d) k)) (sym f)
+    go Equal e Equal f g later = ap (λ q. by_first q (is_under (wider_bytes b d) k)) (sym f) ∙ later g
+    go Greater e Less f g later = ap (λ q. by_first q (is_under b k)) (sym f)
+    go Greater e Equal f g later = ap (λ q. by_first q (is_under b k)) (sym f) ∙ g
+    go o e Greater f g later = cc
+
+second_wider : (b d k : List ℕ) → is_under d k ≡ true → is_under (wider_bytes b d) k ≡ true
+second_wider [] d k h = refl
+second_wider (x ∷ b) [] k h = refl
+second_wider (x ∷ b) (y ∷ d) [] h = go (nat_cmp x y)
+  where
+    go : (o : Ordering) → is_under (wider_by o (x ∷ wider_bytes b d) (x ∷ b) (y ∷ d)) [] ≡ true
+    go Less = refl
+    go Equal = refl
+    go Greater = refl
+second_wider (x ∷ b) (y ∷ d) (z ∷ k) h = go (nat_cmp x y) refl (nat_cmp z y) refl h (second_wider b d k)
+  where
+    go : (o : Ordering) → o ≡ nat_cmp x y → (p : Ordering) → p ≡ nat_cmp z y → by_first p (is_under d k) ≡ true → (is_under d k ≡ true → is_under (wider_bytes b d) k ≡ true)
+        → is_under (wider_by o (x ∷ wider_bytes b d) (x ∷ b) (y ∷ d)) (z ∷ k) ≡ true
+    go Less e p f g later = ap (λ q. by_first q (is_under d k)) (sym f) ∙ g
+    go Greater e Less f g later =
+        let one : y < x = ranked x y Greater e in
+        let two = less_is z y (sym f) in
+        let t : nat_cmp z x ≡ Less = is_less z x (omega arith) in
+        rw t refl
+    go Greater e Equal f g later =
+        let one : y < x = ranked x y Greater e in
+        let two : z ≡ y = ranked z y Equal f in
+        let t : nat_cmp z x ≡ Less = is_less z x (omega arith) in
+        rw t refl
+    go Equal e Less f g later =
+        let same : x ≡ y = ranked x y Equal e in
+        let t : nat_cmp z x ≡ Less = ap (nat_cmp z) same ∙ sym f in
+        rw t refl
+    go Equal e Equal f g later =
+        let same : x ≡ y = ranked x y Equal e in
+        let t : nat_cmp z x ≡ Equal = ap (nat_cmp z) same ∙ sym f in
+        rw t (later g)
+    go o e Greater f g later = cc
+
+within_first : (b d k : List ℕ) → is_within b k ≡ true → is_within (wider b d) k ≡ true
+within_first b d k h = ap (λ s. is_within s k) (wider_is b d) ∙ under_is (wider_bytes b d) k ∙ first_wider b d k (sym (under_is b k) ∙ h)
+
+within_second : (b d k : List ℕ) → is_within d k ≡ true → is_within (wider b d) k ≡ true
+within_second b d k h = ap (λ s. is_within s k) (wider_is b d) ∙ under_is (wider_bytes b d) k ∙ second_wider b d k (sym (under_is d k) ∙ h)
+
+-- ---- keys and ranges
+
+from_itself : (k : List ℕ) → is_from k k ≡ true
+from_itself k = ap is_not_less (itself k)
+
+from_trans : (a b k : List ℕ) → is_from a b ≡ true → is_from b k ≡ true → is_from a k ≡ true
+from_trans a b k h j = go (key_cmp b a) refl h (key_cmp k b) refl j
+  where
+    go : (o : Ordering) → o ≡ key_cmp b a → is_not_less o ≡ true → (p : Ordering) → p ≡ key_cmp k b → is_not_less p ≡ true → is_from a k ≡ true
+    go Less e f p g i = cc
+    go o e f Less g i = cc
+    go Equal e f p g i = subst (λ x. is_from x k ≡ true) (same_key b a (sym e)) (ap is_not_less (sym g) ∙ i)
+    go Greater e f Equal g i = subst (λ x. is_from a x ≡ true) (sym (same_key k b (sym g))) (ap is_not_less (sym e) ∙ f)
+    go Greater e f Greater g i = ap is_not_less (after a k (key_trans a b k (reversed b a (sym e)) (reversed k b (sym g))))
+
+-- what is within a stop comes before what is not
+within_before : (stop k e : List ℕ) → is_within stop k ≡ true → is_within stop e ≡ false → key_cmp k e ≡ Less
+within_before stop k e h out = go (key_cmp k e) refl
+  where
+    go : (o : Ordering) → o ≡ key_cmp k e → key_cmp k e ≡ Less
+    go Less f = sym f
+    go Equal f = let same = same_key k e (sym f) in let wrong : is_within stop e ≡ true = subst (λ x. is_within stop x ≡ true) same h in cc
+    go Greater f = let wrong : is_within stop k ≡ false = stays_past stop e k out (reversed k e (sym f)) in cc
+
+less_then_from : (k e l : List ℕ) → key_cmp k e ≡ Less → is_from e l ≡ true → key_cmp k l ≡ Less
+less_then_from k e l h j = go (key_cmp l e) refl j
+  where
+    go : (o : Ordering) → o ≡ key_cmp l e → is_not_less o ≡ true → key_cmp k l ≡ Less
+    go Less f i = cc
+    go Equal f i = subst (λ x. key_cmp k x ≡ Less) (sym (same_key l e (sym f))) h
+    go Greater f i = key_trans k e l h (reversed l e (sym f))
+
+and_both : (a b : Bool) → (a && b) ≡ true → (a ≡ true) × (b ≡ true)
+and_both true b h = (refl, h)
+and_both false b h = cc
+
+both_and : (a b : Bool) → a ≡ true → b ≡ true → (a && b) ≡ true
+both_and a b h k = rw (h, k) refl
+
+eq_only : (o : Ordering) → is_eq o ≡ true → o ≡ Equal
+eq_only Less h = cc
+eq_only Equal h = refl
+eq_only Greater h = cc
+
+within_itself : (k : List ℕ) → is_within k k ≡ true
+within_itself k = under_is k k ∙ go k
+  where
+    go : (k : List ℕ) → is_under k k ≡ true
+    go [] = refl
+    go (x ∷ k) = let t : nat_cmp x x ≡ Equal = sym (nat_cmp_is x x Equal refl) in rw t (go k)
+
+-- a key of a range is from its start on, and within its stop
+bounded : (r : KeyRange) (key : List ℕ) → is_in r key ≡ true → (is_from (start_of r) key ≡ true) × (is_within (stop_of r) key ≡ true)
+bounded (Point point) key h =
+    let same = same_key key point (eq_only (key_cmp key point) h) in
+    (subst (λ x. is_from point x ≡ true) (sym same) (from_itself point), subst (λ x. is_within point x ≡ true) (sym same) (within_itself point))
+bounded (Span start stop) key h = and_both (is_from start key) (is_within stop key) h
+
+in_hull_first : (r s : KeyRange) (key : List ℕ) → is_in r key ≡ true → is_in (hull r s) key ≡ true
+in_hull_first r s key h = let b = bounded r key h in both_and (is_from (start_of r) key) (is_within (wider (stop_of r) (stop_of s)) key) b.0 (within_first (stop_of r) (stop_of s) key b.1)
+
+in_hull_second : (r s : KeyRange) (key : List ℕ) → is_from (start_of r) (start_of s) ≡ true → is_in s key ≡ true → is_in (hull r s) key ≡ true
+in_hull_second r s key later h =
+    let b = bounded s key h in
+    both_and (is_from (start_of r) key) (is_within (wider (stop_of r) (stop_of s)) key) (from_trans (start_of r) (start_of s) key later b.0) (within_second (stop_of r) (stop_of s) key b.1)
+
+-- ---- one range around two
+
+not_from : (a b : List ℕ) → is_from a b ≡ false → is_from b a ≡ true
+not_from a b h = go (key_cmp b a) refl h
+  where
+    go : (o : Ordering) → o ≡ key_cmp b a → is_not_less o ≡ false → is_from b a ≡ true
+    go Less e f = ap is_not_less (after b a (sym e))
+    go Equal e f = cc
+    go Greater e f = cc
+
+from_first : (a b k : List ℕ) → is_from a k ≡ true → is_from (first_start a b) k ≡ true
+from_first a b k h = go (is_from a b) refl
+  where
+    go : (t : Bool) → t ≡ is_from a b → is_from (if t then a else b) k ≡ true
+    go true e = h
+    go false e = from_trans b a k (not_from a b (sym e)) h
+
+from_second : (a b k : List ℕ) → is_from b k ≡ true → is_from (first_start a b) k ≡ true
+from_second a b k h = go (is_from a b) refl
+  where
+    go : (t : Bool) → t ≡ is_from a b → is_from (if t then a else b) k ≡ true
+    go true e = from_trans a b k (sym e) h
+    go false e = h
+
+pub around_first : (r s : KeyRange) (key : List ℕ) → is_in r key ≡ true → is_in (around r s) key ≡ true
+around_first r s key h =
+    let b = bounded r key h in
+    both_and (is_from (first_start (start_of r) (start_of s)) key) (is_within (wider (stop_of r) (stop_of s)) key) (from_first (start_of r) (start_of s) key b.0) (within_first (stop_of r) (stop_of s) key b.1)
+
+pub around_second : (r s : KeyRange) (key : List ℕ) → is_in s key ≡ true → is_in (around r s) key ≡ true
+around_second r s key h =
+    let b = bounded s key h in
+    both_and (is_from (first_start (start_of r) (start_of s)) key) (is_within (wider (stop_of r) (stop_of s)) key) (from_second (start_of r) (start_of s) key b.0) (within_second (stop_of r) (stop_of s) key b.1)
+
+-- it is of a table where both are
+pub around_prefix : (id : ℕ) (r s : KeyRange) → IsRangeOf id r → IsRangeOf id s → IsRangeOf id (around r s)
+around_prefix id r s of_r of_s = (by_start (is_from (start_of r) (start_of s)), by_stop (has_prefix (stop_of r) (stop_of s)) (has_prefix (stop_of s) (stop_of r) || is_lt (key_cmp (stop_of r) (stop_of s))))
+  where
+    ends : (t : KeyRange) → IsRangeOf id t → (has_prefix (row_prefix id) (start_of t) ≡ true) × (has_prefix (row_prefix id) (stop_of t) ≡ true)
+    ends (Point point) h = (h, h)
+    ends (Span start stop) h = h
+
+    by_start : (t : Bool) → has_prefix (row_prefix id) (if t then start_of r else start_of s) ≡ true
+    by_start true = (ends r of_r).0
+    by_start false = (ends s of_s).0
+
+    by_stop : (p q : Bool) → has_prefix (row_prefix id) (if p then stop_of r else (if q then stop_of s else stop_of r)) ≡ true
+    by_stop true q = (ends r of_r).1
+    by_stop false true = (ends s of_s).1
+    by_stop false false = (ends r of_r).1
+
+-- ---- merged ranges
+
+or_left : (a b : Bool) → a ≡ true → (a || b) ≡ true
+or_left a b h = rw h refl
+
+or_right : (a b : Bool) → b ≡ true → (a || b) ≡ true
+or_right true b h = refl
+or_right false b h = h
+
+or_cases : {A : Type 0} (a b : Bool) → (a || b) ≡ true → (a ≡ true → A) → (b ≡ true → A) → A
+or_cases true b h first second = first refl
+or_cases false b h first second = second h
+
+-- the key of the first range, or of one behind it, is in a merged range
+keeps : (r : KeyRange) (ss : List KeyRange) → StartFrom (start_of r) ss → StartsNeverFall ss → (key : List ℕ) → (is_in r key || is_in_any ss key) ≡ true → is_in_any (merged_after r ss) key ≡ true
+keeps r [] from rest key h = h
+keeps r (s ∷ ss) from rest key h =
+    go (is_within (stop_of r) (start_of s))
+    (λ i. keeps (hull r s) ss from.1 rest.1 key i)
+    (λ i. keeps s ss rest.0 rest.1 key i)
+  where
+    go : (b : Bool) → ((is_in (hull r s) key || is_in_any ss key) ≡ true → is_in_any (merged_after (hull r s) ss) key ≡ true) → ((is_in s key || is_in_any ss key) ≡ true → is_in_any (merged_after s ss) key ≡ true)
+        → is_in_any (if b then merged_after (hull r s) ss else r ∷ merged_after s ss) key ≡ true
+    go true one apart = one (or_cases (is_in r key) (is_in s key || is_in_any ss key) h
+        (λ i. or_left (is_in (hull r s) key) (is_in_any ss key) (in_hull_first r s key i))
+        (λ i. or_cases (is_in s key) (is_in_any ss key) i
+        (λ j. or_left (is_in (hull r s) key) (is_in_any ss key) (in_hull_second r s key from.0 j))
+        (λ j. or_right (is_in (hull r s) key) (is_in_any ss key) j)))
+    go false one apart = or_cases (is_in r key) (is_in s key || is_in_any ss key) h
+        (λ i. or_left (is_in r key) (is_in_any (merged_after s ss) key) i)
+        (λ i. or_right (is_in r key) (is_in_any (merged_after s ss) key) (apart i))
+
+-- all keys of these ranges are from this one on
+abbrev AreFrom : List ℕ → List KeyRange → Type 0
+AreFrom start ranges = AllByRecursion (λ r. (key : List ℕ) → is_in r key ≡ true → is_from start key ≡ true) ranges
+
+all_from : (start : List ℕ) (r : KeyRange) (ss : List KeyRange) → is_from start (start_of r) ≡ true → StartFrom start ss → StartFrom (start_of r) ss → StartsNeverFall ss → AreFrom start (merged_after r ss)
+all_from start r [] h from own rest = ((λ key i. from_trans start (start_of r) key h (bounded r key i).0), tt)
+all_from start r (s ∷ ss) h from own rest =
+    go (is_within (stop_of r) (start_of s)) (all_from start (hull r s) ss h from.1 own.1 rest.1) (all_from start s ss from.0 from.1 rest.0 rest.1)
+  where
+    go : (b : Bool) → AreFrom start (merged_after (hull r s) ss) → AreFrom start (merged_after s ss) → AreFrom start (if b then merged_after (hull r s) ss else r ∷ merged_after s ss)
+    go true one apart = one
+    go false one apart = ((λ key i. from_trans start (start_of r) key h (bounded r key i).0), apart)
+
+all_behind : (r : KeyRange) (start : List ℕ) (ranges : List KeyRange) → is_within (stop_of r) start ≡ false → AreFrom start ranges → AllByRecursion (ComesBefore r) ranges
+all_behind r start [] out from = tt
+all_behind r start (s ∷ ss) out from =
+    ((λ k l i j. less_then_from k start l (within_before (stop_of r) k start (bounded r k i).1 out) (from.0 l j)), all_behind r start ss out from.1)
+
+in_order : (r : KeyRange) (ss : List KeyRange) → StartFrom (start_of r) ss → StartsNeverFall ss → AreInOrder (merged_after r ss)
+in_order r [] from rest = (tt, tt)
+in_order r (s ∷ ss) from rest =
+    go (is_within (stop_of r) (start_of s)) refl (in_order (hull r s) ss from.1 rest.1) (in_order s ss rest.0 rest.1)
+    (all_from (start_of s) s ss (from_itself (start_of s)) rest.0 rest.0 rest.1)
+  where
+    go : (b : Bool) → b ≡ is_within (stop_of r) (start_of s) → AreInOrder (merged_after (hull r s) ss) → AreInOrder (merged_after s ss) → AreFrom (start_of s) (merged_after s ss)
+        → AreInOrder (if b then merged_after (hull r s) ss else r ∷ merged_after s ss)
+    go true e one apart from_s = one
+    go false e one apart from_s = (all_behind r (start_of s) (merged_after s ss) (sym e) from_s, apart)
+
+pub merged_loses_nothing : MergedLosesNothing
+merged_loses_nothing [] falls = (tt, λ key h. h)
+merged_loses_nothing (r ∷ rs) falls = (in_order r rs falls.0 falls.1, λ key h. keeps r rs falls.0 falls.1 key h)
