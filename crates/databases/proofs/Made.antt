@@ -4,7 +4,7 @@ use Rattle.sector_device.specs.Timeline.{weakened}
 use Rattle.sector_device.specs.Device.{DeviceState, Image, IsLeft, timeline}
 use Rattle.sector_device.specs.declared.device.Device.{Ghosts}
 use Rattle.cow_pages.specs.Image.{first_fault, is_size}
-use Rattle.cow_pages.specs.declared.open.OpenFault.TheVariants.{NotADatabase}
+use Rattle.cow_pages.specs.declared.open.OpenFault.TheVariants.{Device, NotADatabase}
 use Rattle.storage_sizes.specs.Spellings.{current}
 use Rattle.store.specs.Memory.{admin_record, new_records}
 use Rattle.kv_store.specs.Numbered.{HasContentsUnder}
@@ -16,7 +16,6 @@ use Rattle.journal_store.proofs.Clearing.{no_numbers, no_parts_blank}
 use Rattle.abstract_database.specs.Lists.{TheName}
 use Rattle.abstract_database.specs.Database.{new_database}
 use Rattle.stored_database.specs.Records.{StandsFor}
-use Rattle.databases.specs.declared.making.MakeFault.TheVariants.{Device}
 use Rattle.databases.specs.Making.{IsNew, IsNoneOrNew, WritesNew, IsMade, Makes, FormatsOfKind}
 
 module _ (admin : TheName) (stands : StandsFor (new_records admin) (new_database admin)) where

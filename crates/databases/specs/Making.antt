@@ -4,7 +4,8 @@ use Rattle.storage_sizes.specs.Spellings.{current}
 use Rattle.sector_device.specs.Timeline.{LeavesOnly}
 use Rattle.sector_device.specs.Device.{DeviceState, Image, KeepsHistory, KeepsSize, HasFailed, IsLeft, IsSynced, timeline}
 use Rattle.sector_device.specs.declared.device.Device.{Ghosts}
-use Rattle.cow_pages.specs.declared.open.OpenFault.TheVariants.{NotADatabase}
+use Rattle.cow_pages.specs.declared.open.OpenFault.{OpenFault}
+use Rattle.cow_pages.specs.declared.open.OpenFault.TheVariants.{WrongSize, NotADatabase, Damaged, Device, Memory}
 use Rattle.cow_pages.specs.Image.{first_fault, is_size}
 use Rattle.cow_pages.specs.Formatting.{IsBlank}
 use Rattle.store.specs.Records.{Record}
@@ -16,8 +17,6 @@ use Rattle.journal_store.specs.Formatting.{GoesOn, Formats as FormatsJournaled}
 use Rattle.journal_store.specs.Images.{IsJournaledUnder}
 use Rattle.abstract_database.specs.Lists.{TheName}
 use Rattle.abstract_database.specs.Database.{new_database}
-use Rattle.databases.specs.declared.making.MakeFault.{MakeFault}
-use Rattle.databases.specs.declared.making.MakeFault.TheVariants.{Memory, Device, WrongSize}
 use Rattle.databases.specs.Databases.{MeansDatabase}
 
 -- the root of an image says that there is a journal, or that there is none, and it has these contents under this number
@@ -51,12 +50,14 @@ pub record IsMade (journal : Bool) (admin : TheName) (old new : DeviceState) : T
   pub left : (image : Image) → IsLeft new image → IsNew journal old.sectors admin image
   pub synced : IsSynced new
 
--- the new database is made; or the device has another size, or memory is refused, before anything is written; or the device fails
-abbrev pub Makes : {D : Type 0} → (D → DeviceState) → Bool → TheName → Result (Unit {0}) MakeFault → D → D → Type 0
+-- the new database is made; or the device has another size, or memory is refused, before anything is written; or the device fails; no other fault comes
+abbrev pub Makes : {D : Type 0} → (D → DeviceState) → Bool → TheName → Result (Unit {0}) OpenFault → D → D → Type 0
 Makes state journal admin (Ok x) old new = WritesNew journal admin (state old) (state new) × ((state old).faithful → IsMade journal admin (state old) (state new))
 Makes state journal admin (Err Memory) old new = (is_size (state old).sectors ≡ true) × (new ≡ old)
 Makes state journal admin (Err Device) old new = WritesNew journal admin (state old) (state new) × HasFailed (state old) (state new)
 Makes state journal admin (Err WrongSize) old new = (is_size (state old).sectors ≡ false) × (new ≡ old)
+Makes state journal admin (Err NotADatabase) old new = ⊥
+Makes state journal admin (Err Damaged) old new = ⊥
 
 -- what making the store of a new database does, with a journal or without
 abbrev pub FormatsOfKind : {D : Type 0} (g : Ghosts D) → Bool → Record → Result (Unit {0}) FormatFault → D → D → Type 0

@@ -17,7 +17,7 @@ pub use database::{Opened, open_database};
 pub use device_following::{each_call_may_be_the_last, runs_follow_stops, told_answers_stay};
 pub use fault::DatabaseFault;
 pub use following::lives_follow_stops;
-pub use making::{MakeFault, make_database};
+pub use making::make_database;
 pub use new_database::a_stop_leaves_none_or_the_new_one;
 pub use on_device::live;
 pub use over_store::live_over;

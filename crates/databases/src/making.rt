@@ -10,7 +10,7 @@ ghost use Rattle.databases.specs.Making.{FormatsOfKind, Makes};
 
 use cow_pages::page_count;
 use journal_store::{JournalDevice, JournalStore};
-use kv_store::{Entry, FormatFault, PageStore};
+use kv_store::{Entry, FormatFault, OpenFault, PageStore};
 use sector_device::Device;
 use sql_types::name::Name;
 use std::alloc::{AllocError, Global};
@@ -20,31 +20,20 @@ use stored_database::new_records_stand_for_a_new_database;
 /// The value of the record of a role that is a superuser (1) and may log in (2).
 const SUPERUSER_WITH_LOGIN: u8 = 3;
 
-/// Why a new database was not made.
-#[derive(Clone, Copy, Drop, PartialEq, Eq)]
-pub enum MakeFault {
-    /// An allocation failed, before anything was written.
-    Memory,
-    /// The device failed.
-    Device,
-    /// The device does not have 64 to 65,536 whole pages. Nothing was written.
-    WrongSize,
-}
-
 /// Makes the new database of an administrator on a device of 64 to 65,536 whole pages of 4,096
 /// bytes, with a journal or without: it has one role of this name, a superuser that may log in. What
 /// was on the device before is lost.
 ///
 /// After `Ok` each image that a stop leaves stands for the new database, under number 1. On a device
 /// that is blank, as a new one of zeros is, a stop at any moment leaves no database or the new one,
-/// also where the device fails. `WrongSize` and `Memory` come before anything is written; `Device`:
-/// the device failed.
+/// also where the device fails. `WrongSize`, where the device has another size, and `Memory`, where an
+/// allocation failed, come before anything is written; `Device`: the device failed. No other fault comes.
 pub fn make_database<D: JournalDevice>(
     alloc: Global,
     device: &mut D,
     admin: &Name,
     journal: bool,
-) -> Result<(), MakeFault>
+) -> Result<(), OpenFault>
     ensures { Makes D.state journal admin.now result device.old device.new }
 {
     // For the proof: a name is text, and has no zero byte.
@@ -52,15 +41,15 @@ pub fn make_database<D: JournalDevice>(
     // For the proof: the first records are those of a new database.
     new_records_stand_for_a_new_database();
     let Some(_pages) = page_count(device.sectors()) else {
-        return Err(MakeFault::WrongSize);
+        return Err(OpenFault::WrongSize);
     };
     let Ok(first) = record_of_admin(alloc, admin) else {
-        return Err(MakeFault::Memory);
+        return Err(OpenFault::Memory);
     };
     match format_store(alloc, device, &first, journal) {
         Ok(()) => Ok(()),
-        Err(FormatFault::Memory) => Err(MakeFault::Memory),
-        Err(FormatFault::Device) => Err(MakeFault::Device),
+        Err(FormatFault::Memory) => Err(OpenFault::Memory),
+        Err(FormatFault::Device) => Err(OpenFault::Device),
     }
 }
 
