@@ -8,6 +8,8 @@ use Rattle.sector_device.specs.Device.{DeviceState, Image, HasFailed, IsLeft, ti
 use Rattle.sector_device.specs.declared.device.Device.{Ghosts}
 use Rattle.sector_device.proofs.Runs.{lifted, started, present_lifted}
 use Rattle.page_roots.specs.Sector.{begins_with_magic}
+use Rattle.store.specs.declared.fault.Fault.TheVariants as read
+use Rattle.store.specs.declared.fault.StoreFault.TheVariants as write
 use Rattle.store.specs.Store.{Contents, stored}
 use Rattle.cow_pages.specs.declared.open.OpenFault.{OpenFault}
 use Rattle.cow_pages.specs.declared.open.OpenFault.TheVariants as pages
@@ -26,8 +28,8 @@ use Rattle.kv_store.specs.Opening.{IsNamedFor, IsOpened, CannotOpen}
 use Rattle.kv_store.specs.declared.page_store.PageStore.{PageStore}
 use Rattle.kv_store.specs.PageStore.{pages_of, store_state}
 use Rattle.copies.specs.RecordCopies.{mark}
-use Rattle.copies.specs.declared.device_copy_fault.DeviceCopyFault.{DeviceCopyFault}
-use Rattle.copies.specs.declared.device_copy_fault.DeviceCopyFault.TheVariants.{Memory, Source, Damaged, WrongSize, Full, Device}
+use Rattle.copies.specs.declared.fault.CopyFault.{CopyFault}
+use Rattle.copies.specs.declared.fault.CopyFault.TheVariants.{Pages, Read, Write, WrongSize, Full}
 use Rattle.copies.specs.DeviceCopies.{CannotBegin, HasNoneOrMark, IsBegun, IsNotBegun, Marks, marked, records_on, told_opening}
 
 -- the root names as many pages as the device has
@@ -171,11 +173,15 @@ module _ (d e : DeviceState) (size : is_size d.sectors ≡ true) (writes : Write
       by_fault pages.Memory is = subst (λ (s : DeviceState). IsNotBegun s (g.state new)) (sym same) (not_begun (g.state new) pages.Memory is)
 
 -- the mark was not made
-pub not_marked : {D : Type 0} (g : Ghosts D) (fault : DeviceCopyFault) (old new : D) → ((device : D) → (g.state device).faithful → IsPresent (timeline (g.state device))) → Marks g (Err fault) old new
+pub not_marked : {D : Type 0} (g : Ghosts D) (fault : CopyFault) (old new : D) → ((device : D) → (g.state device).faithful → IsPresent (timeline (g.state device))) → Marks g (Err fault) old new
     → CannotBegin g fault old new
-not_marked g Memory old new present is = subst (λ (x : _). IsNotBegun (g.state old) (g.state x)) (sym is.1) (not_written (g.state old) is.0 (present old))
-not_marked g Source old new present is = is
-not_marked g Damaged old new present is = is
+not_marked g (Write write.Memory) old new present is = subst (λ (x : _). IsNotBegun (g.state old) (g.state x)) (sym is.1) (not_written (g.state old) is.0 (present old))
+not_marked g (Write write.Device) old new present is = (half_written (g.state old) (g.state new) is.0 is.1, λ faithful. is.2)
+not_marked g (Write write.Full) old new present is = is
+not_marked g (Write write.Number) old new present is = is
 not_marked g WrongSize old new present is = is
 not_marked g (Full least) old new present is = is
-not_marked g Device old new present is = (half_written (g.state old) (g.state new) is.0 is.1, λ faithful. is.2)
+not_marked g (Pages fault) old new present is = is
+not_marked g (Read read.Memory) old new present is = is
+not_marked g (Read read.Device) old new present is = is
+not_marked g (Read read.Damaged) old new present is = is

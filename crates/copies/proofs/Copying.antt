@@ -25,13 +25,11 @@ use Rattle.stored_database.specs.Spellings.{Stands, spelled_in_second}
 use Rattle.transactions.specs.Views.{applied_all}
 use Rattle.recovery.specs.Migrated.{in_second}
 use Rattle.copies.specs.RecordCopies.{HasOutsized, behind_mark, whole}
-use Rattle.copies.specs.declared.device_copy_fault.DeviceCopyFault.{DeviceCopyFault as RecordsFault}
-use Rattle.copies.specs.declared.device_copy_fault.DeviceCopyFault.TheVariants as records
 use Rattle.copies.specs.DeviceCopies.{CopiesAll, CopiesTo, HasSourceCause, IsCopied}
 use Rattle.databases.specs.Databases.{HoldsDatabase, MeansNone}
-use Rattle.copies.specs.declared.database_copy_fault.DatabaseCopyFault.{DatabaseCopyFault}
-use Rattle.copies.specs.declared.database_copy_fault.DatabaseCopyFault.TheVariants.{Pages, Read, Memory, WrongSize, Full, Device}
-use Rattle.copies.specs.DatabaseCopies.{Copies, CopiesDatabase, CopiesRead, CopiesStore, HasReadCause, IsCopyOf, IsRead, fault_of_copy, told_of}
+use Rattle.copies.specs.declared.fault.CopyFault.{CopyFault}
+use Rattle.copies.specs.declared.fault.CopyFault.TheVariants.{Pages, Read, Write, WrongSize, Full}
+use Rattle.copies.specs.DatabaseCopies.{Copies, CopiesDatabase, CopiesRead, CopiesStore, IsCopyOf, IsRead}
 use Rattle.copies.proofs.Reading.{under_lists}
 
 -- ---- a store that is copied
@@ -44,7 +42,7 @@ whole_is all contents lists db stands is =
     ap (λ (es : Records). whole V2 es) is ∙ ap (λ (es : Records). let c : Contents = record { record_format = V2; records = es } in c) (all (spelled_in_second contents.record_format contents.records) db stands)
 
 pub copies_read : {E : Type 0} (state : E → DeviceState) → ((records : Records) (db : Database) → StandsFor records db → behind_mark records ≡ records) → (contents : Contents) (lists : List Changes)
-    (result : Result (Unit {0}) RecordsFault) (old new : E) → IsRead contents lists → CopiesTo state (applied_all lists contents.records) result old new → CopiesRead contents state result old new
+    (result : Result (Unit {0}) CopyFault) (old new : E) → IsRead contents lists → CopiesTo state (applied_all lists contents.records) result old new → CopiesRead contents state result old new
 copies_read state all contents lists result old new is copies = (
   is.1,
   is.2,
@@ -59,22 +57,23 @@ no_outsized sizes all contents lists is has =
     sizes (spelled_in_second contents.record_format contents.records) is.1 is.2
     (subst HasOutsized (ap behind_mark same ∙ all (spelled_in_second contents.record_format contents.records) is.1 is.2) has)
 
-pub refused_copy : {E : Type 0} (state : E → DeviceState) (contents : Contents) (fault : RecordsFault) (old new : E) → CopiesRead contents state (Err fault) old new → (fault ≡ records.Damaged → ⊥)
-    → CopiesStore contents state (Err (fault_of_copy fault)) old new
-refused_copy state contents records.Memory old new is not = is
-refused_copy state contents records.Source old new is not = inr is
-refused_copy state contents records.Damaged old new is not = absurd (not refl)
-refused_copy state contents records.WrongSize old new is not = is
-refused_copy state contents (records.Full least) old new is not = is
-refused_copy state contents records.Device old new is not = is
+refused_copy : {E : Type 0} (state : E → DeviceState) (contents : Contents) (fault : CopyFault) (old new : E) → CopiesRead contents state (Err fault) old new → (fault ≡ Read read.Damaged → ⊥)
+    → CopiesStore contents state (Err fault) old new
+refused_copy state contents (Read read.Memory) old new is not = absurd is.2
+refused_copy state contents (Read read.Device) old new is not = inr is
+refused_copy state contents (Read read.Damaged) old new is not = absurd (not refl)
+refused_copy state contents (Write fault) old new is not = is
+refused_copy state contents (Pages fault) old new is not = absurd is.2
+refused_copy state contents WrongSize old new is not = is
+refused_copy state contents (Full least) old new is not = is
 
-pub copies_store : {E : Type 0} (state : E → DeviceState) (contents : Contents) (result : Result (Unit {0}) RecordsFault) (old new : E) → CopiesRead contents state result old new
-    → IfErr result (λ fault. fault ≡ records.Damaged → ⊥) → CopiesStore contents state (told_of result) old new
+pub copies_store : {E : Type 0} (state : E → DeviceState) (contents : Contents) (result : Result (Unit {0}) CopyFault) (old new : E) → CopiesRead contents state result old new
+    → IfErr result (λ fault. fault ≡ Read read.Damaged → ⊥) → CopiesStore contents state result old new
 copies_store state contents (Ok x) old new is not = is
 copies_store state contents (Err fault) old new is not = refused_copy state contents fault old new is not
 
 -- where it cannot be, it is not
-pub undamaged : (P : Type 0) (result : Result (Unit {0}) RecordsFault) → IfErr result (λ fault. fault ≡ records.Damaged → P) → (P → ⊥) → IfErr result (λ fault. fault ≡ records.Damaged → ⊥)
+pub undamaged : (P : Type 0) (result : Result (Unit {0}) CopyFault) → IfErr result (λ fault. fault ≡ Read read.Damaged → P) → (P → ⊥) → IfErr result (λ fault. fault ≡ Read read.Damaged → ⊥)
 undamaged P (Ok x) is none = tt
 undamaged P (Err fault) is none = λ damaged. none (is damaged)
 
@@ -84,27 +83,20 @@ refused_read state contents read.Memory target none = refl
 refused_read state contents read.Device target none = inl refl
 refused_read state contents read.Damaged target none = (λ db stands. none db stands refl, refl)
 
-pub cause_of_copy : (fault : RecordsFault) (old new : StoreState) → HasSourceCause fault old new → HasReadCause (fault_of_copy fault) old new
-cause_of_copy records.Memory old new cause = tt
-cause_of_copy records.Source old new cause = cause
-cause_of_copy records.Damaged old new cause = tt
-cause_of_copy records.WrongSize old new cause = tt
-cause_of_copy (records.Full least) old new cause = tt
-cause_of_copy records.Device old new cause = tt
-
 -- the source failed in the copy, after reads that did not
-cause_since : (fault : RecordsFault) (old mid new : StoreState) → KeepsHistory old mid → mid.has_failed ≡ old.has_failed → KeepsHistory mid new → HasSourceCause fault mid new → HasSourceCause fault old new
-cause_since records.Memory old mid new first same second cause = tt
-cause_since records.Source old mid new first same second cause = cause_later commit.Device old mid new first same second cause
-cause_since records.Damaged old mid new first same second cause = tt
-cause_since records.WrongSize old mid new first same second cause = tt
-cause_since (records.Full least) old mid new first same second cause = tt
-cause_since records.Device old mid new first same second cause = tt
+cause_since : (fault : CopyFault) (old mid new : StoreState) → KeepsHistory old mid → mid.has_failed ≡ old.has_failed → KeepsHistory mid new → HasSourceCause fault mid new → HasSourceCause fault old new
+cause_since (Read read.Memory) old mid new first same second cause = tt
+cause_since (Read read.Device) old mid new first same second cause = cause_later commit.Device old mid new first same second cause
+cause_since (Read read.Damaged) old mid new first same second cause = tt
+cause_since (Write fault) old mid new first same second cause = tt
+cause_since (Pages fault) old mid new first same second cause = tt
+cause_since WrongSize old mid new first same second cause = tt
+cause_since (Full least) old mid new first same second cause = tt
 
-pub told_cause : (result : Result (Unit {0}) RecordsFault) (old mid new : StoreState) → KeepsHistory old mid → mid.has_failed ≡ old.has_failed → KeepsHistory mid new
-    → IfErr result (λ fault. HasSourceCause fault mid new) → IfErr (told_of result) (λ fault. HasReadCause fault old new)
-told_cause (Ok x) old mid new first same second cause = tt
-told_cause (Err fault) old mid new first same second cause = cause_of_copy fault old new (cause_since fault old mid new first same second cause)
+pub source_cause : (result : Result (Unit {0}) CopyFault) (old mid new : StoreState) → KeepsHistory old mid → mid.has_failed ≡ old.has_failed → KeepsHistory mid new
+    → IfErr result (λ fault. HasSourceCause fault mid new) → IfErr result (λ fault. HasSourceCause fault old new)
+source_cause (Ok x) old mid new first same second cause = tt
+source_cause (Err fault) old mid new first same second cause = cause_since fault old mid new first same second cause
 
 -- ---- a device that is copied
 
@@ -131,13 +123,13 @@ refused_pages state d e pages.Device target named failed = (failed refl, refl)
 refused_pages state d e pages.Memory target named failed = (named, refl)
 
 module _ {E : Type 0} (state : E → DeviceState) (d e : DeviceState) (contents : Contents) (has : HasContents (d.sectors / 8) contents d.content) (s t : StoreState) (failed : HasDeviceCause s t → HasFailed d e) where
-  abbrev held : (result : Result (Unit {0}) RecordsFault) (old new : E) → CopiesRead contents state result old new → Copies d state result old new
+  abbrev held : (result : Result (Unit {0}) CopyFault) (old new : E) → CopiesRead contents state result old new → Copies d state result old new
   held result old new is = record { database = is.0; holds = record { contents = contents; has = has; stands = is.1 }; copied = is.2 }
 
   none_held : ((db : Database) → Stands contents db → ⊥) → MeansNone (d.sectors / 8) d.content
   none_held none = record { contents = contents; has = has; none = none }
 
-  pub copies_database : (result : Result (Unit {0}) DatabaseCopyFault) (old new : E) → CopiesStore contents state result old new → IfErr result (λ fault. HasReadCause fault s t) → CopiesDatabase d e state result old new
+  pub copies_database : (result : Result (Unit {0}) CopyFault) (old new : E) → CopiesStore contents state result old new → IfErr result (λ fault. HasSourceCause fault s t) → CopiesDatabase d e state result old new
   copies_database (Ok x) old new is cause = (
     held (Ok x) old new is,
     λ faithful image left. record { contents = in_second contents; has = has_plain false ((state new).sectors / 8) (in_second contents) image refl (is.2.1 faithful image left); stands = is.1 },
@@ -145,8 +137,7 @@ module _ {E : Type 0} (state : E → DeviceState) (d e : DeviceState) (contents 
   copies_database (Err (Pages fault)) old new is cause = absurd is
   copies_database (Err (Read read.Memory)) old new is cause = is
   copies_database (Err (Read read.Damaged)) old new is cause = (none_held is.0, is.1)
-  copies_database (Err Memory) old new is cause = held (Err records.Memory) old new is
-  copies_database (Err (Read read.Device)) old new is cause = (failed cause, elim is [ inl same ↦ inl same | inr copied ↦ inr (held (Err records.Source) old new copied) ])
-  copies_database (Err WrongSize) old new is cause = held (Err records.WrongSize) old new is
-  copies_database (Err (Full least)) old new is cause = held (Err (records.Full least)) old new is
-  copies_database (Err Device) old new is cause = held (Err records.Device) old new is
+  copies_database (Err (Read read.Device)) old new is cause = (failed cause, elim is [ inl same ↦ inl same | inr copied ↦ inr (held (Err (Read read.Device)) old new copied) ])
+  copies_database (Err (Write fault)) old new is cause = held (Err (Write fault)) old new is
+  copies_database (Err WrongSize) old new is cause = held (Err WrongSize) old new is
+  copies_database (Err (Full least)) old new is cause = held (Err (Full least)) old new is

@@ -5,6 +5,7 @@ use Rattle.storage_sizes.specs.Spellings.{current}
 use Rattle.sector_device.specs.Timeline.{LeavesOnly, joined, weakened, read_by}
 use Rattle.sector_device.specs.Device.{DeviceState, Image, HasFailed, IsLeft, timeline}
 use Rattle.sector_device.specs.declared.device.Device.{Ghosts}
+use Rattle.store.specs.declared.fault.Fault.{Fault}
 use Rattle.store.specs.declared.fault.Fault.TheVariants as read
 use Rattle.store.specs.declared.fault.StoreFault.{StoreFault}
 use Rattle.store.specs.declared.fault.StoreFault.TheVariants as write
@@ -14,11 +15,9 @@ use Rattle.cow_pages.specs.Cow.{device_below, device_of}
 use Rattle.kv_store.specs.Contents.{HasContents, IsReadAs}
 use Rattle.kv_store.specs.declared.page_store.PageStore.{PageStore}
 use Rattle.kv_store.specs.PageStore.{pages_of, store_state}
-use Rattle.copies.specs.declared.record_copy_fault.RecordCopyFault.{RecordCopyFault as RecordsFault}
-use Rattle.copies.specs.declared.record_copy_fault.RecordCopyFault.TheVariants.{Read, Write}
 use Rattle.copies.specs.RecordCopies.{Contains, Copies, HasCopyCause, HasMark, IsUnfinished, mark, whole}
-use Rattle.copies.specs.declared.device_copy_fault.DeviceCopyFault.{DeviceCopyFault}
-use Rattle.copies.specs.declared.device_copy_fault.DeviceCopyFault.TheVariants.{Memory, Source, Damaged, WrongSize, Full, Device}
+use Rattle.copies.specs.declared.fault.CopyFault.{CopyFault}
+use Rattle.copies.specs.declared.fault.CopyFault.TheVariants.{Pages, Read, Write, WrongSize, Full}
 use Rattle.copies.proofs.Beginning.{sectors_are}
 use Rattle.copies.specs.DeviceCopies.{CannotBegin, CopiesAll, CopiesTo, HasNoneOrMark, HasNoneOrMarkOr, HasSourceCause, IsBegun, IsCopied, IsNotBegun, IsNotCopied, Tries, marked, records_on, told_of}
 use Rattle.copies.specs.Wanted.{TellsWanted}
@@ -37,30 +36,37 @@ tries_nothing contents d e is = record {
 not_copied : (d e : DeviceState) → IsNotBegun d e → IsNotCopied d e
 not_copied d e is = λ faithful blank. (is.leaves faithful blank).now
 
-pub cannot_begin : {D : Type 0} (g : Ghosts D) (contents : Contents) (fault : DeviceCopyFault) (old new : D) → CannotBegin g fault old new → CopiesAll g.state contents (Err fault) old new
-cannot_begin g contents Memory old new is = (tries_nothing contents (g.state old) (g.state new) is, not_copied (g.state old) (g.state new) is)
-cannot_begin g contents Source old new is = absurd is
-cannot_begin g contents Damaged old new is = absurd is
+pub cannot_begin : {D : Type 0} (g : Ghosts D) (contents : Contents) (fault : CopyFault) (old new : D) → CannotBegin g fault old new → CopiesAll g.state contents (Err fault) old new
+cannot_begin g contents (Write write.Memory) old new is = (tries_nothing contents (g.state old) (g.state new) is, not_copied (g.state old) (g.state new) is)
+cannot_begin g contents (Write write.Device) old new is = (tries_nothing contents (g.state old) (g.state new) is.0, is.1)
+cannot_begin g contents (Write write.Full) old new is = absurd is
+cannot_begin g contents (Write write.Number) old new is = absurd is
 cannot_begin g contents WrongSize old new is = is
 cannot_begin g contents (Full least) old new is = absurd is
-cannot_begin g contents Device old new is = (tries_nothing contents (g.state old) (g.state new) is.0, is.1)
+cannot_begin g contents (Pages fault) old new is = absurd is
+cannot_begin g contents (Read read.Memory) old new is = absurd is
+cannot_begin g contents (Read read.Device) old new is = absurd is
+cannot_begin g contents (Read read.Damaged) old new is = absurd is
 
 -- before anything is read the source is not the cause
-pub no_source_cause : {D : Type 0} (g : Ghosts D) (fault : DeviceCopyFault) (old new : D) (s t : StoreState) → CannotBegin g fault old new → HasSourceCause fault s t
-no_source_cause g Memory old new s t is = tt
-no_source_cause g Source old new s t is = absurd is
-no_source_cause g Damaged old new s t is = tt
+unread : {D : Type 0} (g : Ghosts D) (P : Type 0) (fault : Fault) (old new : D) → CannotBegin g (Read fault) old new → P
+unread g P read.Memory old new is = absurd is
+unread g P read.Device old new is = absurd is
+unread g P read.Damaged old new is = absurd is
+
+pub no_source_cause : {D : Type 0} (g : Ghosts D) (fault : CopyFault) (old new : D) (s t : StoreState) → CannotBegin g fault old new → HasSourceCause fault s t
+no_source_cause g (Read fault) old new s t is = unread g (HasSourceCause (Read fault) s t) fault old new is
+no_source_cause g (Write fault) old new s t is = tt
+no_source_cause g (Pages fault) old new s t is = tt
 no_source_cause g WrongSize old new s t is = tt
 no_source_cause g (Full least) old new s t is = tt
-no_source_cause g Device old new s t is = tt
 
-pub no_damage : {D : Type 0} (g : Ghosts D) (P : Type 0) (fault : DeviceCopyFault) (old new : D) → CannotBegin g fault old new → fault ≡ Damaged → P
-no_damage g P Memory old new is bad = let no : Memory ≡ Damaged = bad in cc
-no_damage g P Source old new is bad = absurd is
-no_damage g P Damaged old new is bad = absurd is
-no_damage g P WrongSize old new is bad = let no : WrongSize ≡ Damaged = bad in cc
-no_damage g P (Full least) old new is bad = absurd is
-no_damage g P Device old new is bad = let no : Device ≡ Damaged = bad in cc
+pub no_damage : {D : Type 0} (g : Ghosts D) (P : Type 0) (fault : CopyFault) (old new : D) → CannotBegin g fault old new → fault ≡ Read read.Damaged → P
+no_damage g P (Read fault) old new is bad = unread g P fault old new is
+no_damage g P (Write fault) old new is bad = let no : Write fault ≡ Read read.Damaged = bad in cc
+no_damage g P (Pages fault) old new is bad = let no : Pages fault ≡ Read read.Damaged = bad in cc
+no_damage g P WrongSize old new is bad = let no : WrongSize ≡ Read read.Damaged = bad in cc
+no_damage g P (Full least) old new is bad = let no : Full least ≡ Read read.Damaged = bad in cc
 
 -- ---- a copy was begun
 
@@ -69,7 +75,7 @@ module _ {D : Type 0} {g : Ghosts D} (d : DeviceState) (s t : PageStore D g) (be
   e = device_below (pages_of t)
 
   -- a copy into the marked store, in the current record format
-  spelled : (result : Result (Unit {0}) RecordsFault) (records : Records) → d.faithful
+  spelled : (result : Result (Unit {0}) CopyFault) (records : Records) → d.faithful
       → ((store_state s).sound → (store_state s).has_failed ≡ false → (store_state s).map ≡ mark ∷ [] → Copies result (whole (store_state s).record_format records) (store_state s) (store_state t))
       → Copies result (whole current records) (store_state s) (store_state t)
   spelled result records faithful copies =
@@ -77,7 +83,7 @@ module _ {D : Type 0} {g : Ghosts D} (d : DeviceState) (s t : PageStore D g) (be
       subst (λ (c : Contents). Copies result (whole c.record_format records) (store_state s) (store_state t)) is
       (copies (begun.sound faithful) begun.works (ap (λ (c : Contents). c.records) is))
 
-  tries : (result : Result (Unit {0}) RecordsFault) (contents : Contents) → (d.faithful → Copies result contents (store_state s) (store_state t)) → Tries contents d e
+  tries : (result : Result (Unit {0}) CopyFault) (contents : Contents) → (d.faithful → Copies result contents (store_state s) (store_state t)) → Tries contents d e
   tries result contents copies = record {
     size = begun.size;
     faithful = λ faithful. (history.sound (begun.sound faithful)).faithful;
@@ -115,19 +121,23 @@ module _ {D : Type 0} {g : Ghosts D} (d : DeviceState) (s t : PageStore D g) (be
 
 module _ {D : Type 0} {g : Ghosts D} (old : D) (s t : PageStore D g) (begun : IsBegun (g.state old) s) (history : KeepsHistory (store_state s) (store_state t)) (contents : Contents)
     (images : (store_state t).sound → (store_state t).has_failed ≡ false → (image : Image) → IsLeft (device_below (pages_of t)) image
-    → HasContents ((device_below (pages_of t)).sectors / 8) (stored (store_state t)) image) (source kept : StoreState) (no_room : DeviceCopyFault) (tells : TellsWanted ((g.state old).sectors / 8) contents.records no_room) where
+    → HasContents ((device_below (pages_of t)).sectors / 8) (stored (store_state t)) image) (source kept : StoreState) (no_room : CopyFault) (tells : TellsWanted ((g.state old).sectors / 8) contents.records no_room) where
   -- no room was left, for this fault
-  no_room_copied : (fault : DeviceCopyFault) → TellsWanted ((g.state old).sectors / 8) contents.records fault → Tries contents (g.state old) (device_below (pages_of t)) → IsNotCopied (g.state old) (device_below (pages_of t))
+  no_room_copied : (fault : CopyFault) → TellsWanted ((g.state old).sectors / 8) contents.records fault → Tries contents (g.state old) (device_below (pages_of t)) → IsNotCopied (g.state old) (device_below (pages_of t))
       → CopiesAll g.state contents (Err fault) old (device_of (pages_of t))
-  no_room_copied Memory told tried not = (tried, not)
-  no_room_copied Source told tried not = (tried, not)
-  no_room_copied Damaged told tried not = absurd told
-  no_room_copied WrongSize told tried not = absurd told
   no_room_copied (Full least) told tried not = (tried, not, told)
-  no_room_copied Device told tried not = absurd told
+  no_room_copied (Read read.Device) told tried not = (tried, not)
+  no_room_copied (Write write.Memory) told tried not = (tried, not)
+  no_room_copied (Read read.Memory) told tried not = absurd told
+  no_room_copied (Read read.Damaged) told tried not = absurd told
+  no_room_copied (Write write.Full) told tried not = absurd told
+  no_room_copied (Write write.Device) told tried not = absurd told
+  no_room_copied (Write write.Number) told tried not = absurd told
+  no_room_copied (Pages fault) told tried not = absurd told
+  no_room_copied WrongSize told tried not = absurd told
 
-  pub all_copied : (result : Result (Unit {0}) RecordsFault) → ((g.state old).faithful → Copies result contents (store_state s) (store_state t))
-      → ((fault : RecordsFault) → result ≡ Err fault → HasCopyCause fault source kept (store_state s) (store_state t)) → CopiesAll g.state contents (told_of no_room result) old (device_of (pages_of t))
+  pub all_copied : (result : Result (Unit {0}) CopyFault) → ((g.state old).faithful → Copies result contents (store_state s) (store_state t))
+      → ((fault : CopyFault) → result ≡ Err fault → HasCopyCause fault source kept (store_state s) (store_state t)) → CopiesAll g.state contents (told_of no_room result) old (device_of (pages_of t))
   all_copied (Ok x) copies cause = (tries (g.state old) s t begun history (Ok x) contents copies, copied (g.state old) s t begun history contents images (λ faithful. (copies faithful).after))
   all_copied (Err (Read read.Memory)) copies cause = (tries (g.state old) s t begun history (Err (Read read.Memory)) contents copies, still_marked (g.state old) s t begun history (λ faithful. (copies faithful).after))
   all_copied (Err (Read read.Device)) copies cause = (tries (g.state old) s t begun history (Err (Read read.Device)) contents copies, still_marked (g.state old) s t begun history (λ faithful. (copies faithful).after))
@@ -137,17 +147,24 @@ module _ {D : Type 0} {g : Ghosts D} (old : D) (s t : PageStore D g) (begun : Is
   all_copied (Err (Write write.Device)) copies cause =
       (tries (g.state old) s t begun history (Err (Write write.Device)) contents copies, failed_since (g.state old) s t begun history (cause (Write write.Device) refl))
   all_copied (Err (Write write.Number)) copies cause = no_room_copied no_room tells (tries (g.state old) s t begun history (Err (Write write.Number)) contents copies) (still_marked (g.state old) s t begun history (λ faithful. (copies faithful).after))
+  all_copied (Err (Pages fault)) copies cause = absurd (cause (Pages fault) refl)
+  all_copied (Err WrongSize) copies cause = absurd (cause WrongSize refl)
+  all_copied (Err (Full least)) copies cause = absurd (cause (Full least) refl)
 
 -- Damaged is told where a record of the source has a size that no store takes
-pub told_damaged : (P : Type 0) (no_room : DeviceCopyFault) → (no_room ≡ Damaged → ⊥) → (result : Result (Unit {0}) RecordsFault) → IfErr result (λ fault. fault ≡ Read read.Damaged → P) → IfErr (told_of no_room result) (λ fault. fault ≡ Damaged → P)
+pub told_damaged : (P : Type 0) (no_room : CopyFault) → (no_room ≡ Read read.Damaged → ⊥) → (result : Result (Unit {0}) CopyFault) → IfErr result (λ fault. fault ≡ Read read.Damaged → P)
+    → IfErr (told_of no_room result) (λ fault. fault ≡ Read read.Damaged → P)
 told_damaged P no_room other (Ok x) is = tt
-told_damaged P no_room other (Err (Read read.Memory)) is = λ bad. let no : Memory ≡ Damaged = bad in cc
-told_damaged P no_room other (Err (Read read.Device)) is = λ bad. let no : Source ≡ Damaged = bad in cc
-told_damaged P no_room other (Err (Read read.Damaged)) is = λ damaged. is refl
+told_damaged P no_room other (Err (Read read.Memory)) is = λ bad. let no : Write write.Memory ≡ Read read.Damaged = bad in cc
+told_damaged P no_room other (Err (Read read.Device)) is = is
+told_damaged P no_room other (Err (Read read.Damaged)) is = is
 told_damaged P no_room other (Err (Write write.Full)) is = λ bad. absurd (other bad)
-told_damaged P no_room other (Err (Write write.Memory)) is = λ bad. let no : Memory ≡ Damaged = bad in cc
-told_damaged P no_room other (Err (Write write.Device)) is = λ bad. let no : Device ≡ Damaged = bad in cc
+told_damaged P no_room other (Err (Write write.Memory)) is = is
+told_damaged P no_room other (Err (Write write.Device)) is = is
 told_damaged P no_room other (Err (Write write.Number)) is = λ bad. absurd (other bad)
+told_damaged P no_room other (Err (Pages fault)) is = is
+told_damaged P no_room other (Err WrongSize) is = is
+told_damaged P no_room other (Err (Full least)) is = is
 
 -- reads go on after a cause, which stays
 cause_stays : (old mid new : StoreState) → KeepsHistory mid new → HasDeviceCause old mid → HasDeviceCause old new
@@ -161,16 +178,17 @@ cause_stays old mid new later cause = record {
     rose_on a b c on (inr most) = elim (cases_lt a c) [ inl lt ↦ inl lt | inr from ↦ inr (omega (arith, from, on, most)) ]
 
 -- why there was no room stands in the source since it was read first
-no_room_since : (fault : DeviceCopyFault) (old mid new : StoreState) → KeepsHistory old mid → mid.has_failed ≡ old.has_failed → KeepsHistory mid new → HasSourceCause fault mid new → HasSourceCause fault old new
-no_room_since Memory old mid new first same later cause = tt
-no_room_since Source old mid new first same later cause = cause_later write.Device old mid new first same later cause
-no_room_since Damaged old mid new first same later cause = tt
+no_room_since : (fault : CopyFault) (old mid new : StoreState) → KeepsHistory old mid → mid.has_failed ≡ old.has_failed → KeepsHistory mid new → HasSourceCause fault mid new → HasSourceCause fault old new
+no_room_since (Read read.Memory) old mid new first same later cause = tt
+no_room_since (Read read.Device) old mid new first same later cause = cause_later write.Device old mid new first same later cause
+no_room_since (Read read.Damaged) old mid new first same later cause = tt
+no_room_since (Write fault) old mid new first same later cause = tt
+no_room_since (Pages fault) old mid new first same later cause = tt
 no_room_since WrongSize old mid new first same later cause = tt
 no_room_since (Full least) old mid new first same later cause = tt
-no_room_since Device old mid new first same later cause = tt
 
--- Source is told where a read of it failed: in the copy, or when its records were counted
-pub told_source : (no_room : DeviceCopyFault) (result : Result (Unit {0}) RecordsFault) (source kept counted target written : StoreState) → KeepsHistory source kept → KeepsHistory kept counted
+-- the source is told to have failed where a read of it did: in the copy, or when its records were counted
+pub told_source : (no_room : CopyFault) (result : Result (Unit {0}) CopyFault) (source kept counted target written : StoreState) → KeepsHistory source kept → KeepsHistory kept counted
     → ((fault : StoreFault) → result ≡ Err (Write fault) → kept.has_failed ≡ source.has_failed) → HasSourceCause no_room kept counted
     → IfErr result (λ fault. HasCopyCause fault source kept target written) → IfErr (told_of no_room result) (λ fault. HasSourceCause fault source counted)
 told_source no_room (Ok x) source kept counted target written first later works why is = tt
@@ -181,15 +199,18 @@ told_source no_room (Err (Write write.Full)) source kept counted target written 
 told_source no_room (Err (Write write.Memory)) source kept counted target written first later works why is = tt
 told_source no_room (Err (Write write.Device)) source kept counted target written first later works why is = tt
 told_source no_room (Err (Write write.Number)) source kept counted target written first later works why is = no_room_since no_room source kept counted first (works write.Number refl) later why
+told_source no_room (Err (Pages fault)) source kept counted target written first later works why is = tt
+told_source no_room (Err WrongSize) source kept counted target written first later works why is = tt
+told_source no_room (Err (Full least)) source kept counted target written first later works why is = tt
 
-cause_of : (result : Result (Unit {0}) RecordsFault) (P : RecordsFault → Type 0) → IfErr result P → (fault : RecordsFault) → result ≡ Err fault → P fault
-cause_of (Ok x) P is fault same = let no : ◌≡◌ {A = Result (Unit {0}) RecordsFault} (Ok x) (Err fault) = same in cc
+cause_of : (result : Result (Unit {0}) CopyFault) (P : CopyFault → Type 0) → IfErr result P → (fault : CopyFault) → result ≡ Err fault → P fault
+cause_of (Ok x) P is fault same = let no : ◌≡◌ {A = Result (Unit {0}) CopyFault} (Ok x) (Err fault) = same in cc
 cause_of (Err given) P is fault same = subst P (given_is same) is
   where
-    given_is : ◌≡◌ {A = Result (Unit {0}) RecordsFault} (Err given) (Err fault) → given ≡ fault
+    given_is : ◌≡◌ {A = Result (Unit {0}) CopyFault} (Err given) (Err fault) → given ≡ fault
     given_is h = cc
 
-pub copies_to : {D : Type 0} (g : Ghosts D) (old new : D) (s t : PageStore D g) (records : Records) (source kept : StoreState) (no_room : DeviceCopyFault) (result : Result (Unit {0}) RecordsFault) (told : Result (Unit {0}) DeviceCopyFault)
+pub copies_to : {D : Type 0} (g : Ghosts D) (old new : D) (s t : PageStore D g) (records : Records) (source kept : StoreState) (no_room : CopyFault) (result : Result (Unit {0}) CopyFault) (told : Result (Unit {0}) CopyFault)
     → TellsWanted ((g.state old).sectors / 8) (whole current records).records no_room → IsBegun (g.state old) s → KeepsHistory (store_state s) (store_state t)
     → ((store_state t).sound → (store_state t).has_failed ≡ false → (image : Image) → IsLeft (device_below (pages_of t)) image → HasContents ((device_below (pages_of t)).sectors / 8) (stored (store_state t)) image)
     → ((store_state s).sound → (store_state s).has_failed ≡ false → (store_state s).map ≡ mark ∷ [] → Copies result (whole (store_state s).record_format records) (store_state s) (store_state t))
@@ -198,5 +219,5 @@ copies_to g old new s t records source kept no_room result told tells begun hist
     let all : CopiesTo g.state records (told_of no_room result) old (device_of (pages_of t)) =
     all_copied old s t begun history (whole current records) images source kept no_room tells result (λ faithful. spelled (g.state old) s t begun history result records faithful copies)
     (cause_of result (λ fault. HasCopyCause fault source kept (store_state s) (store_state t)) cause) in
-    subst (λ (r : Result (Unit {0}) DeviceCopyFault). CopiesTo g.state records r old new) (sym told_is)
+    subst (λ (r : Result (Unit {0}) CopyFault). CopiesTo g.state records r old new) (sym told_is)
     (subst (λ (x : _). CopiesTo g.state records (told_of no_room result) old x) (sym new_is) all)

@@ -13,8 +13,8 @@ use Rattle.store.specs.declared.fault.StoreFault.TheVariants.{Full, Memory, Devi
 use Rattle.store.specs.declared.fault.Fault.TheVariants as reading
 use Rattle.store.specs.Readers.{HasRead, HasFaultCause}
 use Rattle.store.proofs.Reading.{rose_later, cause_later, fault_later}
-use Rattle.copies.specs.declared.record_copy_fault.RecordCopyFault.{RecordCopyFault}
-use Rattle.copies.specs.declared.record_copy_fault.RecordCopyFault.TheVariants.{Read, Write}
+use Rattle.copies.specs.declared.fault.CopyFault.{CopyFault}
+use Rattle.copies.specs.declared.fault.CopyFault.TheVariants.{Pages, Read, Write, WrongSize, Full as NoRoom}
 use Rattle.copies.specs.RecordCopies.{IsUnfinished, Fills, Finishes, HasMark, HasOutsized, HasWriteCause, HasCopyCause, AfterCopy, Copies, whole, mark, put_in, unmarked, behind_mark}
 use Rattle.copies.proofs.Copied.{grows, ends}
 
@@ -136,7 +136,7 @@ abbrev of : RecordFormat → Records → Contents
 of record_format records = record { record_format = record_format; records = records }
 
 -- the mark goes with the last records
-pub finished : (A : Records → Type 0) (source : Records) (old mid new : StoreState) (batch : Changes) (result : Result (Unit {0}) RecordCopyFault) → IsOrdered (mark ∷ behind_mark source)
+pub finished : (A : Records → Type 0) (source : Records) (old mid new : StoreState) (batch : Changes) (result : Result (Unit {0}) CopyFault) → IsOrdered (mark ∷ behind_mark source)
     → Finishes result batch mid new → ((fault : Fault) → result ≡ Err (Read fault) → new ≡ mid) → Grows A (behind_mark source) old mid
     → ((later : Records) → A later → batch ≡ put_in later []) → Copies result (whole old.record_format source) old new
 finished A source old mid new batch result o done same g fill = by_answer result done same
@@ -153,7 +153,7 @@ finished A source old mid new batch result o done same g fill = by_answer result
         contents : (s t : RecordFormat) (xs ys : Records) → s ≡ t → xs ≡ ys → of s xs ≡ of t ys
         contents s t xs ys a b = ap (λ (z : RecordFormat). of z xs) a ∙ ap (λ (zs : Records). of t zs) b
 
-    by_answer : (r : Result (Unit {0}) RecordCopyFault) → Finishes r batch mid new → ((fault : Fault) → r ≡ Err (Read fault) → new ≡ mid) → Copies r (whole old.record_format source) old new
+    by_answer : (r : Result (Unit {0}) CopyFault) → Finishes r batch mid new → ((fault : Fault) → r ≡ Err (Read fault) → new ≡ mid) → Copies r (whole old.record_format source) old new
     by_answer (Ok x) commits kept =
         let at = commits.at_once g.sound g.works in
         record {
@@ -170,6 +170,9 @@ finished A source old mid new batch result o done same g fill = by_answer result
         now a b = ap (λ (z : RecordFormat). of z new.map) a ∙ ap (λ (zs : Records). of mid.record_format zs) b
     by_answer (Err (Read fault)) commits kept = subst (λ (s : StoreState). Copies (Err (Read fault)) (whole old.record_format source) old s) (sym (kept fault refl)) (stopped A (behind_mark source) (whole old.record_format source) old mid fault g)
     by_answer (Err (Write fault)) commits kept = record { leaves = last_leaves A (behind_mark source) (whole old.record_format source) old mid new batch (Err fault) g is commits; after = after_fault A (behind_mark source) (whole old.record_format source) _ old mid new fault g commits }
+    by_answer (Err (Pages fault)) commits kept = absurd commits
+    by_answer (Err WrongSize) commits kept = absurd commits
+    by_answer (Err (NoRoom least)) commits kept = absurd commits
 
 -- some of the records are put into an empty batch
 pub some_put : (B : Records → Type 0) (more : Bool) (xs : Records) (start new : Changes) → more ≡ true → start ≡ [] → Fills B more xs start new → Fills B true xs [] new
@@ -182,8 +185,8 @@ all_put B false xs start new is none fills = fills ∙ ap (λ (cs : Changes). pu
 all_put B true xs start new is none fills = absurd cc
 
 -- the answer is this fault
-pub answered : (P : Result (Unit {0}) RecordCopyFault → Type 0) (fault : RecordCopyFault) (result : Result (Unit {0}) RecordCopyFault) → IsErrAnd result (λ given. given ≡ fault) → P (Err fault) → P result
-answered P fault (Err given) is p = subst (λ (f : RecordCopyFault). P (Err f)) (sym is) p
+pub answered : (P : Result (Unit {0}) CopyFault → Type 0) (fault : CopyFault) (result : Result (Unit {0}) CopyFault) → IsErrAnd result (λ given. given ≡ fault) → P (Err fault) → P result
+answered P fault (Err given) is p = subst (λ (f : CopyFault). P (Err f)) (sym is) p
 answered P fault (Ok x) is p = absurd is
 
 -- the source's part of a copy: it was only read, works as at first, and the records not taken yet are ahead
@@ -238,17 +241,20 @@ pub read_cause : {T : Type 0} (fault : Fault) (old mid new : StoreState) → Onl
 read_cause {T} fault old mid new reads same read = (fault_later {T = T} {U = Unit {0}} fault old mid new reads same read).cause
 
 -- what the last commit's fault stands in
-pub finished_cause : (result : Result (Unit {0}) RecordCopyFault) (batch : Changes) (source read old mid new : StoreState) (commits_so_far : ℕ) → commits_so_far ≤ 2 ^ 62 → KeepsHistory old mid
+pub finished_cause : (result : Result (Unit {0}) CopyFault) (batch : Changes) (source read old mid new : StoreState) (commits_so_far : ℕ) → commits_so_far ≤ 2 ^ 62 → KeepsHistory old mid
     → mid.has_failed ≡ old.has_failed → (old.sound → old.has_failed ≡ false → mid.number ≤ old.number + commits_so_far) → KeepsHistory mid new
     → ((fault : Fault) → result ≡ Err (Read fault) → (new ≡ mid) × (fault ≡ reading.Memory)) → Finishes result batch mid new → IfErr result (λ fault. HasCopyCause fault source read old new)
 finished_cause (Ok x) batch source read old mid new n most history same number later refused done = tt
 finished_cause (Err (Read fault)) batch source read old mid new n most history same number later refused done =
     subst (λ (f : Fault). HasFaultCause f source read) (sym (refused fault refl).1) tt
 finished_cause (Err (Write fault)) batch source read old mid new n most history same number later refused done = write_cause fault old mid new n most history same number later done.cause
+finished_cause (Err (Pages fault)) batch source read old mid new n most history same number later refused done = absurd done
+finished_cause (Err WrongSize) batch source read old mid new n most history same number later refused done = absurd done
+finished_cause (Err (NoRoom least)) batch source read old mid new n most history same number later refused done = absurd done
 
-abbrev fault_in : RecordCopyFault → Fault
+abbrev fault_in : CopyFault → Fault
 fault_in (Read fault) = fault
-fault_in (Write fault) = reading.Memory
+fault_in fault = reading.Memory
 
 -- Damaged of a copy is that of its read
 pub read_given : (fault : Fault) → Read fault ≡ Read reading.Damaged → fault ≡ reading.Damaged

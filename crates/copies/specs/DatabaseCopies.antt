@@ -3,9 +3,8 @@ use Rattle.std.specs.Prelude.{◌≡◌, ◌⊎◌, ◌/◌, false, List, Some, 
 use Rattle.storage_sizes.specs.declared.record_format.RecordFormat.{RecordFormat}
 use Rattle.sector_device.specs.Device.{DeviceState, Image, HasFailed, IsLeft}
 use Rattle.store.specs.declared.fault.Fault.TheVariants as read
-use Rattle.store.specs.Readers.{HasFaultCause}
 use Rattle.store.specs.Records.{Changes}
-use Rattle.store.specs.Store.{Contents, StoreState}
+use Rattle.store.specs.Store.{Contents}
 use Rattle.cow_pages.specs.declared.open.OpenFault.TheVariants as pages
 use Rattle.cow_pages.specs.Image.{first_fault, is_size}
 use Rattle.journal_store.specs.DeviceOpening.{IsNamedFor}
@@ -13,27 +12,10 @@ use Rattle.abstract_database.specs.Database.{Database}
 use Rattle.stored_database.specs.Spellings.{Stands}
 use Rattle.recovery.specs.Migrated.{in_second}
 use Rattle.recovery.specs.Respelled.{AreRespelling}
-use Rattle.copies.specs.declared.device_copy_fault.DeviceCopyFault.{DeviceCopyFault as RecordsFault}
-use Rattle.copies.specs.declared.device_copy_fault.DeviceCopyFault.TheVariants as records
 use Rattle.copies.specs.DeviceCopies.{CopiesAll}
 use Rattle.databases.specs.Databases.{HoldsDatabase, MeansDatabase, MeansNone}
-use Rattle.copies.specs.declared.database_copy_fault.DatabaseCopyFault.{DatabaseCopyFault}
-use Rattle.copies.specs.declared.database_copy_fault.DatabaseCopyFault.TheVariants.{Pages, Read, Memory, WrongSize, Full, Device}
-
--- ---- faults
-
--- that of a copy of records: one of their source is one of reading it
-abbrev pub fault_of_copy : RecordsFault → DatabaseCopyFault
-fault_of_copy records.Source = Read read.Device
-fault_of_copy records.Damaged = Read read.Damaged
-fault_of_copy records.Memory = Memory
-fault_of_copy records.WrongSize = WrongSize
-fault_of_copy (records.Full least) = Full least
-fault_of_copy records.Device = Device
-
-abbrev pub told_of : Result (Unit {0}) RecordsFault → Result (Unit {0}) DatabaseCopyFault
-told_of (Ok x) = Ok x
-told_of (Err fault) = Err (fault_of_copy fault)
+use Rattle.copies.specs.declared.fault.CopyFault.{CopyFault}
+use Rattle.copies.specs.declared.fault.CopyFault.TheVariants.{Pages, Read}
 
 -- ---- a store that is copied
 
@@ -42,30 +24,21 @@ abbrev pub IsRead : Contents → List Changes → Type 0
 IsRead contents lists = AreRespelling contents.record_format contents.records lists × (db : Database) × Stands contents db
 
 -- the contents stand for a database, and are copied in record format 2, with this answer
-abbrev pub CopiesRead : {E : Type 0} → Contents → (E → DeviceState) → Result (Unit {0}) RecordsFault → E → E → Type 0
+abbrev pub CopiesRead : {E : Type 0} → Contents → (E → DeviceState) → Result (Unit {0}) CopyFault → E → E → Type 0
 CopiesRead contents state result old new = (db : Database) × Stands contents db × CopiesAll state (in_second contents) result old new
 
 -- contents that stand for no database are not copied; of others a copy is tried
-abbrev pub CopiesStore : {E : Type 0} → Contents → (E → DeviceState) → Result (Unit {0}) DatabaseCopyFault → E → E → Type 0
-CopiesStore contents state (Ok x) old new = CopiesRead contents state (Ok x) old new
+abbrev pub CopiesStore : {E : Type 0} → Contents → (E → DeviceState) → Result (Unit {0}) CopyFault → E → E → Type 0
 CopiesStore contents state (Err (Pages fault)) old new = ⊥
 CopiesStore contents state (Err (Read read.Memory)) old new = new ≡ old
-CopiesStore contents state (Err (Read read.Device)) old new = (new ≡ old) ⊎ CopiesRead contents state (Err records.Source) old new
+CopiesStore contents state (Err (Read read.Device)) old new = (new ≡ old) ⊎ CopiesRead contents state (Err (Read read.Device)) old new
 CopiesStore contents state (Err (Read read.Damaged)) old new = ((db : Database) → Stands contents db → ⊥) × (new ≡ old)
-CopiesStore contents state (Err Memory) old new = CopiesRead contents state (Err records.Memory) old new
-CopiesStore contents state (Err WrongSize) old new = CopiesRead contents state (Err records.WrongSize) old new
-CopiesStore contents state (Err (Full least)) old new = CopiesRead contents state (Err (records.Full least)) old new
-CopiesStore contents state (Err Device) old new = CopiesRead contents state (Err records.Device) old new
-
--- why the source is told to be the cause
-abbrev pub HasReadCause : DatabaseCopyFault → StoreState → StoreState → Type 0
-HasReadCause (Read fault) old new = HasFaultCause fault old new
-HasReadCause fault old new = Unit {0}
+CopiesStore contents state result old new = CopiesRead contents state result old new
 
 -- ---- a device that is copied
 
 -- the source holds a database, and its contents are copied in record format 2, with this answer
-pub record Copies {E : Type 0} (source : DeviceState) (state : E → DeviceState) (result : Result (Unit {0}) RecordsFault) (old new : E) : Type 0 where
+pub record Copies {E : Type 0} (source : DeviceState) (state : E → DeviceState) (result : Result (Unit {0}) CopyFault) (old new : E) : Type 0 where
   pub database : Database
   pub holds : HoldsDatabase source database
   pub copied : CopiesAll state (in_second holds.contents) result old new
@@ -76,14 +49,11 @@ IsCopyOf db d = (image : Image) → IsLeft d image → MeansDatabase (d.sectors 
 
 -- The whole database is copied; or nothing is written, for memory or for the source: its device failed, or the fault stands in what it
 -- holds; or a copy is tried that stops for memory, for the source, for room or for its device
-abbrev pub CopiesDatabase : {E : Type 0} → DeviceState → DeviceState → (E → DeviceState) → Result (Unit {0}) DatabaseCopyFault → E → E → Type 0
+abbrev pub CopiesDatabase : {E : Type 0} → DeviceState → DeviceState → (E → DeviceState) → Result (Unit {0}) CopyFault → E → E → Type 0
 CopiesDatabase d e state (Ok x) old new = (copy : Copies d state (Ok x) old new) × ((state old).faithful → IsCopyOf copy.database (state new))
 CopiesDatabase d e state (Err (Pages pages.Device)) old new = HasFailed d e × (new ≡ old)
 CopiesDatabase d e state (Err (Pages fault)) old new = IsNamedFor fault d × (new ≡ old)
 CopiesDatabase d e state (Err (Read read.Memory)) old new = new ≡ old
-CopiesDatabase d e state (Err (Read read.Device)) old new = HasFailed d e × ((new ≡ old) ⊎ Copies d state (Err records.Source) old new)
+CopiesDatabase d e state (Err (Read read.Device)) old new = HasFailed d e × ((new ≡ old) ⊎ Copies d state (Err (Read read.Device)) old new)
 CopiesDatabase d e state (Err (Read read.Damaged)) old new = MeansNone (d.sectors / 8) d.content × (new ≡ old)
-CopiesDatabase d e state (Err Memory) old new = Copies d state (Err records.Memory) old new
-CopiesDatabase d e state (Err WrongSize) old new = Copies d state (Err records.WrongSize) old new
-CopiesDatabase d e state (Err (Full least)) old new = Copies d state (Err (records.Full least)) old new
-CopiesDatabase d e state (Err Device) old new = Copies d state (Err records.Device) old new
+CopiesDatabase d e state (Err fault) old new = Copies d state (Err fault) old new

@@ -6,8 +6,9 @@ use Rattle.sector_device.specs.declared.device.Device.{Ghosts}
 use Rattle.storage_sizes.specs.Spellings.{current}
 use Rattle.store.specs.declared.fault.Fault.TheVariants as read
 use Rattle.store.specs.declared.fault.StoreFault.TheVariants as write
+use Rattle.store.specs.Readers.{HasFaultCause}
 use Rattle.store.specs.Records.{Records}
-use Rattle.store.specs.Store.{Contents, StoreState, HasDeviceCause, stored}
+use Rattle.store.specs.Store.{Contents, StoreState, stored}
 use Rattle.cow_pages.specs.declared.open.OpenFault.{OpenFault}
 use Rattle.cow_pages.specs.declared.open.OpenFault.TheVariants as opening
 use Rattle.cow_pages.specs.Image.{is_size}
@@ -17,11 +18,9 @@ use Rattle.kv_store.specs.Contents.{HasContents, IsReadAs}
 use Rattle.kv_store.specs.Formatting.{WritesStore, IsMade}
 use Rattle.kv_store.specs.declared.page_store.PageStore.{PageStore}
 use Rattle.kv_store.specs.PageStore.{pages_of, store_state}
-use Rattle.copies.specs.declared.record_copy_fault.RecordCopyFault.{RecordCopyFault as RecordsFault}
-use Rattle.copies.specs.declared.record_copy_fault.RecordCopyFault.TheVariants.{Read, Write}
 use Rattle.copies.specs.RecordCopies.{IsUnfinished, mark, whole}
-use Rattle.copies.specs.declared.device_copy_fault.DeviceCopyFault.{DeviceCopyFault}
-use Rattle.copies.specs.declared.device_copy_fault.DeviceCopyFault.TheVariants.{Memory, Source, Damaged, WrongSize, Full, Device}
+use Rattle.copies.specs.declared.fault.CopyFault.{CopyFault}
+use Rattle.copies.specs.declared.fault.CopyFault.TheVariants.{Read, Write, WrongSize, Full}
 use Rattle.copies.specs.Wanted.{wanted}
 
 -- what a stop leaves of a device, read as contents
@@ -54,39 +53,32 @@ abbrev pub IsNotCopied : DeviceState → DeviceState → Type 0
 IsNotCopied old new = old.faithful → IsBlank old → (x : Option Contents) → (records_on new).left x → HasNoneOrMark x
 
 -- the contents are copied; or the copy stops for its source, for memory or for room, and is not whole, and where it was for room it is told how many pages are wanted
--- at least; or the device fails, or has another size
-abbrev pub CopiesAll : {D : Type 0} → (D → DeviceState) → Contents → Result (Unit {0}) DeviceCopyFault → D → D → Type 0
+-- at least; or the device fails, or has another size. No other fault comes
+abbrev pub CopiesAll : {D : Type 0} → (D → DeviceState) → Contents → Result (Unit {0}) CopyFault → D → D → Type 0
 CopiesAll state contents (Ok x) old new = Tries contents (state old) (state new) × ((state old).faithful → IsCopied contents (state new))
-CopiesAll state contents (Err Memory) old new = Tries contents (state old) (state new) × IsNotCopied (state old) (state new)
-CopiesAll state contents (Err Source) old new = Tries contents (state old) (state new) × IsNotCopied (state old) (state new)
-CopiesAll state contents (Err Damaged) old new = Tries contents (state old) (state new) × IsNotCopied (state old) (state new)
+CopiesAll state contents (Err (Read read.Device)) old new = Tries contents (state old) (state new) × IsNotCopied (state old) (state new)
+CopiesAll state contents (Err (Read read.Damaged)) old new = Tries contents (state old) (state new) × IsNotCopied (state old) (state new)
+CopiesAll state contents (Err (Write write.Memory)) old new = Tries contents (state old) (state new) × IsNotCopied (state old) (state new)
+CopiesAll state contents (Err (Write write.Device)) old new = Tries contents (state old) (state new) × ((state old).faithful → HasFailed (state old) (state new))
 CopiesAll state contents (Err WrongSize) old new = (is_size (state old).sectors ≡ false) × (new ≡ old)
 CopiesAll state contents (Err (Full least)) old new = Tries contents (state old) (state new) × IsNotCopied (state old) (state new) × (least ≡ wanted ((state old).sectors / 8) contents.records)
-CopiesAll state contents (Err Device) old new = Tries contents (state old) (state new) × ((state old).faithful → HasFailed (state old) (state new))
+CopiesAll state contents (Err fault) old new = ⊥
 
 -- the records behind the mark are copied, in the current record format
-abbrev pub CopiesTo : {D : Type 0} → (D → DeviceState) → Records → Result (Unit {0}) DeviceCopyFault → D → D → Type 0
+abbrev pub CopiesTo : {D : Type 0} → (D → DeviceState) → Records → Result (Unit {0}) CopyFault → D → D → Type 0
 CopiesTo state records result old new = CopiesAll state (whole current records) result old new
 
 -- why the source is told to be the cause
-abbrev pub HasSourceCause : DeviceCopyFault → StoreState → StoreState → Type 0
-HasSourceCause Memory old new = Unit {0}
-HasSourceCause Source old new = HasDeviceCause old new
-HasSourceCause Damaged old new = Unit {0}
-HasSourceCause WrongSize old new = Unit {0}
-HasSourceCause (Full least) old new = Unit {0}
-HasSourceCause Device old new = Unit {0}
+abbrev pub HasSourceCause : CopyFault → StoreState → StoreState → Type 0
+HasSourceCause (Read fault) old new = HasFaultCause fault old new
+HasSourceCause fault old new = Unit {0}
 
 -- what a copy of records answered, as one to a device, with the fault where there was no room: a new store has a number for each commit of it
-abbrev pub told_of : DeviceCopyFault → Result (Unit {0}) RecordsFault → Result (Unit {0}) DeviceCopyFault
-told_of no_room (Ok x) = Ok x
-told_of no_room (Err (Read read.Memory)) = Err Memory
-told_of no_room (Err (Read read.Device)) = Err Source
-told_of no_room (Err (Read read.Damaged)) = Err Damaged
+abbrev pub told_of : CopyFault → Result (Unit {0}) CopyFault → Result (Unit {0}) CopyFault
 told_of no_room (Err (Write write.Full)) = Err no_room
-told_of no_room (Err (Write write.Memory)) = Err Memory
-told_of no_room (Err (Write write.Device)) = Err Device
 told_of no_room (Err (Write write.Number)) = Err no_room
+told_of no_room (Err (Read read.Memory)) = Err (Write write.Memory)
+told_of no_room copied = copied
 
 -- ---- the store of the mark alone
 
@@ -94,14 +86,12 @@ abbrev pub marked : Contents
 marked = record { record_format = current; records = mark ∷ [] }
 
 -- a store of the mark alone is made, or the device has another size, or memory is refused, before anything is written; or the device fails
-abbrev pub Marks : {D : Type 0} (g : Ghosts D) → Result (Unit {0}) DeviceCopyFault → D → D → Type 0
+abbrev pub Marks : {D : Type 0} (g : Ghosts D) → Result (Unit {0}) CopyFault → D → D → Type 0
 Marks g (Ok x) old new = (is_size (g.state old).sectors ≡ true) × WritesStore current mark (g.state old) (g.state new) × ((g.state old).faithful → IsMade current mark (g.state old) (g.state new))
-Marks g (Err Memory) old new = (is_size (g.state old).sectors ≡ true) × (new ≡ old)
-Marks g (Err Source) old new = ⊥
-Marks g (Err Damaged) old new = ⊥
+Marks g (Err (Write write.Memory)) old new = (is_size (g.state old).sectors ≡ true) × (new ≡ old)
 Marks g (Err WrongSize) old new = (is_size (g.state old).sectors ≡ false) × (new ≡ old)
-Marks g (Err (Full least)) old new = ⊥
-Marks g (Err Device) old new = (is_size (g.state old).sectors ≡ true) × WritesStore current mark (g.state old) (g.state new) × HasFailed (g.state old) (g.state new)
+Marks g (Err (Write write.Device)) old new = (is_size (g.state old).sectors ≡ true) × WritesStore current mark (g.state old) (g.state new) × HasFailed (g.state old) (g.state new)
+Marks g (Err fault) old new = ⊥
 
 -- the store of the mark alone is open
 pub record IsBegun {D : Type 0} {g : Ghosts D} (d : DeviceState) (s : PageStore D g) : Type 0 where
@@ -118,22 +108,20 @@ pub record IsNotBegun (d e : DeviceState) : Type 0 where
   pub history : KeepsHistory d e
   pub leaves : d.faithful → IsBlank d → LeavesOnly HasNoneOrMark (records_on d) (records_on e)
 
-abbrev pub CannotBegin : {D : Type 0} (g : Ghosts D) → DeviceCopyFault → D → D → Type 0
-CannotBegin g Memory old new = IsNotBegun (g.state old) (g.state new)
-CannotBegin g Source old new = ⊥
-CannotBegin g Damaged old new = ⊥
+abbrev pub CannotBegin : {D : Type 0} (g : Ghosts D) → CopyFault → D → D → Type 0
+CannotBegin g (Write write.Memory) old new = IsNotBegun (g.state old) (g.state new)
 CannotBegin g WrongSize old new = (is_size (g.state old).sectors ≡ false) × (new ≡ old)
-CannotBegin g (Full least) old new = ⊥
-CannotBegin g Device old new = IsNotBegun (g.state old) (g.state new) × ((g.state old).faithful → HasFailed (g.state old) (g.state new))
+CannotBegin g (Write write.Device) old new = IsNotBegun (g.state old) (g.state new) × ((g.state old).faithful → HasFailed (g.state old) (g.state new))
+CannotBegin g fault old new = ⊥
 
-abbrev pub Begins : {D : Type 0} (g : Ghosts D) → D → Result (PageStore D g) (D × DeviceCopyFault) → Type 0
+abbrev pub Begins : {D : Type 0} (g : Ghosts D) → D → Result (PageStore D g) (D × CopyFault) → Type 0
 Begins g old (Ok store) = IsBegun (g.state old) store
 Begins g old (Err refused) = CannotBegin g refused.1 old refused.0
 
 -- why a store that has just been made is not opened: its device failed, unless memory was refused
-abbrev pub told_opening : OpenFault → DeviceCopyFault
-told_opening opening.WrongSize = Device
-told_opening opening.NotADatabase = Device
-told_opening opening.Damaged = Device
-told_opening opening.Device = Device
-told_opening opening.Memory = Memory
+abbrev pub told_opening : OpenFault → CopyFault
+told_opening opening.WrongSize = Write write.Device
+told_opening opening.NotADatabase = Write write.Device
+told_opening opening.Damaged = Write write.Device
+told_opening opening.Device = Write write.Device
+told_opening opening.Memory = Write write.Memory

@@ -8,8 +8,8 @@ use Rattle.store.specs.Readers.{HasFaultCause}
 use Rattle.store.specs.Records.{Record, Records, Changes, IsChangeSize, changed, entries_where, is_from}
 use Rattle.store.specs.Contents.{changed_by_batch}
 use Rattle.store.specs.Store.{Contents, StoreState, Commits, Rose, HasDeviceCause, stored}
-use Rattle.copies.specs.declared.record_copy_fault.RecordCopyFault.{RecordCopyFault}
-use Rattle.copies.specs.declared.record_copy_fault.RecordCopyFault.TheVariants.{Read, Write}
+use Rattle.copies.specs.declared.fault.CopyFault.{CopyFault}
+use Rattle.copies.specs.declared.fault.CopyFault.TheVariants.{Pages, Read, Write, WrongSize, Full as NoRoom}
 
 -- the record that a copy has until it is whole: no record of a database has a key that begins so
 abbrev pub mark : Record
@@ -42,10 +42,13 @@ abbrev pub unmarked : Changes → Changes
 unmarked changes = changed (0 ∷ []) (Some None) changes
 
 -- the last commit of a copy, if it was tried
-abbrev pub Finishes : Result (Unit {0}) RecordCopyFault → Changes → StoreState → StoreState → Type 0
+abbrev pub Finishes : Result (Unit {0}) CopyFault → Changes → StoreState → StoreState → Type 0
 Finishes (Ok x) changes old new = Commits (Ok x) (changed_by_batch (unmarked changes) (stored old)) old new
 Finishes (Err (Read fault)) changes old new = Unit {0}
 Finishes (Err (Write fault)) changes old new = Commits (Err fault) (changed_by_batch (unmarked changes) (stored old)) old new
+Finishes (Err (Pages fault)) changes old new = ⊥
+Finishes (Err WrongSize) changes old new = ⊥
+Finishes (Err (NoRoom least)) changes old new = ⊥
 
 -- the store contains these contents, which a stop now leaves
 pub record Contains (contents : Contents) (s : StoreState) : Type 0 where
@@ -62,16 +65,19 @@ pub record HasMark (s : StoreState) : Type 0 where
   pub left : (x : Option Contents) → s.time.left x → IsUnfinished x
 
 -- what the target is after a copy: whole with Ok, marked with a fault. After a fault of its device nobody can know
-abbrev pub AfterCopy : Result (Unit {0}) RecordCopyFault → Contents → StoreState → Type 0
+abbrev pub AfterCopy : Result (Unit {0}) CopyFault → Contents → StoreState → Type 0
 AfterCopy (Ok x) contents s = Contains contents s
 AfterCopy (Err (Read fault)) contents s = HasMark s
 AfterCopy (Err (Write Full)) contents s = HasMark s
 AfterCopy (Err (Write Memory)) contents s = HasMark s
 AfterCopy (Err (Write Device)) contents s = Unit {0}
 AfterCopy (Err (Write Number)) contents s = HasMark s
+AfterCopy (Err (Pages fault)) contents s = ⊥
+AfterCopy (Err WrongSize) contents s = ⊥
+AfterCopy (Err (NoRoom least)) contents s = ⊥
 
 -- a copy: whenever a stop comes, what is left is not whole yet, or all of it
-pub record Copies (result : Result (Unit {0}) RecordCopyFault) (contents : Contents) (old new : StoreState) : Type 0 where
+pub record Copies (result : Result (Unit {0}) CopyFault) (contents : Contents) (old new : StoreState) : Type 0 where
   pub leaves : LeavesOnly (λ left. IsUnfinished left ⊎ (left ≡ Some contents)) old.time new.time
   pub after : AfterCopy result contents new
 
@@ -92,7 +98,10 @@ HasWriteCause Memory old new = Unit {0}
 HasWriteCause Device old new = HasDeviceCause old new
 HasWriteCause Number old new = old.sound → old.has_failed ≡ false → 2 ^ 63 ≤ old.number
 
--- why a copy answers a fault: that of a read stands in the source, that of a commit in the target
-abbrev pub HasCopyCause : RecordCopyFault → StoreState → StoreState → StoreState → StoreState → Type 0
+-- why a copy answers a fault: that of a read stands in the source, that of a commit in the target, and no other comes
+abbrev pub HasCopyCause : CopyFault → StoreState → StoreState → StoreState → StoreState → Type 0
 HasCopyCause (Read fault) source read target written = HasFaultCause fault source read
 HasCopyCause (Write fault) source read target written = HasWriteCause fault target written
+HasCopyCause (Pages fault) source read target written = ⊥
+HasCopyCause WrongSize source read target written = ⊥
+HasCopyCause (NoRoom least) source read target written = ⊥

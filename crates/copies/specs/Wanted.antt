@@ -1,8 +1,10 @@
 -- How many pages a copy wants at least.
 use Rattle.std.specs.Prelude.{◌≡◌, ◌+◌, ℕ, if◌then◌else◌, nat_lt, [], ◌∷◌, length, min, max}
 use Rattle.store.specs.Records.{Record, Records}
-use Rattle.copies.specs.declared.device_copy_fault.DeviceCopyFault.{DeviceCopyFault}
-use Rattle.copies.specs.declared.device_copy_fault.DeviceCopyFault.TheVariants.{Memory, Source, Damaged, WrongSize, Full, Device}
+use Rattle.store.specs.declared.fault.Fault.TheVariants as read
+use Rattle.store.specs.declared.fault.StoreFault.TheVariants as write
+use Rattle.copies.specs.declared.fault.CopyFault.{CopyFault}
+use Rattle.copies.specs.declared.fault.CopyFault.TheVariants.{Read, Write, Full}
 
 -- the bytes of a record in a leaf: those of two lengths, of its key and of its value, of sizes that a store takes
 abbrev pub cell_size : Record → ℕ
@@ -25,11 +27,9 @@ leaves_of records = 1 + begun_for 0 records
 abbrev pub wanted : ℕ → Records → ℕ
 wanted pages records = max (leaves_of records + 2) (pages + 1)
 
--- the fault of a copy that found no room on so many pages tells how many it wants, unless they were not counted
-abbrev pub TellsWanted : ℕ → Records → DeviceCopyFault → Type 0
-TellsWanted pages records Memory = Unit {0}
-TellsWanted pages records Source = Unit {0}
-TellsWanted pages records Damaged = ⊥
-TellsWanted pages records WrongSize = ⊥
+-- the fault of a copy that found no room on so many pages tells how many it wants, unless they were not counted: the source failed, or an allocation
+abbrev pub TellsWanted : ℕ → Records → CopyFault → Type 0
 TellsWanted pages records (Full least) = least ≡ wanted pages records
-TellsWanted pages records Device = ⊥
+TellsWanted pages records (Read read.Device) = Unit {0}
+TellsWanted pages records (Write write.Memory) = Unit {0}
+TellsWanted pages records fault = ⊥

@@ -1,12 +1,13 @@
 //! A copy of the database on a device.
 
-ghost use Rattle.std.specs.Prelude.{◌≡◌, IfErr};
+ghost use Rattle.std.specs.Prelude.{IfErr};
 ghost use Rattle.sector_device.specs.Device.{KeepsHistory as DeviceHistory};
 ghost use Rattle.store.specs.Store.{KeepsHistory, stored};
 ghost use Rattle.cow_pages.specs.Held.{KeepsContent};
-ghost use Rattle.copies.specs.DatabaseCopies.{CopiesDatabase, CopiesStore, HasReadCause, told_of};
+ghost use Rattle.copies.specs.DatabaseCopies.{CopiesDatabase, CopiesStore};
+ghost use Rattle.copies.specs.DeviceCopies.{HasSourceCause};
 
-use crate::database_copy_fault::DatabaseCopyFault;
+use crate::fault::CopyFault;
 use crate::marks::copied_records_stand;
 use crate::source::read_source;
 use crate::under::copy_under;
@@ -23,8 +24,10 @@ use store::Store;
 /// database. On a device that was blank, as a new one of zeros is, a stop at any moment leaves no contents, or records that
 /// stand for no database, or the whole copy; and after each fault but `Device` it leaves no whole copy.
 ///
-/// `Pages`, `Read`: no database is on the source, or its device failed. `WrongSize`: the device of the copy has another size;
-/// nothing was written. `Full`: no room is left on it; it names how many pages a copy wants at least. `Device`: it failed.
+/// `Pages`, `Read`: no database is on the source, or its device failed, or an allocation did before anything was written.
+/// `WrongSize`: the device of the copy has another size; nothing was written. `Full`: no room is left on it; it names how many
+/// pages a copy wants at least. `Write` with `Device`: it failed; with `Memory`: an allocation failed in the copy. No other
+/// fault of a commit comes.
 ///
 /// The progress is told now and then how far a large copy is.
 pub fn copy_database<D: JournalDevice, E: Device, W: CopyProgress>(
@@ -32,7 +35,7 @@ pub fn copy_database<D: JournalDevice, E: Device, W: CopyProgress>(
     source: D,
     target: E,
     progress: &mut W,
-) -> (D, E, Result<(), DatabaseCopyFault>)
+) -> (D, E, Result<(), CopyFault>)
     ensures history { DeviceHistory (D.state source) (D.state result.0) }
     ensures unwritten { (D.state source).faithful → KeepsContent (D.state source) (D.state result.0) }
     ensures copies { (D.state source).faithful
@@ -40,7 +43,7 @@ pub fn copy_database<D: JournalDevice, E: Device, W: CopyProgress>(
 {
     let mut store = match DeviceStore::open(alloc, source) {
         Ok(store) => store,
-        Err((source, fault)) => return (source, target, Err(DatabaseCopyFault::Pages(fault))),
+        Err((source, fault)) => return (source, target, Err(CopyFault::Pages(fault))),
     };
     let (target, copied) = copy_store(alloc, &mut store, target, progress);
     (store.into_device(), target, copied)
@@ -52,31 +55,18 @@ fn copy_store<S: Store, E: Device, W: CopyProgress>(
     store: &mut S,
     target: E,
     progress: &mut W,
-) -> (E, Result<(), DatabaseCopyFault>)
+) -> (E, Result<(), CopyFault>)
     ensures preserved { S.preserved store.old store.new }
     ensures history { KeepsHistory (S.state store.old) (S.state store.new) }
     ensures copies { (S.state store.old).sound
         → CopiesStore (stored (S.state store.old)) E.state result.1 target result.0 }
-    ensures cause { IfErr result.1 (λ fault. HasReadCause fault (S.state store.old) (S.state store.new)) }
+    ensures cause { IfErr result.1 (λ fault. HasSourceCause fault (S.state store.old) (S.state store.new)) }
 {
     // For the proof: copied records stand for the same database.
     copied_records_stand();
     let lists = match read_source(alloc, store) {
         Ok(lists) => lists,
-        Err(fault) => return (target, Err(DatabaseCopyFault::Read(fault))),
+        Err(fault) => return (target, Err(CopyFault::Read(fault))),
     };
-    let (target, copied) = copy_under(alloc, store, lists.as_slice(), target, progress);
-    (target, told(copied))
-}
-
-// What a copy of records answered.
-fn told(
-    copied: Result<(), crate::device_copy_fault::DeviceCopyFault>,
-) -> Result<(), DatabaseCopyFault>
-    ensures { result ≡ told_of copied }
-{
-    match copied {
-        Ok(()) => Ok(()),
-        Err(fault) => Err(DatabaseCopyFault::from(fault)),
-    }
+    copy_under(alloc, store, lists.as_slice(), target, progress)
 }

@@ -4,24 +4,20 @@
 #![tactic(auto)]
 
 mod database_copies;
-mod database_copy_fault;
 mod device_copies;
-mod device_copy_fault;
+mod fault;
 mod mark;
 mod marked;
 mod marks;
 mod record_copies;
-mod record_copy_fault;
 mod source;
 mod taking;
 mod under;
 mod wanted;
 
 pub use database_copies::copy_database;
-pub use database_copy_fault::DatabaseCopyFault;
 pub use device_copies::copy_to_device;
-pub use device_copy_fault::DeviceCopyFault;
+pub use fault::CopyFault;
 pub use mark::mark_of_a_copy;
 pub use marks::{copied_records_stand, marked_records_stand_for_nothing};
 pub use record_copies::copy_records;
-pub use record_copy_fault::RecordCopyFault;

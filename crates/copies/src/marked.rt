@@ -3,10 +3,10 @@
 ghost use Rattle.std.specs.Prelude.{◌≡◌, IfErr, IfOk};
 ghost use Rattle.copies.specs.DeviceCopies.{Begins, Marks, told_opening};
 
-use crate::device_copy_fault::DeviceCopyFault;
+use crate::fault::CopyFault;
 use crate::mark::mark_of_a_copy;
 use cow_pages::page_count;
-use kv_store::{FormatFault, OpenFault, PageStore};
+use kv_store::{FormatFault, OpenFault, PageStore, StoreFault};
 use sector_device::Device;
 use std::alloc::Global;
 
@@ -14,7 +14,7 @@ use std::alloc::Global;
 pub(crate) fn marked_store<D: Device>(
     alloc: Global,
     target: D,
-) -> Result<PageStore<D>, (D, DeviceCopyFault)>
+) -> Result<PageStore<D>, (D, CopyFault)>
     ensures { Begins D.Device target result }
 {
     let mut target = target;
@@ -29,29 +29,29 @@ pub(crate) fn marked_store<D: Device>(
 }
 
 // Why a store that has just been made is not opened: its device failed, unless memory was refused.
-fn fault_of_opening(fault: OpenFault) -> DeviceCopyFault
+fn fault_of_opening(fault: OpenFault) -> CopyFault
     ensures { result ≡ told_opening fault }
 {
     match fault {
-        OpenFault::Memory => DeviceCopyFault::Memory,
+        OpenFault::Memory => CopyFault::Write(StoreFault::Memory),
         OpenFault::WrongSize | OpenFault::NotADatabase | OpenFault::Damaged | OpenFault::Device =>
-            DeviceCopyFault::Device,
+            CopyFault::Write(StoreFault::Device),
     }
 }
 
 // Makes a store of the mark alone on a device.
-fn mark_device<D: Device>(alloc: Global, target: &mut D) -> Result<(), DeviceCopyFault>
+fn mark_device<D: Device>(alloc: Global, target: &mut D) -> Result<(), CopyFault>
     ensures { Marks D.Device result target.old target.new }
 {
     let Some(_pages) = page_count(target.sectors()) else {
-        return Err(DeviceCopyFault::WrongSize);
+        return Err(CopyFault::WrongSize);
     };
     let Ok(mark) = mark_of_a_copy(alloc) else {
-        return Err(DeviceCopyFault::Memory);
+        return Err(CopyFault::Write(StoreFault::Memory));
     };
     match PageStore::format(alloc, target, &mark) {
         Ok(()) => Ok(()),
-        Err(FormatFault::Memory) => Err(DeviceCopyFault::Memory),
-        Err(FormatFault::Device) => Err(DeviceCopyFault::Device),
+        Err(FormatFault::Memory) => Err(CopyFault::Write(StoreFault::Memory)),
+        Err(FormatFault::Device) => Err(CopyFault::Write(StoreFault::Device)),
     }
 }

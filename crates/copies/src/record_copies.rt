@@ -5,18 +5,15 @@ ghost use Rattle.store.specs.declared.fault.StoreFault.{StoreFault};
 ghost use Rattle.store.specs.Readers.{HasRead};
 ghost use Rattle.store.specs.Records.{entries_where, is_from};
 ghost use Rattle.store.specs.Store.{KeepsHistory, OnlyReads};
-ghost use Rattle.copies.specs.declared.record_copy_fault.RecordCopyFault.TheVariants.{Read, Write};
+ghost use Rattle.copies.specs.declared.fault.CopyFault.TheVariants.{Read, Write};
 ghost use Rattle.copies.specs.RecordCopies.{Copies, Finishes, HasCopyCause, HasOutsized, mark, behind_mark, whole};
 
-use crate::mark::MARK;
-use crate::record_copy_fault::RecordCopyFault;
+use crate::fault::CopyFault;
+use crate::mark::{FIRST, MARK};
 use crate::taking::take_records;
 use sector_device::CopyProgress;
 use std::alloc::Global;
 use store::{Batch, Fault, Map, Store};
-
-// Where the records begin: behind the mark.
-const FIRST: [u8; 2] = [0, 0];
 
 // The commits of a copy, at most: more than any device has room for, and fewer than there are numbers.
 const MOST_COMMITS: u64 = 1 << 62;
@@ -33,7 +30,7 @@ fn first_place<M: Map>(source: &mut M) -> Result<M::Place, Fault>
 }
 
 // Commits the last records of a copy, and that the mark goes.
-fn finish<S: Store>(target: &mut S, batch: Batch) -> Result<(), RecordCopyFault>
+fn finish<S: Store>(target: &mut S, batch: Batch) -> Result<(), CopyFault>
     ensures history { KeepsHistory (S.state target.old) (S.state target.new) }
     ensures refused { (fault : Fault) → result ≡ Err (Read fault)
         → (target.new ≡ target.old) × (fault ≡ Fault.Memory) }
@@ -54,13 +51,13 @@ fn finish<S: Store>(target: &mut S, batch: Batch) -> Result<(), RecordCopyFault>
 ///
 /// `Read`: the source is the cause, or `Memory`: an allocation failed, in the copy too. `Damaged`: a record of the source
 /// is of no size that a store takes. `Write`: the target is the cause: no room is left in it, an allocation
-/// failed, or its device failed. `Number` never comes in a store that has had fewer than 2^63 commits.
+/// failed, or its device failed. `Number` never comes in a store that has had fewer than 2^63 commits. No other fault comes.
 pub fn copy_records<M: Map, S: Store, W: CopyProgress>(
     alloc: Global,
     source: &mut M,
     target: &mut S,
     progress: &mut W,
-) -> Result<(), RecordCopyFault>
+) -> Result<(), CopyFault>
     ensures preserved { M.preserved source.old source.new }
     ensures reads { OnlyReads (M.state source.old) (M.state source.new) }
     ensures history { KeepsHistory (S.state target.old) (S.state target.new) }
@@ -85,5 +82,5 @@ pub fn copy_records<M: Map, S: Store, W: CopyProgress>(
         target.commit(&batch)?;
         progress.tell(bytes);
     }
-    Err(RecordCopyFault::Read(Fault::Memory))
+    Err(CopyFault::Read(Fault::Memory))
 }

@@ -4,10 +4,12 @@ ghost use Rattle.std.specs.Prelude.{◌≡◌, IfErr};
 ghost use Rattle.store.specs.Store.{KeepsHistory};
 ghost use Rattle.transactions.specs.Views.{applied_all};
 ghost use Rattle.copies.specs.RecordCopies.{HasOutsized, behind_mark};
+ghost use Rattle.copies.specs.declared.fault.CopyFault.TheVariants.{Read};
+ghost use Rattle.store.specs.declared.fault.Fault.{Fault};
 ghost use Rattle.copies.specs.DeviceCopies.{CopiesTo, HasSourceCause};
 
 use crate::device_copies::copy_to_device;
-use crate::device_copy_fault::DeviceCopyFault;
+use crate::fault::CopyFault;
 use sector_device::{CopyProgress, Device};
 use std::alloc::Global;
 use store::{Batch, Map};
@@ -20,13 +22,13 @@ pub(crate) fn copy_under<M: Map, E: Device, W: CopyProgress>(
     lists: &[Batch],
     target: E,
     progress: &mut W,
-) -> (E, Result<(), DeviceCopyFault>)
+) -> (E, Result<(), CopyFault>)
     ensures preserved { M.preserved map.old map.new }
     ensures history { KeepsHistory (M.state map.old) (M.state map.new) }
     ensures copies { (M.state map.old).sound
         → CopiesTo E.state (applied_all lists.now (M.state map.old).map) result.1 target result.0 }
     ensures cause { IfErr result.1 (λ fault. HasSourceCause fault (M.state map.old) (M.state map.new)) }
-    ensures damaged { (M.state map.old).sound → IfErr result.1 (λ fault. fault ≡ DeviceCopyFault.Damaged
+    ensures damaged { (M.state map.old).sound → IfErr result.1 (λ fault. fault ≡ Read Fault.Damaged
         → HasOutsized (behind_mark (applied_all lists.now (M.state map.old).map))) }
 {
     let mut view = View::new(alloc, map, lists);

@@ -4,17 +4,15 @@ ghost use Rattle.std.specs.Prelude.{◌≡◌, ◌≢◌, ◌≤◌, Err, IfErr,
 ghost use Rattle.store.specs.Readers.{HasRead};
 ghost use Rattle.store.specs.Store.{OnlyReads};
 ghost use Rattle.copies.specs.RecordCopies.{behind_mark};
+ghost use Rattle.copies.specs.declared.fault.CopyFault.TheVariants.{Read};
 ghost use Rattle.copies.specs.DeviceCopies.{HasSourceCause};
 ghost use Rattle.copies.specs.Wanted.{TellsWanted, cell_size, leaves_of, placed, wanted};
 
-use crate::device_copy_fault::DeviceCopyFault;
-use crate::record_copy_fault::RecordCopyFault as RecordsFault;
+use crate::fault::CopyFault;
+use crate::mark::FIRST;
 use kv_store::{Fault, Map, StoreFault};
 use storage_sizes::{MAX_KEY_LENGTH, MAX_VALUE_LENGTH, PAGE_SIZE};
 use store::EntryRef;
-
-// Where the records begin: behind the mark.
-const FIRST: [u8; 2] = [0, 0];
 
 // The bytes that a leaf has beside its cells, and a cell beside its key and its value.
 const LEAF_HEAD: usize = 4;
@@ -74,41 +72,39 @@ fn count_leaves<M: Map>(source: &mut M) -> Result<u64, Fault>
     Err(Fault::Memory)
 }
 
-/// The fault of a copy where the target had no room, which was found on so many pages; of any other `Memory`. The map is only
-/// read.
+/// The fault of a copy where the target had no room, which was found on so many pages; of any other that an allocation failed. The
+/// map is only read.
 pub(crate) fn no_room_fault<M: Map>(
     source: &mut M,
     pages: u32,
-    copied: Result<(), RecordsFault>,
-) -> DeviceCopyFault
+    copied: Result<(), CopyFault>,
+) -> CopyFault
     ensures preserved { M.preserved source.old source.new }
     ensures reads { OnlyReads (M.state source.old) (M.state source.new) }
     ensures told { (M.state source.old).sound
         → TellsWanted pages (behind_mark (M.state source.old).map) result }
     ensures cause { HasSourceCause result (M.state source.old) (M.state source.new) }
-    ensures undamaged { result ≢ DeviceCopyFault.Damaged }
+    ensures undamaged { result ≢ Read Fault.Damaged }
 {
     match copied {
-        Err(RecordsFault::Write(StoreFault::Full | StoreFault::Number)) => full_fault(
-            source, pages,
-        ),
-        _ => DeviceCopyFault::Memory,
+        Err(CopyFault::Write(StoreFault::Full | StoreFault::Number)) => full_fault(source, pages),
+        _ => CopyFault::Write(StoreFault::Memory),
     }
 }
 
 // The fault of a copy that found no room on so many pages: `Full`, with the number of pages that the copy wants at least.
-// `Source` and `Memory`: the records were not counted.
-fn full_fault<M: Map>(source: &mut M, pages: u32) -> DeviceCopyFault
+// Where the records were not counted: that the source failed, or an allocation.
+fn full_fault<M: Map>(source: &mut M, pages: u32) -> CopyFault
     ensures preserved { M.preserved source.old source.new }
     ensures reads { OnlyReads (M.state source.old) (M.state source.new) }
     ensures told { (M.state source.old).sound
         → TellsWanted pages (behind_mark (M.state source.old).map) result }
     ensures cause { HasSourceCause result (M.state source.old) (M.state source.new) }
-    ensures undamaged { result ≢ DeviceCopyFault.Damaged }
+    ensures undamaged { result ≢ Read Fault.Damaged }
 {
     match count_leaves(source) {
-        Ok(leaves) => DeviceCopyFault::Full((leaves + OTHER_PAGES).max(u64::from(pages) + 1)),
-        Err(Fault::Memory) => DeviceCopyFault::Memory,
-        Err(Fault::Device | Fault::Damaged) => DeviceCopyFault::Source,
+        Ok(leaves) => CopyFault::Full((leaves + OTHER_PAGES).max(u64::from(pages) + 1)),
+        Err(Fault::Memory) => CopyFault::Write(StoreFault::Memory),
+        Err(Fault::Device | Fault::Damaged) => CopyFault::Read(Fault::Device),
     }
 }

@@ -7,9 +7,10 @@ use crate::stops::servers::find_on;
 use crate::stops::tallies::Tests;
 use crate::stops::work::{Attempt, Work, hinder_each};
 use crate::stores::SMALL_PAGES;
-use copies::{DatabaseCopyFault, copy_database};
+use copies::{CopyFault, copy_database};
 use sector_device::{MemDevice, Unwatched, WriteProtected};
 use std::alloc::Global;
+use store::StoreFault;
 
 /// Copies the database that a device holds to a new device, which stops after each count of sector writes, or one of `every`
 /// of them. Whatever its unsynced sectors are then, it holds nothing or the whole database, and that alone once the copy was
@@ -48,14 +49,14 @@ fn was_copied(
     alloc: Global,
     source: &Image,
     device: MemDevice,
-    copied: Result<(), DatabaseCopyFault>,
+    copied: Result<(), CopyFault>,
 ) -> Result<bool, TestFault> {
     if !Image::of(alloc, device)?.has_content_of(source) {
         return Err(TestFault::AnotherContent);
     }
     match copied {
         Ok(()) => Ok(true),
-        Err(DatabaseCopyFault::Device) => Ok(false),
+        Err(CopyFault::Write(StoreFault::Device)) => Ok(false),
         Err(_) => Err(TestFault::CopyRefused),
     }
 }

@@ -2,7 +2,8 @@ use Rattle.std.proofs.Common.{◌≡◌, ◌/◌, IfErr, sym, subst}
 use Rattle.store.proofs.Reading.{reads_joined}
 use Rattle.copies.specs.RecordCopies.{HasOutsized, behind_mark, whole}
 use Rattle.storage_sizes.specs.Spellings.{current}
-use Rattle.copies.specs.declared.device_copy_fault.DeviceCopyFault.TheVariants.{Damaged}
+use Rattle.store.specs.declared.fault.Fault.TheVariants.{Damaged}
+use Rattle.copies.specs.declared.fault.CopyFault.TheVariants.{Read}
 use Rattle.copies.specs.DeviceCopies.{HasSourceCause}
 use Rattle.copies.specs.Wanted.{TellsWanted}
 use Rattle.copies.proofs.DeviceCopied.{cannot_begin, copies_to, told_damaged, told_source}
@@ -42,5 +43,5 @@ returns-clause-cause g c =
 
 pub returns-clause-damaged : goal.returns-clause-damaged
 returns-clause-damaged g c = λ sound.
-    subst (λ r. IfErr r (λ fault. fault ≡ Damaged → HasOutsized (behind_mark (g.M.Map.state c.args.source.now).map))) (sym c.told.ensures)
+    subst (λ r. IfErr r (λ fault. fault ≡ Read Damaged → HasOutsized (behind_mark (g.M.Map.state c.args.source.now).map))) (sym c.told.ensures)
     (told_damaged (HasOutsized (behind_mark (g.M.Map.state c.args.source.now).map)) c.no_room_fault-no_room.result c.no_room_fault-no_room.ensures.undamaged c.copy_records-copied.result (c.copy_records-copied.ensures.damaged sound))

@@ -1,6 +1,6 @@
 use Rattle.std.proofs.Common.{◌≡◌, IfErr, ap, arith, ◌∙◌}
 use Rattle.store.proofs.Reading.{reads_joined, history_joined}
-use Rattle.copies.specs.declared.record_copy_fault.RecordCopyFault.TheVariants.{Read, Write}
+use Rattle.copies.specs.declared.fault.CopyFault.TheVariants.{Read, Write}
 use Rattle.store.specs.declared.fault.Fault.TheVariants.{Damaged}
 use Rattle.copies.specs.RecordCopies.{Copies, HasOutsized, whole, behind_mark}
 use Rattle.copies.proofs.Copied.{marked_in_order}
