@@ -9,11 +9,10 @@ use Rattle.sector_device.specs.declared.open_file.FileFault.TheVariants as file
 use Rattle.sector_device.specs.declared.system_cause.SystemCause.{SystemCause}
 use Rattle.systems.specs.Systems.{Absent, Free, Shared, Reading, At, HasDevice, IsNamed, IsOpen, IsReadable, IsReading, IsSame, IsSameBut, IsSameButBoth, IsUnnamed, Rose, SystemState}
 use Rattle.cow_pages.proofs.Reading.{reads_none}
-use Rattle.copies.specs.declared.database_copy_fault.DatabaseCopyFault.{DatabaseCopyFault}
+use Rattle.copies.specs.declared.fault.CopyFault.{CopyFault}
 use Rattle.databases.specs.Databases.{IsUnwritten}
-use Rattle.cli.specs.declared.copy_fault.FileCopyFault.{FileCopyFault}
-use Rattle.cli.specs.declared.copy_fault.FileCopyFault.TheVariants.{New}
-use Rattle.cli.specs.declared.copy_fault.FileCopyFault.TheVariants as copy_fault
+use Rattle.cli.specs.declared.copy_fault.CopyRefusal.{CopyRefusal}
+use Rattle.cli.specs.declared.copy_fault.CopyRefusal.TheVariants.{File, New}
 use Rattle.cli.specs.declared.fault.CommandFault.TheVariants as command
 use Rattle.cli.specs.CopyFaults.{of_partial}
 use Rattle.cli.specs.Copying.{CopiesBeside, CopiesFile, IsCopied, IsFileCopied, IsFileUncopied, IsNotBegun, IsNotNamed, IsNotRenamed, IsRenamed, IsSameButThree, IsStopped, IsTakenBack, IsTried, IsUncopied, KeepsFile, Renames, StandsAgainstCopy, partial_path}
@@ -48,7 +47,7 @@ against_since old mid new target same counts later file.Memory stands = tt
 against_since old mid new target same counts later (file.Device cause) stands = rose_between old.failures mid.failures new.failures new.failures counts later (omega arith) stands
 
 module _ {D L : Type 0} (old mid new : SystemState D L) (partial target : List ℕ) (same : IsSame old mid) (counts : old.failures ≤ mid.failures) (later : mid.failures ≤ new.failures) where
-  pub copy_against_since : (fault : FileCopyFault) → StandsAgainstCopy fault mid partial target new → StandsAgainstCopy fault old partial target new
+  pub copy_against_since : (fault : CopyRefusal) → StandsAgainstCopy fault mid partial target new → StandsAgainstCopy fault old partial target new
   copy_against_since (New command.Exists) stands = sym (same.names target) ∙ stands
   copy_against_since (New command.Memory) stands = tt
   copy_against_since (New (command.Device cause)) stands = rose_between old.failures mid.failures new.failures new.failures counts later (omega arith) stands
@@ -60,9 +59,15 @@ module _ {D L : Type 0} (old mid new : SystemState D L) (partial target : List �
   copy_against_since (New command.Number) stands = absurd stands
   copy_against_since (New (command.Net cause)) stands = absurd stands
   copy_against_since (New command.Output) stands = absurd stands
-  copy_against_since copy_fault.Partial stands = sym (same.names partial) ∙ stands
-  copy_against_since (copy_fault.File why) stands = absurd stands
-  copy_against_since (copy_fault.Full least) stands = absurd stands
+  copy_against_since (New command.Partial) stands = sym (same.names partial) ∙ stands
+  copy_against_since (New (command.NoRoom wanted least)) stands = absurd stands
+  copy_against_since (New (command.ScriptUnread cause)) stands = absurd stands
+  copy_against_since (New (command.ScriptNotUtf8 line byte)) stands = absurd stands
+  copy_against_since (New command.NoRole) stands = absurd stands
+  copy_against_since (New command.FirstFormat) stands = absurd stands
+  copy_against_since (New command.NoSwitchRoom) stands = absurd stands
+  copy_against_since (New command.NoSwitchNumber) stands = absurd stands
+  copy_against_since (File why) stands = absurd stands
 
 -- ---- a copy that is whole is named, or taken away
 
@@ -77,7 +82,7 @@ module _ {D L : Type 0} (g : Ghosts D) (old mid new : SystemState D L) (partial 
     listeners = λ place. second.listeners place ∙ first.listeners place;
   }
 
-  pub named_then : (result : Result (Unit {0}) FileCopyFault) → Renames mid partial target copy result new → CopiesBeside g old partial target pages device result left new
+  pub named_then : (result : Result (Unit {0}) CopyRefusal) → Renames mid partial target copy result new → CopiesBeside g old partial target pages device result left new
   named_then (Ok x) renamed = record {
     blank = blank;
     copy = copy;
@@ -108,7 +113,7 @@ module _ {D L : Type 0} (g : Ghosts D) (old mid new : SystemState D L) (partial 
 -- ---- the same, seen from a little before
 
 module _ {D L : Type 0} (g : Ghosts D) (old mid new : SystemState D L) (partial target : List ℕ) (pages : ℕ) (device left : D) (same : old.faithful → IsSame old mid) (counts : old.failures ≤ mid.failures) where
-  tried_since : (result : Result (Unit {0}) DatabaseCopyFault) → (blank copy : D) → IsTried g mid partial target pages device result left blank copy → IsTried g old partial target pages device result left blank copy
+  tried_since : (result : Result (Unit {0}) CopyFault) → (blank copy : D) → IsTried g mid partial target pages device result left blank copy → IsTried g old partial target pages device result left blank copy
   tried_since result blank copy tried = record {
     is_blank = λ is. let made = tried.is_blank ((same is).faithful is) in record { new = sym ((same is).names partial) ∙ made.new; zeros = made.zeros; blank = made.blank };
     copies = tried.copies;
@@ -126,7 +131,7 @@ module _ {D L : Type 0} (g : Ghosts D) (old mid new : SystemState D L) (partial 
     counts = omega (arith, counts, taken.counts);
   }
 
-  uncopied_since : (fault : FileCopyFault) → IsUncopied g mid partial target pages device fault left new → IsUncopied g old partial target pages device fault left new
+  uncopied_since : (fault : CopyRefusal) → IsUncopied g mid partial target pages device fault left new → IsUncopied g old partial target pages device fault left new
   uncopied_since fault (inl none) = inl (record {
     unread = none.unread;
     cause = λ is. copy_against_since old mid new partial target (same is) counts none.counts fault (none.cause ((same is).faithful is));
@@ -151,7 +156,7 @@ module _ {D L : Type 0} (g : Ghosts D) (old mid new : SystemState D L) (partial 
     taken = taken_since unnamed.taken;
   }))
 
-  pub copied_since : (result : Result (Unit {0}) FileCopyFault) → CopiesBeside g mid partial target pages device result left new → CopiesBeside g old partial target pages device result left new
+  pub copied_since : (result : Result (Unit {0}) CopyRefusal) → CopiesBeside g mid partial target pages device result left new → CopiesBeside g old partial target pages device result left new
   copied_since (Ok x) copied = record {
     blank = copied.blank;
     copy = copied.copy;
@@ -191,7 +196,7 @@ module _ {D L S : Type 0} (g : Ghosts D) (state : S → SystemState D L) (old ne
   kept : old.faithful → (state last).faithful → IsReading (state last) path → IsUnwritten (g.state device) (g.state left) → KeepsFile g old path target pages device left new
   kept is still reading unwritten = record { opened = named is; closed = closed still reading; unwritten = unwritten }
 
-  unwritten_by : (result : Result (Unit {0}) DatabaseCopyFault) → (blank copy : D) → IsTried g (state first) partial target pages device result left blank copy → old.faithful → IsUnwritten (g.state device) (g.state left)
+  unwritten_by : (result : Result (Unit {0}) CopyFault) → (blank copy : D) → IsTried g (state first) partial target pages device result left blank copy → old.faithful → IsUnwritten (g.state device) (g.state left)
   unwritten_by result blank copy tried is = record { history = tried.history; content = tried.content (of_device is) }
 
   pub copied_file : IsCopied g (state first) partial target pages device left (state last) → IsFileCopied g old path target pages new
@@ -249,7 +254,7 @@ module _ {D L S : Type 0} (g : Ghosts D) (state : S → SystemState D L) (old ne
   }
 
   -- nothing was made, or what was made is no more
-  uncopied_by : (fault : FileCopyFault) → (old.faithful → IsSameBut partial (state first) (state last)) → (old.faithful → path ≢ partial) → (old.faithful → IsUnwritten (g.state device) (g.state left)) → IsUncopied g (state first) partial target pages device fault left (state last)
+  uncopied_by : (fault : CopyRefusal) → (old.faithful → IsSameBut partial (state first) (state last)) → (old.faithful → path ≢ partial) → (old.faithful → IsUnwritten (g.state device) (g.state left)) → IsUncopied g (state first) partial target pages device fault left (state last)
       → IsFileUncopied g state old path target pages fault new
   uncopied_by fault between other unwritten why = record {
     device = device;
@@ -265,7 +270,7 @@ module _ {D L S : Type 0} (g : Ghosts D) (state : S → SystemState D L) (old ne
     still : old.faithful → (state last).faithful
     still is = (between is).faithful ((opening is).faithful is)
 
-  pub uncopied_file : (fault : FileCopyFault) → IsUncopied g (state first) partial target pages device fault left (state last) → IsFileUncopied g state old path target pages fault new
+  pub uncopied_file : (fault : CopyRefusal) → IsUncopied g (state first) partial target pages device fault left (state last) → IsFileUncopied g state old path target pages fault new
   uncopied_file fault (inl none) = unbegun
     where
       at_begin : old.faithful → (state first).faithful
@@ -289,6 +294,6 @@ module _ {D L S : Type 0} (g : Ghosts D) (state : S → SystemState D L) (old ne
   uncopied_file fault (inr (inl stopped)) = uncopied_by fault (λ is. stopped.taken.others ((opening is).faithful is)) (λ is. is_other is partial (stopped.tried.is_blank ((opening is).faithful is)).new) (unwritten_by _ stopped.blank stopped.copy stopped.tried) (inr (inl stopped))
   uncopied_file fault (inr (inr unnamed)) = uncopied_by fault (λ is. unnamed.taken.others ((opening is).faithful is)) (λ is. is_other is partial (unnamed.tried.is_blank ((opening is).faithful is)).new) (unwritten_by _ unnamed.blank unnamed.copy unnamed.tried) (inr (inr unnamed))
 
-  pub copies_file : (result : Result (Unit {0}) FileCopyFault) → CopiesBeside g (state first) partial target pages device result left (state last) → CopiesFile g state old path target pages result new
+  pub copies_file : (result : Result (Unit {0}) CopyRefusal) → CopiesBeside g (state first) partial target pages device result left (state last) → CopiesFile g state old path target pages result new
   copies_file (Ok x) copied = copied_file copied
   copies_file (Err fault) uncopied = inr (inr (uncopied_file fault uncopied))

@@ -1,7 +1,7 @@
 -- What standard error is told of a fault.
 use Rattle.std.proofs.Common.{◌≡◌, ◌≢◌, ◌∙◌, ◌++◌, List, ℕ, codes, refl, ap, append_assoc}
-use Rattle.cli.specs.declared.ending.ProgramFault.{ProgramFault}
-use Rattle.cli.specs.declared.ending.ProgramFault.TheVariants as fault
+use Rattle.cli.specs.declared.fault.CommandFault.{CommandFault}
+use Rattle.cli.specs.declared.fault.CommandFault.TheVariants as fault
 use Rattle.cli.specs.declared.ending.Subject.{Subject}
 use Rattle.cli.specs.Ending.{fault_message, fault_name, message, reason_text, subject_text}
 
@@ -13,7 +13,7 @@ two_lines name about reason =
     ap (λ text. codes "guarddb: " ++ text) (append_assoc name (codes "\n") rest ∙ ap (λ text. name ++ (codes "\nguarddb: " ++ text)) last)
 
 -- of a fault but these two: its name, what it is about, and why it came
-pub told_with_reason : (about : Subject) (f : ProgramFault) → f ≢ fault.Memory → f ≢ fault.Output
+pub told_with_reason : (about : Subject) (f : CommandFault) → f ≢ fault.Memory → f ≢ fault.Output
     → fault_message about f ≡ codes "guarddb: " ++ (fault_name f ++ (codes "\nguarddb: " ++ (subject_text about ++ (codes ": " ++ (reason_text f ++ codes "\n")))))
 told_with_reason about fault.Memory a b = absurd (a refl)
 told_with_reason about (fault.Device cause) a b = two_lines (fault_name (fault.Device cause)) (subject_text about) (reason_text (fault.Device cause))
@@ -27,7 +27,8 @@ told_with_reason about fault.Partial a b = two_lines (fault_name fault.Partial) 
 told_with_reason about (fault.NoRoom pages least) a b = two_lines (fault_name (fault.NoRoom pages least)) (subject_text about) (reason_text (fault.NoRoom pages least))
 told_with_reason about fault.InUse a b = two_lines (fault_name fault.InUse) (subject_text about) (reason_text fault.InUse)
 told_with_reason about (fault.Net cause) a b = two_lines (fault_name (fault.Net cause)) (subject_text about) (reason_text (fault.Net cause))
-told_with_reason about (fault.Script why) a b = two_lines (fault_name (fault.Script why)) (subject_text about) (reason_text (fault.Script why))
+told_with_reason about (fault.ScriptUnread cause) a b = two_lines (fault_name (fault.ScriptUnread cause)) (subject_text about) (reason_text (fault.ScriptUnread cause))
+told_with_reason about (fault.ScriptNotUtf8 line byte) a b = two_lines (fault_name (fault.ScriptNotUtf8 line byte)) (subject_text about) (reason_text (fault.ScriptNotUtf8 line byte))
 told_with_reason about fault.NoRole a b = two_lines (fault_name fault.NoRole) (subject_text about) (reason_text fault.NoRole)
 told_with_reason about fault.FirstFormat a b = two_lines (fault_name fault.FirstFormat) (subject_text about) (reason_text fault.FirstFormat)
 told_with_reason about fault.NoSwitchRoom a b = two_lines (fault_name fault.NoSwitchRoom) (subject_text about) (reason_text fault.NoSwitchRoom)

@@ -24,8 +24,8 @@ use Rattle.wire.specs.Closing.{StandsWithinLimit}
 use Rattle.wire.specs.declared.sink.Sink.{Ghosts as SinkGhosts}
 use Rattle.cli.specs.declared.ending.Ending.{Ending}
 use Rattle.cli.specs.declared.ending.Ending.TheVariants as ending
-use Rattle.cli.specs.declared.ending.ProgramFault.TheVariants as fault
-use Rattle.cli.specs.Ending.{fault_of}
+use Rattle.cli.specs.declared.fault.CommandFault.TheVariants as fault
+use Rattle.cli.specs.Faults.{of_records}
 use Rattle.cli.specs.Program.{RunsSource}
 use Rattle.cli.specs.Script.{Source}
 use Rattle.cli.proofs.Machine.{prints_run}
@@ -44,7 +44,7 @@ no_device old new cause =
     ]
 
 -- the fault of opening a store in memory that is only read, and whose records stand for a database, is refused memory
-memory_alone : (f : OpeningFault) (old new : MemStore) → HasLooked (Err f) (memory_store_state old) (memory_store_state new) → f ≢ Read read.Damaged → fault_of f ≡ fault.Memory
+memory_alone : (f : OpeningFault) (old new : MemStore) → HasLooked (Err f) (memory_store_state old) (memory_store_state new) → f ≢ Read read.Damaged → of_records f ≡ fault.Memory
 memory_alone (Read read.Memory) old new looked whole = refl
 memory_alone (Read read.Device) old new looked whole = absurd (no_device old new looked.cause)
 memory_alone (Read read.Damaged) old new looked whole = absurd (whole refl)

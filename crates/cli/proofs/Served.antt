@@ -14,7 +14,7 @@ use Rattle.wire.specs.Listening.{Listening}
 use Rattle.databases.specs.declared.database.Opened.{Opened}
 use Rattle.databases.specs.Openings.{device_under}
 use Rattle.cli.specs.declared.fault.CommandFault.{CommandFault}
-use Rattle.cli.specs.declared.fault.CommandFault.TheVariants.{Exists, InUse, Memory, Device, WrongSize, NotADatabase, Damaged, Full, Number, Net, Output}
+use Rattle.cli.specs.declared.fault.CommandFault.TheVariants.{Exists, InUse, Memory, Device, WrongSize, NotADatabase, Damaged, Full, Number, Net, Partial, NoRoom, ScriptUnread, ScriptNotUtf8, NoRole, FirstFormat, NoSwitchRoom, NoSwitchNumber, Output}
 use Rattle.cli.specs.Files.{ChangesDevice, IsOpenedAt}
 use Rattle.cli.specs.Migrations.{TellsMigration}
 use Rattle.cli.specs.Serving.{ChangesBoth, IsBoundBetween, IsNotBound, ServesAs, ServesAt, ServesOn}
@@ -37,6 +37,14 @@ module _ {D L X C : Type 0} (g : Ghosts D) (c : SinkGhosts C) (Reads : ReadingRe
   served_at (Err Damaged) it = absurd it
   served_at (Err Full) it = absurd it
   served_at (Err Number) it = absurd it
+  served_at (Err Partial) it = absurd it
+  served_at (Err (NoRoom pages least)) it = absurd it
+  served_at (Err (ScriptUnread cause)) it = absurd it
+  served_at (Err (ScriptNotUtf8 line byte)) it = absurd it
+  served_at (Err NoRole) it = absurd it
+  served_at (Err FirstFormat) it = absurd it
+  served_at (Err NoSwitchRoom) it = absurd it
+  served_at (Err NoSwitchNumber) it = absurd it
 
 -- ---- once the database was opened
 
@@ -119,3 +127,11 @@ module _ (X : Type 0) {D L C : Type 0} (g : Ghosts D) (c : SinkGhosts C) (Reads 
   served_so (Err Damaged) left closed closing counts it = absurd it
   served_so (Err Full) left closed closing counts it = absurd it
   served_so (Err Number) left closed closing counts it = absurd it
+  served_so (Err Partial) left closed closing counts it = absurd it
+  served_so (Err (NoRoom pages least)) left closed closing counts it = absurd it
+  served_so (Err (ScriptUnread cause)) left closed closing counts it = absurd it
+  served_so (Err (ScriptNotUtf8 line byte)) left closed closing counts it = absurd it
+  served_so (Err NoRole) left closed closing counts it = absurd it
+  served_so (Err FirstFormat) left closed closing counts it = absurd it
+  served_so (Err NoSwitchRoom) left closed closing counts it = absurd it
+  served_so (Err NoSwitchNumber) left closed closing counts it = absurd it

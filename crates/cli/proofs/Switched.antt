@@ -12,7 +12,7 @@ use Rattle.journal_store.specs.Faults.{KeepsContents, MayLeave}
 use Rattle.journal_store.proofs.DeviceReading.{content_leaves}
 use Rattle.databases.specs.Databases.{HoldsDatabase, IsUnwritten}
 use Rattle.systems.specs.Systems.{SystemState}
-use Rattle.cli.specs.declared.switch_fault.FileSwitchFault.{FileSwitchFault}
+use Rattle.cli.specs.declared.fault.CommandFault.{CommandFault}
 use Rattle.cli.specs.Switching.{Switches, KeepsDatabase, IsFileSwitched, SwitchesFile}
 
 -- an image has one contents at most
@@ -65,6 +65,6 @@ module _ (one : HasOneContents) where
 
 -- ---- in a file
 
-pub so_switched : {D L : Type 0} (g : Ghosts D) (old : SystemState D L) (path : List ℕ) (on : Bool) (result : Result (Unit {0}) FileSwitchFault) (new : SystemState D L) → IsFileSwitched g old path on result new → SwitchesFile g old path on result new
+pub so_switched : {D L : Type 0} (g : Ghosts D) (old : SystemState D L) (path : List ℕ) (on : Bool) (result : Result (Unit {0}) CommandFault) (new : SystemState D L) → IsFileSwitched g old path on result new → SwitchesFile g old path on result new
 so_switched g old path on (Ok x) new is = is
 so_switched g old path on (Err fault) new is = inr is

@@ -6,10 +6,10 @@ use Rattle.sector_device.specs.declared.system_cause.SystemCause.{SystemCause}
 use Rattle.systems.specs.Systems.{SystemState}
 use Rattle.cow_pages.specs.Image.{is_size}
 use Rattle.abstract_database.specs.Lists.{TheName}
-use Rattle.databases.specs.declared.making.MakeFault.{MakeFault}
-use Rattle.databases.specs.declared.making.MakeFault.TheVariants.{Memory, Device, WrongSize}
+use Rattle.cow_pages.specs.declared.open.OpenFault.{OpenFault}
+use Rattle.cow_pages.specs.declared.open.OpenFault.TheVariants.{WrongSize, NotADatabase, Damaged, Device, Memory}
 use Rattle.databases.specs.Making.{Makes}
-use Rattle.cli.specs.Faults.{of_making}
+use Rattle.cli.specs.Faults.{of_pages}
 use Rattle.cli.specs.Formatting.{IsTakenAway, IsUnformatted}
 
 pub done_or_failed : (A B : Type 0) (result : Result (Unit {0}) SystemCause) → OnOk result A → OnErr result B → A ⊎ B
@@ -20,8 +20,10 @@ no_size : (sectors other : ℕ) → sectors ≡ other → is_size other ≡ true
 no_size sectors other are is none = let both : true ≡ false = sym is ∙ ap is_size (sym are) ∙ none in cc
 
 module _ {D L : Type 0} (g : Ghosts D) (old new : SystemState D L) (path : List ℕ) (pages : ℕ) (admin : TheName) (journal : Bool) (blank left : D) where
-  pub unformatted : (why : MakeFault) → is_size (8 * pages) ≡ true → (g.state blank).sectors ≡ 8 * pages → Makes g.state journal admin (Err why) blank left → IsTakenAway g old path pages admin journal (of_making why) new
-      → IsUnformatted g old path pages admin journal (of_making why) new
+  pub unformatted : (why : OpenFault) → is_size (8 * pages) ≡ true → (g.state blank).sectors ≡ 8 * pages → Makes g.state journal admin (Err why) blank left → IsTakenAway g old path pages admin journal (of_pages why) new
+      → IsUnformatted g old path pages admin journal (of_pages why) new
   unformatted Memory size sectors makes taken = (size, inr taken)
   unformatted Device size sectors makes taken = (size, inr taken)
+  unformatted NotADatabase size sectors makes taken = absurd makes
+  unformatted Damaged size sectors makes taken = absurd makes
   unformatted WrongSize size sectors makes taken = absurd (no_size (g.state blank).sectors (8 * pages) sectors size makes.0)

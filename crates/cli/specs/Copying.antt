@@ -7,13 +7,13 @@ use Rattle.systems.specs.declared.access.Access.TheVariants.{Read}
 use Rattle.systems.specs.Places.{ThePlace}
 use Rattle.systems.specs.Systems.{HasDevice, IsNamed, IsOpen, IsReadable, IsSame, IsSameBut, IsSameButBoth, IsUnnamed, Rose, SystemState}
 use Rattle.cow_pages.specs.Held.{KeepsContent}
-use Rattle.copies.specs.declared.database_copy_fault.DatabaseCopyFault.{DatabaseCopyFault}
+use Rattle.copies.specs.declared.fault.CopyFault.{CopyFault}
 use Rattle.copies.specs.DatabaseCopies.{CopiesDatabase}
 use Rattle.databases.specs.Databases.{IsUnwritten}
 use Rattle.cli.specs.declared.fault.CommandFault.{CommandFault}
 use Rattle.cli.specs.declared.fault.CommandFault.TheVariants as command
-use Rattle.cli.specs.declared.copy_fault.FileCopyFault.{FileCopyFault}
-use Rattle.cli.specs.declared.copy_fault.FileCopyFault.TheVariants.{File, New, Partial}
+use Rattle.cli.specs.declared.copy_fault.CopyRefusal.{CopyRefusal}
+use Rattle.cli.specs.declared.copy_fault.CopyRefusal.TheVariants.{File, New}
 use Rattle.cli.specs.CopyFaults.{of_copy}
 use Rattle.cli.specs.Faults.{of_file}
 use Rattle.cli.specs.Files.{IsNotOpened}
@@ -26,11 +26,11 @@ partial_path target = target ++ codes ".partial"
 -- ---- once the file is open
 
 -- why nothing was made for the copy: its name is taken, or that until it is whole; no memory was left; or a call of the system failed
-abbrev pub StandsAgainstCopy : {D L : Type 0} → FileCopyFault → SystemState D L → List ℕ → List ℕ → SystemState D L → Type 0
+abbrev pub StandsAgainstCopy : {D L : Type 0} → CopyRefusal → SystemState D L → List ℕ → List ℕ → SystemState D L → Type 0
 StandsAgainstCopy (New command.Exists) old partial target new = IsNamed old target
 StandsAgainstCopy (New command.Memory) old partial target new = Unit {0}
 StandsAgainstCopy (New (command.Device cause)) old partial target new = Rose old.failures new.failures
-StandsAgainstCopy Partial old partial target new = IsNamed old partial
+StandsAgainstCopy (New command.Partial) old partial target new = IsNamed old partial
 StandsAgainstCopy fault old partial target new = ⊥
 
 -- a copy that is whole got its name, which nothing had; or it did not, and was taken away, unless the system failed
@@ -41,7 +41,7 @@ pub record IsRenamed {D L : Type 0} (old : SystemState D L) (partial target : Li
   pub others : old.faithful → IsSameButBoth partial target old new
   pub counts : old.failures ≤ new.failures
 
-pub record IsNotRenamed {D L : Type 0} (old : SystemState D L) (partial target : List ℕ) (fault : FileCopyFault) (new : SystemState D L) : Type 0 where
+pub record IsNotRenamed {D L : Type 0} (old : SystemState D L) (partial target : List ℕ) (fault : CopyRefusal) (new : SystemState D L) : Type 0 where
   pub why : FileFault
   pub is : fault ≡ New (of_file why)
   pub cause : old.faithful → StandsAgainst why old target new
@@ -49,7 +49,7 @@ pub record IsNotRenamed {D L : Type 0} (old : SystemState D L) (partial target :
   pub others : old.faithful → IsSameBut partial old new
   pub counts : old.failures ≤ new.failures
 
-abbrev pub Renames : {D L : Type 0} → SystemState D L → List ℕ → List ℕ → D → Result (Unit {0}) FileCopyFault → SystemState D L → Type 0
+abbrev pub Renames : {D L : Type 0} → SystemState D L → List ℕ → List ℕ → D → Result (Unit {0}) CopyRefusal → SystemState D L → Type 0
 Renames old partial target copy (Ok x) new = IsRenamed old partial target copy new
 Renames old partial target copy (Err fault) new = IsNotRenamed old partial target fault new
 
@@ -57,14 +57,14 @@ Renames old partial target copy (Err fault) new = IsNotRenamed old partial targe
 -- name of a copy until it is whole, and `target` its name then
 module _ {D L : Type 0} (g : Ghosts D) (old : SystemState D L) (partial target : List ℕ) (pages : ℕ) (device : D) where
   -- nothing was made: all is as it was, and so is the file
-  pub record IsNotBegun (fault : FileCopyFault) (left : D) (new : SystemState D L) : Type 0 where
+  pub record IsNotBegun (fault : CopyRefusal) (left : D) (new : SystemState D L) : Type 0 where
     pub unread : left ≡ device
     pub cause : old.faithful → StandsAgainstCopy fault old partial target new
     pub same : old.faithful → IsSame old new
     pub counts : old.failures ≤ new.failures
 
   -- a copy was tried on this device, which was blank; not one sector of the file was written
-  pub record IsTried (result : Result (Unit {0}) DatabaseCopyFault) (left blank copy : D) : Type 0 where
+  pub record IsTried (result : Result (Unit {0}) CopyFault) (left blank copy : D) : Type 0 where
     pub is_blank : old.faithful → IsMadeBlank g old partial pages blank
     pub copies : (g.state device).faithful → CopiesDatabase (g.state device) (g.state left) g.state result blank copy
     pub history : KeepsHistory (g.state device) (g.state left)
@@ -77,16 +77,16 @@ module _ {D L : Type 0} (g : Ghosts D) (old : SystemState D L) (partial target :
     pub counts : old.failures ≤ new.failures
 
   -- it stopped
-  pub record IsStopped (fault : FileCopyFault) (left : D) (new : SystemState D L) : Type 0 where
-    pub why : DatabaseCopyFault
-    pub is : fault ≡ of_copy why
+  pub record IsStopped (fault : CopyRefusal) (left : D) (new : SystemState D L) : Type 0 where
+    pub why : CopyFault
+    pub is : fault ≡ of_copy pages why
     pub blank : D
     pub copy : D
     pub tried : IsTried (Err why) left blank copy
     pub taken : IsTakenBack new
 
   -- it was whole, and did not get its name
-  pub record IsNotNamed (fault : FileCopyFault) (left : D) (new : SystemState D L) : Type 0 where
+  pub record IsNotNamed (fault : CopyRefusal) (left : D) (new : SystemState D L) : Type 0 where
     pub why : FileFault
     pub is : fault ≡ New (of_file why)
     pub cause : old.faithful → StandsAgainst why old target new
@@ -106,10 +106,10 @@ module _ {D L : Type 0} (g : Ghosts D) (old : SystemState D L) (partial target :
     pub others : old.faithful → IsSameButBoth partial target old new
     pub counts : old.failures ≤ new.failures
 
-  abbrev pub IsUncopied : FileCopyFault → D → SystemState D L → Type 0
+  abbrev pub IsUncopied : CopyRefusal → D → SystemState D L → Type 0
   IsUncopied fault left new = IsNotBegun fault left new ⊎ IsStopped fault left new ⊎ IsNotNamed fault left new
 
-  abbrev pub CopiesBeside : Result (Unit {0}) FileCopyFault → D → SystemState D L → Type 0
+  abbrev pub CopiesBeside : Result (Unit {0}) CopyRefusal → D → SystemState D L → Type 0
   CopiesBeside (Ok x) left new = IsCopied left new
   CopiesBeside (Err fault) left new = IsUncopied fault left new
 
@@ -146,13 +146,13 @@ module _ {D L : Type 0} (g : Ghosts D) (old : SystemState D L) (path target : Li
     pub others : old.faithful → IsSameButThree path (partial_path target) target old new
 
   -- the file was not opened to be read, and all is as it was
-  pub record IsFileUnread (fault : FileCopyFault) (new : SystemState D L) : Type 0 where
+  pub record IsFileUnread (fault : CopyRefusal) (new : SystemState D L) : Type 0 where
     pub why : CommandFault
     pub is : fault ≡ File why
     pub unopened : IsNotOpened g old path Read why new
 
   -- no database is of so many pages, and nothing was done
-  pub record IsOfNoSize (fault : FileCopyFault) (new : SystemState D L) : Type 0 where
+  pub record IsOfNoSize (fault : CopyRefusal) (new : SystemState D L) : Type 0 where
     pub is : fault ≡ New command.WrongSize
     pub no_size : IsNoSize pages
     pub same : IsSame old new
@@ -161,7 +161,7 @@ module _ {D L : Type 0} (g : Ghosts D) (old : SystemState D L) (path target : Li
 module _ {D L S : Type 0} (g : Ghosts D) (state : S → SystemState D L) (old : SystemState D L) (path target : List ℕ) (pages : ℕ) where
   -- the file was opened and is there as it was, but not copied: this is how it went between `begun` and `ended`, and nothing is left
   -- of the copy unless the system failed
-  pub record IsFileUncopied (fault : FileCopyFault) (new : SystemState D L) : Type 0 where
+  pub record IsFileUncopied (fault : CopyRefusal) (new : SystemState D L) : Type 0 where
     pub device : D
     pub left : D
     pub begun : S
@@ -172,6 +172,6 @@ module _ {D L S : Type 0} (g : Ghosts D) (state : S → SystemState D L) (old : 
     pub closing : old.faithful → IsSameBut path (state ended) new
     pub others : old.faithful → IsSameButBoth path (partial_path target) old new
 
-  abbrev pub CopiesFile : Result (Unit {0}) FileCopyFault → SystemState D L → Type 0
+  abbrev pub CopiesFile : Result (Unit {0}) CopyRefusal → SystemState D L → Type 0
   CopiesFile (Ok x) new = IsFileCopied g old path target pages new
   CopiesFile (Err fault) new = IsOfNoSize g old path target pages fault new ⊎ IsFileUnread g old path target pages fault new ⊎ IsFileUncopied fault new

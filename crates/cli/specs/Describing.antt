@@ -9,13 +9,13 @@ use Rattle.wire.specs.ScriptRun.{Known}
 use Rattle.systems.specs.Systems.{SystemState}
 use Rattle.cli.specs.declared.fault.CommandFault.{CommandFault}
 use Rattle.cli.specs.Reading.{ReadsFile}
-use Rattle.cli.specs.declared.ending.ProgramFault.TheVariants as fault
+use Rattle.cli.specs.declared.fault.CommandFault.TheVariants as fault
 use Rattle.cli.specs.declared.ending.Ending.{Ending}
 use Rattle.cli.specs.declared.ending.Ending.TheVariants as ending
 use Rattle.cli.specs.declared.ending.Exit.{Exit}
 use Rattle.cli.specs.declared.ending.Subject.{Subject}
 use Rattle.cli.specs.declared.ending.Subject.TheVariants as subject
-use Rattle.cli.specs.Ending.{Exits, fault_of_command}
+use Rattle.cli.specs.Ending.{Exits}
 use Rattle.cli.specs.Printing.{IsPrinted}
 
 -- of these definitions a text was printed, or the writer failed; or none of their roles has the name that is asked for, or memory
@@ -28,7 +28,7 @@ pub data IsDescribed (definitions : Definitions) (role : Option TheName) (before
 -- so it was with the definitions that were read; or the fault of their reading is the end, and nothing was printed
 abbrev pub IsDescribedBy : Result Definitions CommandFault → Option TheName → Known → Ending → Known → Type 0
 IsDescribedBy (Ok definitions) role before e after = IsDescribed definitions role before e after
-IsDescribedBy (Err f) role before e after = (e ≡ ending.Fault (fault_of_command f)) × (after ≡ before)
+IsDescribedBy (Err f) role before e after = (e ≡ ending.Fault f) × (after ≡ before)
 
 -- what the end is about: the role, where none has its name, else the file
 abbrev pub description_subject : Bor (List ℕ) → Option (Bor (List ℕ)) → Ending → Subject

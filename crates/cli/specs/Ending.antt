@@ -3,7 +3,6 @@ use Rattle.std.specs.Prelude.{◌≡◌, ◌++◌, ℕ, Bool, true, List, [], co
 use Rattle.std.specs.Io.KnownBytes.{Appends}
 use Rattle.sector_device.specs.declared.system_cause.SystemCause.TheVariants.{Other}
 use Rattle.sector_device.specs.SystemCause.{cause_text}
-use Rattle.recovery.specs.declared.fault.OpeningFault.{OpeningFault}
 use Rattle.wire.specs.AnswerText.{newline}
 use Rattle.wire.specs.declared.script_run.ScriptEnd.{ScriptEnd}
 use Rattle.wire.specs.declared.script_run.ScriptEnd.TheVariants as end
@@ -11,11 +10,7 @@ use Rattle.wire.specs.ScriptRun.{Known}
 use Rattle.wire.specs.declared.listener.Served.{Served}
 use Rattle.wire.specs.declared.listener.Served.TheVariants as served
 use Rattle.cli.specs.declared.fault.CommandFault.{CommandFault}
-use Rattle.cli.specs.declared.fault.CommandFault.TheVariants as command
-use Rattle.cli.specs.Faults.{of_records}
-use Rattle.cli.specs.declared.ending.ProgramFault.{ProgramFault}
-use Rattle.cli.specs.declared.ending.ProgramFault.TheVariants as fault
-use Rattle.cli.specs.declared.ending.ScriptFault.TheVariants as script
+use Rattle.cli.specs.declared.fault.CommandFault.TheVariants as fault
 use Rattle.cli.specs.declared.ending.Subject.{Subject}
 use Rattle.cli.specs.declared.ending.Subject.TheVariants as subject
 use Rattle.cli.specs.declared.ending.Ending.{Ending}
@@ -23,24 +18,6 @@ use Rattle.cli.specs.declared.ending.Ending.TheVariants as ending
 use Rattle.cli.specs.declared.ending.Exit.{Exit}
 
 -- ---- how it ends
-
--- the fault of a command over a file
-abbrev pub fault_of_command : CommandFault → ProgramFault
-fault_of_command command.Exists = fault.Exists
-fault_of_command command.InUse = fault.InUse
-fault_of_command command.Memory = fault.Memory
-fault_of_command (command.Device cause) = fault.Device cause
-fault_of_command command.WrongSize = fault.WrongSize
-fault_of_command command.NotADatabase = fault.NotADatabase
-fault_of_command command.Damaged = fault.Damaged
-fault_of_command command.Full = fault.Full
-fault_of_command command.Number = fault.Number
-fault_of_command (command.Net cause) = fault.Net cause
-fault_of_command command.Output = fault.Output
-
--- the fault of a store over which no server was opened
-abbrev pub fault_of : OpeningFault → ProgramFault
-fault_of f = fault_of_command (of_records f)
 
 -- the end of a server
 abbrev pub ending_of_serving : Served → Ending
@@ -58,7 +35,7 @@ ending_of end.Memory = ending.Fault fault.Memory
 
 -- ---- messages
 
-abbrev pub fault_name : ProgramFault → List ℕ
+abbrev pub fault_name : CommandFault → List ℕ
 fault_name fault.Memory = codes "Memory"
 fault_name (fault.Device cause) = codes "Device"
 fault_name fault.Damaged = codes "Damaged"
@@ -71,7 +48,8 @@ fault_name fault.Partial = codes "Exists"
 fault_name (fault.NoRoom pages least) = codes "Full"
 fault_name fault.InUse = codes "InUse"
 fault_name (fault.Net cause) = codes "Net"
-fault_name (fault.Script why) = codes "Script"
+fault_name (fault.ScriptUnread cause) = codes "Script"
+fault_name (fault.ScriptNotUtf8 line byte) = codes "Script"
 fault_name fault.NoRole = codes "NoRole"
 fault_name fault.FirstFormat = codes "Format"
 fault_name fault.NoSwitchRoom = codes "Full"
@@ -79,7 +57,7 @@ fault_name fault.NoSwitchNumber = codes "Number"
 fault_name fault.Output = codes "Output"
 
 -- what a fault means for what it is about, and what to do
-abbrev pub reason_text : ProgramFault → List ℕ
+abbrev pub reason_text : CommandFault → List ℕ
 reason_text fault.Memory = codes "no memory is left"
 reason_text (fault.Device cause) = cause_text cause
 reason_text fault.Damaged = codes "the database is damaged; restore it from a copy"
@@ -92,8 +70,8 @@ reason_text fault.Partial = codes "a copy is made there, or was stopped; once no
 reason_text (fault.NoRoom pages least) = codes "the database does not fit in " ++ (decimal pages ++ (codes " pages; it wants at least " ++ decimal least))
 reason_text fault.InUse = codes "another process has it open"
 reason_text (fault.Net cause) = cause_text cause
-reason_text (fault.Script (script.Unread cause)) = cause_text cause
-reason_text (fault.Script (script.NotUtf8 line byte)) = codes "line " ++ (decimal line ++ (codes ", byte " ++ (decimal byte ++ codes ": not UTF-8")))
+reason_text (fault.ScriptUnread cause) = cause_text cause
+reason_text (fault.ScriptNotUtf8 line byte) = codes "line " ++ (decimal line ++ (codes ", byte " ++ (decimal byte ++ codes ": not UTF-8")))
 reason_text fault.NoRole = codes "no role of the database has this name"
 reason_text fault.FirstFormat = codes "of format 1; 'guarddb check' brings it to format 2, which can have a journal"
 reason_text fault.NoSwitchRoom = codes "no room is left for this; copy it to a larger file"
@@ -111,11 +89,11 @@ abbrev pub message : List ℕ → List ℕ
 message text = codes "guarddb: " ++ (text ++ newline)
 
 -- the line of a fault's name
-abbrev pub name_message : ProgramFault → List ℕ
+abbrev pub name_message : CommandFault → List ℕ
 name_message f = message (fault_name f)
 
 -- and a second one: what it is about, and why it came
-abbrev pub fault_message : Subject → ProgramFault → List ℕ
+abbrev pub fault_message : Subject → CommandFault → List ℕ
 fault_message about fault.Memory = name_message fault.Memory
 fault_message about fault.Output = name_message fault.Output ++ message (codes "standard output: " ++ reason_text fault.Output)
 fault_message about f = name_message f ++ message (subject_text about ++ (codes ": " ++ reason_text f))

@@ -6,12 +6,12 @@ use Rattle.sector_device.specs.declared.open_file.FileFault.TheVariants as file
 use Rattle.systems.specs.Systems.{HasDevice, HoldsZeros, IsNamed, IsSame, IsSameBut, IsUnnamed, Rose, SystemState}
 use Rattle.cow_pages.specs.Formatting.{IsBlank}
 use Rattle.cow_pages.specs.Image.{is_size}
+use Rattle.cow_pages.specs.declared.open.OpenFault.{OpenFault}
 use Rattle.abstract_database.specs.Lists.{TheName}
-use Rattle.databases.specs.declared.making.MakeFault.{MakeFault}
 use Rattle.databases.specs.Making.{IsMade, Makes}
 use Rattle.cli.specs.declared.fault.CommandFault.{CommandFault}
 use Rattle.cli.specs.declared.fault.CommandFault.TheVariants.{WrongSize}
-use Rattle.cli.specs.Faults.{of_file, of_making}
+use Rattle.cli.specs.Faults.{of_file, of_pages}
 
 -- why a new file was not made: something has its name; no memory was left; or a call of the system failed
 abbrev pub StandsAgainst : {D L : Type 0} → FileFault → SystemState D L → List ℕ → SystemState D L → Type 0
@@ -52,8 +52,8 @@ module _ {D L : Type 0} (g : Ghosts D) (old : SystemState D L) (path : List ℕ)
   pub record IsTakenAway (pages : ℕ) (admin : TheName) (journal : Bool) (fault : CommandFault) (new : SystemState D L) : Type 0 where
     pub blank : D
     pub left : D
-    pub why : MakeFault
-    pub is : fault ≡ of_making why
+    pub why : OpenFault
+    pub is : fault ≡ of_pages why
     pub makes : Makes g.state journal admin (Err why) blank left
     pub is_blank : old.faithful → IsMadeBlank pages blank
     pub removed : old.faithful → IsUnnamed new path ⊎ Rose old.failures new.failures

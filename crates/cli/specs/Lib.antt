@@ -11,7 +11,6 @@ pub mod Formatting
 pub mod Migrations
 pub mod Reading
 pub mod Serving
-pub mod SwitchFaults
 pub mod Switching
 pub mod CopyCommand
 pub mod Describing

@@ -2,7 +2,7 @@
 use Rattle.std.specs.Prelude.{◌≡◌, ◌⊎◌, ℕ, List}
 use Rattle.std.specs.Io.KnownBytes.{Appends}
 use Rattle.wire.specs.ScriptRun.{Known}
-use Rattle.cli.specs.declared.ending.ProgramFault.TheVariants as fault
+use Rattle.cli.specs.declared.fault.CommandFault.TheVariants as fault
 use Rattle.cli.specs.declared.ending.Ending.{Ending}
 use Rattle.cli.specs.declared.ending.Ending.TheVariants as ending
 use Rattle.cli.specs.declared.ending.Exit.{Exit}

@@ -17,7 +17,6 @@ use Rattle.cli.specs.declared.command.UsageFault.TheVariants as usage
 use Rattle.cli.specs.declared.texts.TheConstants.{HELP, USAGE, VERSION}
 use Rattle.cli.specs.Usage.{name_reason, usage_reason}
 use Rattle.cli.specs.declared.fault.CommandFault.{CommandFault}
-use Rattle.cli.specs.declared.fault.CommandFault.TheVariants as command
 use Rattle.cli.specs.declared.opened.CommandEnd.{CommandEnd}
 use Rattle.cli.specs.Commands.{ChecksFile, RunsFile}
 use Rattle.cli.specs.Formatting.{FormatsFile}
@@ -25,14 +24,13 @@ use Rattle.cli.specs.Serving.{ServesFile}
 use Rattle.systems.specs.declared.place.ListenPlace.{ListenPlace}
 use Rattle.systems.specs.declared.place.ListenPlace.TheVariants.{Port, Socket}
 use Rattle.systems.specs.Systems.{IsSame, SystemState}
-use Rattle.cli.specs.declared.ending.ProgramFault.{ProgramFault}
-use Rattle.cli.specs.declared.ending.ProgramFault.TheVariants as fault
+use Rattle.cli.specs.declared.fault.CommandFault.TheVariants as fault
 use Rattle.cli.specs.declared.ending.Ending.{Ending}
 use Rattle.cli.specs.declared.ending.Ending.TheVariants as ending
 use Rattle.cli.specs.declared.ending.Exit.{Exit}
 use Rattle.cli.specs.declared.ending.Subject.{Subject}
 use Rattle.cli.specs.declared.ending.Subject.TheVariants as subject
-use Rattle.cli.specs.Ending.{caller_status, ending_of, ending_of_serving, name_message, fault_of_command, fault_status, Exits, ExitsAfter, HasTold}
+use Rattle.cli.specs.Ending.{caller_status, ending_of, ending_of_serving, name_message, fault_status, Exits, ExitsAfter, HasTold}
 use Rattle.cli.specs.CopyCommand.{Copies}
 use Rattle.cli.specs.Describing.{Describes}
 use Rattle.cli.specs.Printing.{EndsBy, IsPrinted, Prints}
@@ -58,7 +56,7 @@ usage_status _ = caller_status
 -- ---- the run of a script
 
 -- this is the end, and nothing was printed
-abbrev pub IsUnread : {K : Type 0} → ProgramFault → K → Ending → K → Type 0
+abbrev pub IsUnread : {K : Type 0} → CommandFault → K → Ending → K → Type 0
 IsUnread f before e after = (e ≡ ending.Fault f) × (after ≡ before)
 
 -- a script of UTF-8 was run over a new database of this administrator; another was not, for the first byte that is none
@@ -86,7 +84,7 @@ RunsFor about X Reads k admin script exit out_before out_after err_before err_af
 -- where the command was carried out the text was printed; else its fault is the end, and nothing was
 abbrev pub IsAnswered : Result (Unit {0}) CommandFault → List ℕ → Known → Ending → Known → Type 0
 IsAnswered (Ok x) text before e after = IsPrinted text before e after
-IsAnswered (Err f) text before e after = (e ≡ ending.Fault (fault_of_command f)) × (after ≡ before)
+IsAnswered (Err f) text before e after = (e ≡ ending.Fault f) × (after ≡ before)
 
 -- ---- over a system
 
@@ -123,7 +121,7 @@ pub record Checks (X : Type 0) {D L : Type 0} (g : Ghosts D) (old : SystemState 
 -- how the run of a script over a file ended
 abbrev pub ending_of_run : Result ScriptEnd CommandFault → Ending
 ending_of_run (Ok end) = ending_of end
-ending_of_run (Err f) = ending.Fault (fault_of_command f)
+ending_of_run (Err f) = ending.Fault f
 
 -- `file` is what messages call the file, and `path` its path
 module _ (X : Type 0) {D L K : Type 0} (g : Ghosts D) (k : SinkGhosts K) (Reads : ReadingRelation) (old : SystemState D L) (file : Subject) (path : List ℕ) where
@@ -135,7 +133,7 @@ module _ (X : Type 0) {D L K : Type 0} (g : Ghosts D) (k : SinkGhosts K) (Reads 
     pub ends : ExitsAfter end.told file (ending_of_run end.outcome) exit heard err_after
 
   -- the fault of a script was told, and nothing else was done
-  pub record IsNoneRun (script : Subject) (f : ProgramFault) (exit : Exit) (new : SystemState D L) (out_before out_after : K) (err_before err_after : Known) : Type 0 where
+  pub record IsNoneRun (script : Subject) (f : CommandFault) (exit : Exit) (new : SystemState D L) (out_before out_after : K) (err_before err_after : Known) : Type 0 where
     pub ends : Exits script (ending.Fault f) exit err_before err_after
     pub silent : out_after ≡ out_before
     pub same : StaysSame old new
@@ -166,7 +164,7 @@ pub record RunsInMemory (X : Type 0) {D L K : Type 0} (k : SinkGhosts K) (Reads 
 -- how a server ended
 abbrev pub ending_of_server : Result Served CommandFault → Ending
 ending_of_server (Ok served) = ending_of_serving served
-ending_of_server (Err f) = ending.Fault (fault_of_command f)
+ending_of_server (Err f) = ending.Fault f
 
 -- the place where a server listens, as messages name it
 abbrev pub place_subject : ListenPlace → Subject
@@ -175,7 +173,7 @@ place_subject (Socket path) = subject.Named path
 
 -- what a fault of a server is about: the place, once the database is open, where it is not bound
 abbrev pub fault_subject : Subject → ListenPlace → CommandFault → Subject
-fault_subject file place (command.Net cause) = place_subject place
+fault_subject file place (fault.Net cause) = place_subject place
 fault_subject file place f = file
 
 -- what the end of a server is about

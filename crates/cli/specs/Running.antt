@@ -25,10 +25,11 @@ use Rattle.wire.specs.declared.script_run.ScriptEnd.TheVariants as end
 use Rattle.wire.specs.declared.sink.Sink.{Ghosts as SinkGhosts}
 use Rattle.wire.specs.SessionNames.{Names}
 use Rattle.wire.specs.ScriptRun.{Known, Requests, Writes, EndsAfter, IsScriptRun, lines_of}
-use Rattle.cli.specs.declared.ending.ProgramFault.TheVariants as fault
+use Rattle.cli.specs.declared.fault.CommandFault.TheVariants as fault
 use Rattle.cli.specs.declared.ending.Ending.{Ending}
 use Rattle.cli.specs.declared.ending.Ending.TheVariants as ending
-use Rattle.cli.specs.Ending.{ending_of, fault_of}
+use Rattle.cli.specs.Ending.{ending_of}
+use Rattle.cli.specs.Faults.{of_records}
 
 -- ---- over a store
 
@@ -42,7 +43,7 @@ pub record IsNotOpened {S K : Type 0} (state : S → StoreState) (store : S) (be
   pub cause : (state store).sound → HasOpeningCause fault (state store) (state left)
   pub damaged : (state store).sound → (db : Database) → Stands (stored (state store)) db → fault ≢ Read Damaged
   pub unwritten : after ≡ before
-  pub ends : e ≡ ending.Fault (fault_of fault)
+  pub ends : e ≡ ending.Fault (of_records fault)
 
 -- the lines of a script were run from one server to another
 pub record RunsFrom {S X K : Type 0} (Reads : ReadingRelation) (state : S → StoreState) (k : SinkGhosts K) (opened : Server S X) (script : List ℕ) (before : K) (e : Ending) (last : Server S X) (after : K) : Type 0 where

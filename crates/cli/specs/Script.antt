@@ -11,18 +11,17 @@ use Rattle.sector_device.specs.SystemCause.{cause_of}
 use Rattle.systems.specs.declared.fault.TextFault.{TextFault}
 use Rattle.systems.specs.declared.fault.TextFault.TheVariants as text
 use Rattle.systems.specs.Systems.{HasText, IsSame, IsUnnamed, Rose, SystemState}
-use Rattle.cli.specs.declared.ending.ProgramFault.{ProgramFault}
-use Rattle.cli.specs.declared.ending.ProgramFault.TheVariants as fault
-use Rattle.cli.specs.declared.ending.ScriptFault.TheVariants.{Unread, NotUtf8}
+use Rattle.cli.specs.declared.fault.CommandFault.{CommandFault}
+use Rattle.cli.specs.declared.fault.CommandFault.TheVariants as fault
 
 -- the fault that an error of reading a script is
-abbrev pub script_fault_of : ErrorKind → ProgramFault
+abbrev pub script_fault_of : ErrorKind → CommandFault
 script_fault_of OutOfMemory = fault.Memory
-script_fault_of kind = fault.Script (Unread (cause_of kind))
+script_fault_of kind = fault.ScriptUnread (cause_of kind)
 
 -- the bytes of a script that was read, or why it was not
 abbrev pub Source : Type 0
-Source = Result (Vec ℕ Global) ProgramFault
+Source = Result (Vec ℕ Global) CommandFault
 
 -- what a reader gave of a script
 abbrev pub source_of : Result (Vec ℕ Global) Error → Source
@@ -30,10 +29,10 @@ source_of (Ok read) = Ok read
 source_of (Err error) = Err (script_fault_of (error_kind error))
 
 -- the fault that one of reading a text is
-abbrev pub fault_of_reading : TextFault → ProgramFault
-fault_of_reading text.Missing = fault.Script (Unread NotFound)
+abbrev pub fault_of_reading : TextFault → CommandFault
+fault_of_reading text.Missing = fault.ScriptUnread NotFound
 fault_of_reading text.Memory = fault.Memory
-fault_of_reading (text.Device cause) = fault.Script (Unread cause)
+fault_of_reading (text.Device cause) = fault.ScriptUnread cause
 
 -- why a text was not read: nothing is there; no memory was left; or a call of the system failed
 abbrev pub StandsOfText : {D L : Type 0} → TextFault → SystemState D L → List ℕ → SystemState D L → Type 0
@@ -42,7 +41,7 @@ StandsOfText text.Memory old path new = Unit {0}
 StandsOfText (text.Device cause) old path new = Rose old.failures new.failures
 
 -- why the script at a path was not read
-pub record IsUnreadAt {D L : Type 0} (old : SystemState D L) (path : List ℕ) (f : ProgramFault) (new : SystemState D L) : Type 0 where
+pub record IsUnreadAt {D L : Type 0} (old : SystemState D L) (path : List ℕ) (f : CommandFault) (new : SystemState D L) : Type 0 where
   pub why : TextFault
   pub is : f ≡ fault_of_reading why
   pub cause : old.faithful → StandsOfText why old path new
@@ -59,10 +58,10 @@ pub record IsScriptRead {D L : Type 0} (old : SystemState D L) (path : List ℕ)
   pub counts : old.failures ≤ new.failures
 
 -- the fault of a byte that stands after these, where the first of them is this byte of this line
-abbrev pub not_utf8_after : ℕ → ℕ → List ℕ → ProgramFault
-not_utf8_after line byte [] = fault.Script (NotUtf8 line byte)
+abbrev pub not_utf8_after : ℕ → ℕ → List ℕ → CommandFault
+not_utf8_after line byte [] = fault.ScriptNotUtf8 line byte
 not_utf8_after line byte (b ∷ rest) = (if b == 10 then not_utf8_after (line + 1) 1 rest else not_utf8_after line (byte + 1) rest)
 
 -- the fault of a script that is not UTF-8: it names the first byte that is not
-abbrev pub ill_encoded : List ℕ → ProgramFault
+abbrev pub ill_encoded : List ℕ → CommandFault
 ill_encoded script = not_utf8_after 1 1 (take (utf8_valid_len script) script)

@@ -12,12 +12,9 @@ use Rattle.journal_store.specs.TurningOff.{TurnsOff}
 use Rattle.databases.specs.declared.fault.DatabaseFault.{DatabaseFault}
 use Rattle.databases.specs.Databases.{HoldsDatabase, LeavesDatabase}
 use Rattle.cli.specs.declared.fault.CommandFault.{CommandFault}
-use Rattle.cli.specs.declared.switch_fault.FileSwitchFault.{FileSwitchFault}
-use Rattle.cli.specs.declared.switch_fault.FileSwitchFault.TheVariants.{File}
-use Rattle.cli.specs.Faults.{of_opening}
+use Rattle.cli.specs.Faults.{of_opening, of_switch}
 use Rattle.cli.specs.Files.{ChangesDevice, IsNotOpened}
 use Rattle.cli.specs.Reading.{ReadsOn}
-use Rattle.cli.specs.SwitchFaults.{of_switch}
 
 -- the journal of a device is turned on, or off
 abbrev pub Switches : {D : Type 0} (g : Ghosts D) → Bool → DeviceState → Result ℕ SwitchFault → DeviceState → Type 0
@@ -46,18 +43,18 @@ module _ {D : Type 0} (g : Ghosts D) (on : Bool) (d : DeviceState) where
     pub stays : d.faithful → KeepsDatabase d e
 
   -- the device holds a database, whose journal was not turned on or off
-  pub record IsSwitchRefused (fault : FileSwitchFault) (e : DeviceState) : Type 0 where
+  pub record IsSwitchRefused (fault : CommandFault) (e : DeviceState) : Type 0 where
     pub why : SwitchFault
     pub is : fault ≡ of_switch why
     pub tried : IsSwitched (Err why) e
 
   -- the device holds none, or was not read: no sector was written
-  pub record IsDeviceUnread (fault : FileSwitchFault) (e : DeviceState) : Type 0 where
+  pub record IsDeviceUnread (fault : CommandFault) (e : DeviceState) : Type 0 where
     pub why : DatabaseFault
-    pub is : fault ≡ File (of_opening why)
+    pub is : fault ≡ of_opening why
     pub reads : d.faithful → ReadsOn d (Err why) e
 
-  abbrev pub SwitchesDevice : Result (Unit {0}) FileSwitchFault → DeviceState → Type 0
+  abbrev pub SwitchesDevice : Result (Unit {0}) CommandFault → DeviceState → Type 0
   SwitchesDevice (Ok x) e = IsDeviceSwitched e
   SwitchesDevice (Err fault) e = IsDeviceUnread fault e ⊎ IsSwitchRefused fault e
 
@@ -66,7 +63,7 @@ module _ {D : Type 0} (g : Ghosts D) (on : Bool) (d : DeviceState) where
 -- `g` is what is said of devices, `old` the system before, and `path` that of the file
 module _ {D L : Type 0} (g : Ghosts D) (old : SystemState D L) (path : List ℕ) (on : Bool) where
   -- so was the journal of the device that the path named, which is there as that has left it
-  pub record IsFileSwitched (result : Result (Unit {0}) FileSwitchFault) (new : SystemState D L) : Type 0 where
+  pub record IsFileSwitched (result : Result (Unit {0}) CommandFault) (new : SystemState D L) : Type 0 where
     pub device : D
     pub left : D
     pub is_faithful : old.faithful → (g.state device).faithful
@@ -74,11 +71,11 @@ module _ {D L : Type 0} (g : Ghosts D) (old : SystemState D L) (path : List ℕ)
     pub changes : old.faithful → ChangesDevice g old path device left new
 
   -- the file was not opened, and all is as it was
-  pub record IsFileUnswitched (fault : FileSwitchFault) (new : SystemState D L) : Type 0 where
+  pub record IsFileUnswitched (fault : CommandFault) (new : SystemState D L) : Type 0 where
     pub why : CommandFault
-    pub is : fault ≡ File why
+    pub is : fault ≡ why
     pub unopened : IsNotOpened g old path Write why new
 
-  abbrev pub SwitchesFile : Result (Unit {0}) FileSwitchFault → SystemState D L → Type 0
+  abbrev pub SwitchesFile : Result (Unit {0}) CommandFault → SystemState D L → Type 0
   SwitchesFile (Ok x) new = IsFileSwitched (Ok x) new
   SwitchesFile (Err fault) new = IsFileUnswitched fault new ⊎ IsFileSwitched (Err fault) new

@@ -1,14 +1,14 @@
 //! What the program does for `copy`.
 
 ghost use Rattle.std.specs.Prelude.{◌≡◌};
-ghost use Rattle.cli.specs.CopyCommand.{Copies, GivesJournal, IsCopyAnswered, copy_subject, fault_of_copy};
+ghost use Rattle.cli.specs.CopyFaults.{fault_in};
+ghost use Rattle.cli.specs.CopyCommand.{Copies, GivesJournal, IsCopyAnswered, copy_subject};
 
-use crate::copy_fault::FileCopyFault;
-use crate::ending::{Ending, Exit, ProgramFault, Subject, exit_with};
+use crate::copy_fault::CopyRefusal;
+use crate::ending::{Ending, Exit, Subject, exit_with};
+use crate::fault::CommandFault;
 use crate::file_copies::copy_file;
-use crate::journal_command::switch_fault;
 use crate::printing::print_text;
-use crate::switch_fault::FileSwitchFault;
 use crate::switching::switch_journal;
 use sector_device::Device;
 use std::alloc::Global;
@@ -39,7 +39,7 @@ pub(crate) fn copy<Y: System, K: TakesText, E: Write>(
 {
     let copied = copy_file(system, alloc, file, new, pages);
     let given = give_journal(system, alloc, new, journal, copied);
-    let ending = end_of_copy(copied, given, pages, out);
+    let ending = end_of_copy(copied, given, out);
     exit_with(ending, subject_of_copy(copied, file, new), err)
 }
 
@@ -49,8 +49,8 @@ fn give_journal<Y: System>(
     alloc: Global,
     new: &str,
     journal: bool,
-    copied: Result<(), FileCopyFault>,
-) -> Result<(), FileSwitchFault>
+    copied: Result<(), CopyRefusal>,
+) -> Result<(), CommandFault>
     ensures { GivesJournal Y.Device.Device Y.state journal copied system.old new.now result
         system.new }
 {
@@ -65,44 +65,37 @@ fn give_journal<Y: System>(
 
 // How a copy ended: where it was made, and given a journal that was asked for, that is printed.
 fn end_of_copy<K: TakesText>(
-    copied: Result<(), FileCopyFault>,
-    given: Result<(), FileSwitchFault>,
-    pages: u32,
+    copied: Result<(), CopyRefusal>,
+    given: Result<(), CommandFault>,
     out: &mut K,
 ) -> Ending
-    ensures { IsCopyAnswered copied given pages (K.held out.old) result (K.held out.new) }
+    ensures { IsCopyAnswered copied given (K.held out.old) result (K.held out.new) }
 {
     match copied {
         Ok(()) => match given {
             Ok(()) => print_text(COPIED, out),
-            Err(fault) => Ending::Fault(switch_fault(fault)),
+            Err(fault) => Ending::Fault(fault),
         },
-        Err(fault) => Ending::Fault(program_fault(fault, pages)),
+        Err(refusal) => Ending::Fault(fault_of(refusal)),
     }
 }
 
-// The fault of a copy to so many pages.
-fn program_fault(fault: FileCopyFault, pages: u32) -> ProgramFault
-    ensures { result ≡ fault_of_copy pages fault }
+// Why a copy was refused, whichever file it was refused for.
+fn fault_of(refusal: CopyRefusal) -> CommandFault
+    ensures { result ≡ fault_in refusal }
 {
-    match fault {
-        FileCopyFault::File(fault) | FileCopyFault::New(fault) => ProgramFault::from(fault),
-        FileCopyFault::Partial => ProgramFault::Partial,
-        FileCopyFault::Full(least) => ProgramFault::NoRoom { pages, least },
+    match refusal {
+        CopyRefusal::File(fault) | CopyRefusal::New(fault) => fault,
     }
 }
 
 // What the end of a copy is about: the file, where that was refused; else the new one.
-fn subject_of_copy<'a>(
-    copied: Result<(), FileCopyFault>,
-    file: &'a str,
-    new: &'a str,
-) -> Subject<'a>
+fn subject_of_copy<'a>(copied: Result<(), CopyRefusal>, file: &'a str, new: &'a str) -> Subject<'a>
     ensures { result ≡ copy_subject file.entry new.entry copied }
 {
     match copied {
-        Err(FileCopyFault::File(_)) => Subject::Named(file),
-        Err(FileCopyFault::Partial) => Subject::Partial(new),
-        Ok(()) | Err(FileCopyFault::New(_) | FileCopyFault::Full(_)) => Subject::Named(new),
+        Err(CopyRefusal::File(_)) => Subject::Named(file),
+        Err(CopyRefusal::New(CommandFault::Partial)) => Subject::Partial(new),
+        Ok(()) | Err(CopyRefusal::New(_)) => Subject::Named(new),
     }
 }

@@ -4,7 +4,7 @@ ghost use Rattle.std.specs.Prelude.{◌≡◌, Some, None, option_map};
 ghost use Rattle.description_texts.specs.Descriptions.{asked_name};
 ghost use Rattle.cli.specs.Describing.{description_subject, Describes, IsDescribed, IsDescribedBy};
 
-use crate::ending::{Ending, Exit, ProgramFault, Subject, exit_with};
+use crate::ending::{Ending, Exit, Subject, exit_with};
 use crate::fault::CommandFault;
 use crate::printing::print_text;
 use crate::reading::read_file;
@@ -48,12 +48,12 @@ fn print_description<K: TakesText>(
 {
     let catalogue = match read {
         Ok(catalogue) => catalogue,
-        Err(fault) => return Ending::Fault(ProgramFault::from(fault)),
+        Err(fault) => return Ending::Fault(fault),
     };
     match description::describe(alloc, &catalogue, role, json) {
         Ok(Some(text)) => print_text(text.as_str(), out),
-        Ok(None) => Ending::Fault(ProgramFault::NoRole),
-        Err(_) => Ending::Fault(ProgramFault::Memory),
+        Ok(None) => Ending::Fault(CommandFault::NoRole),
+        Err(_) => Ending::Fault(CommandFault::Memory),
     }
 }
 
@@ -63,7 +63,7 @@ fn subject_of<'a>(ending: Ending, file: &'a str, role: Option<&'a str>) -> Subje
     ensures { result ≡ description_subject file.entry role.entry ending }
 {
     match (ending, role) {
-        (Ending::Fault(ProgramFault::NoRole), Some(name)) => Subject::Named(name),
+        (Ending::Fault(CommandFault::NoRole), Some(name)) => Subject::Named(name),
         _ => Subject::Named(file),
     }
 }

@@ -2,157 +2,14 @@
 
 ghost use Rattle.std.specs.Prelude.{◌≡◌, OnOk, Some, true};
 ghost use Rattle.std.specs.Io.KnownBytes.{Appends};
-ghost use Rattle.cli.specs.Ending.{fault_name, fault_message, reason_text, subject_text, bad_line_message, ending_message, exit_status, ending_of, fault_of, fault_of_command, ending_of_serving, done_message, stopped_message, ExitsAfter, HasTold, OwesNothing};
+ghost use Rattle.cli.specs.Ending.{fault_message, subject_text, bad_line_message, ending_message, exit_status, ending_of, ending_of_serving, done_message, stopped_message, ExitsAfter, HasTold, OwesNothing};
 
-use crate::fault::CommandFault;
-use recovery::OpeningFault;
+use crate::fault::{CommandFault, Reason};
 use sector_device::SystemCause;
-use std::error::Error;
 use std::io::Write;
 use std::{fmt, io};
 use wire::listener::Served;
 use wire::script_run::ScriptEnd;
-
-/// Why a script was not run.
-#[derive(Clone, Copy, Debug, PartialEq, Eq)]
-pub enum ScriptFault {
-    /// The system does not open or read it, for this cause.
-    Unread(SystemCause),
-    /// It is not UTF-8 from this byte of this line on, both counted from 1.
-    NotUtf8 { line: usize, byte: usize },
-}
-
-/// What ended the program before its work was done.
-#[derive(Clone, Copy, Debug, PartialEq, Eq)]
-pub enum ProgramFault {
-    /// Memory was refused.
-    Memory,
-    /// The file of the database cannot be opened or made, for this cause, or its device failed.
-    Device(SystemCause),
-    /// The records of the database stand for none.
-    Damaged,
-    /// The records of the database are of format 1, and find no room in format 2.
-    Full,
-    /// The records of the database are of format 1, and no commit number is left for format 2.
-    Number,
-    /// The file does not have 64 to 65,536 whole pages, or another number than its root says.
-    WrongSize,
-    /// The file is no database.
-    NotADatabase,
-    /// There is something of the name of a new file already.
-    Exists,
-    /// There is something of the name that a copy has until it is whole.
-    Partial,
-    /// The database to be copied does not fit in so many pages. It wants so many at least.
-    NoRoom { pages: u32, least: u64 },
-    /// Another process has the file open.
-    InUse,
-    /// The port or the socket cannot be bound, for this cause, or a connection cannot be taken.
-    Net(SystemCause),
-    /// The script cannot be read, or is not UTF-8.
-    Script(ScriptFault),
-    /// The database has no role of the name that was asked for.
-    NoRole,
-    /// A journal is asked for, and the records of the database are of format 1.
-    FirstFormat,
-    /// The file has no room left for what waits in its journal, or for a root.
-    NoSwitchRoom,
-    /// No commit number is left for the roots that a journal takes, or the end of one.
-    NoSwitchNumber,
-    /// Standard output failed, or standard error, where `serve` tells on it where it listens.
-    Output,
-}
-
-impl fmt::Display for ProgramFault {
-    ghost output = { λ fault. Some (fault_name fault) };
-
-    fn fmt<W: fmt::Write>(&self, f: &mut fmt::Formatter<W>) -> fmt::Result {
-        match self {
-            ProgramFault::Memory => write!(f, "Memory"),
-            ProgramFault::Device(_) => write!(f, "Device"),
-            ProgramFault::Damaged => write!(f, "Damaged"),
-            ProgramFault::Full => write!(f, "Full"),
-            ProgramFault::Number => write!(f, "Number"),
-            ProgramFault::WrongSize => write!(f, "WrongSize"),
-            ProgramFault::NotADatabase => write!(f, "NotADatabase"),
-            ProgramFault::Exists | ProgramFault::Partial => write!(f, "Exists"),
-            ProgramFault::NoRoom { pages: _, least: _ } => write!(f, "Full"),
-            ProgramFault::InUse => write!(f, "InUse"),
-            ProgramFault::Net(_) => write!(f, "Net"),
-            ProgramFault::Script(_) => write!(f, "Script"),
-            ProgramFault::NoRole => write!(f, "NoRole"),
-            ProgramFault::FirstFormat => write!(f, "Format"),
-            ProgramFault::NoSwitchRoom => write!(f, "Full"),
-            ProgramFault::NoSwitchNumber => write!(f, "Number"),
-            ProgramFault::Output => write!(f, "Output"),
-        }
-    }
-}
-
-impl Error for ProgramFault {}
-
-/// What a fault means for the file or the place that it is about, and what to do.
-#[derive(Clone, Copy)]
-pub struct Reason(pub ProgramFault);
-
-impl fmt::Display for Reason {
-    ghost output = { λ reason. Some (reason_text reason.0) };
-
-    fn fmt<W: fmt::Write>(&self, f: &mut fmt::Formatter<W>) -> fmt::Result {
-        match self.0 {
-            ProgramFault::Memory => write!(f, "no memory is left"),
-            ProgramFault::Device(cause) => write!(f, "{cause}"),
-            ProgramFault::Damaged => write!(f, "the database is damaged; restore it from a copy"),
-            ProgramFault::Full => write!(
-                f,
-                "of format 1, with no room for its records in format 2; make some with an older guarddb"
-            ),
-            ProgramFault::Number => write!(
-                f,
-                "of format 1, with no commit number left to bring it to format 2"
-            ),
-            ProgramFault::WrongSize => write!(
-                f,
-                "not 64 to 65536 pages of 4096 bytes, or not as many as it was made with"
-            ),
-            ProgramFault::NotADatabase => {
-                write!(
-                    f,
-                    "not a database; 'guarddb format' makes one in a new file"
-                )
-            }
-            ProgramFault::Exists => {
-                write!(f, "the name is taken; this command makes a new file")
-            }
-            ProgramFault::Partial => write!(
-                f,
-                "a copy is made there, or was stopped; once none is made it can be removed"
-            ),
-            ProgramFault::NoRoom { pages, least } => write!(
-                f,
-                "the database does not fit in {pages} pages; it wants at least {least}"
-            ),
-            ProgramFault::InUse => write!(f, "another process has it open"),
-            ProgramFault::Net(cause) => write!(f, "{cause}"),
-            ProgramFault::Script(ScriptFault::Unread(cause)) => write!(f, "{cause}"),
-            ProgramFault::Script(ScriptFault::NotUtf8 { line, byte }) => {
-                write!(f, "line {line}, byte {byte}: not UTF-8")
-            }
-            ProgramFault::NoRole => write!(f, "no role of the database has this name"),
-            ProgramFault::FirstFormat => {
-                write!(
-                    f,
-                    "of format 1; 'guarddb check' brings it to format 2, which can have a journal"
-                )
-            }
-            ProgramFault::NoSwitchRoom => {
-                write!(f, "no room is left for this; copy it to a larger file")
-            }
-            ProgramFault::NoSwitchNumber => write!(f, "no commit number is left for this"),
-            ProgramFault::Output => write!(f, "closed, or it takes no more"),
-        }
-    }
-}
 
 /// What the end of the program's work is about.
 #[derive(Clone, Copy)]
@@ -177,34 +34,6 @@ impl fmt::Display for Subject<'_> {
     }
 }
 
-impl From<CommandFault> for ProgramFault {
-    ghost from_gives = { λ fault given. given ≡ fault_of_command fault };
-
-    fn from(fault: CommandFault) -> ProgramFault {
-        match fault {
-            CommandFault::Device(cause) => ProgramFault::Device(cause),
-            CommandFault::Net(cause) => ProgramFault::Net(cause),
-            CommandFault::Exists => ProgramFault::Exists,
-            CommandFault::InUse => ProgramFault::InUse,
-            CommandFault::Memory => ProgramFault::Memory,
-            CommandFault::WrongSize => ProgramFault::WrongSize,
-            CommandFault::NotADatabase => ProgramFault::NotADatabase,
-            CommandFault::Damaged => ProgramFault::Damaged,
-            CommandFault::Full => ProgramFault::Full,
-            CommandFault::Number => ProgramFault::Number,
-            CommandFault::Output => ProgramFault::Output,
-        }
-    }
-}
-
-impl From<OpeningFault> for ProgramFault {
-    ghost from_gives = { λ fault given. given ≡ fault_of fault };
-
-    fn from(fault: OpeningFault) -> ProgramFault {
-        ProgramFault::from(CommandFault::from(fault))
-    }
-}
-
 /// How the program's work ended.
 #[derive(Clone, Copy, PartialEq, Eq)]
 pub enum Ending {
@@ -220,7 +49,7 @@ pub enum Ending {
     /// The server has stopped while it served connections.
     ServerStopped,
     /// A fault ended it.
-    Fault(ProgramFault),
+    Fault(CommandFault),
 }
 
 impl From<ScriptEnd> for Ending {
@@ -231,8 +60,8 @@ impl From<ScriptEnd> for Ending {
             ScriptEnd::Done => Ending::Done,
             ScriptEnd::BadLine(number) => Ending::BadLine(number),
             ScriptEnd::Stopped => Ending::Stopped,
-            ScriptEnd::Writer => Ending::Fault(ProgramFault::Output),
-            ScriptEnd::Memory => Ending::Fault(ProgramFault::Memory),
+            ScriptEnd::Writer => Ending::Fault(CommandFault::Output),
+            ScriptEnd::Memory => Ending::Fault(CommandFault::Memory),
         }
     }
 }
@@ -244,7 +73,7 @@ impl From<Served> for Ending {
         match served {
             Served::Done => Ending::Served,
             Served::Stopped => Ending::ServerStopped,
-            Served::Net => Ending::Fault(ProgramFault::Net(SystemCause::Other)),
+            Served::Net => Ending::Fault(CommandFault::Net(SystemCause::Other)),
         }
     }
 }
@@ -335,14 +164,14 @@ fn write_stopped<E: Write>(err: &mut E) -> io::Result<()>
 }
 
 // What cannot be printed is about no file, and where memory is refused there is no more to say.
-fn write_fault<E: Write>(fault: ProgramFault, about: Subject<'_>, err: &mut E) -> io::Result<()>
+fn write_fault<E: Write>(fault: CommandFault, about: Subject<'_>, err: &mut E) -> io::Result<()>
     ensures { OnOk result (Appends (E.contents err.old) (E.contents err.new)
         (fault_message about.entry fault)) }
 {
     let reason = Reason(fault);
     match fault {
-        ProgramFault::Memory => writeln!(err, "guarddb: {fault}"),
-        ProgramFault::Output => {
+        CommandFault::Memory => writeln!(err, "guarddb: {fault}"),
+        CommandFault::Output => {
             writeln!(err, "guarddb: {fault}\nguarddb: standard output: {reason}")
         }
         _ => writeln!(err, "guarddb: {fault}\nguarddb: {about}: {reason}"),

@@ -1,53 +1,202 @@
-//! Why a command over a file was not carried out.
+//! Why a command was not carried out, and how that is told.
 
-ghost use Rattle.std.specs.Prelude.{◌≡◌};
-ghost use Rattle.cli.specs.Faults.{of_file, of_making, of_opening, of_path, of_records};
+ghost use Rattle.std.specs.Prelude.{◌≡◌, Some};
+ghost use Rattle.cli.specs.Ending.{fault_name, reason_text};
+ghost use Rattle.cli.specs.Faults.{of_commit, of_file, of_opening, of_pages, of_path, of_read, of_records, of_switch};
 
-use databases::{DatabaseFault, MakeFault};
-use journal_store::OpenFault;
+use databases::DatabaseFault;
+use journal_store::{OpenFault, SwitchFault};
 use recovery::OpeningFault;
 use sector_device::{FileFault, SystemCause};
+use std::error::Error;
+use std::fmt;
 use store::{Fault, StoreFault};
 use systems::OpenPathFault;
-use thiserror::Error;
 
-/// Why a command over a file was not carried out.
-#[derive(Clone, Copy, Debug, PartialEq, Eq, Error)]
+/// Why a command was not carried out: what a file, a device, a script or a place did to it. Each command says which of these it can
+/// give.
+#[derive(Clone, Copy, Debug, PartialEq, Eq)]
 pub enum CommandFault {
-    /// There is something of the name of a new file already. It is left as it is.
-    #[error("the file exists")]
-    Exists,
-    /// This program or another has the file open.
-    #[error("the file is in use")]
-    InUse,
-    /// An allocation failed.
-    #[error("out of memory")]
+    /// Memory was refused.
     Memory,
-    /// The system does not open or make the file, for this cause, or a call of its device failed.
-    #[error("the device failed")]
+    /// The file of the database cannot be opened or made, for this cause, or its device failed.
     Device(SystemCause),
-    /// The file does not have 64 to 65,536 whole pages of 4,096 bytes, or another number than its
-    /// root says.
-    #[error("the file has no size of a database")]
-    WrongSize,
-    /// Neither root sector begins with the magic of a root.
-    #[error("the file is not a database")]
-    NotADatabase,
-    /// A root sector or the map is malformed, or the pages hold no records of a database.
-    #[error("the database is damaged")]
+    /// The records of the database stand for none.
     Damaged,
-    /// The file is of format 1, and no room is left in it for its records in format 2.
-    #[error("the database has no room for its records in format 2")]
+    /// The records of the database are of format 1, and find no room in format 2.
     Full,
-    /// The file is of format 1, and no commit number is left for its records in format 2.
-    #[error("the database has no commit number for its records in format 2")]
+    /// The records of the database are of format 1, and no commit number is left for format 2.
     Number,
-    /// The port or the socket was not bound, for this cause.
-    #[error("the place to listen at cannot be bound")]
+    /// The file does not have 64 to 65,536 whole pages, or another number than its root says.
+    WrongSize,
+    /// The file is no database.
+    NotADatabase,
+    /// There is something of the name of a new file already.
+    Exists,
+    /// There is something of the name that a copy has until it is whole.
+    Partial,
+    /// The database to be copied does not fit in so many pages. It wants so many at least.
+    NoRoom { pages: u32, least: u64 },
+    /// Another process has the file open.
+    InUse,
+    /// The port or the socket cannot be bound, for this cause, or a connection cannot be taken.
     Net(SystemCause),
-    /// Standard error did not take where the server listens.
-    #[error("standard error failed")]
+    /// The system does not open or read the script, for this cause.
+    ScriptUnread(SystemCause),
+    /// The script is not UTF-8 from this byte of this line on, both counted from 1.
+    ScriptNotUtf8 { line: usize, byte: usize },
+    /// The database has no role of the name that was asked for.
+    NoRole,
+    /// A journal is asked for, and the records of the database are of format 1.
+    FirstFormat,
+    /// The file has no room left for what waits in its journal, or for a root.
+    NoSwitchRoom,
+    /// No commit number is left for the roots that a journal takes, or the end of one.
+    NoSwitchNumber,
+    /// Standard output failed, or standard error, where `serve` tells on it where it listens.
     Output,
+}
+
+impl fmt::Display for CommandFault {
+    ghost output = { λ fault. Some (fault_name fault) };
+
+    fn fmt<W: fmt::Write>(&self, f: &mut fmt::Formatter<W>) -> fmt::Result {
+        match self {
+            CommandFault::Memory => write!(f, "Memory"),
+            CommandFault::Device(_) => write!(f, "Device"),
+            CommandFault::Damaged => write!(f, "Damaged"),
+            CommandFault::Full => write!(f, "Full"),
+            CommandFault::Number => write!(f, "Number"),
+            CommandFault::WrongSize => write!(f, "WrongSize"),
+            CommandFault::NotADatabase => write!(f, "NotADatabase"),
+            CommandFault::Exists | CommandFault::Partial => write!(f, "Exists"),
+            CommandFault::NoRoom { pages: _, least: _ } => write!(f, "Full"),
+            CommandFault::InUse => write!(f, "InUse"),
+            CommandFault::Net(_) => write!(f, "Net"),
+            CommandFault::ScriptUnread(_) => write!(f, "Script"),
+            CommandFault::ScriptNotUtf8 { line: _, byte: _ } => write!(f, "Script"),
+            CommandFault::NoRole => write!(f, "NoRole"),
+            CommandFault::FirstFormat => write!(f, "Format"),
+            CommandFault::NoSwitchRoom => write!(f, "Full"),
+            CommandFault::NoSwitchNumber => write!(f, "Number"),
+            CommandFault::Output => write!(f, "Output"),
+        }
+    }
+}
+
+impl Error for CommandFault {}
+
+/// What a fault means for the file or the place that it is about, and what to do.
+#[derive(Clone, Copy)]
+pub struct Reason(pub CommandFault);
+
+impl fmt::Display for Reason {
+    ghost output = { λ reason. Some (reason_text reason.0) };
+
+    fn fmt<W: fmt::Write>(&self, f: &mut fmt::Formatter<W>) -> fmt::Result {
+        match self.0 {
+            CommandFault::Memory => write!(f, "no memory is left"),
+            CommandFault::Device(cause) => write!(f, "{cause}"),
+            CommandFault::Damaged => write!(f, "the database is damaged; restore it from a copy"),
+            CommandFault::Full => write!(
+                f,
+                "of format 1, with no room for its records in format 2; make some with an older guarddb"
+            ),
+            CommandFault::Number => write!(
+                f,
+                "of format 1, with no commit number left to bring it to format 2"
+            ),
+            CommandFault::WrongSize => write!(
+                f,
+                "not 64 to 65536 pages of 4096 bytes, or not as many as it was made with"
+            ),
+            CommandFault::NotADatabase => {
+                write!(
+                    f,
+                    "not a database; 'guarddb format' makes one in a new file"
+                )
+            }
+            CommandFault::Exists => {
+                write!(f, "the name is taken; this command makes a new file")
+            }
+            CommandFault::Partial => write!(
+                f,
+                "a copy is made there, or was stopped; once none is made it can be removed"
+            ),
+            CommandFault::NoRoom { pages, least } => write!(
+                f,
+                "the database does not fit in {pages} pages; it wants at least {least}"
+            ),
+            CommandFault::InUse => write!(f, "another process has it open"),
+            CommandFault::Net(cause) => write!(f, "{cause}"),
+            CommandFault::ScriptUnread(cause) => write!(f, "{cause}"),
+            CommandFault::ScriptNotUtf8 { line, byte } => {
+                write!(f, "line {line}, byte {byte}: not UTF-8")
+            }
+            CommandFault::NoRole => write!(f, "no role of the database has this name"),
+            CommandFault::FirstFormat => {
+                write!(
+                    f,
+                    "of format 1; 'guarddb check' brings it to format 2, which can have a journal"
+                )
+            }
+            CommandFault::NoSwitchRoom => {
+                write!(f, "no room is left for this; copy it to a larger file")
+            }
+            CommandFault::NoSwitchNumber => write!(f, "no commit number is left for this"),
+            CommandFault::Output => write!(f, "closed, or it takes no more"),
+        }
+    }
+}
+
+impl From<OpenFault> for CommandFault {
+    ghost from_gives = { λ fault given. given ≡ of_pages fault };
+
+    fn from(fault: OpenFault) -> CommandFault {
+        match fault {
+            OpenFault::WrongSize => CommandFault::WrongSize,
+            OpenFault::NotADatabase => CommandFault::NotADatabase,
+            OpenFault::Damaged => CommandFault::Damaged,
+            OpenFault::Device => CommandFault::Device(SystemCause::Other),
+            OpenFault::Memory => CommandFault::Memory,
+        }
+    }
+}
+
+impl From<Fault> for CommandFault {
+    ghost from_gives = { λ fault given. given ≡ of_read fault };
+
+    fn from(fault: Fault) -> CommandFault {
+        match fault {
+            Fault::Memory => CommandFault::Memory,
+            Fault::Device => CommandFault::Device(SystemCause::Other),
+            Fault::Damaged => CommandFault::Damaged,
+        }
+    }
+}
+
+impl From<StoreFault> for CommandFault {
+    ghost from_gives = { λ fault given. given ≡ of_commit fault };
+
+    fn from(fault: StoreFault) -> CommandFault {
+        match fault {
+            StoreFault::Full => CommandFault::Full,
+            StoreFault::Memory => CommandFault::Memory,
+            StoreFault::Device => CommandFault::Device(SystemCause::Other),
+            StoreFault::Number => CommandFault::Number,
+        }
+    }
+}
+
+impl From<OpeningFault> for CommandFault {
+    ghost from_gives = { λ fault given. given ≡ of_records fault };
+
+    fn from(fault: OpeningFault) -> CommandFault {
+        match fault {
+            OpeningFault::Read(fault) => CommandFault::from(fault),
+            OpeningFault::Commit(fault) => CommandFault::from(fault),
+        }
+    }
 }
 
 impl From<DatabaseFault> for CommandFault {
@@ -55,36 +204,23 @@ impl From<DatabaseFault> for CommandFault {
 
     fn from(fault: DatabaseFault) -> CommandFault {
         match fault {
-            DatabaseFault::Pages(OpenFault::WrongSize) => CommandFault::WrongSize,
-            DatabaseFault::Pages(OpenFault::NotADatabase) => CommandFault::NotADatabase,
-            DatabaseFault::Pages(OpenFault::Damaged)
-            | DatabaseFault::Records(OpeningFault::Read(Fault::Damaged)) => CommandFault::Damaged,
-            DatabaseFault::Pages(OpenFault::Device)
-            | DatabaseFault::Records(OpeningFault::Read(Fault::Device))
-            | DatabaseFault::Records(OpeningFault::Commit(StoreFault::Device)) => {
-                CommandFault::Device(SystemCause::Other)
-            }
-            DatabaseFault::Pages(OpenFault::Memory)
-            | DatabaseFault::Records(OpeningFault::Read(Fault::Memory))
-            | DatabaseFault::Records(OpeningFault::Commit(StoreFault::Memory)) => {
-                CommandFault::Memory
-            }
-            DatabaseFault::Records(OpeningFault::Commit(StoreFault::Full)) => CommandFault::Full,
-            DatabaseFault::Records(OpeningFault::Commit(StoreFault::Number)) => {
-                CommandFault::Number
-            }
+            DatabaseFault::Pages(fault) => CommandFault::from(fault),
+            DatabaseFault::Records(fault) => CommandFault::from(fault),
         }
     }
 }
 
-impl From<MakeFault> for CommandFault {
-    ghost from_gives = { λ fault given. given ≡ of_making fault };
+impl From<SwitchFault> for CommandFault {
+    ghost from_gives = { λ fault given. given ≡ of_switch fault };
 
-    fn from(fault: MakeFault) -> CommandFault {
+    fn from(fault: SwitchFault) -> CommandFault {
         match fault {
-            MakeFault::Memory => CommandFault::Memory,
-            MakeFault::Device => CommandFault::Device(SystemCause::Other),
-            MakeFault::WrongSize => CommandFault::WrongSize,
+            SwitchFault::Unopened(fault) => CommandFault::from(fault),
+            SwitchFault::NotMigrated => CommandFault::FirstFormat,
+            SwitchFault::Refused(StoreFault::Full) => CommandFault::NoSwitchRoom,
+            SwitchFault::Refused(StoreFault::Number) => CommandFault::NoSwitchNumber,
+            SwitchFault::Refused(StoreFault::Memory) => CommandFault::Memory,
+            SwitchFault::Refused(StoreFault::Device) => CommandFault::Device(SystemCause::Other),
         }
     }
 }
@@ -111,13 +247,5 @@ impl From<FileFault> for CommandFault {
             FileFault::Memory => CommandFault::Memory,
             FileFault::Device(cause) => CommandFault::Device(cause),
         }
-    }
-}
-
-impl From<OpeningFault> for CommandFault {
-    ghost from_gives = { λ fault given. given ≡ of_records fault };
-
-    fn from(fault: OpeningFault) -> CommandFault {
-        CommandFault::from(DatabaseFault::Records(fault))
     }
 }

@@ -7,9 +7,9 @@ ghost use Rattle.copies.specs.DatabaseCopies.{CopiesDatabase};
 ghost use Rattle.cli.specs.CopyFaults.{of_partial};
 ghost use Rattle.cli.specs.Copying.{CopiesBeside, CopiesFile, Renames, partial_path};
 
-use crate::copy_fault::FileCopyFault;
+use crate::copy_fault::CopyRefusal;
 use crate::fault::CommandFault;
-use copies::{DatabaseCopyFault, copy_database};
+use copies::{CopyFault, copy_database};
 use cow_pages::page_count;
 use journal_store::JournalDevice;
 use sector_device::{CopyProgress, Device, FileFault};
@@ -31,29 +31,29 @@ const PARTIAL: &str = ".partial";
 ///
 /// `New` with `WrongSize`: the number of pages is not from 64 to 65,536; no file is opened. `File`:
 /// what `read_file` refuses of the file. `New`: `Exists`, where there is something of the name
-/// `target`, which is left as it is; `Device`, where the system does not make the file or name it, or
-/// a call on it fails; `Memory`, where an allocation failed. `Partial`: there is something of the name
-/// that the copy has until it is whole, which is left as it is. `Full`: the database has no room in so
-/// many pages; it names how many it wants at least.
+/// `target`, which is left as it is; `Partial`, where there is something of the name that the copy has
+/// until it is whole, which is left as it is; `NoRoom`, where the database has no room in so many
+/// pages, with how many it wants at least; `Device`, where the system does not make the file or name
+/// it, or a call on it fails; `Memory`, where an allocation failed.
 pub fn copy_file<Y: System>(
     system: &mut Y,
     alloc: Global,
     path: &str,
     target: &str,
     pages: u32,
-) -> Result<(), FileCopyFault>
+) -> Result<(), CopyRefusal>
     ensures { CopiesFile Y.Device.Device Y.state (Y.state system.old) path.now target.now pages result
         (Y.state system.new) }
 {
     if pages > MAX_PAGES {
-        return Err(FileCopyFault::New(CommandFault::WrongSize));
+        return Err(CopyRefusal::New(CommandFault::WrongSize));
     }
     let Some(_pages) = page_count(SECTORS_PER_PAGE * pages) else {
-        return Err(FileCopyFault::New(CommandFault::WrongSize));
+        return Err(CopyRefusal::New(CommandFault::WrongSize));
     };
     let device = match system.open(path, Access::Read) {
         Ok(device) => device,
-        Err(fault) => return Err(FileCopyFault::File(CommandFault::from(fault))),
+        Err(fault) => return Err(CopyRefusal::File(CommandFault::from(fault))),
     };
     let (left, copied) = copy_beside(system, alloc, device, target, pages);
     system.close(path, left);
@@ -68,21 +68,21 @@ fn copy_beside<Y: System>(
     device: Y::Device,
     target: &str,
     pages: u32,
-) -> (Y::Device, Result<(), FileCopyFault>)
+) -> (Y::Device, Result<(), CopyRefusal>)
     requires { pages ≤ MAX_PAGES }
     ensures { CopiesBeside Y.Device.Device (Y.state system.old) (partial_path target.now)
         target.now pages device result.1 result.0 (Y.state system.new) }
 {
     let found = match system.has_name(target) {
         Ok(found) => found,
-        Err(cause) => return (device, Err(FileCopyFault::New(CommandFault::Device(cause)))),
+        Err(cause) => return (device, Err(CopyRefusal::New(CommandFault::Device(cause)))),
     };
     if found {
-        return (device, Err(FileCopyFault::New(CommandFault::Exists)));
+        return (device, Err(CopyRefusal::New(CommandFault::Exists)));
     }
     match partial_name(alloc, target) {
         Ok(partial) => copy_as(system, alloc, device, partial.as_str(), target, pages),
-        Err(_) => (device, Err(FileCopyFault::New(CommandFault::Memory))),
+        Err(_) => (device, Err(CopyRefusal::New(CommandFault::Memory))),
     }
 }
 
@@ -104,7 +104,7 @@ fn copy_as<Y: System>(
     partial: &str,
     target: &str,
     pages: u32,
-) -> (Y::Device, Result<(), FileCopyFault>)
+) -> (Y::Device, Result<(), CopyRefusal>)
     requires size { pages ≤ MAX_PAGES }
     requires names { target.now ≢ partial.now }
     ensures { CopiesBeside Y.Device.Device (Y.state system.old) partial.now target.now pages device
@@ -119,7 +119,7 @@ fn copy_as<Y: System>(
         Ok(()) => (left, rename_copy(system, partial, target, copy)),
         Err(fault) => {
             let _ = system.remove(partial, copy);
-            (left, Err(FileCopyFault::from(fault)))
+            (left, Err(CopyRefusal::of(fault, pages)))
         }
     }
 }
@@ -130,7 +130,7 @@ fn copy_with_progress<D: JournalDevice, W: CopyProgress + Drop>(
     device: D,
     blank: D,
     progress: W,
-) -> (D, D, Result<(), DatabaseCopyFault>)
+) -> (D, D, Result<(), CopyFault>)
     ensures history { KeepsHistory (D.state device) (D.state result.0) }
     ensures unwritten { (D.state device).faithful → KeepsContent (D.state device) (D.state result.0) }
     ensures copies { (D.state device).faithful
@@ -141,13 +141,13 @@ fn copy_with_progress<D: JournalDevice, W: CopyProgress + Drop>(
 }
 
 // Why nothing was made under the name that a copy has until it is whole.
-fn partial_fault(fault: FileFault) -> FileCopyFault
+fn partial_fault(fault: FileFault) -> CopyRefusal
     ensures { result ≡ of_partial fault }
 {
     match fault {
-        FileFault::Exists => FileCopyFault::Partial,
-        FileFault::Memory => FileCopyFault::New(CommandFault::Memory),
-        FileFault::Device(cause) => FileCopyFault::New(CommandFault::Device(cause)),
+        FileFault::Exists => CopyRefusal::New(CommandFault::Partial),
+        FileFault::Memory => CopyRefusal::New(CommandFault::Memory),
+        FileFault::Device(cause) => CopyRefusal::New(CommandFault::Device(cause)),
     }
 }
 
@@ -157,14 +157,14 @@ fn rename_copy<Y: System>(
     partial: &str,
     target: &str,
     copy: Y::Device,
-) -> Result<(), FileCopyFault>
+) -> Result<(), CopyRefusal>
     ensures { Renames (Y.state system.old) partial.now target.now copy result (Y.state system.new) }
 {
     match system.rename(partial, target, copy) {
         Ok(()) => Ok(()),
         Err((copy, fault)) => {
             let _ = system.remove(partial, copy);
-            Err(FileCopyFault::New(CommandFault::from(fault)))
+            Err(CopyRefusal::New(CommandFault::from(fault)))
         }
     }
 }

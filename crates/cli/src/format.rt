@@ -4,7 +4,7 @@ ghost use Rattle.cli.specs.Formatting.{FormatsFile};
 
 use crate::fault::CommandFault;
 use cow_pages::page_count;
-use databases::{MakeFault, make_database};
+use databases::make_database;
 use sector_device::Device;
 use sql_types::name::Name;
 use std::alloc::Global;

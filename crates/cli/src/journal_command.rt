@@ -1,11 +1,10 @@
 //! What the program does for `journal`.
 
-ghost use Rattle.std.specs.Prelude.{◌≡◌};
-ghost use Rattle.cli.specs.JournalCommand.{IsSwitchAnswered, Switches, fault_of_switch};
+ghost use Rattle.cli.specs.JournalCommand.{IsSwitchAnswered, Switches};
 
-use crate::ending::{Ending, Exit, ProgramFault, Subject, exit_with};
+use crate::ending::{Ending, Exit, Subject, exit_with};
+use crate::fault::CommandFault;
 use crate::printing::print_text;
-use crate::switch_fault::FileSwitchFault;
 use crate::switching::switch_journal;
 use sector_device::Device;
 use std::alloc::Global;
@@ -36,23 +35,11 @@ pub(crate) fn switch<Y: System, K: TakesText, E: Write>(
 }
 
 // How that ended: where it was done, that is printed.
-fn end_of_switch<K: TakesText>(switched: Result<(), FileSwitchFault>, out: &mut K) -> Ending
+fn end_of_switch<K: TakesText>(switched: Result<(), CommandFault>, out: &mut K) -> Ending
     ensures { IsSwitchAnswered switched (K.held out.old) result (K.held out.new) }
 {
     match switched {
         Ok(()) => print_text(SWITCHED, out),
-        Err(fault) => Ending::Fault(switch_fault(fault)),
-    }
-}
-
-/// Why a journal was not turned on or off.
-pub(crate) fn switch_fault(fault: FileSwitchFault) -> ProgramFault
-    ensures { result ≡ fault_of_switch fault }
-{
-    match fault {
-        FileSwitchFault::File(fault) => ProgramFault::from(fault),
-        FileSwitchFault::FirstFormat => ProgramFault::FirstFormat,
-        FileSwitchFault::NoRoom => ProgramFault::NoSwitchRoom,
-        FileSwitchFault::NoNumber => ProgramFault::NoSwitchNumber,
+        Err(fault) => Ending::Fault(fault),
     }
 }

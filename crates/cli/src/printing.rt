@@ -4,7 +4,8 @@ ghost use Rattle.std.specs.Prelude.{◌≡◌, OnOk};
 ghost use Rattle.std.specs.Io.KnownBytes.{Appends};
 ghost use Rattle.cli.specs.Printing.{IsPrinted, Prints};
 
-use crate::ending::{Ending, Exit, ProgramFault, Subject, exit_with};
+use crate::ending::{Ending, Exit, Subject, exit_with};
+use crate::fault::CommandFault;
 use std::io;
 use std::io::Write;
 use wire::sink::Sink;
@@ -25,7 +26,7 @@ pub(crate) fn print_text<K: TakesText>(text: &str, out: &mut K) -> Ending
 {
     match write_text(text, out) {
         Ok(()) => Ending::Done,
-        Err(_) => Ending::Fault(ProgramFault::Output),
+        Err(_) => Ending::Fault(CommandFault::Output),
     }
 }
 

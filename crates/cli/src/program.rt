@@ -6,7 +6,7 @@ ghost use Rattle.cli.specs.Program.{ending_of_server, place_subject, server_subj
 use crate::command::{Invocation, UsageFault, is_name};
 use crate::copy_command::copy;
 use crate::describing::describe;
-use crate::ending::{Ending, Exit, ProgramFault, Subject, exit_after, exit_with};
+use crate::ending::{Ending, Exit, Subject, exit_after, exit_with};
 use crate::fault::CommandFault;
 use crate::format::format_file;
 use crate::journal_command::switch;
@@ -152,7 +152,7 @@ fn format_for<Y: System, K: TakesText, E: Write>(
     }
     let about = Subject::Named(file);
     let Ok(Some(admin)) = Name::from_str(alloc, admin) else {
-        return exit_with(Ending::Fault(ProgramFault::Memory), about, err);
+        return exit_with(Ending::Fault(CommandFault::Memory), about, err);
     };
     exit_with(
         format(system, alloc, file, pages, &admin, journal, out),
@@ -202,7 +202,7 @@ fn answer<K: TakesText>(outcome: Result<(), CommandFault>, text: &str, out: &mut
 {
     match outcome {
         Ok(()) => print_text(text, out),
-        Err(fault) => Ending::Fault(ProgramFault::from(fault)),
+        Err(fault) => Ending::Fault(fault),
     }
 }
 
@@ -231,7 +231,7 @@ fn end_of_server(outcome: Result<Served, CommandFault>) -> Ending
 {
     match outcome {
         Ok(served) => Ending::from(served),
-        Err(fault) => Ending::Fault(ProgramFault::from(fault)),
+        Err(fault) => Ending::Fault(fault),
     }
 }
 

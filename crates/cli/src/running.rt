@@ -5,7 +5,8 @@ ghost use Rattle.sql_types.specs.Name.{IsUtf8Name};
 ghost use Rattle.store.specs.Store.{KeepsHistory};
 ghost use Rattle.cli.specs.Running.{RunsOver, RunsOverNew};
 
-use crate::ending::{Ending, ProgramFault};
+use crate::ending::Ending;
+use crate::fault::CommandFault;
 use recovery::open;
 use server::decide::EventHandler;
 use sql_types::name::Name;
@@ -47,7 +48,7 @@ pub fn run_script_over<S: Store, X: EventHandler + Drop, K: TakesText>(
         Ok(server) => server,
         Err(refused) => {
             return Run {
-                ending: Ending::Fault(ProgramFault::from(refused.fault)),
+                ending: Ending::Fault(CommandFault::from(refused.fault)),
                 store: refused.store,
             };
         }
@@ -76,7 +77,7 @@ pub fn run_in_memory<X: EventHandler + Drop, K: TakesText>(
     new_records_stand_for_a_new_database();
     one_database();
     let Ok(store) = MemStore::new(alloc, admin) else {
-        return Ending::Fault(ProgramFault::Memory);
+        return Ending::Fault(CommandFault::Memory);
     };
     run_script_over(alloc, store, handler, script, out).ending
 }

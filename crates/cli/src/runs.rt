@@ -5,7 +5,7 @@ ghost use Rattle.cli.specs.Program.{ending_of_run, RunsBytes, RunsBytesOver, Run
 ghost use Rattle.cli.specs.Script.{source_of};
 
 use crate::command::{UsageFault, is_name};
-use crate::ending::{Ending, Exit, ProgramFault, Subject, exit_after, exit_with};
+use crate::ending::{Ending, Exit, Subject, exit_after, exit_with};
 use crate::fault::CommandFault;
 use crate::opened::CommandEnd;
 use crate::run::run_file;
@@ -103,7 +103,7 @@ fn end_of_run(outcome: Result<ScriptEnd, CommandFault>) -> Ending
 {
     match outcome {
         Ok(end) => Ending::from(end),
-        Err(fault) => Ending::Fault(ProgramFault::from(fault)),
+        Err(fault) => Ending::Fault(fault),
     }
 }
 
@@ -157,7 +157,7 @@ fn run_read_for<X: EventHandler + Drop, K: TakesText, E: Write>(
     alloc: Global,
     handler: X,
     admin: &str,
-    script: Result<Vec<u8>, ProgramFault>,
+    script: Result<Vec<u8>, CommandFault>,
     about: Subject<'_>,
     out: &mut K,
     err: &mut E,
@@ -169,7 +169,7 @@ fn run_read_for<X: EventHandler + Drop, K: TakesText, E: Write>(
         return report_usage(UsageFault::Name(admin), err);
     }
     let Ok(Some(name)) = Name::from_str(alloc, admin) else {
-        return exit_with(Ending::Fault(ProgramFault::Memory), about, err);
+        return exit_with(Ending::Fault(CommandFault::Memory), about, err);
     };
     exit_with(run_source(alloc, handler, &name, script, out), about, err)
 }
@@ -179,7 +179,7 @@ fn run_source<X: EventHandler + Drop, K: TakesText>(
     alloc: Global,
     handler: X,
     admin: &Name,
-    script: Result<Vec<u8>, ProgramFault>,
+    script: Result<Vec<u8>, CommandFault>,
     out: &mut K,
 ) -> Ending
     ensures { RunsSource X X.Reads K.Sink admin.now script out.old result out.new }

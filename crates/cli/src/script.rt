@@ -4,7 +4,7 @@ ghost use Rattle.std.specs.Prelude.{◌≡◌, ◌<◌, length, take};
 ghost use Rattle.std.specs.IoError.{error_kind};
 ghost use Rattle.cli.specs.Script.{IsScriptRead, fault_of_reading, not_utf8_after, script_fault_of, source_of};
 
-use crate::ending::{ProgramFault, ScriptFault};
+use crate::fault::CommandFault;
 use sector_device::SystemCause;
 use std::alloc::Global;
 use std::io;
@@ -16,7 +16,7 @@ pub(crate) fn read_script<Y: System>(
     system: &mut Y,
     alloc: Global,
     path: &str,
-) -> Result<Vec<u8>, ProgramFault>
+) -> Result<Vec<u8>, CommandFault>
     ensures { IsScriptRead (Y.state system.old) path.now result (Y.state system.new) }
 {
     match system.read_text(alloc, path) {
@@ -26,18 +26,18 @@ pub(crate) fn read_script<Y: System>(
 }
 
 // The fault that one of reading a text is.
-fn reading_fault(fault: TextFault) -> ProgramFault
+fn reading_fault(fault: TextFault) -> CommandFault
     ensures { result ≡ fault_of_reading fault }
 {
     match fault {
-        TextFault::Missing => ProgramFault::Script(ScriptFault::Unread(SystemCause::NotFound)),
-        TextFault::Memory => ProgramFault::Memory,
-        TextFault::Device(cause) => ProgramFault::Script(ScriptFault::Unread(cause)),
+        TextFault::Missing => CommandFault::ScriptUnread(SystemCause::NotFound),
+        TextFault::Memory => CommandFault::Memory,
+        TextFault::Device(cause) => CommandFault::ScriptUnread(cause),
     }
 }
 
 /// What a reader gave of a script, or the fault that its error is.
-pub(crate) fn read_by(script: io::Result<Vec<u8>>) -> Result<Vec<u8>, ProgramFault>
+pub(crate) fn read_by(script: io::Result<Vec<u8>>) -> Result<Vec<u8>, CommandFault>
     ensures { result ≡ source_of script }
 {
     match script {
@@ -48,17 +48,17 @@ pub(crate) fn read_by(script: io::Result<Vec<u8>>) -> Result<Vec<u8>, ProgramFau
 
 // The fault that an error of reading a script is: `Memory` where memory was refused, else
 // `Script`.
-fn script_fault(error: &io::Error) -> ProgramFault
+fn script_fault(error: &io::Error) -> CommandFault
     ensures { result ≡ script_fault_of (error_kind error.now) }
 {
     match error.kind() {
-        io::ErrorKind::OutOfMemory => ProgramFault::Memory,
-        _ => ProgramFault::Script(ScriptFault::Unread(SystemCause::of(error))),
+        io::ErrorKind::OutOfMemory => CommandFault::Memory,
+        _ => CommandFault::ScriptUnread(SystemCause::of(error)),
     }
 }
 
 /// The fault that a script is whose first bytes, so many, are UTF-8, and no more.
-pub(crate) fn not_utf8(script: &[u8], valid: usize) -> ProgramFault
+pub(crate) fn not_utf8(script: &[u8], valid: usize) -> CommandFault
     requires { valid < length script.now }
     ensures { result ≡ not_utf8_after 1 1 (take valid script.now) }
 {
@@ -72,5 +72,5 @@ pub(crate) fn not_utf8(script: &[u8], valid: usize) -> ProgramFault
             byte += 1;
         }
     }
-    ProgramFault::Script(ScriptFault::NotUtf8 { line, byte })
+    CommandFault::ScriptNotUtf8 { line, byte }
 }

@@ -4,7 +4,6 @@ ghost use Rattle.cli.specs.Switching.{Switches, SwitchesDevice, SwitchesFile};
 
 use crate::fault::CommandFault;
 use crate::reading::read_definitions;
-use crate::switch_fault::FileSwitchFault;
 use journal_store::{
     JournalDevice, SwitchFault, image_has_one_contents as one_contents, turn_off, turn_on,
 };
@@ -17,23 +16,23 @@ use systems::{Access, System};
 /// that holds no database. Where it is so already, nothing is written, but that `off` empties an older
 /// root that says that there is a journal. The database stays the same at every moment.
 ///
-/// `File`: the fault of `read_file`, whatever the file's format; a call of its device failed; or an
-/// allocation did. `FirstFormat`: a journal is asked for, and the database is of format 1. `NoRoom`: no
-/// room is left in it for what waits in the journal, or for a root. `NoNumber`: no commit number is left
-/// for the roots that it takes. After the last three the file has no other records than before, and a
-/// journal exactly where it had one.
+/// The faults are those of `read_file`, whatever the file's format, or that a call of its device failed
+/// or an allocation did; and then three more. `FirstFormat`: a journal is asked for, and the database is
+/// of format 1. `NoSwitchRoom`: no room is left in it for what waits in the journal, or for a root.
+/// `NoSwitchNumber`: no commit number is left for the roots that it takes. After these three the file has
+/// no other records than before, and a journal exactly where it had one.
 pub fn switch_journal<Y: System>(
     system: &mut Y,
     alloc: Global,
     path: &str,
     on: bool,
-) -> Result<(), FileSwitchFault>
+) -> Result<(), CommandFault>
     ensures { SwitchesFile Y.Device.Device (Y.state system.old) path.now on result
         (Y.state system.new) }
 {
     let device = match system.open(path, Access::Write) {
         Ok(device) => device,
-        Err(fault) => return Err(FileSwitchFault::File(CommandFault::from(fault))),
+        Err(fault) => return Err(CommandFault::from(fault)),
     };
     let (left, switched) = switch_on_device(alloc, device, on);
     system.close(path, left);
@@ -45,7 +44,7 @@ fn switch_on_device<D: JournalDevice>(
     alloc: Global,
     device: D,
     on: bool,
-) -> (D, Result<(), FileSwitchFault>)
+) -> (D, Result<(), CommandFault>)
     ensures { SwitchesDevice D.Device on (D.state device) result.1 (D.state result.0) }
 {
     one_contents();
@@ -55,10 +54,10 @@ fn switch_on_device<D: JournalDevice>(
             let (left, switched) = turn(alloc, mid, on);
             match switched {
                 Ok(_number) => (left, Ok(())),
-                Err(fault) => (left, Err(FileSwitchFault::from(fault))),
+                Err(fault) => (left, Err(CommandFault::from(fault))),
             }
         }
-        Err(fault) => (mid, Err(FileSwitchFault::File(CommandFault::from(fault)))),
+        Err(fault) => (mid, Err(CommandFault::from(fault))),
     }
 }
 

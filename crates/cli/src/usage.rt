@@ -10,7 +10,8 @@ ghost use Rattle.cli.specs.Ending.{Exits, HasTold};
 ghost use Rattle.cli.specs.Program.{usage_message, usage_status, usage_text};
 
 use crate::command::UsageFault;
-use crate::ending::{Ending, Exit, ProgramFault, Subject, exit_with};
+use crate::ending::{Ending, Exit, Subject, exit_with};
+use crate::fault::CommandFault;
 use crate::texts::USAGE;
 use sector_device::SystemCause;
 use std::io;
@@ -31,10 +32,10 @@ pub fn words_fault(error: &io::Error) -> UsageFault<'static>
 /// Tells on `err` that the system refused what `about` names, before a database was opened: the
 /// fault is `Device`, and the exit status 1.
 pub fn report_fault<E: Write>(error: &io::Error, about: Subject<'_>, err: &mut E) -> Exit
-    ensures { Exits about.entry (Ending.Fault (ProgramFault.Device (cause_of (error_kind error.now))))
+    ensures { Exits about.entry (Ending.Fault (CommandFault.Device (cause_of (error_kind error.now))))
         result (E.contents err.old) (E.contents err.new) }
 {
-    let fault = ProgramFault::Device(SystemCause::of(error));
+    let fault = CommandFault::Device(SystemCause::of(error));
     exit_with(Ending::Fault(fault), about, err)
 }
 
@@ -47,7 +48,7 @@ pub fn report_usage<E: Write>(fault: UsageFault<'_>, err: &mut E) -> Exit
 {
     if let UsageFault::Memory = fault {
         let about = Subject::Named("the command line");
-        return exit_with(Ending::Fault(ProgramFault::Memory), about, err);
+        return exit_with(Ending::Fault(CommandFault::Memory), about, err);
     }
     Exit {
         status: 2,

@@ -1,8 +1,8 @@
 use Rattle.std.proofs.Common.{Result, Err, Ok, arith, inl, inr, refl, subst, sym}
 use Rattle.systems.specs.Systems.{IsUnnamed, Rose}
-use Rattle.copies.specs.declared.database_copy_fault.DatabaseCopyFault.{DatabaseCopyFault}
+use Rattle.copies.specs.declared.fault.CopyFault.{CopyFault}
 use Rattle.copies.specs.DatabaseCopies.{CopiesDatabase}
-use Rattle.cli.specs.declared.copy_fault.FileCopyFault.{FileCopyFault}
+use Rattle.cli.specs.declared.copy_fault.CopyRefusal.{CopyRefusal}
 use Rattle.cli.specs.Copying.{IsTried, StandsAgainstCopy}
 use Rattle.cli.proofs.Blank.{blank_of_zeros}
 use Rattle.cli.proofs.Changes.{but_joined, rose_between}
@@ -16,7 +16,7 @@ returns-in-Err g c =
     let new = g.Y.System.state c.make.new.self in
     inl (record {
       unread = refl;
-      cause = λ is. subst (λ (f : FileCopyFault). StandsAgainstCopy f old c.args.partial.now c.args.target.now new) (sym c.partial_fault.ensures)
+      cause = λ is. subst (λ (f : CopyRefusal). StandsAgainstCopy f old c.args.partial.now c.args.target.now new) (sym c.partial_fault.ensures)
           (stands_partial old new c.args.partial.now c.args.target.now c.in-Err.fault (c.in-Err.ensures.exists is) c.in-Err.ensures.cause);
       same = c.in-Err.ensures.kept;
       counts = c.in-Err.ensures.counts;
@@ -35,7 +35,7 @@ returns-in-Ok-copied g c =
     let copy = copying.result.1 in
     let tried : IsTried device old c.args.partial.now c.args.target.now c.args.pages c.args.device (Ok tt) left blank copy = record {
       is_blank = λ is. record { new = made.new is; zeros = made.made is; blank = blank_of_zeros c.args.pages (device.state blank) (made.made is) };
-      copies = λ is. subst (λ (r : Result (Unit {0}) DatabaseCopyFault). CopiesDatabase (device.state c.args.device) (device.state left) device.state r blank copy) c.in-Ok-copied.is (copying.ensures.copies is);
+      copies = λ is. subst (λ (r : Result (Unit {0}) CopyFault). CopiesDatabase (device.state c.args.device) (device.state left) device.state r blank copy) c.in-Ok-copied.is (copying.ensures.copies is);
       history = copying.ensures.history;
       content = copying.ensures.unwritten;
     } in
@@ -55,12 +55,12 @@ returns-in-Err-copied g c =
     let copy = copying.result.1 in
     inr (inl (record {
       why = c.in-Err-copied.fault;
-      is = c.from.ensures;
+      is = c.of.ensures;
       blank = blank;
       copy = copy;
       tried = record {
         is_blank = λ is. record { new = made.new is; zeros = made.made is; blank = blank_of_zeros c.args.pages (device.state blank) (made.made is) };
-        copies = λ is. subst (λ (r : Result (Unit {0}) DatabaseCopyFault). CopiesDatabase (device.state c.args.device) (device.state left) device.state r blank copy) c.in-Err-copied.is (copying.ensures.copies is);
+        copies = λ is. subst (λ (r : Result (Unit {0}) CopyFault). CopiesDatabase (device.state c.args.device) (device.state left) device.state r blank copy) c.in-Err-copied.is (copying.ensures.copies is);
         history = copying.ensures.history;
         content = copying.ensures.unwritten;
       };

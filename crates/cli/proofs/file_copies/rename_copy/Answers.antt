@@ -1,6 +1,6 @@
 use Rattle.std.proofs.Common.{◌∙◌, arith, ap, inl, inr}
 use Rattle.systems.specs.Systems.{IsUnnamed, Rose}
-use Rattle.cli.specs.declared.copy_fault.FileCopyFault.TheVariants.{New}
+use Rattle.cli.specs.declared.copy_fault.CopyRefusal.TheVariants.{New}
 use Rattle.cli.proofs.Changes.{rose_between, same_then_but}
 use Rattle.cli.proofs.Copied.{stands_against}
 use Rattle.cli.proofs.Taken.{done_or_failed}

@@ -2,7 +2,7 @@ use Rattle.std.proofs.Common.{refl, rules, inl}
 use Rattle.sql_types.specs.Name.{IsName}
 use Rattle.cli.proofs.Changes.{same_itself}
 use Rattle.cli.specs.declared.ending.Ending.TheVariants.{Fault}
-use Rattle.cli.specs.declared.ending.ProgramFault.TheVariants.{Memory}
+use Rattle.cli.specs.declared.fault.CommandFault.TheVariants.{Memory}
 use Rattle.cli.proofs.program.format_for.Goals as goal
 
 pub returns-in_default : goal.returns-in_default

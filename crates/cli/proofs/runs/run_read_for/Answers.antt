@@ -1,7 +1,7 @@
 use Rattle.std.proofs.Common.{rules}
 use Rattle.sql_types.specs.Name.{IsName}
 use Rattle.cli.specs.declared.ending.Ending.TheVariants.{Fault}
-use Rattle.cli.specs.declared.ending.ProgramFault.TheVariants.{Memory}
+use Rattle.cli.specs.declared.fault.CommandFault.TheVariants.{Memory}
 use Rattle.cli.proofs.ScriptEnds.{source_not_run}
 use Rattle.cli.proofs.runs.run_read_for.Goals as goal
 
