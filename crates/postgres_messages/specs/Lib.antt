@@ -1,0 +1,10 @@
+pub mod Kind
+pub mod Front
+pub mod Fields
+pub mod Frontend
+pub mod Reading
+pub mod Views
+pub mod Messages
+pub mod Start
+pub mod StartReading
+pub mod Sasl
