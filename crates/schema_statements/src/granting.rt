@@ -3,8 +3,6 @@
 
 ghost use Rattle.std.specs.Prelude.{IfErr};
 ghost use Rattle.store.specs.StatementError.{FailsForMemory};
-ghost use Rattle.sql_ast.specs.Read.{IsReadGrant};
-ghost use Rattle.abstract_database.specs.Statements.{grant as grants, revoke as revokes};
 ghost use Rattle.catalogue.specs.Executed.{Defines};
 ghost use Rattle.catalogue_changes.specs.Carried.{IsCurrent};
 ghost use Rattle.schema_statements.specs.PrivilegeStatements.{run_of, IsRead};
@@ -15,69 +13,25 @@ use crate::schema_changes::schema_change;
 use catalogue::definitions::Catalogue;
 use catalogue::effect::Effect;
 use catalogue_changes::{defined, push_descriptors_set};
-use sql_ast::statement::{Grant, Revoke};
 use sql_types::name::Name;
 use sql_types::state::SqlState;
 use std::alloc::Global;
 use store::{Batch, StatementError};
 
-/// Carries out GRANT for the current role: it grants each of the grantees the privileges, each by the
-/// current role's acting grantor. The warning is `PrivilegeNotGranted`: an action that is named, on the
-/// table or on a column, has no acting grantor, or with ALL none of them has one.
+/// Carries out GRANT or REVOKE of privileges for the current role. GRANT grants each of the grantees the
+/// privileges, each by the current role's acting grantor. REVOKE takes the privileges, or with GRANT
+/// OPTION FOR their grant options, that the current role's acting grantors granted to the grantees; with
+/// CASCADE also what nothing supports any more. What it names on the table takes what the same grantors
+/// granted on its columns too. The warning is `PrivilegeNotGranted` or `PrivilegeNotRevoked`: an action
+/// that is named, on the table or on a column, has no acting grantor, or with ALL none of them has one.
 ///
 /// It is refused with `UndefinedTable` where no table has the name; with `UndefinedObject` where a
 /// grantee is no role; with `UndefinedColumn` where the table has not a column that is named; with
 /// `InsufficientPrivilege` where the current role has no privilege on the table or on a column of it;
-/// with `InvalidGrantOperation` where PUBLIC would have the grant option. It fails for memory alone.
-pub fn grant(
-    alloc: Global,
-    catalogue: &Catalogue,
-    current: &Name,
-    statement: &Grant,
-) -> Result<Effect, StatementError>
-    ensures memory { IfErr result FailsForMemory }
-    ensures executes { IsReadGrant statement.now → Defines (IsCurrent current.now)
-        (λ db users. grants db users statement.now) catalogue.now result }
-{
-    carry_out(
-        alloc,
-        catalogue,
-        current,
-        PrivilegeStatement::Grant(statement),
-    )
-}
-
-/// Carries out REVOKE for the current role: it takes the privileges, or with GRANT OPTION FOR their grant
-/// options, that the current role's acting grantors granted to the grantees; with CASCADE also what
-/// nothing supports any more. What is named on the table takes what the same grantors granted on its
-/// columns too. The warning is `PrivilegeNotRevoked`: an action that is named, on the table or on a
-/// column, has no acting grantor, or with ALL none of them has one.
-///
-/// It is refused with `UndefinedTable` where no table has the name; with `UndefinedObject` where a
-/// grantee is no role; with `UndefinedColumn` where the table has not a column that is named; with
-/// `InsufficientPrivilege` where the current role has no privilege on the table or on a column of it;
-/// with `DependentPrivileges` where others depend on what it takes and it does not say CASCADE. It
-/// fails for memory alone.
-pub fn revoke(
-    alloc: Global,
-    catalogue: &Catalogue,
-    current: &Name,
-    statement: &Revoke,
-) -> Result<Effect, StatementError>
-    ensures memory { IfErr result FailsForMemory }
-    ensures executes { Defines (IsCurrent current.now)
-        (λ db users. revokes db users statement.now) catalogue.now result }
-{
-    carry_out(
-        alloc,
-        catalogue,
-        current,
-        PrivilegeStatement::Revoke(statement),
-    )
-}
-
-/// Carries out a GRANT or a REVOKE for the current role.
-fn carry_out(
+/// a GRANT with `InvalidGrantOperation` where PUBLIC would have the grant option; a REVOKE with
+/// `DependentPrivileges` where others depend on what it takes and it does not say CASCADE. It fails for
+/// memory alone.
+pub fn grant_or_revoke(
     alloc: Global,
     catalogue: &Catalogue,
     current: &Name,

@@ -8,7 +8,7 @@ use sql_types::tag::Tag;
 
 /// A GRANT or a REVOKE of roles.
 #[derive(Clone, Copy)]
-pub(crate) enum MembershipStatement<'a> {
+pub enum MembershipStatement<'a> {
     Grant(&'a GrantRole),
     Revoke(&'a RevokeRole),
 }

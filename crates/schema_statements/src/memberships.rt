@@ -3,7 +3,6 @@
 
 ghost use Rattle.std.specs.Prelude.{IfOk, IfErr};
 ghost use Rattle.store.specs.StatementError.{FailsForMemory};
-ghost use Rattle.abstract_database.specs.Statements.{grant_role as grants_role, revoke_role as revokes_role};
 ghost use Rattle.catalogue.specs.Executed.{Defines};
 ghost use Rattle.catalogue_changes.specs.Carried.{IsCurrent};
 ghost use Rattle.schema_statements.specs.MembershipStatements.{run_of, Sets, IsRefusedSo};
@@ -14,63 +13,20 @@ use catalogue::definitions::Catalogue;
 use catalogue::effect::Effect;
 use catalogue_changes::{defined, push_memberships};
 use role_membership::{Memberships, grant_roles, revoke_roles};
-use sql_ast::statement::{GrantRole, RevokeRole};
 use sql_types::name::Name;
 use sql_types::state::Refusal;
 use std::alloc::Global;
 use store::{Batch, StatementError};
 
-/// Carries out GRANT of roles for the current role: it sets the memberships, among them one of each
-/// of the members in each of the roles. Granted again, a membership keeps its admin option or is
-/// given one.
+/// Carries out GRANT or REVOKE of roles for the current role: it sets the memberships. After GRANT there
+/// is among them one of each of the members in each of the roles; granted again, a membership keeps its
+/// admin option or is given one. After REVOKE those of the members in the roles are gone, or with ADMIN
+/// OPTION FOR their admin options; a membership that is not there is passed over.
 ///
 /// It is refused with `UndefinedObject` where a name is no role's; with `InsufficientPrivilege` where
-/// the current role may not grant one of the roles; with `InvalidGrantOperation` where a role would
-/// be granted to itself or to a role that it is in. It fails for memory alone.
-pub fn grant_role(
-    alloc: Global,
-    catalogue: &Catalogue,
-    current: &Name,
-    statement: &GrantRole,
-) -> Result<Effect, StatementError>
-    ensures memory { IfErr result FailsForMemory }
-    ensures executes { Defines (IsCurrent current.now)
-        (λ db users. grants_role db users statement.now) catalogue.now result }
-{
-    carry_out(
-        alloc,
-        catalogue,
-        current,
-        MembershipStatement::Grant(statement),
-    )
-}
-
-/// Carries out REVOKE of roles for the current role: it sets the memberships, without those of the
-/// members in the roles, or with ADMIN OPTION FOR without their admin options. A membership that is
-/// not there is passed over.
-///
-/// It is refused with `UndefinedObject` where a name is no role's; with `InsufficientPrivilege` where
-/// the current role may not grant one of the roles. It fails for memory alone.
-pub fn revoke_role(
-    alloc: Global,
-    catalogue: &Catalogue,
-    current: &Name,
-    statement: &RevokeRole,
-) -> Result<Effect, StatementError>
-    ensures memory { IfErr result FailsForMemory }
-    ensures executes { Defines (IsCurrent current.now)
-        (λ db users. revokes_role db users statement.now) catalogue.now result }
-{
-    carry_out(
-        alloc,
-        catalogue,
-        current,
-        MembershipStatement::Revoke(statement),
-    )
-}
-
-/// Carries out a GRANT or a REVOKE for the current role.
-fn carry_out(
+/// the current role may not grant one of the roles; a GRANT with `InvalidGrantOperation` where a role
+/// would be granted to itself or to a role that it is in. It fails for memory alone.
+pub fn grant_or_revoke_roles(
     alloc: Global,
     catalogue: &Catalogue,
     current: &Name,

@@ -9,7 +9,7 @@ use sql_types::tag::Tag;
 
 /// A GRANT or a REVOKE of privileges on a table.
 #[derive(Clone, Copy)]
-pub(crate) enum PrivilegeStatement<'a> {
+pub enum PrivilegeStatement<'a> {
     Grant(&'a Grant),
     Revoke(&'a Revoke),
 }

@@ -18,6 +18,15 @@ use sql_types::event::Event;
 use std::alloc::Global;
 use store::{Fault, Map};
 
+/// What a server is beside its store: the definitions of the committed database, the writer lock where
+/// a session holds it, and the open sessions by their numbers, in the order of their opening.
+#[derive(Clone, Copy)]
+pub struct Context<'a> {
+    pub catalogue: &'a Catalogue,
+    pub writer: &'a Option<Writer>,
+    pub sessions: &'a IndexMap<u32, Session>,
+}
+
 /// What decides events, over any map.
 pub trait EventHandler {
     /// What a text is read as.
@@ -30,17 +39,15 @@ pub trait EventHandler {
         &self,
         alloc: Global,
         map: &mut M,
-        catalogue: &Catalogue,
-        writer: &Option<Writer>,
-        sessions: &IndexMap<u32, Session>,
+        context: Context<'_>,
         event: &Event,
     ) -> Result<Decision, Fault>
         ensures preserved { M.preserved map.old map.new }
         ensures read { HasRead result (M.state map.old) (M.state map.new) }
         ensures decides { (M.state map.old).sound → (db : Database) (holder : Option Holder)
-            → Shows (M.state map.old).map catalogue.now db
-            → HolderShows (M.state map.old).map catalogue.now writer.now holder
-            → HoldsInBlock holder sessions.now.entries
-            → DecidesAt Reads (M.state map.old).map catalogue.now writer.now db holder
-            sessions.now.entries (event_of event.now) result };
+            → Shows (M.state map.old).map context.entry.catalogue.now db
+            → HolderShows (M.state map.old).map context.entry.catalogue.now context.entry.writer.now holder
+            → HoldsInBlock holder context.entry.sessions.now.entries
+            → DecidesAt Reads (M.state map.old).map context.entry.catalogue.now context.entry.writer.now
+            db holder context.entry.sessions.now.entries (event_of event.now) result };
 }

@@ -4,22 +4,23 @@ ghost use Rattle.std.specs.Prelude.{◌≡◌};
 ghost use Rattle.store.specs.StatementError.{ReadsMap};
 ghost use Rattle.stored_database.specs.Records.{Shows};
 ghost use Rattle.abstract_database.specs.Database.{Database};
+ghost use Rattle.abstract_database.specs.Machine.{users_of};
 ghost use Rattle.abstract_database.specs.Statements.{exec};
 ghost use Rattle.catalogue.specs.Executed.{Executes};
-ghost use Rattle.server.specs.Executed.{MayExecute, users_named};
+ghost use Rattle.server.specs.Executed.{MayExecute};
 
+use crate::session::Session;
 use catalogue::definitions::Catalogue;
 use catalogue::effect::Effect;
 use sql_ast::statement::DatabaseStatement;
-use sql_types::name::Name;
 use std::alloc::Global;
 use store::{Map, StatementError};
 
 /// What carries out statements over the database, over any map of records.
 pub trait Execute {
-    /// A statement of the role `current` in a session that was opened for the role `session`, over a
-    /// map whose definitions are those of the catalogue: what it answers, the changes that lead to
-    /// the records after it, and the change of the definitions; or its refusal. The map is only read.
+    /// A statement of a session, over a map whose definitions are those of the catalogue: what it
+    /// answers, the changes that lead to the records after it, and the change of the definitions; or
+    /// its refusal. Of the session only its roles count. The map is only read.
     ///
     /// It fails with Device: the device of the map failed. Damaged: a record is one that no database has, which
     /// never comes over a map that shows a database.
@@ -28,15 +29,14 @@ pub trait Execute {
         alloc: Global,
         map: &mut M,
         catalogue: &Catalogue,
-        current: &Name,
-        session: &Name,
+        session: &Session,
         statement: &DatabaseStatement,
     ) -> Result<Effect, StatementError>
         ensures preserved { M.preserved map.old map.new }
         ensures read { ReadsMap result (M.state map.old) (M.state map.new) }
         ensures executes { (M.state map.old).sound → (db : Database)
             → Shows (M.state map.old).map catalogue.now db
-            → MayExecute db (users_named current.now session.now) statement.now
+            → MayExecute db (users_of session.now) statement.now
             → Executes (M.state map.old).map catalogue.now result
-            (exec db (users_named current.now session.now) statement.now) };
+            (exec db (users_of session.now) statement.now) };
 }

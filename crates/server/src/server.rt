@@ -17,7 +17,7 @@ ghost use Rattle.server.specs.declared.decision.SessionChange.{SessionChange as 
 ghost use Rattle.server.specs.declared.writer.Writer.{Writer as TheWriter};
 ghost use Rattle.server.specs.declared.decision.Decision.TheVariants as decisions;
 
-use crate::decide::EventHandler;
+use crate::decide::{Context, EventHandler};
 use crate::decision::{Decision, SessionChange};
 use crate::session::{BlockChange, Session};
 use crate::writer::Writer;
@@ -185,14 +185,14 @@ impl<S: Store, X: EventHandler> Server<S, X> {
         ensures running { self.new.stopped ≡ self.old.stopped }
         ensures attempts { Attempts X.Reads S.state self.old self.new (event_of event.now) result }
     {
-        let decided = self.handler.decide(
-            self.alloc,
-            &mut self.store,
-            &self.catalogue,
-            &self.writer,
-            &self.sessions,
-            event,
-        );
+        let context = Context {
+            catalogue: &self.catalogue,
+            writer: &self.writer,
+            sessions: &self.sessions,
+        };
+        let decided = self
+            .handler
+            .decide(self.alloc, &mut self.store, context, event);
         match decided {
             Ok(decision) => self.apply(decision),
             Err(fault) => Err(store_fault(fault)),

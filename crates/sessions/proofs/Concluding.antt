@@ -47,27 +47,7 @@ no_slot records d None holder shows none = refl
 no_slot records d (Some writer) None shows none = absurd shows
 no_slot records d (Some writer) (Some h) shows none = cc
 
--- ---- refusals
-
--- a decision that commits nothing may be done where there may be a commit
-makes_where_never : (records : Records) (d : Definitions) (writer : Option Writer) (db : Database) (holder : Option Holder) (sessions : Entries) (MayCommit : Type 0) (t : Transition) (what : Decision)
-    → Makes records d writer db holder sessions ⊥ t what → Makes records d writer db holder sessions MayCommit t what
-makes_where_never records d writer db holder sessions MayCommit t (decision.Answer a c) makes = makes
-makes_where_never records d writer db holder sessions MayCommit t (decision.Open a n s) makes = makes
-makes_where_never records d writer db holder sessions MayCommit t (decision.Release a c) makes = makes
-makes_where_never records d writer db holder sessions MayCommit t (decision.Commit made) makes = absurd makes.3
-makes_where_never records d writer db holder sessions MayCommit t (decision.Hold n made) makes = makes
-makes_where_never records d writer db holder sessions MayCommit t (decision.CommitWriter a c) makes = absurd makes.3
-
 module _ (number : ℕ) (s : Session) (x : DatabaseStatement) where
-  pub refused_concludes : (code : SqlState) (what : Decision) → ((writer : Option Writer) → Serves writer number s Always Never (λ m. refused m number s code) what)
-      → Concludes number s x (Err (Refused code)) what
-  refused_concludes code what serves records d writer db holder sessions shows held admitted comes =
-      let is : execute_in (machine_at db holder sessions) number s (Ok (statement.OnDatabase x)) ≡ refused (machine_at db holder sessions) number s code =
-      refused_as (machine_at db holder sessions) number s x admitted.may code comes in
-      makes_where_never records d writer db holder sessions _ _ what
-      (subst (λ (t : Transition). Makes records d writer db holder sessions ⊥ t what) (sym is) (serves writer records d db holder sessions shows held admitted.is_open tt))
-
   -- ---- statements that are carried out
 
   -- one outside a block

@@ -1,5 +1,6 @@
 -- A statement over the database that its session may execute.
-use Rattle.std.proofs.Common.{◌≡◌, ◌&&◌, ℕ, Bool, true, false, not, Option, Result, Ok, Err, refl}
+use Rattle.std.proofs.Common.{◌≡◌, ◌&&◌, ℕ, Bool, true, false, not, Option, Result, Ok, Err, refl, sym, subst}
+use Rattle.std.specs.Result.{IsErrAnd}
 use Rattle.std.proofs.lemmas.Bool.{and_parts}
 use Rattle.sql_types.specs.declared.state.SqlState.{SqlState}
 use Rattle.sql_types.specs.declared.state.SqlState.TheVariants.{InsufficientPrivilege, InFailedTransaction, LockNotAvailable, InvalidAuthorization}
@@ -10,8 +11,8 @@ use Rattle.sql_parser.specs.Policies.{HasConditionsAsWritten}
 use Rattle.expressions.specs.Stages.{◌>>=◌, require}
 use Rattle.store.specs.Records.{Records}
 use Rattle.store.specs.Readers.{HasRead}
-use Rattle.store.specs.StatementError.{ReadsMap}
-use Rattle.store.specs.Store.{StoreState}
+use Rattle.store.specs.StatementError.{FailsForMemory, ReadsMap}
+use Rattle.store.specs.Store.{StoreState, OnlyReads}
 use Rattle.store.specs.declared.fault.Fault.{Fault}
 use Rattle.store.specs.declared.fault.Fault.TheVariants.{Memory, Device, Damaged}
 use Rattle.store.specs.declared.stop.StatementError.{StatementError}
@@ -26,7 +27,9 @@ use Rattle.server.specs.Standing.{HolderShows}
 use Rattle.server.specs.Decisions.{machine_at}
 use Rattle.server.specs.Executed.{MayExecute}
 use Rattle.sessions.specs.Concluded.{ComesTo, Concludes}
-use Rattle.sessions.specs.Serving.{Admits, ServesOver}
+use Rattle.sessions.specs.Serving.{Admits, IsAdmission, CarriesOut, ServesOver}
+use Rattle.sessions.proofs.Serving.{not_device, not_damaged, admitted_serves}
+use Rattle.sessions.proofs.Meant.{refused_as}
 use Rattle.sessions.specs.declared.statements.OpenSession.{OpenSession}
 
 -- all four checks are passed
@@ -59,21 +62,53 @@ module _ (records : Records) (at : OpenSession) (x : DatabaseStatement) (read : 
       (comes db holder over.committed over.held (admitted_may (machine_at db holder sessions) at.number at.session.now x read written admitted))
 
   -- a failure is no decision
-  pub serves_failure : (fault : Fault) → Comes (Err (Failed fault)) → ServesOver records at (statement.OnDatabase x) (Admits at (statement.OnDatabase x)) (Err fault)
+  serves_failure : (fault : Fault) → Comes (Err (Failed fault)) → ServesOver records at (statement.OnDatabase x) (Admits at (statement.OnDatabase x)) (Err fault)
   serves_failure Memory comes db holder sessions over admitted = tt
   serves_failure Device comes db holder sessions over admitted = tt
   serves_failure Damaged comes db holder sessions over admitted =
       comes db holder over.committed over.held (admitted_may (machine_at db holder sessions) at.number at.session.now x read written admitted)
 
+  -- where the session may execute it, a statement that stops is refused or fails
+  pub stop_carries : {A : Type 0} (admitted : A) (stop : StatementError) → IsAdmission records at (statement.OnDatabase x) (Ok admitted) → Comes (Err stop) → CarriesOut records at (statement.OnDatabase x) (Err stop)
+  stop_carries admitted (Refused code) admission comes = λ db holder sessions over.
+      let may = admission db holder sessions over in
+      refused_as (machine_at db holder sessions) at.number at.session.now x may code
+      (comes db holder over.committed over.held (admitted_may (machine_at db holder sessions) at.number at.session.now x read written may))
+  stop_carries admitted (Failed fault) admission comes = admitted_serves records at (statement.OnDatabase x) admitted (Err fault) admission (serves_failure fault comes)
+
 -- ---- what was read
 
-pub effect_read : (made : Effect) (what : Decision) (old new : StoreState) → ReadsMap (Ok made) old new → HasRead (Ok what) old new
-effect_read made what old new h = record { only_reads = h.only_reads; cause = tt; failed = h.failed }
+pub answer_read : {A : Type 0} (x : A) (what : Decision) (old new : StoreState) → ReadsMap (Ok x) old new → HasRead (Ok what) old new
+answer_read x what old new h = record { only_reads = h.only_reads; cause = tt; failed = h.failed }
 
-pub refusal_read : (code : SqlState) (what : Decision) (old new : StoreState) → ReadsMap {A = Effect} (Err (Refused code)) old new → HasRead (Ok what) old new
+pub refusal_read : {A : Type 0} (code : SqlState) (what : Decision) (old new : StoreState) → ReadsMap {A = A} (Err (Refused code)) old new → HasRead (Ok what) old new
 refusal_read code what old new h = record { only_reads = h.only_reads; cause = tt; failed = h.failed }
 
-pub failure_read : (fault : Fault) (old new : StoreState) → ReadsMap {A = Effect} (Err (Failed fault)) old new → HasRead {T = Decision} (Err fault) old new
+pub failure_read : {A : Type 0} (fault : Fault) (old new : StoreState) → ReadsMap {A = A} (Err (Failed fault)) old new → HasRead {T = Decision} (Err fault) old new
 failure_read Memory old new h = record { only_reads = h.only_reads; cause = tt; failed = h.failed }
 failure_read Device old new h = record { only_reads = h.only_reads; cause = h.cause; failed = h.failed }
 failure_read Damaged old new h = record { only_reads = h.only_reads; cause = tt; failed = h.failed }
+
+-- a call that came to this one's answer read what it read
+pub decided_read : {A : Type 0} (x : A) (what : Decision) (old new : StoreState) → ReadsMap (Ok x) old new → ReadsMap (Ok what) old new
+decided_read x what old new h = record { only_reads = h.only_reads; cause = tt; failed = h.failed }
+
+pub stopped_read : {A : Type 0} (stop : StatementError) (old new : StoreState) → ReadsMap {A = A} (Err stop) old new → ReadsMap {A = Decision} (Err stop) old new
+stopped_read (Refused code) old new h = record { only_reads = h.only_reads; cause = tt; failed = h.failed }
+stopped_read (Failed Memory) old new h = record { only_reads = h.only_reads; cause = tt; failed = h.failed }
+stopped_read (Failed Device) old new h = record { only_reads = h.only_reads; cause = h.cause; failed = h.failed }
+stopped_read (Failed Damaged) old new h = record { only_reads = h.only_reads; cause = tt; failed = h.failed }
+
+-- before anything is read, a statement fails for memory alone
+pub unread : {A : Type 0} (stop : StatementError) (s : StoreState) → FailsForMemory stop → OnlyReads s s → ReadsMap {A = A} (Err stop) s s
+unread (Refused code) s memory reads = record { only_reads = reads; cause = tt; failed = refl }
+unread (Failed Memory) s memory reads = record { only_reads = reads; cause = tt; failed = refl }
+unread (Failed Device) s memory reads = absurd (not_device memory)
+unread (Failed Damaged) s memory reads = absurd (not_damaged memory)
+
+-- ---- what `?` hands on
+
+-- a stop that is handed on
+pub ended : {A : Type 0} (stop : StatementError) (P : Result A StatementError → Type 0) (r : Result A StatementError) → IsErrAnd r (λ other. other ≡ stop) → P (Err stop) → P r
+ended stop P (Ok x) is p = absurd is
+ended stop P (Err other) is p = subst (λ (y : StatementError). P (Err y)) (sym is) p

@@ -10,6 +10,9 @@ use Rattle.sql_ast.specs.declared.statement.SessionStatement.TheVariants as of_s
 use Rattle.expressions.specs.Stages.{◌>>=◌}
 use Rattle.store.specs.Records.{Records}
 use Rattle.store.specs.declared.fault.Fault.{Fault}
+use Rattle.store.specs.declared.fault.Fault.TheVariants.{Memory, Device, Damaged}
+use Rattle.store.specs.declared.stop.StatementError.{StatementError}
+use Rattle.store.specs.declared.stop.StatementError.TheVariants.{Refused, Failed}
 use Rattle.abstract_database.specs.Database.{Database}
 use Rattle.abstract_database.specs.Machine.{Machine, Holder, Session, Transition, is_held_by_other, seen, users_of, succeeds, refused, transition_or_refusal, with_session_changed, with_role_set, as_role, may_execute, where_admitted, begin, commit, rollback, changes_database, applied, execute_in}
 use Rattle.abstract_database.specs.Statements.{exec}
@@ -23,7 +26,7 @@ use Rattle.sessions.specs.Admission.{SeesRolesOf, admission_of}
 use Rattle.sessions.specs.Decisions.{Makes, Serves, Always, Never}
 use Rattle.sessions.specs.Roles.{role_set}
 use Rattle.sessions.specs.Writers.{is_slot_of_other, definitions_seen}
-use Rattle.sessions.specs.Serving.{EndsBlock, Admits, IsExecuted, IsAdmissionBy, IsAdmission, IsOpenOver, ServesOver}
+use Rattle.sessions.specs.Serving.{EndsBlock, Admits, IsAdmission, RefusesAdmission, CarriesOut, IsOpenOver, ServesOver}
 use Rattle.sessions.specs.declared.statements.OpenSession.{OpenSession}
 use Rattle.sessions.proofs.SeenDefinitions.{sees_roles, held_by_other}
 
@@ -90,23 +93,14 @@ module _ (records : Records) (at : OpenSession) (x : Statement) (what : Decision
       (λ db holder sessions over. sees_roles records d writer db holder number over.committed over.held) (λ m may. absurd may)
       (λ m given. let admitted : may_execute m number s (statement.OfSession (of_session.SetRole set)) ≡ Ok tt = rw is at given in rw is (rw admitted refl))
 
-  -- ---- admission
+  -- ---- refusals
 
   -- a statement that is refused makes the refusal's transition
-  pub serves_refusal : (code : SqlState) → IsAdmission records at x (Some code) → ((given : Option Writer) → Serves given number s Always Never (λ m. refused m number s code) what) → ServesOver records at x Always (Ok what)
+  pub serves_refusal : (code : SqlState) → RefusesAdmission records at x code → ((given : Option Writer) → Serves given number s Always Never (λ m. refused m number s code) what) → ServesOver records at x Always (Ok what)
   serves_refusal code refuses serves db holder sessions over given =
       let m = machine_at db holder sessions in
       makes_more records d writer db holder sessions ⊥ (CommitsAt m number s.block x) (execute_in m number s (Ok x)) what (λ never. absurd never)
       (subst (λ (t : Transition). Makes records d writer db holder sessions ⊥ t what) (sym (refuses db holder sessions over)) (serves writer records d db holder sessions over.held over.in_block over.is_open tt))
-
--- a statement that ends no block is executed where it is admitted
-pub where_admitted_serves : (records : Records) (at : OpenSession) (x : Statement) (r : Result Decision Fault) → (EndsBlock x → ⊥) → ServesOver records at x (Admits at x) r → ServesOver records at x (IsExecuted at x) r
-where_admitted_serves records at x r ordinary serves db holder sessions over (inl ends) = absurd (ordinary ends)
-where_admitted_serves records at x r ordinary serves db holder sessions over (inr admitted) = serves db holder sessions over admitted
-
--- one that ends a block is executed always
-pub always_serves : (records : Records) (at : OpenSession) (x : Statement) (r : Result Decision Fault) → ServesOver records at x Always r → ServesOver records at x (IsExecuted at x) r
-always_serves records at x r serves db holder sessions over given = serves db holder sessions over tt
 
 -- ---- admission
 
@@ -127,15 +121,6 @@ pub reset_ends_none : EndsBlock (statement.OfSession of_session.ResetRole) → �
 reset_ends_none (inl is) = cc
 reset_ends_none (inr is) = cc
 
-abbrev IsOther : Statement → Type 0
-IsOther x = ((a : DatabaseStatement) × (x ≡ statement.OnDatabase a)) ⊎ ((x ≡ statement.OfSession of_session.Begin) ⊎ (((a : SetRole) × (x ≡ statement.OfSession (of_session.SetRole a))) ⊎ (x ≡ statement.OfSession of_session.ResetRole)))
-
-pub other_ends_none : (x : Statement) → IsOther x → EndsBlock x → ⊥
-other_ends_none x (inl is) ends = database_ends_none is.0 (subst EndsBlock is.1 ends)
-other_ends_none x (inr (inl is)) ends = begin_ends_none (subst EndsBlock is ends)
-other_ends_none x (inr (inr (inl is))) ends = set_ends_none is.0 (subst EndsBlock is.1 ends)
-other_ends_none x (inr (inr (inr is))) ends = reset_ends_none (subst EndsBlock is ends)
-
 module _ (m : Machine) (number : ℕ) (s : Session) (code : SqlState) where
   not_admitted : (x : Statement) (does : Result Transition SqlState) → may_execute m number s x ≡ Err code → where_admitted m number s x does ≡ refused m number s code
   not_admitted x does e = ap (λ (r : Result (Unit {0}) SqlState). transition_or_refusal m number s (r >>= λ free. does)) e
@@ -150,16 +135,35 @@ module _ (m : Machine) (number : ℕ) (s : Session) (code : SqlState) where
   refused_as (statement.OfSession of_session.Commit) o e = absurd (o (inl refl))
   refused_as (statement.OfSession of_session.Rollback) o e = absurd (o (inr refl))
 
-admission_by : (at : OpenSession) (x : Statement) (m : Machine) → (EndsBlock x → ⊥) → (refusal : Option SqlState) → may_execute m at.number at.session.now x ≡ admission_of refusal → IsAdmissionBy at x refusal m
-admission_by at x m ordinary None may = inr may
-admission_by at x m ordinary (Some code) may = refused_as m at.number at.session.now code x ordinary may
-
 -- as the session's definitions and the writer lock say
-pub is_admission : (at : OpenSession) (x : Statement) (seen_there : Definitions) (held_there : Bool) (refusal : Option SqlState) → (EndsBlock x → ⊥)
+pub is_admission : (at : OpenSession) (x : Statement) (seen_there : Definitions) (held_there : Bool) (refusal : Option SqlState)
     → seen_there ≡ definitions_seen at.number at.writer.now at.catalogue.now → held_there ≡ is_slot_of_other at.number at.writer.now
     → ((m : Machine) (n : ℕ) → SeesRolesOf seen_there n m → is_held_by_other n m.holder ≡ held_there → may_execute m n at.session.now x ≡ admission_of refusal)
-    → (records : Records) → IsAdmission records at x refusal
-is_admission at x seen_there held_there refusal ordinary sees held_is admitted records db holder sessions over =
-    let m = machine_at db holder sessions in
-    admission_by at x m ordinary refusal
-    (admitted m at.number (rw sees (sees_roles records at.catalogue.now at.writer.now db holder at.number over.committed over.held)) (held_by_other records at.catalogue.now at.writer.now holder at.number over.held ∙ sym held_is))
+    → (records : Records) (db : Database) (holder : Option Holder) (sessions : Entries) → IsOpenOver records at db holder sessions → may_execute (machine_at db holder sessions) at.number at.session.now x ≡ admission_of refusal
+is_admission at x seen_there held_there refusal sees held_is admitted records db holder sessions over =
+    admitted (machine_at db holder sessions) at.number (rw sees (sees_roles records at.catalogue.now at.writer.now db holder at.number over.committed over.held))
+    (held_by_other records at.catalogue.now at.writer.now holder at.number over.held ∙ sym held_is)
+
+-- ---- by admission
+
+pub not_device : Device ≡ Memory → ⊥
+not_device e = cc
+
+pub not_damaged : Damaged ≡ Memory → ⊥
+not_damaged e = cc
+
+-- a statement that ends no block, and that its session may not execute, is refused
+pub admission_refuses : (A : Type 0) (records : Records) (at : OpenSession) (x : Statement) (stop : StatementError) → (EndsBlock x → ⊥) → IsAdmission {A = A} records at x (Err stop) → CarriesOut records at x (Err stop)
+admission_refuses A records at x (Refused code) ordinary not_admitted =
+    λ db holder sessions over. refused_as (machine_at db holder sessions) at.number at.session.now code x ordinary (not_admitted db holder sessions over)
+admission_refuses A records at x (Failed Memory) ordinary memory = λ db holder sessions over given. tt
+admission_refuses A records at x (Failed Device) ordinary memory = absurd (not_device memory)
+admission_refuses A records at x (Failed Damaged) ordinary memory = absurd (not_damaged memory)
+
+-- what serves it where it is admitted serves it
+pub admitted_serves : {A : Type 0} (records : Records) (at : OpenSession) (x : Statement) (admitted : A) (r : Result Decision Fault) → IsAdmission records at x (Ok admitted) → ServesOver records at x (Admits at x) r → ServesOver records at x Always r
+admitted_serves records at x admitted r admission serves db holder sessions over given = serves db holder sessions over (admission db holder sessions over)
+
+-- a failure of memory, which no statement need have, serves it
+pub memory_carries : (records : Records) (at : OpenSession) (x : Statement) → CarriesOut records at x (Err (Failed Memory))
+memory_carries records at x db holder sessions over given = tt

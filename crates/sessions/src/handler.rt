@@ -5,13 +5,9 @@ ghost use Rattle.std.specs.Prelude.{◌≡◌};
 use crate::blocks::close;
 use crate::opening::open;
 use crate::texts::decide_text;
-use catalogue::definitions::Catalogue;
-use indexmap::IndexMap;
-use server::decide::EventHandler;
+use server::decide::{Context, EventHandler};
 use server::decision::Decision;
 use server::execute::Execute;
-use server::session::Session;
-use server::writer::Writer;
 use sql_types::event::Event;
 use std::alloc::Global;
 use store::{Fault, Map};
@@ -41,29 +37,26 @@ impl<X: Execute> EventHandler for SessionHandler<X> {
         &self,
         alloc: Global,
         map: &mut M,
-        catalogue: &Catalogue,
-        writer: &Option<Writer>,
-        sessions: &IndexMap<u32, Session>,
+        context: Context<'_>,
         event: &Event,
     ) -> Result<Decision, Fault> {
         match event {
             Event::Open { session, login } => {
-                match open(alloc, catalogue, sessions, *session, login.as_str()) {
+                match open(
+                    alloc,
+                    context.catalogue,
+                    context.sessions,
+                    *session,
+                    login.as_str(),
+                ) {
                     Ok(decision) => Ok(decision),
                     Err(_) => Err(Fault::Memory),
                 }
             }
-            Event::Statement { session, text } => decide_text(
-                &self.executor,
-                alloc,
-                map,
-                catalogue,
-                writer,
-                sessions,
-                *session,
-                text.as_str(),
-            ),
-            Event::Close { session } => Ok(close(writer, sessions, *session)),
+            Event::Statement { session, text } => {
+                decide_text(&self.executor, alloc, map, context, *session, text.as_str())
+            }
+            Event::Close { session } => Ok(close(context.writer, context.sessions, *session)),
         }
     }
 }

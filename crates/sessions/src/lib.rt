@@ -15,7 +15,6 @@ mod seeing;
 mod statements;
 mod texts;
 mod two_servers;
-mod visible;
 
 pub use handler::SessionHandler;
 pub use laws::one_reading;

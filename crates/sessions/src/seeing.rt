@@ -1,10 +1,13 @@
-//! Who holds the writer lock, and what a session sees of the definitions.
+//! Who holds the writer lock, and what a session sees of the definitions and the records.
 
 ghost use Rattle.std.specs.Prelude.{◌≡◌};
+ghost use Rattle.std.specs.Option.{option_copied};
 ghost use Rattle.sessions.specs.Writers.{is_slot_of, is_slot_of_other, definitions_seen};
+ghost use Rattle.sessions.specs.Visible.{lists_seen};
 
 use catalogue::definitions::Catalogue;
 use server::writer::Writer;
+use store::Batch;
 
 /// Whether the session of this number holds the writer lock.
 pub fn holds_slot(writer: &Option<Writer>, number: u32) -> bool
@@ -41,5 +44,16 @@ pub fn seen_catalogue<'a>(
             None => committed,
         },
         _ => committed,
+    }
+}
+
+/// The changes under which a session sees the records, lent, or `None` where it sees the committed
+/// ones.
+pub fn lists_seen<'a>(writer: &'a Option<Writer>, number: u32) -> Option<&'a [Batch]>
+    ensures { option_copied result ≡ lists_seen number writer.now }
+{
+    match writer {
+        Some(writer) if writer.session == number => Some(writer.lists.as_slice()),
+        _ => None,
     }
 }

@@ -1,30 +1,40 @@
 //! A statement of an open session.
 
-ghost use Rattle.std.specs.Prelude.{◌≡◌, ◌↔◌, IsTrue, IsOk, IfOk, Ok, None};
-ghost use Rattle.sql_ast.specs.Statements.{IsReadOnDatabase, IsRead};
-ghost use Rattle.sql_ast.specs.declared.statement.Statement.{Statement as TheStatement};
+ghost use Rattle.std.specs.Prelude.{IsOk, IfErr, Option};
+ghost use Rattle.sql_ast.specs.Statements.{IsRead};
 ghost use Rattle.sql_parser.specs.Policies.{HasConditionsAsWritten};
 ghost use Rattle.store.specs.Records.{Records};
 ghost use Rattle.store.specs.Readers.{HasRead};
+ghost use Rattle.store.specs.StatementError.{FailsForMemory, ReadsMap};
+ghost use Rattle.stored_database.specs.Records.{Shows};
+ghost use Rattle.transactions.specs.Views.{applied_all};
+ghost use Rattle.catalogue.specs.Executed.{Executes};
+ghost use Rattle.abstract_database.specs.Database.{Database};
+ghost use Rattle.abstract_database.specs.Machine.{Holder, seen_by, users_of};
+ghost use Rattle.abstract_database.specs.Statements.{exec};
+ghost use Rattle.server.specs.Standing.{HolderShows};
+ghost use Rattle.server.specs.Executed.{MayExecute};
 ghost use Rattle.sessions.specs.Decisions.{Always};
-ghost use Rattle.sessions.specs.Serving.{EndsBlock, Admits, IsExecuted, IsAdmission, ServesOver};
+ghost use Rattle.sessions.specs.Writers.{definitions_seen};
+ghost use Rattle.sessions.specs.Visible.{records_seen};
+ghost use Rattle.sessions.specs.Serving.{EndsBlock, IsAdmission, CarriesOut, ServesOver};
 
 use crate::admission::admit;
 use crate::answers::refuse;
 use crate::blocks::{begin, commit, roll_back};
 use crate::decisions::decision_for;
 use crate::roles::{reset_role, set_role};
-use crate::seeing::{other_holds_slot, seen_catalogue};
-use crate::visible::execute_visible;
+use crate::seeing::{lists_seen, other_holds_slot, seen_catalogue};
 use catalogue::definitions::Catalogue;
+use catalogue::effect::Effect;
 use server::decision::Decision;
 use server::execute::Execute;
 use server::session::Session;
 use server::writer::Writer;
 use sql_ast::statement::{DatabaseStatement, SessionStatement, Statement};
-use sql_types::state::SqlState;
-use std::alloc::{AllocError, Global};
-use store::{Fault, Map, StatementError};
+use std::alloc::Global;
+use store::{Batch, Fault, Map, StatementError};
+use transactions::View;
 
 /// An open session of a server: its number, what it is, the committed definitions, and the writer
 /// lock.
@@ -38,7 +48,8 @@ pub(crate) struct OpenSession<'a> {
 
 impl<'a> OpenSession<'a> {
     /// What a statement asks in the session, over a map that is only read. COMMIT and ROLLBACK are
-    /// answered always, each other statement where the session may execute it.
+    /// answered always, each other statement where the session may execute it. A refusal makes an
+    /// open block failed.
     ///
     /// Device: the device of the map failed. Damaged: a record is one that no database has, which
     /// never comes over a map that shows a database. None of these comes of COMMIT and ROLLBACK.
@@ -56,117 +67,118 @@ impl<'a> OpenSession<'a> {
             → ServesOver (M.state map.old).map self.now statement.now Always result }
         ensures ends { EndsBlock statement.now → IsOk result }
     {
-        match self.refusal(alloc, statement) {
-            Ok(Some(code)) => Ok(refuse(self.number, self.session, code)),
-            Ok(None) => self.decide_admitted(executor, alloc, map, statement),
-            Err(_) => Err(Fault::Memory),
+        match self.carry_out(executor, alloc, map, statement) {
+            Ok(decision) => Ok(decision),
+            Err(StatementError::Refused(code)) => Ok(refuse(self.number, self.session, code)),
+            Err(StatementError::Failed(fault)) => Err(fault),
         }
     }
 
-    // Why a statement is refused before it is executed, or `None` where it is executed: COMMIT and
-    // ROLLBACK always are.
-    fn refusal(&self, alloc: Global, statement: &Statement) -> Result<Option<SqlState>, AllocError>
-        ensures ends { EndsBlock statement.now → result ≡ Ok None }
-        ensures admission { IfOk result (λ refusal. (records : Records)
-            → IsAdmission records self.now statement.now refusal) }
-    {
-        if ends_block(statement) {
-            return Ok(None);
-        }
-        let seen = seen_catalogue(self.writer, self.catalogue, self.number);
-        let is_held = other_holds_slot(self.writer, self.number);
-        Ok(admit(alloc, seen, self.session, statement, is_held)?)
-    }
-
-    // What a statement asks that is executed.
-    fn decide_admitted<M: Map, X: Execute>(
+    // What a statement asks, or why it is not carried out.
+    fn carry_out<M: Map, X: Execute>(
         &self,
         executor: &X,
         alloc: Global,
         map: &mut M,
         statement: &Statement,
-    ) -> Result<Decision, Fault>
+    ) -> Result<Decision, StatementError>
         ensures preserved { M.preserved map.old map.new }
-        ensures read { HasRead result (M.state map.old) (M.state map.new) }
-        ensures serves { (M.state map.old).sound → IsRead statement.now
+        ensures read { ReadsMap result (M.state map.old) (M.state map.new) }
+        ensures carries { (M.state map.old).sound → IsRead statement.now
             → HasConditionsAsWritten statement.now
-            → ServesOver (M.state map.old).map self.now statement.now
-            (IsExecuted self.now statement.now) result }
+            → CarriesOut (M.state map.old).map self.now statement.now result }
         ensures ends { EndsBlock statement.now → IsOk result }
     {
         match statement {
-            Statement::OnDatabase(statement) => self.execute(executor, alloc, map, statement),
-            Statement::OfSession(statement) => Ok(self.decide_of_session(alloc, statement)?),
-        }
-    }
-
-    // What a statement of the session alone asks that is executed.
-    fn decide_of_session(
-        &self,
-        alloc: Global,
-        statement: &SessionStatement,
-    ) -> Result<Decision, AllocError>
-        ensures serves { IfOk result (λ decision. (records : Records)
-            → ServesOver records self.now (TheStatement.OfSession statement.now)
-            (IsExecuted self.now (TheStatement.OfSession statement.now)) (Ok decision)) }
-        ensures ends { EndsBlock (TheStatement.OfSession statement.now) → IsOk result }
-    {
-        match statement {
-            SessionStatement::Begin => Ok(begin(alloc, self.number, self.session)?),
-            SessionStatement::Commit => Ok(commit(self.writer, self.number, self.session)),
-            SessionStatement::Rollback => Ok(roll_back(self.writer, self.number, self.session)),
-            SessionStatement::SetRole(set) => {
-                let seen = seen_catalogue(self.writer, self.catalogue, self.number);
-                Ok(set_role(alloc, seen, self.number, self.session, set)?)
+            Statement::OnDatabase(over) => {
+                self.admit(alloc, statement)?;
+                let effect = self.execute(executor, alloc, map, over)?;
+                Ok(decision_for(self.number, self.session, over, effect))
             }
-            SessionStatement::ResetRole => Ok(reset_role(alloc, self.number, self.session)?),
+            Statement::OfSession(of_session) => match of_session {
+                SessionStatement::Begin => {
+                    self.admit(alloc, statement)?;
+                    Ok(begin(alloc, self.number, self.session)?)
+                }
+                SessionStatement::Commit => Ok(commit(self.writer, self.number, self.session)),
+                SessionStatement::Rollback => Ok(roll_back(self.writer, self.number, self.session)),
+                SessionStatement::SetRole(set) => {
+                    self.admit(alloc, statement)?;
+                    let seen = seen_catalogue(self.writer, self.catalogue, self.number);
+                    Ok(set_role(alloc, seen, self.number, self.session, set)?)
+                }
+                SessionStatement::ResetRole => {
+                    self.admit(alloc, statement)?;
+                    Ok(reset_role(alloc, self.number, self.session)?)
+                }
+            },
         }
     }
 
-    // What a statement over the database asks that the session may execute: it is carried out, and a
-    // refusal makes an open block failed.
+    // Whether the session may execute a statement: its refusal where it may not. It fails for memory
+    // alone.
+    fn admit(&self, alloc: Global, statement: &Statement) -> Result<(), StatementError>
+        ensures memory { IfErr result FailsForMemory }
+        ensures admission { (records : Records) → IsAdmission records self.now statement.now result }
+    {
+        let seen = seen_catalogue(self.writer, self.catalogue, self.number);
+        let is_held = other_holds_slot(self.writer, self.number);
+        match admit(alloc, seen, self.session, statement, is_held)? {
+            None => Ok(()),
+            Some(code) => Err(StatementError::Refused(code)),
+        }
+    }
+
+    // A statement over the database, carried out over what the session sees: the holder of the writer
+    // lock sees the records and the definitions under its own changes, each other session the
+    // committed ones.
     fn execute<M: Map, X: Execute>(
         &self,
         executor: &X,
         alloc: Global,
         map: &mut M,
         statement: &DatabaseStatement,
-    ) -> Result<Decision, Fault>
+    ) -> Result<Effect, StatementError>
         ensures preserved { M.preserved map.old map.new }
-        ensures read { HasRead result (M.state map.old) (M.state map.new) }
-        ensures serves { (M.state map.old).sound → IsReadOnDatabase statement.now
-            → HasConditionsAsWritten (TheStatement.OnDatabase statement.now)
-            → ServesOver (M.state map.old).map self.now (TheStatement.OnDatabase statement.now)
-            (Admits self.now (TheStatement.OnDatabase statement.now)) result }
+        ensures read { ReadsMap result (M.state map.old) (M.state map.new) }
+        ensures executes { (M.state map.old).sound → (db : Database) (holder : Option Holder)
+            → Shows (M.state map.old).map self.now.catalogue.now db
+            → HolderShows (M.state map.old).map self.now.catalogue.now self.now.writer.now holder
+            → MayExecute (seen_by self.now.number holder db) (users_of self.now.session.now) statement.now
+            → Executes (records_seen self.now.number self.now.writer.now (M.state map.old).map)
+            (definitions_seen self.now.number self.now.writer.now self.now.catalogue.now) result
+            (exec (seen_by self.now.number holder db) (users_of self.now.session.now) statement.now) }
     {
-        let OpenSession {
-            number,
-            session,
-            catalogue,
-            writer,
-        } = *self;
-        match execute_visible(
-            executor, alloc, map, catalogue, writer, number, session, statement,
-        ) {
-            Ok(effect) => Ok(decision_for(number, session, statement, effect)),
-            Err(StatementError::Refused(code)) => Ok(refuse(number, session, code)),
-            Err(StatementError::Failed(fault)) => Err(fault),
+        let seen = seen_catalogue(self.writer, self.catalogue, self.number);
+        match lists_seen(self.writer, self.number) {
+            Some(lists) => self.execute_under(executor, alloc, map, lists, statement),
+            None => executor.execute(alloc, map, seen, self.session, statement),
         }
     }
-}
 
-// Whether a statement ends the block of its session.
-fn ends_block(statement: &Statement) -> bool
-    ensures { IsTrue result ↔ EndsBlock statement.now }
-{
-    match statement {
-        Statement::OnDatabase(_) => false,
-        Statement::OfSession(statement) => match statement {
-            SessionStatement::Commit => true,
-            SessionStatement::Rollback => true,
-            SessionStatement::Begin => false,
-            SessionStatement::SetRole(_) => false,
-            SessionStatement::ResetRole => false,
-        },
+    // The same over a map under these lists of changes.
+    fn execute_under<M: Map, X: Execute>(
+        &self,
+        executor: &X,
+        alloc: Global,
+        map: &mut M,
+        lists: &[Batch],
+        statement: &DatabaseStatement,
+    ) -> Result<Effect, StatementError>
+        ensures preserved { M.preserved map.old map.new }
+        ensures read { ReadsMap result (M.state map.old) (M.state map.new) }
+        ensures executes { (M.state map.old).sound → (db : Database)
+            → Shows (applied_all lists.now (M.state map.old).map)
+            (definitions_seen self.now.number self.now.writer.now self.now.catalogue.now) db
+            → MayExecute db (users_of self.now.session.now) statement.now
+            → Executes (applied_all lists.now (M.state map.old).map)
+            (definitions_seen self.now.number self.now.writer.now self.now.catalogue.now) result
+            (exec db (users_of self.now.session.now) statement.now) }
+    {
+        let seen = seen_catalogue(self.writer, self.catalogue, self.number);
+        let mut view = View::new(alloc, map, lists);
+        let result = executor.execute(alloc, &mut view, seen, self.session, statement);
+        view.into_map();
+        result
     }
 }

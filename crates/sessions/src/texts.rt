@@ -12,12 +12,9 @@ ghost use Rattle.sessions.specs.Readings.{ReadsText};
 use crate::answers::refuse;
 use crate::reading::read_text;
 use crate::statements::OpenSession;
-use catalogue::definitions::Catalogue;
-use indexmap::IndexMap;
+use server::decide::Context;
 use server::decision::{Decision, SessionChange};
 use server::execute::Execute;
-use server::session::Session;
-use server::writer::Writer;
 use sql_types::answer::Answer;
 use sql_types::state::SqlState;
 use std::alloc::Global;
@@ -33,22 +30,20 @@ pub(crate) fn decide_text<M: Map, X: Execute>(
     executor: &X,
     alloc: Global,
     map: &mut M,
-    catalogue: &Catalogue,
-    writer: &Option<Writer>,
-    sessions: &IndexMap<u32, Session>,
+    context: Context<'_>,
     number: u32,
     text: &str,
 ) -> Result<Decision, Fault>
     ensures preserved { M.preserved map.old map.new }
     ensures read { HasRead result (M.state map.old) (M.state map.new) }
     ensures decides { (M.state map.old).sound → (db : Database) (holder : Option Holder)
-        → Shows (M.state map.old).map catalogue.now db
-        → HolderShows (M.state map.old).map catalogue.now writer.now holder
-        → HoldsInBlock holder sessions.now.entries
-        → DecidesAt ReadsText (M.state map.old).map catalogue.now writer.now db holder
-        sessions.now.entries (executes number text.now) result }
+        → Shows (M.state map.old).map context.entry.catalogue.now db
+        → HolderShows (M.state map.old).map context.entry.catalogue.now context.entry.writer.now holder
+        → HoldsInBlock holder context.entry.sessions.now.entries
+        → DecidesAt ReadsText (M.state map.old).map context.entry.catalogue.now context.entry.writer.now
+        db holder context.entry.sessions.now.entries (executes number text.now) result }
 {
-    let Some(session) = sessions.get(&number) else {
+    let Some(session) = context.sessions.get(&number) else {
         return Ok(Decision::Answer(
             Answer::Refused(SqlState::ConnectionDoesNotExist),
             SessionChange::Keep,
@@ -59,8 +54,8 @@ pub(crate) fn decide_text<M: Map, X: Execute>(
             let open = OpenSession {
                 number,
                 session,
-                catalogue,
-                writer,
+                catalogue: context.catalogue,
+                writer: context.writer,
             };
             open.decide(executor, alloc, map, &statement)
         }

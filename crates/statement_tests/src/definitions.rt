@@ -32,8 +32,8 @@ use catalogue::staged::Staged;
 use catalogue_loading::{check_rows, load};
 use md5::{Digest, Md5};
 use schema_statements::{
-    alter_table, create_role, create_table, drop_role, drop_table, grant, grant_role, revoke,
-    revoke_role,
+    MembershipStatement, PrivilegeStatement, alter_table, create_role, create_table, drop_role,
+    drop_table, grant_or_revoke, grant_or_revoke_roles,
 };
 use sql_ast::statement::{DatabaseStatement, DefiningStatement, Statement};
 use sql_parser::parse::parse;
@@ -279,15 +279,23 @@ fn effect_of(
 ) -> Result<Effect, StatementError> {
     let (current, session) = (&issuer.current, &issuer.session);
     match statement {
-        DefiningStatement::Grant(s) => grant(alloc, catalogue, current, s),
-        DefiningStatement::Revoke(s) => revoke(alloc, catalogue, current, s),
+        DefiningStatement::Grant(s) => {
+            grant_or_revoke(alloc, catalogue, current, PrivilegeStatement::Grant(s))
+        }
+        DefiningStatement::Revoke(s) => {
+            grant_or_revoke(alloc, catalogue, current, PrivilegeStatement::Revoke(s))
+        }
         DefiningStatement::CreateTable(s) => create_table(alloc, catalogue, current, s),
         DefiningStatement::AlterTable(s) => alter_table(alloc, catalogue, current, s),
         DefiningStatement::DropTable(s) => drop_table(alloc, store, catalogue, current, s),
         DefiningStatement::CreateRole(s) => create_role(alloc, catalogue, current, s),
         DefiningStatement::DropRole(s) => drop_role(alloc, catalogue, current, session, s),
-        DefiningStatement::GrantRole(s) => grant_role(alloc, catalogue, current, s),
-        DefiningStatement::RevokeRole(s) => revoke_role(alloc, catalogue, current, s),
+        DefiningStatement::GrantRole(s) => {
+            grant_or_revoke_roles(alloc, catalogue, current, MembershipStatement::Grant(s))
+        }
+        DefiningStatement::RevokeRole(s) => {
+            grant_or_revoke_roles(alloc, catalogue, current, MembershipStatement::Revoke(s))
+        }
         DefiningStatement::CreatePolicy(_) | DefiningStatement::DropPolicy(_) => Err(
             StatementError::Refused(SqlState::SyntaxError),
         ),

@@ -25,12 +25,14 @@ use catalogue::definitions::Catalogue;
 use catalogue::effect::Effect;
 use catalogue_loading::load;
 use server::execute::Execute;
+use server::session::Session;
 use sql_ast::statement::{DatabaseStatement, Statement};
 use sql_parser::parse::parse;
 use sql_types::answer::Answer;
 use sql_types::name::Name;
 use sql_types::state::SqlState;
 use sql_types::tag::Tag;
+use sql_types::try_copy::TryCopy;
 use statements::Statements;
 use std::alloc::Global;
 use store::{Fault, MemStore, StatementError, Store};
@@ -160,7 +162,8 @@ fn carry_out(
     statement: &DatabaseStatement,
     out: &mut Told,
 ) -> Result<()> {
-    match Statements.execute(alloc, store, catalogue, role, role, statement) {
+    let session = Session::new(role.try_copy(alloc)?, role.try_copy(alloc)?);
+    match Statements.execute(alloc, store, catalogue, &session, statement) {
         Ok(effect) => commit(alloc, store, &effect, out),
         Err(StatementError::Refused(code)) => Ok(put_refused(alloc, code, Asked::Outcome, out)),
         Err(StatementError::Failed(Fault::Damaged)) => Ok(out.put("failed Damaged\n")),

@@ -20,6 +20,7 @@ use Rattle.store.specs.Store.{StoreState, OnlyReads}
 use Rattle.store.specs.declared.stop.StatementError.{StatementError}
 use Rattle.abstract_database.specs.Lists.{TheName}
 use Rattle.abstract_database.specs.Database.{Database}
+use Rattle.abstract_database.specs.Machine.{Session}
 use Rattle.abstract_database.specs.Statements as meaning
 use Rattle.abstract_database.specs.Whole.{IsRoleOf}
 use Rattle.stored_database.specs.Definitions.{Definitions}
@@ -29,7 +30,7 @@ use Rattle.row_statements.specs.Executed.{WritesAsRead}
 use Rattle.row_statements.specs.Users.{seen_users}
 use Rattle.catalogue.specs.declared.effect.Effect.{Effect}
 use Rattle.catalogue.specs.Executed.{Executes, Defines}
-use Rattle.server.specs.Executed.{MayExecute, users_named}
+use Rattle.server.specs.Executed.{MayExecute}
 use Rattle.statements.proofs.Unread.{nothing_read}
 
 -- a map that is not touched, of which this is kept
@@ -38,6 +39,10 @@ pub record Untouched (s : StoreState) (Kept : Type 0) : Type 0 where
   pub reads : OnlyReads s s
   pub ordered : s.sound → IsOrdered s.map
 
+-- the users of a session with this role set, which was opened for this login role
+abbrev pub users_named : TheName → TheName → meaning.UserPair
+users_named role login = record { current = role; session = login }
+
 module _ (s : StoreState) (d : Definitions) (role login : TheName) where
   -- a statement comes to this over the map's records, as is meant
   abbrev pub IsExecuted : Result Effect StatementError → DatabaseStatement → Type 0
@@ -45,7 +50,7 @@ module _ (s : StoreState) (d : Definitions) (role login : TheName) where
       Executes s.map d result (meaning.exec db (users_named role login) all)
 
   -- what is promised of a defining statement
-  abbrev IsCarriedOut : Type 0 → Result Effect StatementError → DefiningStatement → Type 0
+  abbrev pub IsCarriedOut : Type 0 → Result Effect StatementError → DefiningStatement → Type 0
   IsCarriedOut Kept result all = record {
     preserved : Kept;
     read : ReadsMap result s s;
@@ -66,6 +71,15 @@ module _ (s : StoreState) (d : Definitions) (role login : TheName) where
       → (s.sound → (db : Database) → Shows s.map d db → WritesAsRead db (seen_users db.memberships role login) x → Executes s.map d result (meaning.exec_over_rows db (seen_users db.memberships role login) x))
       → IsExecuted result all
   over_rows result x is h = subst (IsExecuted result) (sym is) (λ sound db shown may. h sound db shown (λ writes. (may.roles, may.read)))
+
+-- what comes of a statement for the roles of a session as code has it comes of it for those of the session
+pub executed_of_session : (s : StoreState) (d : Definitions) (result : Result Effect StatementError) (all : DatabaseStatement) (x y : Session) → x ≡ y → IsExecuted s d x.role x.login result all → IsExecuted s d y.role y.login result all
+executed_of_session s d result all x y is executed = subst (λ (z : Session). IsExecuted s d z.role z.login result all) is executed
+
+-- what is promised for the roles of a session as code has it is promised for those of the session
+pub of_session : {s : StoreState} {d : Definitions} {Kept : Type 0} {result : Result Effect StatementError} {all : DefiningStatement} {x y : Session} → x ≡ y
+    → IsCarriedOut s d x.role x.login Kept result all → IsCarriedOut s d y.role y.login Kept result all
+of_session {s} {d} {Kept} {result} {all} is promised = subst (λ (z : Session). IsCarriedOut s d z.role z.login Kept result all) is promised
 
 module _ {s : StoreState} {d : Definitions} {role login : TheName} where
   -- a statement that reads no record, and fails for memory alone

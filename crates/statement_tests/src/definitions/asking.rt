@@ -3,7 +3,7 @@
 use crate::told::Told;
 use catalogue::definitions::Catalogue;
 use planner::plan_rows;
-use schema_statements::grant_role;
+use schema_statements::{MembershipStatement, grant_or_revoke_roles};
 use sql_ast::statement::{
     DatabaseStatement, DefiningStatement, GrantRole, RowStatement, Statement,
 };
@@ -63,7 +63,8 @@ fn may_grant(
     role: &Name,
     granting: &GrantRole,
 ) -> Result<(), Refusal> {
-    match grant_role(alloc, catalogue, role, granting) {
+    let granting = MembershipStatement::Grant(granting);
+    match grant_or_revoke_roles(alloc, catalogue, role, granting) {
         Ok(_) => Ok(()),
         Err(StatementError::Refused(state)) => Err(Refusal(state)),
         Err(StatementError::Failed(_)) => Err(Refusal(SqlState::OutOfMemory)),

@@ -12,38 +12,39 @@ untouched g map = record {
 }
 
 pub returns-in-CreateRole : goal.returns-in-CreateRole
-returns-in-CreateRole g c = executing.by_current (untouched g c.args.map.now) c.create_role.ensures.memory (defining.CreateRole c.in-CreateRole.s) c.in-CreateRole.is c.create_role.ensures.executes
+returns-in-CreateRole g c = executing.of_session c.session.view_is (executing.by_current (untouched g c.args.map.now) c.create_role.ensures.memory (defining.CreateRole c.in-CreateRole.s) c.in-CreateRole.is c.create_role.ensures.executes)
 
 pub returns-in-DropRole : goal.returns-in-DropRole
-returns-in-DropRole g c = executing.by_both (untouched g c.args.map.now) c.drop_role.ensures.memory (defining.DropRole c.in-DropRole.s) c.in-DropRole.is c.drop_role.ensures.executes
+returns-in-DropRole g c = executing.of_session c.session.view_is (executing.by_both (untouched g c.args.map.now) c.drop_role.ensures.memory (defining.DropRole c.in-DropRole.s) c.in-DropRole.is c.drop_role.ensures.executes)
 
 pub returns-in-GrantRole : goal.returns-in-GrantRole
-returns-in-GrantRole g c = executing.by_current (untouched g c.args.map.now) c.grant_role.ensures.memory (defining.GrantRole c.in-GrantRole.s) c.in-GrantRole.is c.grant_role.ensures.executes
+returns-in-GrantRole g c = executing.of_session c.session.view_is (executing.by_current (untouched g c.args.map.now) c.grant_or_revoke_roles.ensures.memory (defining.GrantRole c.in-GrantRole.s) c.in-GrantRole.is c.grant_or_revoke_roles.ensures.executes)
 
 pub returns-in-RevokeRole : goal.returns-in-RevokeRole
-returns-in-RevokeRole g c = executing.by_current (untouched g c.args.map.now) c.revoke_role.ensures.memory (defining.RevokeRole c.in-RevokeRole.s) c.in-RevokeRole.is c.revoke_role.ensures.executes
+returns-in-RevokeRole g c = executing.of_session c.session.view_is (executing.by_current (untouched g c.args.map.now) c.grant_or_revoke_roles-in-RevokeRole.ensures.memory (defining.RevokeRole c.in-RevokeRole.s) c.in-RevokeRole.is c.grant_or_revoke_roles-in-RevokeRole.ensures.executes)
 
 pub returns-in-CreateTable : goal.returns-in-CreateTable
-returns-in-CreateTable g c = executing.create_table (untouched g c.args.map.now) c.create_table.ensures.memory c.in-CreateTable.s c.in-CreateTable.is c.create_table.ensures.executes
+returns-in-CreateTable g c = executing.of_session c.session.view_is (executing.create_table (untouched g c.args.map.now) c.create_table.ensures.memory c.in-CreateTable.s c.in-CreateTable.is c.create_table.ensures.executes)
 
 pub returns-in-AlterTable : goal.returns-in-AlterTable
-returns-in-AlterTable g c = executing.by_current (untouched g c.args.map.now) c.alter_table.ensures.memory (defining.AlterTable c.in-AlterTable.s) c.in-AlterTable.is c.alter_table.ensures.executes
+returns-in-AlterTable g c = executing.of_session c.session.view_is (executing.by_current (untouched g c.args.map.now) c.alter_table.ensures.memory (defining.AlterTable c.in-AlterTable.s) c.in-AlterTable.is c.alter_table.ensures.executes)
 
 pub returns-in-CreatePolicy : goal.returns-in-CreatePolicy
-returns-in-CreatePolicy g c = executing.create_policy (untouched g c.args.map.now) c.create_policy.ensures.memory c.in-CreatePolicy.s c.in-CreatePolicy.is c.create_policy.ensures.executes
+returns-in-CreatePolicy g c = executing.of_session c.session.view_is (executing.create_policy (untouched g c.args.map.now) c.create_policy.ensures.memory c.in-CreatePolicy.s c.in-CreatePolicy.is c.create_policy.ensures.executes)
 
 pub returns-in-DropPolicy : goal.returns-in-DropPolicy
-returns-in-DropPolicy g c = executing.by_current (untouched g c.args.map.now) c.drop_policy.ensures.memory (defining.DropPolicy c.in-DropPolicy.s) c.in-DropPolicy.is c.drop_policy.ensures.executes
+returns-in-DropPolicy g c = executing.of_session c.session.view_is (executing.by_current (untouched g c.args.map.now) c.drop_policy.ensures.memory (defining.DropPolicy c.in-DropPolicy.s) c.in-DropPolicy.is c.drop_policy.ensures.executes)
 
 pub returns-in-Grant : goal.returns-in-Grant
-returns-in-Grant g c = executing.grant (untouched g c.args.map.now) c.grant.ensures.memory c.in-Grant.s c.in-Grant.is c.grant.ensures.executes
+returns-in-Grant g c = executing.of_session c.session.view_is (executing.grant (untouched g c.args.map.now) c.grant_or_revoke.ensures.memory c.in-Grant.s c.in-Grant.is c.grant_or_revoke.ensures.executes)
 
 pub returns-in-Revoke : goal.returns-in-Revoke
-returns-in-Revoke g c = executing.by_current (untouched g c.args.map.now) c.revoke.ensures.memory (defining.Revoke c.in-Revoke.s) c.in-Revoke.is c.revoke.ensures.executes
+returns-in-Revoke g c = executing.of_session c.session.view_is (executing.by_current (untouched g c.args.map.now) c.grant_or_revoke-in-Revoke.ensures.memory (defining.Revoke c.in-Revoke.s) c.in-Revoke.is (c.grant_or_revoke-in-Revoke.ensures.executes tt))
 
 pub returns-in-DropTable : goal.returns-in-DropTable
 returns-in-DropTable g c = record {
   preserved = c.drop_table.ensures.preserved;
   read = c.drop_table.ensures.read;
-  executes = executing.drop_table (g.M.Map.state c.args.map.now) c.args.catalogue.now _ _ _ c.in-DropTable.s c.in-DropTable.is c.drop_table.ensures.executes;
+  executes = executing.executed_of_session (g.M.Map.state c.args.map.now) c.args.catalogue.now c.drop_table.result _ _ _ c.session.view_is
+      (executing.drop_table (g.M.Map.state c.args.map.now) c.args.catalogue.now c.session.inside.role c.session.inside.login c.drop_table.result c.in-DropTable.s c.in-DropTable.is c.drop_table.ensures.executes);
 }

@@ -12,8 +12,8 @@ use Rattle.sessions.proofs.handler.SessionHandlerEventHandler.decide.Goals as go
 
 pub returns-in-Ok-clause-decides : goal.returns-in-Ok-clause-decides
 returns-in-Ok-clause-decides g c sound db holder shown held holds =
-    rw c.in-Open.is (opening_decides (g.M.Map.state c.args.map.now).map c.args.catalogue.now c.args.writer.now db holder c.args.sessions.now.entries _ _ _ holds
-    (subst (λ (name : TheName). Opens db holder c.args.sessions.now.entries c.in-Open.session name c.in-Ok.decision) c.as_str.ensures (c.in-Ok.ensures.opens db holder (has_roles _ c.args.catalogue.now db shown) holds)))
+    rw c.in-Open.is (opening_decides (g.M.Map.state c.args.map.now).map c.args.context.catalogue.now c.args.context.writer.now db holder c.args.context.sessions.now.entries _ _ _ holds
+    (subst (λ (name : TheName). Opens db holder c.args.context.sessions.now.entries c.in-Open.session name c.in-Ok.decision) c.as_str.ensures (c.in-Ok.ensures.opens db holder (has_roles _ c.args.context.catalogue.now db shown) holds)))
 
 pub returns-in-Err-clause-decides : goal.returns-in-Err-clause-decides
 returns-in-Err-clause-decides g c sound db holder shown held holds = rw c.in-Open.is (c.in-Err.ensures.memory db holder)
@@ -21,10 +21,10 @@ returns-in-Err-clause-decides g c sound db holder shown held holds = rw c.in-Ope
 pub returns-in-Statement-clause-decides : goal.returns-in-Statement-clause-decides
 returns-in-Statement-clause-decides g c sound db holder shown held holds =
     rw c.in-Statement.is
-    (subst (λ (text : TheText). DecidesAt ReadsText (g.M.Map.state c.args.map.now).map c.args.catalogue.now c.args.writer.now db holder c.args.sessions.now.entries
+    (subst (λ (text : TheText). DecidesAt ReadsText (g.M.Map.state c.args.map.now).map c.args.context.catalogue.now c.args.context.writer.now db holder c.args.context.sessions.now.entries
     (executes c.in-Statement.session text) c.decide_text.result) c.as_str-in-Statement.ensures (c.decide_text.ensures.decides sound db holder shown held holds))
 
 pub returns-in-Close-clause-decides : goal.returns-in-Close-clause-decides
 returns-in-Close-clause-decides g c sound db holder shown held holds =
-    rw c.in-Close.is (closing_decides ReadsText (g.M.Map.state c.args.map.now).map c.args.catalogue.now c.args.writer.now db holder c.args.sessions.now.entries _ _
-    (c.close.ensures (g.M.Map.state c.args.map.now).map c.args.catalogue.now db holder held holds))
+    rw c.in-Close.is (closing_decides ReadsText (g.M.Map.state c.args.map.now).map c.args.context.catalogue.now c.args.context.writer.now db holder c.args.context.sessions.now.entries _ _
+    (c.close.ensures (g.M.Map.state c.args.map.now).map c.args.context.catalogue.now db holder held holds))

@@ -14,7 +14,7 @@ use Rattle.catalogue_changes.proofs.DefiningLemmas.{carried_out, stopped_by, han
 use Rattle.schema_statements.specs.PrivilegeStatements.{table_of, tag_of, run_of}
 use Rattle.schema_statements.proofs.PrivilegeCarrying.{carries, refused_unstored, refused_alone}
 use Rattle.schema_statements.proofs.Finding.{on_none, concerns_table, change_found}
-use Rattle.schema_statements.proofs.granting.carry_out.Goals as goal
+use Rattle.schema_statements.proofs.granting.grant_or_revoke.Goals as goal
 
 -- what is found by the name that was asked for
 found_by : (d : Definitions) (asked name : TheName) → asked ≡ name → (found other : Option TableDefinition) → found ≡ find (is_definition_named asked) d.tables → found ≡ other → find (is_definition_named name) d.tables ≡ other

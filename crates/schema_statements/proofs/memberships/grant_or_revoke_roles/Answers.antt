@@ -9,7 +9,7 @@ use Rattle.catalogue_changes.proofs.RoleChangeLemmas.{set_memberships_leads}
 use Rattle.schema_statements.specs.MembershipStatements.{tag_of, run_of}
 use Rattle.schema_statements.proofs.RoleCarrying.{carries}
 use Rattle.schema_statements.proofs.MembershipStatements.{sets, refused}
-use Rattle.schema_statements.proofs.memberships.carry_out.Goals as goal
+use Rattle.schema_statements.proofs.memberships.grant_or_revoke_roles.Goals as goal
 
 pub returns-in_err-next-clause-memory : goal.returns-in_err-next-clause-memory
 returns-in_err-next-clause-memory c = handed_on_fails c.in_err-next.field-0.0 c.from_residual.result c.from_residual.ensures.1
