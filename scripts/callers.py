@@ -40,8 +40,6 @@ LAWS = {
 # What no command calls yet, each with what it is for.
 COMING = {
     'scram::Mock::of_verifier': 'a server that keeps the secret of its mocks in its table of passwords',
-    'key_ranges::table_range': 'statements over rows that walk what row security and conditions leave of a table',
-    'key_ranges::is_key_bounded': 'the same',
     'sql_parser::error_place': 'commands and clients that explain a syntax error',
 }
 # What tests alone call: a device in memory fails and stops when it is asked to.

@@ -76,8 +76,8 @@ record OfTables (records : Records) (db : Database) (users : UserNames) (sources
   pub fit : AreRowsOf (tables_of sources) lists
   pub are : map (meant_source db users) (definitions_in (tables_of sources)) ≡ sources_of targets lists
 
-module _ (records : Records) (d : Definitions) (db : Database) (users : UserNames) (shown : Shows records d db) (h : Describes d db) (all : List Source) (conditions : List TypedTerm) where
-  of_tables : (index : ℕ) (sources : List Source) (targets : List Target) → AreOver users all conditions index sources targets → All (IsGuardedFrom d users.current action.Select true) sources
+module _ (records : Records) (d : Definitions) (db : Database) (users : UserNames) (shown : Shows records d db) (h : Describes d db) (conditions : List TypedTerm) where
+  of_tables : (index : ℕ) (sources : List Source) (targets : List Target) → AreOver users conditions index sources targets → All (IsGuardedFrom d users.current action.Select true) sources
       → Each (IsFound d) (tables_of sources) → Each (λ (t : TableDefinition). Among t d.tables) (tables_of sources) → OfTables records db users sources targets
   of_tables index [] [] are guarded found among = record { lists = []; held = tt; fit = tt; are = refl }
   of_tables index [] (t ∷ targets) are guarded found among = absurd are
@@ -116,16 +116,16 @@ pub selects : (records : Records) (users : UserNames) (p : SelectPlan) (targets 
     → Performs records users (plan.Select p) (effect_by answered r)
 selects records users p targets r o are gives d db (over_rows.Select s) shown c read =
     let h = shown_described records d db shown in
-    let tables = over users p.sources p.query.conditions 0 p.sources are.of_plan.ranged targets are.safe are.of_plan.targets_of in
-    let own = of_tables records d db users shown h p.sources p.query.conditions 0 p.sources targets tables c.guards (found_each d (tables_in s.source) (tables_of_plan p) c.tables) c.tables.among in
+    let tables = over users p.query.conditions 0 p.sources are.of_plan.ranged targets are.safe are.of_plan.targets_of in
+    let own = of_tables records d db users shown h p.query.conditions 0 p.sources targets tables c.guards (found_each d (tables_in s.source) (tables_of_plan p) c.tables) c.tables.among in
     let found = all_found targets own.lists in
     let same : query (sources_of targets found) users (bound_of p.query) ≡ query (sources_of targets own.lists) users (bound_of p.query) =
-    same_answer users p.sources p.query.conditions (bound_of p.query) refl records 0 [] p.sources targets own.lists refl (λ infallible. tt) (λ infallible. infallible) tables own.held in
+    same_answer users p.query.conditions (bound_of p.query) refl records 0 [] p.sources targets own.lists refl tables own.held in
     subst (λ (ss : List QuerySource). Executes records d (effect_by answered r) (of_query db (query ss users (bound_of p.query)))) (sym own.are)
     (select_done records d db r (query (sources_of targets own.lists) users (bound_of p.query)) shown
     (subst (λ (m : Result (List Row) SqlState). Answers r m) same
-    (gives found (each_found users p.sources p.query.conditions records o 0 p.sources targets own.lists tables own.held)
-    (products d users.current s p users found c (found_fit users p.sources p.query.conditions 0 p.sources targets own.lists tables own.fit)))))
+    (gives found (each_found users p.query.conditions records o 0 p.sources targets own.lists tables own.held)
+    (products d users.current s p users found c (found_fit users p.query.conditions 0 p.sources targets own.lists tables own.fit)))))
 selects records users p targets r o are gives d db s shown c read = absurd c
 
 -- what was read

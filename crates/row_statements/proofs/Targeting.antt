@@ -4,6 +4,7 @@ use Rattle.std.specs.Option.{option_copied}
 use Rattle.std.proofs.lemmas.List.{take_more}
 use Rattle.expressions.specs.Meaning.{UserNames}
 use Rattle.expressions.specs.Types.{TypedTerm}
+use Rattle.key_ranges.specs.Boxes.{AreRolesFor}
 use Rattle.planner.specs.declared.select.SelectPlan.{SelectPlan}
 use Rattle.planner.specs.declared.sources.Source.{Source}
 use Rattle.table_rows.specs.declared.target.Target.{Target}
@@ -48,32 +49,34 @@ target_where users s condition lent r target lent_is same safe ranged =
 -- ---- SELECT
 
 -- tables with ranges are these tables
-sources_of_ranged : (users : UserNames) (tables : List Source) (conditions : List TypedTerm) (index : ℕ) (sources : List Source) (ranged : List RangedSource) → AreRanged users tables conditions index sources ranged
+sources_of_ranged : (users : UserNames) (conditions : List TypedTerm) (index : ℕ) (sources : List Source) (ranged : List RangedSource) → AreRanged users conditions index sources ranged
     → map (λ r. r.source.now) ranged ≡ sources
-sources_of_ranged users tables conditions index [] [] are = refl
-sources_of_ranged users tables conditions index [] (r ∷ ranged) are = absurd are
-sources_of_ranged users tables conditions index (s ∷ sources) [] are = absurd are
-sources_of_ranged users tables conditions index (s ∷ sources) (r ∷ ranged) are =
-    ap (λ (x : Source). x ∷ map (λ r. r.source.now) ranged) are.0 ∙ ap (λ (xs : List Source). s ∷ xs) (sources_of_ranged users tables conditions (index + 1) sources ranged are.2)
+sources_of_ranged users conditions index [] [] are = refl
+sources_of_ranged users conditions index [] (r ∷ ranged) are = absurd are
+sources_of_ranged users conditions index (s ∷ sources) [] are = absurd are
+sources_of_ranged users conditions index (s ∷ sources) (r ∷ ranged) are =
+    ap (λ (x : Source). x ∷ map (λ r. r.source.now) ranged) are.0 ∙ ap (λ (xs : List Source). s ∷ xs) (sources_of_ranged users conditions (index + 1) sources ranged are.2)
 
 -- the targets are the tables of a plan, and their ranges lose nothing
 pub record AreTargetsIn (users : UserNames) (p : SelectPlan) (targets : List Target) : Type 0 where
   pub of_plan : AreTargetsOfPlan users p targets
-  pub safe : AreRanged users p.sources p.query.conditions 0 p.sources of_plan.ranged
+  pub safe : AreRanged users p.query.conditions 0 p.sources of_plan.ranged
 
-pub targets_in : {sources : List Source} {conditions : List TypedTerm} {ranged ranged_lent : List RangedSource} {targets lent : List Target} (users : UserNames) (p : SelectPlan)
+pub targets_in : {sources : List Source} {conditions : List TypedTerm} {ranged ranged_lent : List RangedSource} {targets lent : List Target} (users : UserNames) (roles : List (List ℕ)) (p : SelectPlan) → AreRolesFor users roles
     → sources ≡ p.sources → conditions ≡ p.query.conditions → ranged_lent ≡ ranged → lent ≡ targets
-    → AreRanged users sources conditions 0 sources ranged → map (λ r. r.range) ranged ≡ ranges_among users sources conditions 0 sources → AreTargetsOf users ranged_lent targets → AreTargetsIn users p lent
-targets_in {sources} {conditions} {ranged} {ranged_lent} {targets} {lent} users p sources_are conditions_are ranged_are lent_are with_ranges exact are =
-    let safe : AreRanged users p.sources p.query.conditions 0 p.sources ranged =
-    subst (λ (ss : List Source). AreRanged users ss p.query.conditions 0 ss ranged) sources_are (subst (λ (cs : List TypedTerm). AreRanged users sources cs 0 sources ranged) conditions_are with_ranges) in
+    → AreRanged users conditions 0 sources ranged → map (λ r. r.range) ranged ≡ ranges_among users roles conditions 0 sources → AreTargetsOf users ranged_lent targets → AreTargetsIn users p lent
+targets_in {sources} {conditions} {ranged} {ranged_lent} {targets} {lent} users roles p are_roles sources_are conditions_are ranged_are lent_are with_ranges exact are =
+    let safe : AreRanged users p.query.conditions 0 p.sources ranged =
+    subst (λ (ss : List Source). AreRanged users p.query.conditions 0 ss ranged) sources_are (subst (λ (cs : List TypedTerm). AreRanged users cs 0 sources ranged) conditions_are with_ranges) in
     record {
       of_plan = record {
+        roles = roles;
+        are_roles = are_roles;
         ranged = ranged;
-        sources = sources_of_ranged users p.sources p.query.conditions 0 p.sources ranged safe;
+        sources = sources_of_ranged users p.query.conditions 0 p.sources ranged safe;
         ranges = exact
-            ∙ ap (λ (cs : List TypedTerm). ranges_among users sources cs 0 sources) conditions_are
-            ∙ ap (λ (ss : List Source). ranges_among users ss p.query.conditions 0 ss) sources_are;
+            ∙ ap (λ (cs : List TypedTerm). ranges_among users roles cs 0 sources) conditions_are
+            ∙ ap (λ (ss : List Source). ranges_among users roles p.query.conditions 0 ss) sources_are;
         targets_of = subst (AreTargetsOf users ranged) (sym lent_are) (subst (λ (rs : List RangedSource). AreTargetsOf users rs targets) ranged_are are);
       };
       safe = safe;

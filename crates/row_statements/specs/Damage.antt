@@ -10,6 +10,7 @@ use Rattle.row_codec.specs.Rows.{row_prefix}
 use Rattle.stored_database.specs.Definitions.{Definitions}
 use Rattle.catalogue.specs.declared.effect.Effect.{Effect}
 use Rattle.key_ranges.specs.declared.range.KeyRange.{KeyRange}
+use Rattle.key_ranges.specs.Boxes.{AreRolesFor}
 use Rattle.key_ranges.specs.Ranges.{records_in}
 use Rattle.planner.specs.declared.sources.Source.{Source}
 use Rattle.planner.specs.declared.plans.Plan.{Plan}
@@ -39,19 +40,25 @@ FindRowsAmong records _ _ _ = ⊥
 -- ---- damage
 
 -- where an UPDATE or a DELETE looks, a record is of no row
-abbrev pub IsDamagedWhere : Records → UserNames → Source → Option TypedTerm → Type 0
-IsDamagedWhere records users s condition = (rows : List Row) → FindsRowsIn records s (range_where users s condition) rows → ⊥
+abbrev pub IsDamagedWhere : Records → UserNames → List (List ℕ) → Source → Option TypedTerm → Type 0
+IsDamagedWhere records users roles s condition = (rows : List Row) → FindsRowsIn records s (range_where users roles s condition) rows → ⊥
 
 -- where a SELECT looks, a record is of no row
-abbrev pub IsDamagedAmong : Records → UserNames → List Source → List TypedTerm → Type 0
-IsDamagedAmong records users sources conditions = (lists : List (List Row)) → FindRowsAmong records sources (ranges_among users sources conditions 0 sources) lists → ⊥
+abbrev pub IsDamagedAmong : Records → UserNames → List (List ℕ) → List Source → List TypedTerm → Type 0
+IsDamagedAmong records users roles sources conditions = (lists : List (List Row)) → FindRowsAmong records sources (ranges_among users roles conditions 0 sources) lists → ⊥
 
--- where this plan looks, a record is of no row: of an INSERT nothing is said
-abbrev pub MeetsDamage : Records → UserNames → Plan → Type 0
-MeetsDamage records users (plan.Select p) = IsDamagedAmong records users p.sources p.query.conditions
-MeetsDamage records users (plan.Insert p) = Unit {0}
-MeetsDamage records users (plan.Update p) = IsDamagedWhere records users p.target p.condition
-MeetsDamage records users (plan.Delete p) = IsDamagedWhere records users p.target p.condition
+-- where this plan looks, by a role that is in these, a record is of no row: of an INSERT nothing is said
+abbrev pub MeetsDamageIn : Records → UserNames → List (List ℕ) → Plan → Type 0
+MeetsDamageIn records users roles (plan.Select p) = IsDamagedAmong records users roles p.sources p.query.conditions
+MeetsDamageIn records users roles (plan.Insert p) = Unit {0}
+MeetsDamageIn records users roles (plan.Update p) = IsDamagedWhere records users roles p.target p.condition
+MeetsDamageIn records users roles (plan.Delete p) = IsDamagedWhere records users roles p.target p.condition
+
+-- the same by the roles of these users
+pub record MeetsDamage (records : Records) (users : UserNames) (p : Plan) : Type 0 where
+  pub roles : List (List ℕ)
+  pub are_roles : AreRolesFor users roles
+  pub met : MeetsDamageIn records users roles p
 
 -- whatever statement it is a plan of, it stops for damage for this alone
 abbrev pub StopsForDamage : Records → UserNames → Plan → Result Effect StatementError → Type 0

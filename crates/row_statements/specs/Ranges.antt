@@ -1,66 +1,76 @@
 -- The keys among which a statement looks for the rows of its tables.
-use Rattle.std.specs.Prelude.{◌≡◌, ℕ, ◌+◌, Bool, if◌then◌else◌, List, [], ◌∷◌, Option, Some, None}
+use Rattle.std.specs.Prelude.{◌≡◌, ℕ, ◌+◌, Bool, false, not, ◌&&◌, ◌||◌, nat_lt, if◌then◌else◌, List, [], ◌∷◌, option_to_list, Option, Some, None}
 use Rattle.std.specs.Borrow.{Bor}
-use Rattle.std.specs.List.{list_all, AllByRecursion}
+use Rattle.std.specs.Option.{option_copied}
+use Rattle.std.specs.List.{list_any}
+use Rattle.sql_ast.specs.Term.{Term, column, comparison, conjunction}
+use Rattle.sql_ast.specs.declared.expression.Comparison.TheVariants as op
+use Rattle.sql_ast.specs.declared.scope.ColumnIndex.{ColumnIndex}
 use Rattle.expressions.specs.Meaning.{UserNames}
 use Rattle.expressions.specs.Types.{TypedTerm}
-use Rattle.guards.specs.Guards.{row_guard}
 use Rattle.key_ranges.specs.declared.range.KeyRange.{KeyRange}
-use Rattle.key_ranges.specs.Infallible.{are_formulas_infallible, AreInfallible, GuardNeverFails}
-use Rattle.key_ranges.specs.Ranges.{range_of, IsRangeOf, HasKeysOf}
+use Rattle.key_ranges.specs.Bounds.{is_column, bounds_of}
+use Rattle.key_ranges.specs.Ranges.{is_first_bounded}
+use Rattle.key_ranges.specs.TableRanges.{range_of_table, LosesNoRow}
 use Rattle.planner.specs.declared.sources.Source.{Source}
 use Rattle.row_statements.specs.declared.ranges.RangedSource.{RangedSource}
 
 -- ---- the range in which the rows of each table are looked for
 
--- whether no guard of these tables can fail
-abbrev pub are_sources_infallible : List Source → Bool
-are_sources_infallible sources = list_all (λ s. are_formulas_infallible s.guard.existing) sources
+-- the range that its guard and conditions leave of this table, the one of this index in FROM, for a current role that is in these roles
+abbrev pub range_left : ℕ → UserNames → List (List ℕ) → Source → List TypedTerm → Option KeyRange
+range_left index users roles s conditions = range_of_table s.table.now.id s.table.now.definition.layout index users roles s.guard.existing conditions
 
--- the range that conditions leave of this table, the one of this index in FROM
-abbrev pub range_left : ℕ → UserNames → Source → List TypedTerm → Option KeyRange
-range_left index users s conditions = range_of s.table.now.id s.table.now.definition.layout index users conditions
+-- UPDATE and DELETE look in the range that the guard and WHERE leave
+abbrev pub range_where : UserNames → List (List ℕ) → Source → Option TypedTerm → Option KeyRange
+range_where users roles s condition = range_left 0 users roles s (option_to_list condition)
 
--- UPDATE and DELETE look in the range that WHERE leaves: in the whole table where there is no WHERE, or the guard can fail
-abbrev pub range_where : UserNames → Source → Option TypedTerm → Option KeyRange
-range_where users s None = None
-range_where users s (Some condition) = if are_formulas_infallible s.guard.existing then range_left 0 users s (condition ∷ []) else None
+-- a column of a table before this one
+abbrev pub is_before : ℕ → Term ColumnIndex → Bool
+is_before index (column c) = nat_lt c.table index
+is_before index _ = false
 
--- a SELECT over these tables looks in the range that its conditions leave of each: in the whole table where the guard of any can fail
-abbrev pub range_among : UserNames → List Source → List TypedTerm → ℕ → Source → Option KeyRange
-range_among users tables conditions index s = if are_sources_infallible tables then range_left index users s conditions else None
+-- whether a condition compares this column by = to a column of a table before
+abbrev pub joins_column : ColumnIndex → Term ColumnIndex → Bool
+joins_column at (conjunction a b) = joins_column at a || joins_column at b
+joins_column at (comparison op.Equal a b) = (is_column at a && is_before at.table b) || (is_column at b && is_before at.table a)
+joins_column at _ = false
+
+abbrev pub any_joins : ColumnIndex → List TypedTerm → Bool
+any_joins at conditions = list_any (λ c. joins_column at c.term) conditions
+
+-- whether the first column of the key of the table of this index in FROM is compared by = to a column of a table before: then its keys may be looked up behind rows of these
+abbrev pub joins_first : ℕ → List ℕ → List TypedTerm → Bool
+joins_first index [] conditions = false
+joins_first index (first ∷ key) conditions = any_joins (record { table = index; column = first }) conditions
+
+-- the keys of a table may be looked up behind rows of the tables before, and no condition bounds the first column of its key without them
+abbrev pub is_looked_up : UserNames → List TypedTerm → ℕ → List ℕ → Bool
+is_looked_up users conditions index key = joins_first index key conditions && not (is_first_bounded (bounds_of index users [] conditions) key)
+
+-- a SELECT looks in the range that the guard and its conditions leave of each table, but for those that may be looked up
+abbrev pub range_among : UserNames → List (List ℕ) → List TypedTerm → ℕ → Source → Option KeyRange
+range_among users roles conditions index s = if is_looked_up users conditions index s.table.now.definition.layout.key then None else range_left index users roles s conditions
 
 -- the same of those of the tables that come from this index in FROM on
-abbrev pub ranges_among : UserNames → List Source → List TypedTerm → ℕ → List Source → List (Option KeyRange)
-ranges_among users tables conditions index [] = []
-ranges_among users tables conditions index (s ∷ sources) = range_among users tables conditions index s ∷ ranges_among users tables conditions (index + 1) sources
+abbrev pub ranges_among : UserNames → List (List ℕ) → List TypedTerm → ℕ → List Source → List (Option KeyRange)
+ranges_among users roles conditions index [] = []
+ranges_among users roles conditions index (s ∷ sources) = range_among users roles conditions index s ∷ ranges_among users roles conditions (index + 1) sources
 
 -- ---- what such ranges lose: no row that the statement concerns
 
--- no guard of these tables fails on any row
-abbrev pub AreSourcesInfallible : UserNames → List Source → Type 0
-AreSourcesInfallible users sources = AllByRecursion (λ s. GuardNeverFails (row_guard users s.guard.existing)) sources
+-- a range, if there is one, has the keys of all rows of this table, the one of this index in FROM, that the statement concerns
+abbrev pub IsRangeAmong : UserNames → List TypedTerm → ℕ → Source → Option KeyRange → Type 0
+IsRangeAmong users conditions index s None = Unit {0}
+IsRangeAmong users conditions index s (Some range) = LosesNoRow s.table.now.id s.table.now.definition.layout index users s.guard.existing conditions range
 
--- keys of this table, the one of this index in FROM: those of all rows on which the conditions are true, of which none fails on any row
-pub record IsRangeFor (index : ℕ) (users : UserNames) (s : Source) (conditions : List TypedTerm) (range : KeyRange) : Type 0 where
-  pub of_table : IsRangeOf s.table.now.id range
-  pub infallible : AreInfallible conditions
-  pub keys : HasKeysOf s.table.now.id s.table.now.definition.layout index users conditions range
-
--- a range, if there is one, is for the condition of an UPDATE or a DELETE, and the guard fails on no row
+-- the same of an UPDATE or a DELETE with this condition
 abbrev pub IsRangeWhere : UserNames → Source → Option (Bor TypedTerm) → Option KeyRange → Type 0
-IsRangeWhere users s condition None = Unit {0}
-IsRangeWhere users s None (Some range) = ⊥
-IsRangeWhere users s (Some condition) (Some range) = GuardNeverFails (row_guard users s.guard.existing) × IsRangeFor 0 users s (condition.now ∷ []) range
-
--- a range, if there is one, is for the conditions of a SELECT over these tables, and no guard of theirs fails on any row
-abbrev pub IsRangeAmong : UserNames → List Source → List TypedTerm → ℕ → Source → Option KeyRange → Type 0
-IsRangeAmong users tables conditions index s None = Unit {0}
-IsRangeAmong users tables conditions index s (Some range) = AreSourcesInfallible users tables × IsRangeFor index users s conditions range
+IsRangeWhere users s condition range = IsRangeAmong users (option_to_list (option_copied condition)) 0 s range
 
 -- these are the tables from this index in FROM on, each with such a range
-abbrev pub AreRanged : UserNames → List Source → List TypedTerm → ℕ → List Source → List RangedSource → Type 0
-AreRanged users tables conditions index [] [] = Unit {0}
-AreRanged users tables conditions index [] (r ∷ ranged) = ⊥
-AreRanged users tables conditions index (s ∷ sources) [] = ⊥
-AreRanged users tables conditions index (s ∷ sources) (r ∷ ranged) = (r.source.now ≡ s) × IsRangeAmong users tables conditions index s r.range × AreRanged users tables conditions (index + 1) sources ranged
+abbrev pub AreRanged : UserNames → List TypedTerm → ℕ → List Source → List RangedSource → Type 0
+AreRanged users conditions index [] [] = Unit {0}
+AreRanged users conditions index [] (r ∷ ranged) = ⊥
+AreRanged users conditions index (s ∷ sources) [] = ⊥
+AreRanged users conditions index (s ∷ sources) (r ∷ ranged) = (r.source.now ≡ s) × IsRangeAmong users conditions index s r.range × AreRanged users conditions (index + 1) sources ranged

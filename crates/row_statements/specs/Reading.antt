@@ -1,5 +1,5 @@
 -- What a SELECT has read where it was answered: of each record that it found it knows the row, and what it did not read does not change the answer.
-use Rattle.std.specs.Prelude.{◌≡◌, List, map}
+use Rattle.std.specs.Prelude.{◌≡◌, ℕ, List, map}
 use Rattle.sql_types.specs.Row.{Row}
 use Rattle.sql_types.specs.declared.answer.Answer.{Answer}
 use Rattle.sql_types.specs.declared.answer.Answer.TheVariants.{Rows}
@@ -7,6 +7,7 @@ use Rattle.sql_ast.specs.declared.statement.RowStatement.{RowStatement}
 use Rattle.expressions.specs.Meaning.{UserNames}
 use Rattle.store.specs.Records.{Records}
 use Rattle.stored_database.specs.Definitions.{Definitions}
+use Rattle.key_ranges.specs.Boxes.{AreRolesFor}
 use Rattle.planner.specs.declared.select.SelectPlan.{SelectPlan}
 use Rattle.planner.specs.declared.plans.Plan.{Plan}
 use Rattle.planner.specs.declared.plans.Plan.TheVariants as plan
@@ -17,11 +18,13 @@ use Rattle.row_statements.specs.declared.ranges.RangedSource.{RangedSource}
 use Rattle.row_statements.specs.Ranges.{ranges_among}
 use Rattle.row_statements.specs.Targeted.{AreTargetsOf}
 
--- the targets are the tables of a plan, each with the range in which its rows are looked for
+-- the targets are the tables of a plan, each with the range in which its rows are looked for by a role that is in these
 pub record AreTargetsOfPlan (users : UserNames) (p : SelectPlan) (targets : List Target) : Type 0 where
+  pub roles : List (List ℕ)
+  pub are_roles : AreRolesFor users roles
   pub ranged : List RangedSource
   pub sources : map (λ r. r.source.now) ranged ≡ p.sources
-  pub ranges : map (λ r. r.range) ranged ≡ ranges_among users p.sources p.query.conditions 0 p.sources
+  pub ranges : map (λ r. r.range) ranged ≡ ranges_among users roles p.query.conditions 0 p.sources
   pub targets_of : AreTargetsOf users ranged targets
 
 -- the answer is that of the query of a plan over what was read of its tables

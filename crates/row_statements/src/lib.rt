@@ -3,6 +3,7 @@
 #![tactic(auto)]
 
 mod executing;
+mod joins;
 mod outcome;
 mod ranges;
 

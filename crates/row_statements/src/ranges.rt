@@ -1,13 +1,15 @@
 //! The keys among which a statement looks for the rows of its tables.
-ghost use Rattle.std.specs.Prelude.{◌≡◌, IfOk, IfSome, map};
+ghost use Rattle.std.specs.Prelude.{◌≡◌, IfOk, map};
 ghost use Rattle.std.specs.Option.{option_copied};
 ghost use Rattle.expressions.specs.Rows.{names_of};
 ghost use Rattle.row_statements.specs.Targeted.{IsRangedTargetOf, AreTargetsOf};
-ghost use Rattle.row_statements.specs.Ranges.{are_sources_infallible, range_left, range_where, ranges_among, AreRanged, IsRangeFor, IsRangeWhere};
+ghost use Rattle.key_ranges.specs.BoxCode.{role_names};
+ghost use Rattle.row_statements.specs.Ranges.{range_among, range_left, range_where, ranges_among, AreRanged, IsRangeAmong, IsRangeWhere};
 
+use crate::joins::is_looked_up;
 use expressions::eval::Users;
 use expressions::types::Typed;
-use key_ranges::{KeyRange, is_guard_infallible, key_range};
+use key_ranges::{KeyRange, table_range};
 use planner::Source;
 use sql_types::items::Items;
 use std::alloc::{AllocError, Global};
@@ -48,8 +50,8 @@ pub(crate) fn ranged_where<'a>(
     users: &Users<'_>,
 ) -> Result<RangedSource<'a>, AllocError>
     ensures source { IfOk result (λ ranged. ranged.source.now ≡ source.now) }
-    ensures exact { IfOk result (λ ranged. ranged.range
-        ≡ range_where (names_of users.now) source.now (option_copied condition.entry)) }
+    ensures exact { IfOk result (λ ranged. ranged.range ≡ range_where (names_of users.now)
+        (role_names users.now) source.now (option_copied condition.entry)) }
     ensures safe { IfOk result (λ ranged.
         IsRangeWhere (names_of users.now) source.now condition.entry ranged.range) }
 {
@@ -58,51 +60,61 @@ pub(crate) fn ranged_where<'a>(
 }
 
 /// The range of keys in which an UPDATE or a DELETE looks for the rows of its table: the one that
-/// WHERE leaves of it, as [`key_range`] says. There is none where the guard might fail: it is then
-/// asked for each row, so that its refusal comes.
+/// row security and WHERE leave of it, as [`table_range`] says.
 pub fn range_where(
     alloc: Global,
     source: &Source<'_>,
     condition: Option<&Typed>,
     users: &Users<'_>,
 ) -> Result<Option<KeyRange>, AllocError>
-    ensures exact { IfOk result (λ range. range
-        ≡ range_where (names_of users.now) source.now (option_copied condition.entry)) }
+    ensures exact { IfOk result (λ range. range ≡ range_where (names_of users.now)
+        (role_names users.now) source.now (option_copied condition.entry)) }
     ensures safe { IfOk result (IsRangeWhere (names_of users.now) source.now condition.entry) }
 {
     match condition {
-        Some(condition) if is_guard_infallible(&source.guard) => {
-            range_of(alloc, source, 0, from_ref(condition), users)
-        }
-        _ => Ok(None),
+        Some(condition) => range_of(alloc, source, 0, from_ref(condition), users),
+        None => range_of(alloc, source, 0, &[], users),
     }
 }
 
 /// The tables of a SELECT, each with the range of keys in which its rows are looked for: the one
-/// that the conditions leave of it, as [`key_range`] says. There is none where a guard of any table
-/// might fail: all are then asked for each row, so that its refusal comes.
+/// that row security and the conditions leave of it, as [`table_range`] says. There is none where a
+/// condition compares the first column of the key by `=` to a column of a table before, and none
+/// bounds it otherwise: then keys may be looked up behind the rows of that table.
 pub fn ranged<'a>(
     alloc: Global,
     sources: &'a [Source<'a>],
     conditions: &[Typed],
     users: &Users<'_>,
 ) -> Result<Items<RangedSource<'a>>, AllocError>
-    ensures exact { IfOk result (λ ranged. map (λ r. r.range) ranged
-        ≡ ranges_among (names_of users.now) sources.now conditions.now 0 sources.now) }
-    ensures safe { IfOk result
-        (AreRanged (names_of users.now) sources.now conditions.now 0 sources.now) }
+    ensures exact { IfOk result (λ ranged. map (λ r. r.range) ranged ≡ ranges_among
+        (names_of users.now) (role_names users.now) conditions.now 0 sources.now) }
+    ensures safe { IfOk result (AreRanged (names_of users.now) conditions.now 0 sources.now) }
 {
-    let infallible = are_guards_infallible(sources);
     let mut ranged = Items::new(alloc);
     for (index, source) in sources.iter().enumerate() {
-        let range = if infallible {
-            range_of(alloc, source, index, conditions, users)?
-        } else {
-            None
-        };
+        let range = range_among(alloc, source, index, conditions, users)?;
         ranged.push(RangedSource { source, range })?;
     }
     Ok(ranged)
+}
+
+// The range of keys in which a SELECT looks for the rows of a table, which has this index in FROM.
+fn range_among(
+    alloc: Global,
+    source: &Source<'_>,
+    index: usize,
+    conditions: &[Typed],
+    users: &Users<'_>,
+) -> Result<Option<KeyRange>, AllocError>
+    ensures exact { IfOk result (λ range. range ≡ range_among (names_of users.now)
+        (role_names users.now) conditions.now index source.now) }
+    ensures safe { IfOk result (IsRangeAmong (names_of users.now) conditions.now index source.now) }
+{
+    if is_looked_up(index, source.table.columns().key(), conditions, users) {
+        return Ok(None);
+    }
+    range_of(alloc, source, index, conditions, users)
 }
 
 // The tables of a plan with their ranges, as what carries it out takes them.
@@ -120,19 +132,7 @@ pub(crate) fn targets<'a>(
     Ok(targets)
 }
 
-// Whether no guard of these tables fails on any row.
-fn are_guards_infallible(sources: &[Source<'_>]) -> bool
-    ensures { result ≡ are_sources_infallible sources.now }
-{
-    for source in sources {
-        if !is_guard_infallible(&source.guard) {
-            return false;
-        }
-    }
-    true
-}
-
-// The range that conditions leave of a table, which has this index in FROM.
+// The range that its guard and conditions leave of a table, which has this index in FROM.
 fn range_of(
     alloc: Global,
     source: &Source<'_>,
@@ -140,11 +140,12 @@ fn range_of(
     conditions: &[Typed],
     users: &Users<'_>,
 ) -> Result<Option<KeyRange>, AllocError>
-    ensures exact { IfOk result (λ range.
-        range ≡ range_left index (names_of users.now) source.now conditions.now) }
-    ensures safe { IfOk result (λ range.
-        IfSome range (IsRangeFor index (names_of users.now) source.now conditions.now)) }
+    ensures exact { IfOk result (λ range. range ≡ range_left index (names_of users.now)
+        (role_names users.now) source.now conditions.now) }
+    ensures safe { IfOk result (IsRangeAmong (names_of users.now) conditions.now index source.now) }
 {
     let id = source.table.id();
-    key_range(alloc, id, source.table.columns(), index, conditions, users)
+    let columns = source.table.columns();
+    let formulas = source.guard.existing.as_slice();
+    table_range(alloc, id, columns, index, formulas, conditions, users)
 }

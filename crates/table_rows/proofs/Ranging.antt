@@ -19,7 +19,7 @@ use Rattle.stored_database.specs.RecordFormat.{row_record}
 use Rattle.key_ranges.specs.declared.range.KeyRange.{KeyRange}
 use Rattle.key_ranges.specs.Ranges.{is_in, is_inside}
 use Rattle.key_ranges.proofs.Records.{found_range, in_table, ranges_hold_their_rows}
-use Rattle.key_ranges.proofs.Unchanged.{outside_rows_are_not_met}
+use Rattle.key_ranges.proofs.LeftOut.{left_unchanged_is_not_met}
 use Rattle.table_rows.specs.declared.target.Target.{Target}
 use Rattle.table_rows.specs.HeldRows.{HoldsRows}
 use Rattle.table_rows.specs.Targets.{users_of, sees, condition_in}
@@ -114,10 +114,9 @@ module _ {A B : Type 0} (becomes : Row → Result B SqlState) (take : Row → B 
   chosen_found : (id : ℕ) (layout : Layout) (users : UserNames) (guard : Guard) (condition : Option (Bor TypedTerm)) (range : Option (Bor KeyRange)) → HasAllChosen id layout users guard condition range → Each (FitsTable layout) rows
       → over_chosen (is_chosen guard (condition_on_row users (condition_in condition))) becomes take done (rows_found id layout range rows) ≡ over_chosen (is_chosen guard (condition_on_row users (condition_in condition))) becomes take done rows
   chosen_found id layout users guard condition None h fit = refl
-  chosen_found id layout users guard None (Some range) h fit = absurd h
-  chosen_found id layout users guard (Some condition) (Some range) h fit =
-      chosen_inside (is_chosen guard (condition_on_row users (Some condition.now.term))) becomes take layout (is_inside id layout range.now)
-      (λ row fits outside. outside_rows_are_not_met id layout users guard condition.now range.now row h fits outside) rows (all_of_each (FitsTable layout) rows fit) done
+  chosen_found id layout users guard condition (Some range) h fit =
+      chosen_inside (is_chosen guard (condition_on_row users (condition_in condition))) becomes take layout (is_inside id layout range.now)
+      (λ row fits outside. left_unchanged_is_not_met users guard (condition_in condition) row (h row fits outside)) rows (all_of_each (FitsTable layout) rows fit) done
 
   -- of the rows that are found those are chosen that are chosen of all rows
   pub all_of_target : (target : Target) (condition : Option (Bor TypedTerm)) → LosesNothing target condition → Each (FitsTable target.columns.now) rows

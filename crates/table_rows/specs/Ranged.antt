@@ -1,9 +1,10 @@
 -- The rows of a target: those of its table, or of those alone whose keys are in a range.
-use Rattle.std.specs.Prelude.{ℕ, List, [], ◌∷◌, filter, Option, Some, None}
+use Rattle.std.specs.Prelude.{◌≡◌, ℕ, false, List, filter, Option, Some, None}
 use Rattle.std.specs.Borrow.{Bor}
 use Rattle.std.specs.List.{AllByRecursion}
 use Rattle.sql_types.specs.Row.{Row}
 use Rattle.sql_ast.specs.Layout.{Layout}
+use Rattle.sql_ast.specs.Fits.{FitsTable}
 use Rattle.expressions.specs.Meaning.{UserNames}
 use Rattle.expressions.specs.Types.{TypedTerm}
 use Rattle.store.specs.Records.{Records, entries_where, has_prefix}
@@ -11,10 +12,10 @@ use Rattle.abstract_database.specs.Guards.{Guard}
 use Rattle.row_codec.specs.Rows.{row_prefix}
 use Rattle.key_ranges.specs.declared.range.KeyRange.{KeyRange}
 use Rattle.key_ranges.specs.Ranges.{records_in, is_inside, IsRangeOf}
-use Rattle.key_ranges.specs.Laws.{IsHarmless}
+use Rattle.key_ranges.specs.LeftOut.{MayBeLeftUnchanged}
 use Rattle.table_rows.specs.declared.target.Target.{Target}
 use Rattle.table_rows.specs.HeldRows.{AreRecordsOf, SpellsRow}
-use Rattle.table_rows.specs.Targets.{users_of, sees}
+use Rattle.table_rows.specs.Targets.{users_of, sees, condition_in}
 
 -- ---- what a walk over a target finds
 
@@ -53,11 +54,10 @@ abbrev pub IsOfTable : ℕ → Option (Bor KeyRange) → Type 0
 IsOfTable id None = Unit {0}
 IsOfTable id (Some range) = IsRangeOf id range.now
 
--- the range, if there is one, has the keys of all rows at which the condition is true, and neither it nor the guard fails on any row
+-- the range, if there is one, has the keys of all rows that the guard lets pass and on which the condition is true: on each other row the guard has a value, and where this is true, the condition has one that is not
 abbrev pub HasAllChosen : ℕ → Layout → UserNames → Guard → Option (Bor TypedTerm) → Option (Bor KeyRange) → Type 0
 HasAllChosen id layout users guard condition None = Unit {0}
-HasAllChosen id layout users guard None (Some range) = ⊥
-HasAllChosen id layout users guard (Some condition) (Some range) = IsHarmless id layout 0 users guard (condition.now ∷ []) range.now
+HasAllChosen id layout users guard condition (Some range) = (row : Row) → FitsTable layout row → is_inside id layout range.now row ≡ false → MayBeLeftUnchanged users guard (condition_in condition) row
 
 -- the range of the target, if there is one, is of its table, and an UPDATE or a DELETE with this condition concerns no row outside it
 pub record LosesNothing (target : Target) (condition : Option (Bor TypedTerm)) : Type 0 where
