@@ -31,6 +31,7 @@ PAGES = {'four_thousand_events.script': 4096}      # the pages of a script's fil
 REASONS = {'NotADatabase': "not a database; 'guarddb format' makes one in a new file",
            'Damaged': 'the database is damaged; restore it from a copy',
            'WrongSize': 'not 64 to 65536 pages of 4096 bytes, or not as many as it was made with'}
+NO_FORM = "not 'open SESSION ROLE', 'SESSION: STATEMENT' or 'close SESSION', with one blank after the colon; a statement is one line"
 
 
 def read(path):
@@ -108,8 +109,8 @@ class Program(unittest.TestCase):
         self.assertTrue(paths)
         for path in paths:
             expected = read(path[:-len('script')] + 'expected')
-            if 'guarddb: line' in expected:
-                continue  # a script with an invalid line ends there, and a socket has no such lines
+            if 'guarddb: ' in expected:
+                continue  # a script with an invalid line ends there, and a socket has no such lines; others have notes on standard error
             with self.subTest(os.path.basename(path)):
                 self.compares(path, expected, PAGES.get(os.path.basename(path), 256))
 
@@ -619,6 +620,59 @@ class Program(unittest.TestCase):
     def told_of_input(self, line, byte):
         status, _, messages = self.told('Script', 'standard input', f'line {line}, byte {byte}', 'not UTF-8')
         return status, b'', messages
+
+    def test_lines_that_are_invalid(self):
+        """A message names the script, the line and the rule; the answers before it and the status are those of any invalid line."""
+        mark = 'begins with a byte order mark; save the script as UTF-8 without one'
+        ending = 'ends in a carriage return; end the lines of a script with a newline alone'
+        for text, number, answers, rule in (
+                ('open r root\nSELECT 1\n', 2, 'ok OPEN\n', NO_FORM), ('open r root\nr:SELECT 1\n', 2, 'ok OPEN\n', NO_FORM),
+                ('# two\n\nopen r root\nr: SELECT\n1\n', 5, 'ok OPEN\nrefused 42601\n', NO_FORM),
+                ('\ufeffopen r root\n', 1, '', mark), ('\ufeff# nothing\r\n', 1, '', mark),
+                ('# nothing\n\r\n', 2, '', ending), ('close r\r\n', 1, '', ending)):
+            with self.subTest(text=text):
+                self.told(text, 2, answers, f'guarddb: line {number}\n', [f'line {number}: {rule}'])
+
+    def test_roles_that_end_in_a_blank(self):
+        """The first of them is named once the script has ended. Answers and status are as ever: the role is taken letter for letter."""
+        blank, newline = 'ends in a blank, which is read as part of ROLE', 'end the lines of a script with a newline alone'
+        ending, refused = f'ends in a carriage return, which is read as part of ROLE; {newline}', 'refused 28000\n'
+        script = 'open r root \nr: SELECT 1\nopen s root\nopen t root \n'
+        self.told(script, 0, f'{refused}refused 08003\nok OPEN\n{refused}', '', [f'line 1: {blank}'])
+        self.told('# dos\r\nopen r root\r\nr: SELECT 1\r\n', 0, refused + 'refused 08003\n', '', [f'line 2: {ending}'])
+        self.told('open r root\r\n\r\n', 2, refused, 'guarddb: line 2\n', [f'line 2: ends in a carriage return; {newline}', f'line 1: {ending}'])
+        named = 'open r root\nr: CREATE ROLE "ann " LOGIN\nopen a ann \na: SELECT 1\n'
+        self.told(named, 0, 'ok OPEN\nok CREATE ROLE\nok OPEN\nrows 1\n1\n', '', [f'line 3: {blank}'])
+
+    def told(self, text, status, answers, message, notes):
+        """What a script prints and what is told of it, over a file, in memory and on standard input."""
+        script, path = self.write('s.sql', text), self.path('notes.db')
+        make_database(path)
+        in_file, in_memory = ('run', path, script), ('run', '--memory', 'root', script)
+        for about, words, given in ((script, in_file, ''), (script, in_memory, ''), ('standard input', (), text)):
+            told = message + ''.join(f'guarddb: {about}: {note}\n' for note in notes)
+            self.assertEqual(run(*words, given=given), (status, answers, told))
+        os.remove(path)
+
+    def test_usage_of_one_command(self):
+        """Words that a command does not take show how it is called, and words of no command how the program is, by the lines of its help."""
+        usage = run('--help')[1].split('\n\n')[1].removeprefix('Usage: ').split('\n')
+        lines = [line.strip() for line in usage]
+        for command in ('format', 'copy', 'journal', 'run', 'serve', 'check', 'describe'):
+            own = [line for line in lines if line.startswith(f'guarddb {command} ')]
+            self.assertTrue(own)
+            for words in ((command,), (command, '--no-such-option'), (command, 'a', 'b', 'c', 'd')):
+                with self.subTest(words=words):
+                    status, output, messages = run(*words)
+                    self.assertEqual((status, output), (2, ''))
+                    self.assertRegex(messages, r'\Aerror: ')
+                    shown = messages.split('\n\nUsage: ')[1].split('\n\n')[0].split('\n')
+                    self.assertEqual([line.strip() for line in shown], own)
+        for words in (('no-such-command',), ('--no-such-option',), ('',)):
+            with self.subTest(words=words):
+                self.assertIn('\n\nUsage: ' + '\n'.join(usage) + '\n\n', run(*words)[2])
+        self.assertEqual(run('format', 'f', '--pages', '64', '--admin', '')[2].count('Usage: guarddb format '), 1)
+        self.assertEqual(run('run', '--memory', '', 's')[2].count('Usage: guarddb run '), 1)
 
     def test_files_are_private(self):
         """Whatever the umask lets through, the owner alone may open a database, or connect to a socket."""

@@ -4,7 +4,8 @@
 The system gives an opened file the lowest number that is free. So where a program is started with a standard stream closed, a file
 that it opens may take that stream's number, and what it prints goes into the file. Here each of the three is closed, alone and
 with others, when a database is made, run over, checked, described, copied and served on a port and on a socket: each time the file
-is whole after it, with the rows that were acknowledged, and the program tells with its status what it could not print. The program is the one in the
+is whole after it, with the rows that were acknowledged, and the program tells with its status what it could not print. A stream
+may also go to the database itself, which keeps every byte then, or to a pipe that nobody reads. The program is the one in the
 environment variable GUARDDB; without it nothing is tried.
 """
 import itertools
@@ -143,7 +144,8 @@ class Streams(unittest.TestCase):
             status, _output, messages = run_closed(closed, 'run', path, self.script('open r root\nno event\n'))
             self.assertEqual(status, 1 if OUTPUT in closed else 2)
             if not {OUTPUT, MESSAGES} & set(closed):
-                self.assertEqual(messages, 'guarddb: line 2\n')
+                rule = "not 'open SESSION ROLE', 'SESSION: STATEMENT' or 'close SESSION', with one blank after the colon; a statement is one line"
+                self.assertEqual(messages, f'guarddb: line 2\nguarddb: {self.path("script")}: line 2: {rule}\n')
             self.is_whole(path, 'rows 0\n')
         self.for_each(attempt)
 
@@ -194,6 +196,62 @@ class Streams(unittest.TestCase):
             self.serves(closed, path, place, '--socket', place)
             self.assertFalse(os.path.exists(place))
         self.for_each(attempt)
+
+    def test_output_to_the_database_itself(self):
+        """What a command prints would go into the database that it is about: no command begins, and the file keeps every byte."""
+        path, link = self.path('db'), self.path('link')
+        self.set_up(path)
+        os.link(path, link)
+        script = self.script("open r root\nr: INSERT INTO t VALUES (1, 'a')\n")
+        with open(path, 'rb') as file:
+            before = file.read()
+        commands = (('run', path, script), ('check', path), ('describe', path), ('journal', path, 'on'), ('run', link, script),
+                    ('copy', path, self.path('new'), '--pages', '64'), ('serve', path, '--port', str(free_port()), '--connections', '1'))
+        for words, mode, stream in itertools.product(commands, ('ab', 'r+b'), ('stdout', 'stderr')):
+            with self.subTest(words=words, mode=mode, stream=stream), open(path, mode) as output:
+                streams = {'stdout': subprocess.PIPE, 'stderr': subprocess.PIPE, stream: output}
+                done = subprocess.run([PROGRAM, *words], stdin=subprocess.DEVNULL, timeout=30, **streams)
+                self.assertEqual(done.returncode, 1)
+                if stream == 'stdout':
+                    about = f'{words[1]}: standard output or standard error goes to it; send that elsewhere'
+                    self.assertEqual(done.stderr.decode(), f'guarddb: Output\nguarddb: {about}\n')
+                else:
+                    self.assertEqual(done.stdout, b'')      # nor can it be told: what would be told goes into the file
+                with open(path, 'rb') as file:
+                    self.assertEqual(file.read(), before)
+        self.assertFalse(os.path.exists(self.path('new')))
+        self.is_whole(path, 'rows 0\n')
+
+    def test_output_to_another_file(self):
+        """Of a file beside the database, and of a device that is no plain file, nothing is refused."""
+        path = self.path('db')
+        self.set_up(path)
+        with open(self.path('answers'), 'ab') as output:
+            done = subprocess.run([PROGRAM, 'check', path], stdout=output, stderr=output, timeout=30)
+        with open(self.path('answers'), encoding='utf-8') as file:
+            self.assertEqual((done.returncode, file.read()), (0, 'ok CHECK\n'))
+        done = subprocess.run([PROGRAM, 'check', path], stdout=subprocess.DEVNULL, stderr=subprocess.DEVNULL, timeout=30)
+        self.assertEqual(done.returncode, 0)
+
+    def test_a_reader_who_leaves(self):
+        """A description is not read to its end, as with `describe FILE | head`: that is no fault to be told of. The answers of a
+        script, and that a database was checked, are: whoever asks for them wants to know."""
+        path = self.path('db')
+        self.set_up(path)
+        for words in (('describe', path), ('describe', path, 'root'), ('describe', path, '--json'), ('--help',), ('--version',)):
+            with self.subTest(words=words):
+                self.assertEqual(self.left_alone(*words), (1, ''))
+        for words in (('check', path), ('run', path, self.script(READS))):
+            with self.subTest(words=words):
+                self.assertEqual(self.left_alone(*words), (1, OUTPUT_FAULT))
+
+    def left_alone(self, *words):
+        """The status and the messages of a command whose standard output is a pipe that nobody reads."""
+        reader, writer = os.pipe()
+        os.close(reader)
+        with os.fdopen(writer, 'wb') as output:
+            done = subprocess.run([PROGRAM, *words], stdin=subprocess.DEVNULL, stdout=output, stderr=subprocess.PIPE, timeout=30)
+        return done.returncode, done.stderr.decode()
 
 
 if __name__ == '__main__':

@@ -52,6 +52,7 @@ module _ {D L : Type 0} (old mid new : SystemState D L) (partial target : List â
   copy_against_since (New command.Memory) stands = tt
   copy_against_since (New (command.Device cause)) stands = rose_between old.failures mid.failures new.failures new.failures counts later (omega arith) stands
   copy_against_since (New command.InUse) stands = absurd stands
+  copy_against_since (New command.PrintedTo) stands = absurd stands
   copy_against_since (New command.WrongSize) stands = absurd stands
   copy_against_since (New command.NotADatabase) stands = absurd stands
   copy_against_since (New command.Damaged) stands = absurd stands

@@ -3,7 +3,7 @@ use Rattle.std.proofs.Common.{◌≤◌, ◌∙◌, ℕ, Bool, List, Result, Ok,
 use Rattle.std.specs.Prelude.{MatchResult}
 use Rattle.sector_device.specs.declared.device.Device.{Ghosts}
 use Rattle.systems.specs.declared.fault.OpenPathFault.{OpenPathFault}
-use Rattle.systems.specs.declared.fault.OpenPathFault.TheVariants.{Missing, InUse, Memory, Device}
+use Rattle.systems.specs.declared.fault.OpenPathFault.TheVariants.{Missing, InUse, PrintedTo, Memory, Device}
 use Rattle.systems.specs.declared.access.Access.TheVariants.{Write}
 use Rattle.systems.specs.Systems.{At, IsHeldFrom, IsSame, SystemState, is_shared}
 use Rattle.abstract_database.specs.Runs.{ReadingRelation}
@@ -34,6 +34,7 @@ module _ (X : Type 0) {D L K : Type 0} (g : Ghosts D) (k : SinkGhosts K) (Reads 
   stands_from : (why : OpenPathFault) (new : SystemState D L) → mid.failures ≤ new.failures → IsSame old mid → StandsAt Write why mid path new → StandsAt Write why old path new
   stands_from Missing new counted was it = sym (was.names path) ∙ it
   stands_from InUse new counted was it = held_from was it
+  stands_from PrintedTo new counted was it = absurd it
   stands_from Memory new counted was it = tt
   stands_from (Device cause) new counted was it = rose_between old.failures mid.failures new.failures new.failures counts counted (omega arith) it
 
@@ -83,7 +84,15 @@ module _ (X : Type 0) {D L K : Type 0} (g : Ghosts D) (k : SinkGhosts K) (Reads 
   bytes_from file script read exit new out_before out_after err_before err_after it = record {
     encoded = λ utf8. (
         let over = it.encoded utf8 in
-        record { end = over.end; heard = over.heard; runs = runs_from read out_before out_after err_before over.heard new over.end.told over.end.outcome over.runs; ends = over.ends }
+        record {
+          end = over.end;
+          first = over.first;
+          heard = over.heard;
+          told = over.told;
+          runs = runs_from read out_before out_after err_before over.heard new over.end.told over.end.outcome over.runs;
+          ends = over.ends;
+          noted = over.noted;
+        }
         );
     other = λ none. (
         let over = it.other none in

@@ -33,4 +33,5 @@ told_with_reason about fault.NoRole a b = two_lines (fault_name fault.NoRole) (s
 told_with_reason about fault.FirstFormat a b = two_lines (fault_name fault.FirstFormat) (subject_text about) (reason_text fault.FirstFormat)
 told_with_reason about fault.NoSwitchRoom a b = two_lines (fault_name fault.NoSwitchRoom) (subject_text about) (reason_text fault.NoSwitchRoom)
 told_with_reason about fault.NoSwitchNumber a b = two_lines (fault_name fault.NoSwitchNumber) (subject_text about) (reason_text fault.NoSwitchNumber)
+told_with_reason about fault.PrintedTo a b = two_lines (fault_name fault.PrintedTo) (subject_text about) (reason_text fault.PrintedTo)
 told_with_reason about fault.Output a b = absurd (b refl)

@@ -13,5 +13,6 @@ mod Earlier
 pub mod Lasting
 pub mod Machine
 pub mod ScriptEnds
+pub mod UsageTold
 mod FaultMessages
 mod GivenJournals

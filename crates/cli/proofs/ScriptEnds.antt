@@ -26,8 +26,6 @@ use Rattle.cli.specs.declared.ending.Ending.{Ending}
 use Rattle.cli.specs.declared.ending.Ending.TheVariants as ending
 use Rattle.cli.specs.declared.fault.CommandFault.TheVariants as fault
 use Rattle.cli.specs.Faults.{of_records}
-use Rattle.cli.specs.Program.{RunsSource}
-use Rattle.cli.specs.Script.{Source}
 use Rattle.cli.proofs.Machine.{prints_run}
 use Rattle.cli.specs.Running.{IsNotOpened, IsRun, RunsOver, IsNotRun, IsRunOverNew, RunsOverNew}
 
@@ -95,8 +93,3 @@ module _ (X : Type 0) {K : Type 0} (Reads : ReadingRelation) (k : SinkGhosts K) 
   pub runs_over_new : (script : List ℕ) (before : K) (e : Ending) (left : MemStore) (after : K) → RunsOver X Reads memory_store_state k store script before e left after → RunsOverNew X Reads k admin script before e after
   runs_over_new script before e left after runs =
       elim runs [ inl none ↦ inl (not_opened before e left after none) | inr ran ↦ inr (ran_over_new script before e left after ran) ]
-
--- a script that was not run since memory was refused
-pub source_not_run : (X : Type 0) {K : Type 0} (Reads : ReadingRelation) (k : SinkGhosts K) (admin : TheName) (source : Source) (written : K) → RunsSource X Reads k admin source written (ending.Fault fault.Memory) written
-source_not_run X Reads k admin (Ok read) written = inl (refl, refl)
-source_not_run X Reads k admin (Err f) written = inl (refl, refl)

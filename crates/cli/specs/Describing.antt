@@ -16,12 +16,12 @@ use Rattle.cli.specs.declared.ending.Exit.{Exit}
 use Rattle.cli.specs.declared.ending.Subject.{Subject}
 use Rattle.cli.specs.declared.ending.Subject.TheVariants as subject
 use Rattle.cli.specs.Ending.{Exits}
-use Rattle.cli.specs.Printing.{IsPrinted}
+use Rattle.cli.specs.Printing.{IsTextShown}
 
--- of these definitions a text was printed, or the writer failed; or none of their roles has the name that is asked for, or memory
+-- of these definitions a text was shown, or the writer failed; or none of their roles has the name that is asked for, or memory
 -- was refused, and nothing was printed
 pub data IsDescribed (definitions : Definitions) (role : Option TheName) (before : Known) (e : Ending) (after : Known) : Type 0 where
-  printed : HasAskedFor definitions.roles role → (text : List ℕ) → IsPrinted text before e after → IsDescribed definitions role before e after
+  printed : HasAskedFor definitions.roles role → (text : List ℕ) → IsTextShown text before e after → IsDescribed definitions role before e after
   no_role : HasNone definitions.roles role → e ≡ ending.Fault fault.NoRole → after ≡ before → IsDescribed definitions role before e after
   no_memory : e ≡ ending.Fault fault.Memory → after ≡ before → IsDescribed definitions role before e after
 

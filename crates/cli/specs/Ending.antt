@@ -54,6 +54,7 @@ fault_name fault.NoRole = codes "NoRole"
 fault_name fault.FirstFormat = codes "Format"
 fault_name fault.NoSwitchRoom = codes "Full"
 fault_name fault.NoSwitchNumber = codes "Number"
+fault_name fault.PrintedTo = codes "Output"
 fault_name fault.Output = codes "Output"
 
 -- what a fault means for what it is about, and what to do
@@ -76,6 +77,7 @@ reason_text fault.NoRole = codes "no role of the database has this name"
 reason_text fault.FirstFormat = codes "of format 1; 'guarddb check' brings it to format 2, which can have a journal"
 reason_text fault.NoSwitchRoom = codes "no room is left for this; copy it to a larger file"
 reason_text fault.NoSwitchNumber = codes "no commit number is left for this"
+reason_text fault.PrintedTo = codes "standard output or standard error goes to it; send that elsewhere"
 reason_text fault.Output = codes "closed, or it takes no more"
 
 -- the file or the place
@@ -107,13 +109,14 @@ done_message = message (codes "done")
 abbrev pub stopped_message : List ℕ
 stopped_message = message (codes "stopped")
 
--- what standard error is owed: of a server that has stopped its last answer has told
+-- what standard error is owed: of a server that has stopped its last answer has told, and of a reader who has left nothing
 abbrev pub ending_message : Subject → Ending → List ℕ
 ending_message about ending.Done = []
 ending_message about (ending.BadLine number) = bad_line_message number
 ending_message about ending.Stopped = []
 ending_message about ending.Served = done_message
 ending_message about ending.ServerStopped = stopped_message
+ending_message about ending.ReaderLeft = []
 ending_message about (ending.Fault f) = fault_message about f
 
 -- an end of which standard error is told nothing
@@ -123,6 +126,7 @@ OwesNothing (ending.BadLine number) = ⊥
 OwesNothing ending.Stopped = Unit {0}
 OwesNothing ending.Served = ⊥
 OwesNothing ending.ServerStopped = ⊥
+OwesNothing ending.ReaderLeft = Unit {0}
 OwesNothing (ending.Fault f) = ⊥
 
 -- the writer was given this text, unless it failed
@@ -145,6 +149,7 @@ exit_status (ending.BadLine number) = caller_status
 exit_status ending.Stopped = fault_status
 exit_status ending.Served = 0
 exit_status ending.ServerStopped = fault_status
+exit_status ending.ReaderLeft = fault_status
 exit_status (ending.Fault f) = fault_status
 
 -- the program ended so: this is its status, and standard error was told what it is owed, and else nothing

@@ -17,12 +17,13 @@ use Rattle.systems.specs.declared.fault.OpenPathFault.TheVariants as path
 use Rattle.databases.specs.declared.fault.DatabaseFault.{DatabaseFault}
 use Rattle.databases.specs.declared.fault.DatabaseFault.TheVariants.{Pages, Records}
 use Rattle.cli.specs.declared.fault.CommandFault.{CommandFault}
-use Rattle.cli.specs.declared.fault.CommandFault.TheVariants.{Exists, InUse, Memory, Device, WrongSize, NotADatabase, Damaged, Full, Number, FirstFormat, NoSwitchRoom, NoSwitchNumber}
+use Rattle.cli.specs.declared.fault.CommandFault.TheVariants.{Exists, InUse, PrintedTo, Memory, Device, WrongSize, NotADatabase, Damaged, Full, Number, FirstFormat, NoSwitchRoom, NoSwitchNumber}
 
 -- of opening the device of a path
 abbrev pub of_path : OpenPathFault → CommandFault
 of_path path.Missing = Device NotFound
 of_path path.InUse = InUse
+of_path path.PrintedTo = PrintedTo
 of_path path.Memory = Memory
 of_path (path.Device cause) = Device cause
 

@@ -2,7 +2,7 @@
 use Rattle.std.specs.Prelude.{◌≡◌, ◌⊎◌, ◌≤◌, ℕ, List, Result, MatchResult}
 use Rattle.sector_device.specs.declared.device.Device.{Ghosts}
 use Rattle.systems.specs.declared.fault.OpenPathFault.{OpenPathFault}
-use Rattle.systems.specs.declared.fault.OpenPathFault.TheVariants.{Missing, InUse, Memory, Device}
+use Rattle.systems.specs.declared.fault.OpenPathFault.TheVariants.{Missing, InUse, PrintedTo, Memory, Device}
 use Rattle.systems.specs.declared.access.Access.{Access}
 use Rattle.systems.specs.declared.access.Access.TheVariants.{Write}
 use Rattle.systems.specs.Systems.{SystemState, HasDevice, IsHeldFrom, IsOpen, IsReadable, IsSame, IsSameBut, IsUnnamed, Rose}
@@ -12,10 +12,12 @@ use Rattle.databases.specs.Openings.{IsOpenedOn, IsRefused}
 use Rattle.cli.specs.declared.fault.CommandFault.{CommandFault}
 use Rattle.cli.specs.Faults.{of_opening, of_path}
 
--- why the device of a path was not opened so: nothing is there; it is open, or in use elsewhere; no memory was left; or a call of the system failed
+-- why the device of a path was not opened so: nothing is there; it is open, or in use elsewhere; no memory was left; or a call of the system
+-- failed. To no device of a faithful system the program prints
 abbrev pub StandsAt : {D L : Type 0} → Access → OpenPathFault → SystemState D L → List ℕ → SystemState D L → Type 0
 StandsAt access Missing old path new = IsUnnamed old path
 StandsAt access InUse old path new = IsHeldFrom access old path
+StandsAt access PrintedTo old path new = ⊥
 StandsAt access Memory old path new = Unit {0}
 StandsAt access (Device cause) old path new = Rose old.failures new.failures
 

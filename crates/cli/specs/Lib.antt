@@ -20,3 +20,5 @@ pub mod Program
 pub mod Running
 pub mod Script
 pub mod JournalCommand
+pub mod CommandNames
+pub mod ScriptNotes

@@ -14,7 +14,10 @@ use Rattle.cli.specs.declared.command.Invocation.{Invocation}
 use Rattle.cli.specs.declared.command.Invocation.TheVariants as order
 use Rattle.cli.specs.declared.command.UsageFault.{UsageFault}
 use Rattle.cli.specs.declared.command.UsageFault.TheVariants as usage
-use Rattle.cli.specs.declared.texts.TheConstants.{HELP, USAGE, VERSION}
+use Rattle.cli.specs.declared.texts.TheConstants.{HELP, VERSION}
+use Rattle.cli.specs.declared.command_name.CommandName.{CommandName}
+use Rattle.cli.specs.declared.command_name.CommandName.TheVariants as command_name
+use Rattle.cli.specs.CommandNames.{usage_for}
 use Rattle.cli.specs.Usage.{name_reason, usage_reason}
 use Rattle.cli.specs.declared.fault.CommandFault.{CommandFault}
 use Rattle.cli.specs.declared.opened.CommandEnd.{CommandEnd}
@@ -34,20 +37,21 @@ use Rattle.cli.specs.Ending.{caller_status, ending_of, ending_of_serving, name_m
 use Rattle.cli.specs.CopyCommand.{Copies}
 use Rattle.cli.specs.Describing.{Describes}
 use Rattle.cli.specs.Printing.{EndsBy, IsPrinted, Prints}
-use Rattle.cli.specs.Running.{IsNotRun, RunsOverNew}
+use Rattle.cli.specs.Running.{RunsOverNew}
+use Rattle.cli.specs.ScriptNotes.{HasToldNotes}
 use Rattle.cli.specs.Script.{IsReadAt, Source, ill_encoded}
 use Rattle.cli.specs.JournalCommand.{Switches}
 
 -- ---- faults of usage
 
--- the reason, how the program is called, and where its help is
-abbrev pub usage_message : List ℕ → List ℕ
-usage_message reason = codes "error: " ++ (reason ++ (codes "\n\nUsage: " ++ (USAGE.now ++ codes "\n\nFor more information, try '--help'.\n")))
+-- the reason, how the program or its command is called, and where its help is
+abbrev pub usage_message : List ℕ → List ℕ → List ℕ
+usage_message usage reason = codes "error: " ++ (reason ++ (codes "\n\nUsage: " ++ (usage ++ codes "\n\nFor more information, try '--help'.\n")))
 
--- what standard error is told of a fault of usage; refused memory is told as elsewhere
-abbrev pub usage_text : UsageFault → Option (List ℕ)
-usage_text usage.Memory = Some (name_message fault.Memory)
-usage_text u = option_map usage_message (usage_reason u)
+-- what standard error is told of a fault of usage of a command; refused memory is told as elsewhere
+abbrev pub usage_text : Option CommandName → UsageFault → Option (List ℕ)
+usage_text command usage.Memory = Some (name_message fault.Memory)
+usage_text command u = option_map (usage_message (usage_for command)) (usage_reason u)
 
 abbrev pub usage_status : UsageFault → ℕ
 usage_status usage.Memory = fault_status
@@ -55,29 +59,39 @@ usage_status _ = caller_status
 
 -- ---- the run of a script
 
--- this is the end, and nothing was printed
-abbrev pub IsUnread : {K : Type 0} → CommandFault → K → Ending → K → Type 0
-IsUnread f before e after = (e ≡ ending.Fault f) × (after ≡ before)
+-- this fault was told, and nothing was printed
+abbrev pub IsUntouched : {K : Type 0} → Subject → CommandFault → Exit → K → K → Known → Known → Type 0
+IsUntouched about f exit out_before out_after err_before err_after = Exits about (ending.Fault f) exit err_before err_after × (out_after ≡ out_before)
 
--- a script of UTF-8 was run over a new database of this administrator; another was not, for the first byte that is none
-pub record RunsBytes (X : Type 0) {K : Type 0} (Reads : ReadingRelation) (k : SinkGhosts K) (admin : TheName) (script : List ℕ) (before : K) (e : Ending) (after : K) : Type 0 where
-  pub encoded : IsUtf8 script → RunsOverNew X Reads k admin script before e after
-  pub other : (IsUtf8 script → ⊥) → IsUnread (ill_encoded script) before e after
+-- a script was run over a new database of this administrator, how that ended was told, and then the notes of the script
+pub record RunsText (about : Subject) (X : Type 0) {K : Type 0} (Reads : ReadingRelation) (k : SinkGhosts K) (admin : TheName) (script : List ℕ) (exit : Exit) (out_before out_after : K) (err_before err_after : Known) : Type 0 where
+  pub ending : Ending
+  pub first : Exit
+  pub heard : Known
+  pub runs : RunsOverNew X Reads k admin script out_before ending out_after
+  pub ends : Exits about ending first err_before heard
+  pub noted : HasToldNotes first about script ending exit heard err_after
+
+-- a script of UTF-8 was run so; another was not, for the first byte that is none
+pub record RunsBytes (about : Subject) (X : Type 0) {K : Type 0} (Reads : ReadingRelation) (k : SinkGhosts K) (admin : TheName) (script : List ℕ) (exit : Exit) (out_before out_after : K) (err_before err_after : Known) : Type 0 where
+  pub encoded : IsUtf8 script → RunsText about X Reads k admin script exit out_before out_after err_before err_after
+  pub other : (IsUtf8 script → ⊥) → IsUntouched about (ill_encoded script) exit out_before out_after err_before err_after
 
 -- the script was run over a new database of this administrator, unless it could not be read or memory was refused before
-abbrev pub RunsSource : Type 0 → {K : Type 0} → ReadingRelation → SinkGhosts K → TheName → Source → K → Ending → K → Type 0
-RunsSource X Reads k admin (Ok script) before e after = IsNotRun before e after ⊎ RunsBytes X Reads k admin script.items before e after
-RunsSource X Reads k admin (Err f) before e after = IsNotRun before e after ⊎ IsUnread f before e after
+abbrev pub RunsSource : Subject → Type 0 → {K : Type 0} → ReadingRelation → SinkGhosts K → TheName → Source → Exit → K → K → Known → Known → Type 0
+RunsSource about X Reads k admin (Ok script) exit out_before out_after err_before err_after = RunsBytes about X Reads k admin script.items exit out_before out_after err_before err_after
+RunsSource about X Reads k admin (Err f) exit out_before out_after err_before err_after = IsUntouched about f exit out_before out_after err_before err_after
 
--- the work was done for a name that a role can have; any other is the caller's fault, and nothing was printed
-pub record DoneFor {K : Type 0} (about : Subject) (admin : List ℕ) (P : Ending → Type 0) (exit : Exit) (out_before out_after : K) (err_before err_after : Known) : Type 0 where
-  pub named : IsName admin → EndsBy about P exit err_before err_after
-  pub unnamed : (IsName admin → ⊥) → (exit.status ≡ caller_status) × HasTold exit (usage_message (name_reason admin)) err_before err_after × (out_after ≡ out_before)
+-- the work of a command was done for a name that a role can have; any other is the caller's fault, and nothing was printed
+pub record DoneFor {K : Type 0} (command : CommandName) (admin : List ℕ) (Done : Type 0) (exit : Exit) (out_before out_after : K) (err_before err_after : Known) : Type 0 where
+  pub named : IsName admin → Done
+  pub unnamed : (IsName admin → ⊥) → (exit.status ≡ caller_status) × HasTold exit (usage_message (usage_for (Some command)) (name_reason admin)) err_before err_after × (out_after ≡ out_before)
 
 -- the script was run over a new database in memory whose one role has this name
 abbrev pub RunsFor : Subject → Type 0 → {K : Type 0} → ReadingRelation → SinkGhosts K → List ℕ → Source → Exit → K → K → Known → Known → Type 0
 RunsFor about X Reads k admin script exit out_before out_after err_before err_after =
-    DoneFor about admin (λ e. RunsSource X Reads k admin script out_before e out_after) exit out_before out_after err_before err_after
+    DoneFor command_name.Run admin (IsUntouched about fault.Memory exit out_before out_after err_before err_after ⊎ RunsSource about X Reads k admin script exit out_before out_after err_before err_after)
+    exit out_before out_after err_before err_after
 
 -- ---- a command over a file
 
@@ -106,7 +120,7 @@ pub record IsNotFormatted {D L : Type 0} (old : SystemState D L) (before : Known
 
 -- so it was for a name that a role can have; for any other, or where memory was refused before, nothing was done
 pub record DoesFormat {D L K : Type 0} (g : Ghosts D) (k : SinkGhosts K) (old : SystemState D L) (file : Subject) (path : List ℕ) (pages : ℕ) (admin : List ℕ) (journal : Bool) (exit : Exit) (new : SystemState D L) (out_before out_after : K) (err_before err_after : Known) : Type 0 where
-  pub does : DoneFor file admin (λ e. IsNotFormatted old (k.held out_before) e new (k.held out_after) ⊎ Formats g old path pages admin journal (k.held out_before) e new (k.held out_after)) exit out_before out_after err_before err_after
+  pub does : DoneFor command_name.Format admin (EndsBy file (λ e. IsNotFormatted old (k.held out_before) e new (k.held out_after) ⊎ Formats g old path pages admin journal (k.held out_before) e new (k.held out_after)) exit err_before err_after) exit out_before out_after err_before err_after
   pub unnamed : (IsName admin → ⊥) → IsSame old new
 
 -- a database was opened over the file, or none was; that the file was migrated was told, where it was
@@ -125,12 +139,16 @@ ending_of_run (Err f) = ending.Fault f
 
 -- `file` is what messages call the file, and `path` its path
 module _ (X : Type 0) {D L K : Type 0} (g : Ghosts D) (k : SinkGhosts K) (Reads : ReadingRelation) (old : SystemState D L) (file : Subject) (path : List ℕ) where
-  -- the script was run over the database in the file, or that was not opened; that it was migrated was told, where it was
-  pub record RunsOverFile (script : List ℕ) (exit : Exit) (new : SystemState D L) (out_before out_after : K) (err_before err_after : Known) : Type 0 where
+  -- the script was run over the database in the file, or that was not opened; that it was migrated was told, where it was, then how it ended,
+  -- and then the notes of the script
+  pub record RunsOverFile (script : Subject) (text : List ℕ) (exit : Exit) (new : SystemState D L) (out_before out_after : K) (err_before err_after : Known) : Type 0 where
     pub end : CommandEnd ScriptEnd
+    pub first : Exit
     pub heard : Known
-    pub runs : RunsFile X g k Reads old path script out_before err_before end new out_after heard
-    pub ends : ExitsAfter end.told file (ending_of_run end.outcome) exit heard err_after
+    pub told : Known
+    pub runs : RunsFile X g k Reads old path text out_before err_before end new out_after heard
+    pub ends : ExitsAfter end.told file (ending_of_run end.outcome) first heard told
+    pub noted : HasToldNotes first script text (ending_of_run end.outcome) exit told err_after
 
   -- the fault of a script was told, and nothing else was done
   pub record IsNoneRun (script : Subject) (f : CommandFault) (exit : Exit) (new : SystemState D L) (out_before out_after : K) (err_before err_after : Known) : Type 0 where
@@ -140,7 +158,7 @@ module _ (X : Type 0) {D L K : Type 0} (g : Ghosts D) (k : SinkGhosts K) (Reads 
 
   -- a script of UTF-8 was run over the database in the file; of another the first byte that is none was told
   pub record RunsBytesOver (script : Subject) (read : List ℕ) (exit : Exit) (new : SystemState D L) (out_before out_after : K) (err_before err_after : Known) : Type 0 where
-    pub encoded : IsUtf8 read → RunsOverFile read exit new out_before out_after err_before err_after
+    pub encoded : IsUtf8 read → RunsOverFile script read exit new out_before out_after err_before err_after
     pub other : (IsUtf8 read → ⊥) → IsNoneRun script (ill_encoded read) exit new out_before out_after err_before err_after
 
   -- so it was with what was read of the script; or why it could not be read was told

@@ -6,7 +6,7 @@ ghost use Rattle.cli.specs.Describing.{description_subject, Describes, IsDescrib
 
 use crate::ending::{Ending, Exit, Subject, exit_with};
 use crate::fault::CommandFault;
-use crate::printing::print_text;
+use crate::printing::show_text;
 use crate::reading::read_file;
 use catalogue::definitions::Catalogue;
 use description_texts::description;
@@ -51,7 +51,7 @@ fn print_description<K: TakesText>(
         Err(fault) => return Ending::Fault(fault),
     };
     match description::describe(alloc, &catalogue, role, json) {
-        Ok(Some(text)) => print_text(text.as_str(), out),
+        Ok(Some(text)) => show_text(text.as_str(), out),
         Ok(None) => Ending::Fault(CommandFault::NoRole),
         Err(_) => Ending::Fault(CommandFault::Memory),
     }

@@ -48,6 +48,9 @@ pub enum Ending {
     Served,
     /// The server has stopped while it served connections.
     ServerStopped,
+    /// Nobody reads standard output any more: a pipe was closed at its other end, as `head` does once it
+    /// has its lines.
+    ReaderLeft,
     /// A fault ended it.
     Fault(CommandFault),
 }
@@ -89,8 +92,9 @@ pub struct Exit {
 /// of a fault, or `guarddb: line N` for an invalid line of the script. After the name of a fault,
 /// but `Memory`, there is a second line, which says what the fault is about and why it came:
 /// `guarddb: shop.db: permission denied`. The end of a server is told too, as `guarddb: done` or
-/// `guarddb: stopped`. The exit status is 0 where the work was done, 1 after a fault and where the
-/// server has stopped, and 2 after an invalid line. An error of `err` changes no status. Where
+/// `guarddb: stopped`. Where a reader has left, nothing is told. The exit status is 0 where the work was
+/// done, 1 after a fault, where the server has stopped and where a reader has left, and 2 after an
+/// invalid line. An error of `err` changes no status. Where
 /// nothing is told, nothing is written.
 pub fn exit_with<E: Write>(ending: Ending, about: Subject<'_>, err: &mut E) -> Exit
     ensures status { result.status ≡ exit_status ending }
@@ -104,7 +108,7 @@ pub fn exit_with<E: Write>(ending: Ending, about: Subject<'_>, err: &mut E) -> E
             status: 0,
             told: true,
         },
-        Ending::Stopped => Exit {
+        Ending::Stopped | Ending::ReaderLeft => Exit {
             status: 1,
             told: true,
         },

@@ -53,6 +53,8 @@ pub enum CommandFault {
     NoSwitchRoom,
     /// No commit number is left for the roots that a journal takes, or the end of one.
     NoSwitchNumber,
+    /// Standard output or standard error goes to the file of the database.
+    PrintedTo,
     /// Standard output failed, or standard error, where `serve` tells on it where it listens.
     Output,
 }
@@ -79,7 +81,7 @@ impl fmt::Display for CommandFault {
             CommandFault::FirstFormat => write!(f, "Format"),
             CommandFault::NoSwitchRoom => write!(f, "Full"),
             CommandFault::NoSwitchNumber => write!(f, "Number"),
-            CommandFault::Output => write!(f, "Output"),
+            CommandFault::PrintedTo | CommandFault::Output => write!(f, "Output"),
         }
     }
 }
@@ -144,6 +146,10 @@ impl fmt::Display for Reason {
                 write!(f, "no room is left for this; copy it to a larger file")
             }
             CommandFault::NoSwitchNumber => write!(f, "no commit number is left for this"),
+            CommandFault::PrintedTo => write!(
+                f,
+                "standard output or standard error goes to it; send that elsewhere"
+            ),
             CommandFault::Output => write!(f, "closed, or it takes no more"),
         }
     }
@@ -232,6 +238,7 @@ impl From<OpenPathFault> for CommandFault {
         match fault {
             OpenPathFault::Missing => CommandFault::Device(SystemCause::NotFound),
             OpenPathFault::InUse => CommandFault::InUse,
+            OpenPathFault::PrintedTo => CommandFault::PrintedTo,
             OpenPathFault::Memory => CommandFault::Memory,
             OpenPathFault::Device(cause) => CommandFault::Device(cause),
         }

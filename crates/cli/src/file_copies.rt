@@ -118,6 +118,7 @@ fn copy_as<Y: System>(
     match copied {
         Ok(()) => (left, rename_copy(system, partial, target, copy)),
         Err(fault) => {
+            // That it stays where the system does not take it away is told by no other fault.
             let _ = system.remove(partial, copy);
             (left, Err(CopyRefusal::of(fault, pages)))
         }
@@ -163,6 +164,7 @@ fn rename_copy<Y: System>(
     match system.rename(partial, target, copy) {
         Ok(()) => Ok(()),
         Err((copy, fault)) => {
+            // That it stays where the system does not take it away is told by no other fault.
             let _ = system.remove(partial, copy);
             Err(CopyRefusal::New(CommandFault::from(fault)))
         }

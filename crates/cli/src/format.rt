@@ -45,6 +45,7 @@ pub fn format_file<Y: System>(
             Ok(())
         }
         Err(fault) => {
+            // That it stays where the system does not take it away is told by no other fault.
             let _ = system.remove(path, device);
             Err(CommandFault::from(fault))
         }

@@ -5,6 +5,7 @@
 #![tactic(auto)]
 
 pub mod command;
+pub mod command_name;
 mod copy_command;
 mod copy_fault;
 mod describing;
@@ -25,6 +26,7 @@ mod run;
 pub mod running;
 pub mod runs;
 mod script;
+pub mod script_note;
 mod serve;
 mod switching;
 pub mod texts;

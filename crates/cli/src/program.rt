@@ -4,6 +4,7 @@ ghost use Rattle.std.specs.Prelude.{◌≡◌};
 ghost use Rattle.cli.specs.Program.{ending_of_server, place_subject, server_subject, Checks, DoesFormat, Formats, IsAnswered, IsPerformed, Serves};
 
 use crate::command::{Invocation, UsageFault, is_name};
+use crate::command_name::CommandName;
 use crate::copy_command::copy;
 use crate::describing::describe;
 use crate::ending::{Ending, Exit, Subject, exit_after, exit_with};
@@ -148,7 +149,7 @@ fn format_for<Y: System, K: TakesText, E: Write>(
         (E.contents err.old) (E.contents err.new) }
 {
     if !is_name(admin) {
-        return report_usage(UsageFault::Name(admin), err);
+        return report_usage(UsageFault::Name(admin), Some(CommandName::Format), err);
     }
     let about = Subject::Named(file);
     let Ok(Some(admin)) = Name::from_str(alloc, admin) else {

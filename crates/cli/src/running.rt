@@ -73,8 +73,11 @@ pub fn run_in_memory<X: EventHandler + Drop, K: TakesText>(
 ) -> Ending
     ensures runs { RunsOverNew X X.Reads K.Sink admin.now script.now out.old result out.new }
 {
+    // For the proof: the name is one of UTF-8.
     know_name(admin);
+    // For the proof: the records of a new store stand for a new database.
     new_records_stand_for_a_new_database();
+    // For the proof: records stand for one database.
     one_database();
     let Ok(store) = MemStore::new(alloc, admin) else {
         return Ending::Fault(CommandFault::Memory);
@@ -86,5 +89,6 @@ pub fn run_in_memory<X: EventHandler + Drop, K: TakesText>(
 fn know_name(name: &Name)
     ensures { IsUtf8Name name.now }
 {
+    // For the proof: the bytes of a text are UTF-8.
     let _ = name.as_str().as_bytes();
 }

@@ -1,16 +1,18 @@
 //! The runs of scripts that a command asks for, over the database in a file or a new one in memory.
 
 ghost use Rattle.std.specs.Prelude.{◌≡◌};
-ghost use Rattle.cli.specs.Program.{ending_of_run, RunsBytes, RunsBytesOver, RunsFor, RunsInMemory, RunsOver, RunsOverFile, RunsSource};
+ghost use Rattle.cli.specs.Program.{ending_of_run, RunsBytes, RunsBytesOver, RunsFor, RunsInMemory, RunsOver, RunsOverFile, RunsSource, RunsText};
 ghost use Rattle.cli.specs.Script.{source_of};
 
 use crate::command::{UsageFault, is_name};
+use crate::command_name::CommandName;
 use crate::ending::{Ending, Exit, Subject, exit_after, exit_with};
 use crate::fault::CommandFault;
 use crate::opened::CommandEnd;
 use crate::run::run_file;
 use crate::running::run_in_memory;
 use crate::script::{not_utf8, read_by, read_script};
+use crate::script_note::note_after;
 use crate::usage::report_usage;
 use sector_device::Device;
 use server::decide::EventHandler;
@@ -71,7 +73,7 @@ fn run_bytes_over_file<Y: System, X: EventHandler + Drop, K: TakesText, E: Write
         (Y.state system.new) out.old out.new (E.contents err.old) (E.contents err.new) }
 {
     match from_utf8(read) {
-        Ok(text) => run_text_over_file(system, alloc, handler, file, text, out, err),
+        Ok(text) => run_text_over_file(system, alloc, handler, file, script, text, out, err),
         Err(error) => {
             let fault = not_utf8(read, error.valid_up_to());
             exit_with(Ending::Fault(fault), Subject::Named(script), err)
@@ -79,22 +81,25 @@ fn run_bytes_over_file<Y: System, X: EventHandler + Drop, K: TakesText, E: Write
     }
 }
 
-// Runs a script over the database in a file, or tells why that is not opened.
+// Runs the text of a script over the database in a file, or tells why that is not opened.
 fn run_text_over_file<Y: System, X: EventHandler + Drop, K: TakesText, E: Write>(
     system: &mut Y,
     alloc: Global,
     handler: X,
     file: &str,
     script: &str,
+    text: &str,
     out: &mut K,
     err: &mut E,
 ) -> Exit
     ensures { RunsOverFile X Y.Device.Device K.Sink X.Reads (Y.state system.old)
-        (Subject.Named file.entry) file.now script.now result (Y.state system.new) out.old
-        out.new (E.contents err.old) (E.contents err.new) }
+        (Subject.Named file.entry) file.now (Subject.Named script.entry) text.now result
+        (Y.state system.new) out.old out.new (E.contents err.old) (E.contents err.new) }
 {
-    let CommandEnd { outcome, told } = run_file(system, alloc, handler, file, script, out, err);
-    exit_after(told, end_of_run(outcome), Subject::Named(file), err)
+    let CommandEnd { outcome, told } = run_file(system, alloc, handler, file, text, out, err);
+    let ending = end_of_run(outcome);
+    let exit = exit_after(told, ending, Subject::Named(file), err);
+    note_after(exit, alloc, text, Subject::Named(script), ending, err)
 }
 
 // How the run of a script over a file ended.
@@ -166,42 +171,69 @@ fn run_read_for<X: EventHandler + Drop, K: TakesText, E: Write>(
         (E.contents err.old) (E.contents err.new) }
 {
     if !is_name(admin) {
-        return report_usage(UsageFault::Name(admin), err);
+        return report_usage(UsageFault::Name(admin), Some(CommandName::Run), err);
     }
     let Ok(Some(name)) = Name::from_str(alloc, admin) else {
         return exit_with(Ending::Fault(CommandFault::Memory), about, err);
     };
-    exit_with(run_source(alloc, handler, &name, script, out), about, err)
+    run_source(alloc, handler, &name, script, about, out, err)
 }
 
-// Runs a script that was read, or answers the fault of its reading.
-fn run_source<X: EventHandler + Drop, K: TakesText>(
+// Runs a script that was read for an administrator, or tells the fault of its reading.
+fn run_source<X: EventHandler + Drop, K: TakesText, E: Write>(
     alloc: Global,
     handler: X,
     admin: &Name,
     script: Result<Vec<u8>, CommandFault>,
+    about: Subject<'_>,
     out: &mut K,
-) -> Ending
-    ensures { RunsSource X X.Reads K.Sink admin.now script out.old result out.new }
+    err: &mut E,
+) -> Exit
+    ensures { RunsSource about.entry X X.Reads K.Sink admin.now script result out.old out.new
+        (E.contents err.old) (E.contents err.new) }
 {
     match script {
-        Ok(read) => run_bytes(alloc, handler, admin, read.as_slice(), out),
-        Err(fault) => Ending::Fault(fault),
+        Ok(read) => run_bytes(alloc, handler, admin, read.as_slice(), about, out, err),
+        Err(fault) => exit_with(Ending::Fault(fault), about, err),
     }
 }
 
 // Runs what was read of a script, where it is UTF-8.
-fn run_bytes<X: EventHandler + Drop, K: TakesText>(
+fn run_bytes<X: EventHandler + Drop, K: TakesText, E: Write>(
     alloc: Global,
     handler: X,
     admin: &Name,
     read: &[u8],
+    about: Subject<'_>,
     out: &mut K,
-) -> Ending
-    ensures { RunsBytes X X.Reads K.Sink admin.now read.now out.old result out.new }
+    err: &mut E,
+) -> Exit
+    ensures { RunsBytes about.entry X X.Reads K.Sink admin.now read.now result out.old out.new
+        (E.contents err.old) (E.contents err.new) }
 {
     match from_utf8(read) {
-        Ok(text) => run_in_memory(alloc, handler, admin, text, out),
-        Err(error) => Ending::Fault(not_utf8(read, error.valid_up_to())),
+        Ok(text) => run_text(alloc, handler, admin, text, about, out, err),
+        Err(error) => {
+            let fault = not_utf8(read, error.valid_up_to());
+            exit_with(Ending::Fault(fault), about, err)
+        }
     }
+}
+
+// Runs the text of a script, and tells how that ended.
+fn run_text<X: EventHandler + Drop, K: TakesText, E: Write>(
+    alloc: Global,
+    handler: X,
+    admin: &Name,
+    text: &str,
+    about: Subject<'_>,
+    out: &mut K,
+    err: &mut E,
+) -> Exit
+    ensures { RunsText about.entry X X.Reads K.Sink admin.now text.now result out.old out.new
+        (E.contents err.old) (E.contents err.new) }
+{
+    let ending = run_in_memory(alloc, handler, admin, text, out);
+    let exit = exit_with(ending, about, err);
+    note_after(exit, alloc, text, about, ending, err)
 }

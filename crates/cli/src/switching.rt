@@ -47,6 +47,7 @@ fn switch_on_device<D: JournalDevice>(
 ) -> (D, Result<(), CommandFault>)
     ensures { SwitchesDevice D.Device on (D.state device) result.1 (D.state result.0) }
 {
+    // For the proof: an image has one contents at most.
     one_contents();
     let (mid, read) = read_definitions(alloc, device);
     match read {

@@ -12,6 +12,29 @@ pub const USAGE: &str = "guarddb format FILE --pages N --admin NAME [--journal]
        guarddb journal FILE on|off
        guarddb < SCRIPT";
 
+/// How `format` is called.
+pub const FORMAT_USAGE: &str = "guarddb format FILE --pages N --admin NAME [--journal]";
+
+/// How `copy` is called.
+pub const COPY_USAGE: &str = "guarddb copy FILE NEW --pages N [--journal]";
+
+/// How `journal` is called.
+pub const JOURNAL_USAGE: &str = "guarddb journal FILE on|off";
+
+/// How `run` is called.
+pub const RUN_USAGE: &str = "guarddb run FILE SCRIPT
+       guarddb run --memory NAME SCRIPT";
+
+/// How `serve` is called.
+pub const SERVE_USAGE: &str = "guarddb serve FILE --port P --connections K [--idle SECONDS]
+       guarddb serve FILE --socket PATH --connections K [--idle SECONDS]";
+
+/// How `check` is called.
+pub const CHECK_USAGE: &str = "guarddb check FILE";
+
+/// How `describe` is called.
+pub const DESCRIBE_USAGE: &str = "guarddb describe FILE [ROLE] [--json]";
+
 /// What `--help` prints.
 pub const HELP: &str = "Guarddb: a SQL server for several sessions over one database
 

@@ -7,12 +7,13 @@ ghost use Rattle.std.specs.declared.io.ErrorKind.TheVariants.{OutOfMemory};
 ghost use Rattle.sector_device.specs.SystemCause.{cause_of};
 ghost use Rattle.cli.specs.Usage.{usage_reason};
 ghost use Rattle.cli.specs.Ending.{Exits, HasTold};
+ghost use Rattle.cli.specs.CommandNames.{usage_for};
 ghost use Rattle.cli.specs.Program.{usage_message, usage_status, usage_text};
 
 use crate::command::UsageFault;
+use crate::command_name::{CommandName, usage_of};
 use crate::ending::{Ending, Exit, Subject, exit_with};
 use crate::fault::CommandFault;
-use crate::texts::USAGE;
 use sector_device::SystemCause;
 use std::io;
 use std::io::Write;
@@ -39,11 +40,16 @@ pub fn report_fault<E: Write>(error: &io::Error, about: Subject<'_>, err: &mut E
     exit_with(Ending::Fault(fault), about, err)
 }
 
-/// Tells on `err` what is wrong with the words and how the program is called; the exit status is 2.
-/// Where memory was refused that is told in its place; the status is 1.
-pub fn report_usage<E: Write>(fault: UsageFault<'_>, err: &mut E) -> Exit
+/// Tells on `err` what is wrong with the words and how the command is called that they begin with, or the
+/// program where they begin with none; the exit status is 2. Where memory was refused that is told in its
+/// place; the status is 1.
+pub fn report_usage<E: Write>(
+    fault: UsageFault<'_>,
+    command: Option<CommandName>,
+    err: &mut E,
+) -> Exit
     ensures status { result.status ≡ usage_status fault.entry }
-    ensures told { IfSome (usage_text fault.entry) (λ text.
+    ensures told { IfSome (usage_text command fault.entry) (λ text.
         HasTold result text (E.contents err.old) (E.contents err.new)) }
 {
     if let UsageFault::Memory = fault {
@@ -52,17 +58,17 @@ pub fn report_usage<E: Write>(fault: UsageFault<'_>, err: &mut E) -> Exit
     }
     Exit {
         status: 2,
-        told: write_usage(&fault, err).is_ok(),
+        told: write_usage(&fault, usage_of(command), err).is_ok(),
     }
 }
 
-// Writes why the words are refused, how the program is called, and where its help is.
-fn write_usage<E: Write>(fault: &UsageFault<'_>, err: &mut E) -> io::Result<()>
-    ensures { OnOk result (IfSome (usage_reason fault.now)
-        (λ reason. Appends (E.contents err.old) (E.contents err.new) (usage_message reason))) }
+// Writes why the words are refused, how the program or its command is called, and where its help is.
+fn write_usage<E: Write>(fault: &UsageFault<'_>, usage: &str, err: &mut E) -> io::Result<()>
+    ensures { OnOk result (IfSome (usage_reason fault.now) (λ reason.
+        Appends (E.contents err.old) (E.contents err.new) (usage_message usage.now reason))) }
 {
     write!(
         err,
-        "error: {fault}\n\nUsage: {USAGE}\n\nFor more information, try '--help'.\n"
+        "error: {fault}\n\nUsage: {usage}\n\nFor more information, try '--help'.\n"
     )
 }

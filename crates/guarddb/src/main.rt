@@ -2,6 +2,7 @@
 #![tactic(auto)]
 
 use cli::command::{Invocation, UsageFault, read_command};
+use cli::command_name::command_named;
 use cli::ending::Subject;
 use cli::program::perform;
 use cli::runs::run_for;
@@ -10,7 +11,7 @@ use real_system::{NULL_DEVICE, RealSystem};
 use sessions::SessionHandler;
 use statements::Statements;
 use std::alloc::Global;
-use std::io::{BufWriter, LineWriter, Read};
+use std::io::{BufWriter, LineWriter, Read, Write};
 use std::process::ExitCode;
 use std::{env, io};
 use wire::text_sink::TextSink;
@@ -32,7 +33,7 @@ fn main(rt: HostRuntime) -> ExitCode {
 fn run_or_report(rt: &HostRuntime, system: &mut RealSystem<'_, HostRuntime>) -> u8 {
     match run(rt, rt.alloc(), system) {
         Ok(status) => status,
-        Err(fault) => report_usage(fault, &mut rt.stderr()).status,
+        Err(fault) => report_usage(fault, None, &mut rt.stderr()).status,
     }
 }
 
@@ -56,7 +57,10 @@ fn run(
     }
     match read_command(alloc, words.as_slice()) {
         Ok(order) => carry_out(rt, alloc, system, &order),
-        Err(fault) => Ok(report_usage(fault, &mut rt.stderr()).status),
+        Err(fault) => {
+            let command = command_named(words[0]);
+            Ok(report_usage(fault, command, &mut rt.stderr()).status)
+        }
     }
 }
 
@@ -90,7 +94,10 @@ fn carry_out(
     order: &Invocation<'_>,
 ) -> Result<u8, UsageFault<'static>> {
     let handler = SessionHandler::new(Statements);
-    let mut err = rt.stderr();
+    let mut err = Messages {
+        writer: rt.stderr(),
+        are_lost: are_told_to_database(system, order),
+    };
     if let Invocation::Run { file: _, script: _ } = order {
         let Ok(out) = LineWriter::new(alloc, rt.stdout()) else {
             return Err(UsageFault::Memory);
@@ -105,7 +112,71 @@ fn carry_out(
     Ok(perform(system, alloc, handler, order, &mut out, &mut err).status)
 }
 
+/// Whether messages on standard error would be written to a file that an order names as a database.
+fn are_told_to_database(system: &RealSystem<'_, HostRuntime>, order: &Invocation<'_>) -> bool {
+    match order {
+        Invocation::Format {
+            file,
+            pages: _,
+            admin: _,
+            journal: _,
+        }
+        | Invocation::Journal { file, on: _ }
+        | Invocation::Run { file, script: _ }
+        | Invocation::Serve {
+            file,
+            port: _,
+            connections: _,
+            idle: _,
+        }
+        | Invocation::ServeSocket {
+            file,
+            socket: _,
+            connections: _,
+            idle: _,
+        }
+        | Invocation::Check { file }
+        | Invocation::Describe {
+            file,
+            role: _,
+            json: _,
+        } => system.tells_to(*file),
+        Invocation::Copy {
+            file,
+            new,
+            pages: _,
+            journal: _,
+        } => system.tells_to(*file) || system.tells_to(*new),
+        Invocation::RunMemory {
+            admin: _,
+            script: _,
+        }
+        | Invocation::Help
+        | Invocation::Version => false,
+    }
+}
+
 /// The words after the program's name.
 fn words(rt: &HostRuntime, alloc: Global) -> io::Result<Vec<String>> {
     Ok(env::args(rt)?.skip(1).collect(alloc)?)
+}
+
+/// What takes messages, unless they are lost: then each is refused, as by a stream that is closed.
+#[derive(Drop)]
+struct Messages<W> {
+    writer: W,
+    are_lost: bool,
+}
+
+impl<W: Write> Write for Messages<W> {
+    fn write(&mut self, bytes: &[u8]) -> io::Result<usize> {
+        if self.are_lost {
+            return Err(io::Error::from(io::ErrorKind::BrokenPipe));
+        }
+        self.writer.write(bytes)
+    }
+
+    fn flush(&mut self) -> io::Result<()> {
+        self.writer.flush()
+    }
 }

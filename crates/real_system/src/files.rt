@@ -1,5 +1,6 @@
 //! Devices over files of the system that are locked.
 
+use crate::streams::Outputs;
 use sector_device::{FileDevice, FileFault, SystemCause, SystemFile};
 use std::fs::{self, File, OpenOptions, TryLockError};
 use std::io;
@@ -11,13 +12,15 @@ use systems::{Access, OpenPathFault};
 /// alone. It stays locked until the device is dropped. The device has no sectors unless the file's
 /// length is a whole number of pages, 65,536 at most.
 ///
-/// `Missing`: there is no file of that name. `InUse`: another process holds a lock that does not go
-/// with this one. `Device`: the system does not open the file, lock it or give its length. `Memory`:
-/// it does not since an allocation failed.
+/// `Missing`: there is no file of that name. `PrintedTo`: it is one of these outputs, so what is printed
+/// would be written over it or behind it. `InUse`: another process holds a lock that does not go with
+/// this one. `Device`: the system does not open the file, lock it or give its length. `Memory`: it does
+/// not since an allocation failed.
 pub(crate) fn open_file(
     rt: &impl Files<File = File>,
     path: &str,
     access: Access,
+    outputs: &Outputs,
 ) -> Result<FileDevice<SystemFile>, OpenPathFault> {
     let file = match open_with(rt, path, access) {
         Ok(file) => file,
@@ -26,6 +29,11 @@ pub(crate) fn open_file(
         }
         Err(error) => return Err(system_fault(&error)),
     };
+    match file.metadata() {
+        Ok(found) if outputs.has(&found) => return Err(OpenPathFault::PrintedTo),
+        Ok(_) => {}
+        Err(error) => return Err(system_fault(&error)),
+    }
     let locked = match access {
         Access::Read => file.try_lock_shared(),
         Access::Write => file.try_lock(),

@@ -1,6 +1,7 @@
 //! The system of a machine: its files, its ports and its sockets.
 #![tactic(auto)]
 
+mod file_id;
 mod files;
 mod listening;
 mod new_files;

@@ -46,6 +46,7 @@ pub(crate) fn make_file(
     };
     let made = fill(rt, file, path, pages);
     if made.is_err() {
+        // The fault is that of the making; a file that stays is seen at the next try.
         let _ = fs::remove_file(rt, path);
     }
     made
@@ -136,6 +137,7 @@ pub(crate) fn rename_new(
     match leave_name(rt, from, to) {
         Ok(()) => Ok(()),
         Err(error) => {
+            // The fault is that of the name; a file that stays is seen at the next try.
             let _ = fs::remove_file(rt, to);
             Err(new_fault(&error))
         }

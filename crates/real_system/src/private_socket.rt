@@ -31,6 +31,7 @@ impl<R: Files<File = File>> PrivateSocket<'_, R> {
             .rt
             .set_permissions(self.path, Permissions::from_mode(PRIVATE));
         if made_private.is_err() {
+            // The fault is that of the mode; a file that stays is seen at the next try.
             let _ = self.rt.remove_file(self.path);
         }
         made_private

@@ -32,6 +32,7 @@ impl<R: Eprint + Clock> CopyProgress for PrintedProgress<'_, R> {
         };
         if now.duration_since(last) >= Duration::from_secs(PAUSE) {
             self.last = Some(now);
+            // A copy goes on where its progress is not taken.
             let _ = eprintln!(self.rt; "guarddb: copied {} MiB", bytes >> 20);
         }
     }

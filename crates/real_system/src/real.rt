@@ -1,11 +1,12 @@
 //! The system of a machine.
 
+use crate::file_id::{FileId, file_at};
 use crate::files::open_file;
 use crate::listening::PlaceListener;
 use crate::new_files::{is_there, make_file, rename_new};
 use crate::progress::PrintedProgress;
-use crate::socket::{FileId, file_at, remove_made};
-use crate::streams::StandardStreams;
+use crate::socket::remove_made;
+use crate::streams::{Outputs, StandardStreams};
 use sector_device::{FileDevice, FileFault, SystemCause, SystemFile, WriteProtected};
 use std::alloc::Global;
 use std::fs::File;
@@ -21,12 +22,14 @@ use wire::system_listener::SystemListener;
 /// `System` says is the premise of all that is promised of it. What it does by itself is promised:
 /// a call that fails is counted, and of sockets the one is bound that was asked for.
 ///
-/// It stands for the standard streams that are closed as long as it lives: no file is opened before.
+/// It stands for the standard streams that are closed as long as it lives: no file is opened before. A
+/// file that standard output or standard error goes to is not opened.
 #[derive(Drop)]
 pub struct RealSystem<'r, R> {
     rt: &'r R,
     alloc: Global,
     _streams: StandardStreams,
+    outputs: Outputs,
     // The file of the socket that was bound last.
     made: Option<FileId>,
     failures: u64,
@@ -36,13 +39,20 @@ impl<'r, R: Files<File = File>> RealSystem<'r, R> {
     /// The system, once each standard stream that is closed has something that stands for it. An
     /// error: the system does not open that.
     pub fn start(rt: &'r R, alloc: Global) -> io::Result<RealSystem<'r, R>> {
+        let streams = StandardStreams::fill(rt)?;
         Ok(RealSystem {
             rt,
             alloc,
-            _streams: StandardStreams::fill(rt)?,
+            _streams: streams,
+            outputs: Outputs::find(rt),
             made: None,
             failures: 0,
         })
+    }
+
+    /// Whether messages on standard error would be written to the file at a path.
+    pub fn tells_to(&self, path: &str) -> bool {
+        self.outputs.tell_to(self.rt, path)
     }
 }
 
@@ -101,7 +111,7 @@ impl<
         path: &str,
         access: Access,
     ) -> Result<WriteProtected<FileDevice<SystemFile>>, OpenPathFault> {
-        match open_file(self.rt, path, access) {
+        match open_file(self.rt, path, access, &self.outputs) {
             Ok(device) => Ok(WriteProtected::new(device)),
             Err(OpenPathFault::Device(cause)) => {
                 self.failures = self.failures.saturating_add(1);

@@ -1,19 +1,13 @@
 //! Unix sockets, which have a name among the files of this machine.
 
+use crate::file_id::{FileId, file_at};
 use crate::private_socket::PrivateSocket;
 use std::fs::{self, File};
 use std::io;
 use std::net::Net;
-use std::os::unix::fs::{FileTypeExt, MetadataExt};
+use std::os::unix::fs::FileTypeExt;
 use std::os::unix::net::{UnixListener, UnixStream};
 use std::rt::Files;
-
-/// Which file it is: its device, and its number there.
-#[derive(Clone, Copy)]
-pub(crate) struct FileId {
-    device: u64,
-    number: u64,
-}
 
 /// Binds a new socket, whose file is made at `path`. Its mode is 0600 before the socket listens, so
 /// at no moment can another user of the system connect, whatever the umask lets through. The file
@@ -48,21 +42,11 @@ fn is_left_behind<R: Files<File = File> + Net>(rt: &R, path: &str) -> bool {
     }
 }
 
-/// Which file has this name. `None`: there is none, or the system does not say.
-pub(crate) fn file_at(rt: &impl Files<File = File>, path: &str) -> Option<FileId> {
-    match fs::symlink_metadata(rt, path) {
-        Ok(found) => Some(FileId {
-            device: found.dev(),
-            number: found.ino(),
-        }),
-        Err(_) => None,
-    }
-}
-
 /// Takes the file of this name away, where it is still this one.
 pub(crate) fn remove_made(rt: &impl Files<File = File>, path: &str, made: Option<FileId>) {
     if let (Some(made), Some(found)) = (made, file_at(rt, path)) {
-        if made.device == found.device && made.number == found.number {
+        if made == found {
+            // A file that stays is taken away when a socket is bound there again.
             let _ = fs::remove_file(rt, path);
         }
     }

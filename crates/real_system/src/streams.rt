@@ -1,6 +1,7 @@
 //! Connections of the system, and what stands for standard streams that are closed.
 
-use std::fs::File;
+use crate::file_id::{FileId, plain_file_behind};
+use std::fs::{File, Metadata};
 use std::io;
 use std::io::{Read, Write};
 use std::net::TcpStream;
@@ -62,5 +63,38 @@ impl StandardStreams {
             _second: File::open(rt, NULL_DEVICE)?,
             _third: File::open(rt, NULL_DEVICE)?,
         })
+    }
+}
+
+/// The names under which the system has what standard output and standard error go to.
+const OUTPUT: &str = "/dev/fd/1";
+
+const MESSAGES: &str = "/dev/fd/2";
+
+/// The plain files that standard output and standard error go to, as far as the system says which.
+#[derive(Clone, Copy)]
+pub(crate) struct Outputs {
+    output: Option<FileId>,
+    messages: Option<FileId>,
+}
+
+impl Outputs {
+    /// Finds them.
+    pub(crate) fn find(rt: &impl Files<File = File>) -> Outputs {
+        Outputs {
+            output: plain_file_behind(rt, OUTPUT),
+            messages: plain_file_behind(rt, MESSAGES),
+        }
+    }
+
+    /// Whether the file that the system describes so is one of them.
+    pub(crate) fn has(&self, found: &Metadata) -> bool {
+        let file = Some(FileId::of(found));
+        self.output == file || self.messages == file
+    }
+
+    /// Whether messages go to the file that this name leads to.
+    pub(crate) fn tell_to(&self, rt: &impl Files<File = File>, path: &str) -> bool {
+        self.messages.is_some() && self.messages == plain_file_behind(rt, path)
     }
 }

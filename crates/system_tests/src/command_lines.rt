@@ -3,6 +3,7 @@
 use crate::files::text_of;
 use crate::orders::{after_status, printed_for_order};
 use cli::command::{UsageFault, read_command};
+use cli::command_name::{CommandName, command_named};
 use cli::usage::{report_usage, words_fault};
 use std::alloc::{AllocError, Global};
 use std::io;
@@ -12,7 +13,7 @@ use std::io;
 pub fn printed_for(rt: &HostRuntime, alloc: Global, name: &str) -> io::Result<String> {
     match text_of(rt, alloc, name, ".words") {
         Ok(text) => printed_for_words(rt, alloc, text.as_str()),
-        Err(error) => Ok(printed_for_fault(alloc, words_fault(&error))?),
+        Err(error) => Ok(printed_for_fault(alloc, words_fault(&error), None)?),
     }
 }
 
@@ -21,13 +22,23 @@ fn printed_for_words(rt: &HostRuntime, alloc: Global, text: &str) -> io::Result<
     let words: Vec<&str> = text.lines().collect(alloc)?;
     match read_command(alloc, words.as_slice()) {
         Ok(order) => printed_for_order(rt, alloc, &order),
-        Err(fault) => Ok(printed_for_fault(alloc, fault)?),
+        Err(fault) => {
+            let command = match words.first() {
+                Some(word) => command_named(*word),
+                None => None,
+            };
+            Ok(printed_for_fault(alloc, fault, command)?)
+        }
     }
 }
 
 /// What the program prints where it takes no order from its words.
-fn printed_for_fault(alloc: Global, fault: UsageFault<'_>) -> Result<String, AllocError> {
+fn printed_for_fault(
+    alloc: Global,
+    fault: UsageFault<'_>,
+    command: Option<CommandName>,
+) -> Result<String, AllocError> {
     let mut err = Vec::new(alloc);
-    let status = report_usage(fault, &mut err).status;
+    let status = report_usage(fault, command, &mut err).status;
     after_status(alloc, status, err.as_slice())
 }

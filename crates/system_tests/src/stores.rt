@@ -3,6 +3,7 @@
 use cli::ending::{Subject, exit_with};
 use cli::running::run_script_over;
 use cli::runs::run_for;
+use cli::script_note::note_after;
 use cow_pages::page_count;
 use kv_store::PageStore;
 use sector_device::{Device, MemDevice};
@@ -102,7 +103,8 @@ fn run_over<S: Store + Drop>(
         script,
         &mut sink,
     );
-    exit_with(run.ending, SCRIPT, err).status
+    let exit = exit_with(run.ending, SCRIPT, err);
+    note_after(exit, alloc, script, SCRIPT, run.ending, err).status
 }
 
 /// A new database in memory.

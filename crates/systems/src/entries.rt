@@ -105,7 +105,9 @@ pub(crate) fn rename_open<D: Drop>(
     ensures others { (p : List ℕ) → p ≢ from.now → p ≢ to.now
         → content_of entries.new.items p ≡ content_of entries.old.items p }
 {
+    // What had the name is what is renamed.
     let _ = exchange(entries, from, Content::Removed);
+    // What had the name to be given was removed before.
     let _ = exchange(entries, to, content);
 }
 

@@ -26,6 +26,9 @@ pub enum OpenPathFault {
     /// This program or another has it open.
     #[error("the file is in use")]
     InUse,
+    /// What this program prints goes to it.
+    #[error("the program prints to the file")]
+    PrintedTo,
     /// An allocation failed.
     #[error("out of memory")]
     Memory,

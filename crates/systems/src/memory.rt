@@ -137,6 +137,7 @@ impl System for MemSystem<WriteProtected<HistoryDevice>> {
         match exchange(&mut self.entries, path, Content::Device(device)) {
             None | Some(Content::Open | Content::Reading) => {}
             Some(other) => {
+                // The entry goes back to where it was taken.
                 let _ = exchange(&mut self.entries, path, other);
             }
         }
@@ -153,6 +154,7 @@ impl System for MemSystem<WriteProtected<HistoryDevice>> {
                 Err(_) => Err(FileFault::Memory),
             },
             Some(Content::Removed) => {
+                // What was removed is no more than its name.
                 let _ = exchange(&mut self.entries, path, Content::Open);
                 Ok(device)
             }
@@ -172,6 +174,7 @@ impl System for MemSystem<WriteProtected<HistoryDevice>> {
                 Err(SystemCause::NotFound)
             }
             Some(other) => {
+                // The entry goes back to where it was taken.
                 let _ = exchange(&mut self.entries, path, other);
                 self.failures = self.failures.saturating_add(1);
                 Err(SystemCause::Other)

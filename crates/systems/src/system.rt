@@ -64,8 +64,9 @@ pub trait System {
     /// read it, or to be read and written, by nobody else.
     ///
     /// `Missing`: there is nothing of that name. `InUse`: this program has it open, or another has
-    /// it open to write it, or another reads it and it was to be written. `Memory`: an allocation
-    /// failed. `Device`: the system does not open or lock it.
+    /// it open to write it, or another reads it and it was to be written. `PrintedTo`: what this program
+    /// prints goes to it, which is so of no device of a faithful system. `Memory`: an allocation failed.
+    /// `Device`: the system does not open or lock it.
     fn open(&mut self, path: &str, access: Access) -> Result<Self::Device, OpenPathFault>
         ensures counts { (state self.old).failures ≤ (state self.new).failures }
         ensures opened { (state self.old).faithful → IfOk result
@@ -77,6 +78,8 @@ pub trait System {
         ensures in_use { (state self.old).faithful → IfErr result
             (λ fault. fault ≡ OpenPathFault.InUse
             → IsHeldFrom access (state self.old) path.now) }
+        ensures printed { (state self.old).faithful
+            → IfErr result (λ fault. fault ≢ OpenPathFault.PrintedTo) }
         ensures cause { IfErr result (λ fault. (cause : SystemCause)
             → fault ≡ OpenPathFault.Device cause
             → Rose (state self.old).failures (state self.new).failures) }

@@ -16,7 +16,7 @@ pub returns-in-Ok-Some : goal.returns-in-Ok-Some
 returns-in-Ok-Some g c =
     let role = asked_name c.args.role in
     let before = g.K.Sink.held c.args.out.now in
-    let after = g.K.Sink.held c.print_text.new.out in
+    let after = g.K.Sink.held c.show_text.new.out in
     let has : HasAskedFor c.in-Ok.catalogue.roles role = asked_so c.in-Ok.catalogue.roles role c.describe.result c.describe.ensures c.in-Ok-Some.text (c.in-Ok-Some.is ∙ ap Ok c.in-Ok-Some.field-0-is) in
-    let described : IsDescribed c.in-Ok.catalogue role before c.print_text.result after = IsDescribed.printed has c.as_str.result.now c.print_text.ensures in
-    subst (λ (read : Result Definitions CommandFault). IsDescribedBy read role before c.print_text.result after) (sym c.in-Ok.is) described
+    let described : IsDescribed c.in-Ok.catalogue role before c.show_text.result after = IsDescribed.printed has c.as_str.result.now c.show_text.ensures in
+    subst (λ (read : Result Definitions CommandFault). IsDescribedBy read role before c.show_text.result after) (sym c.in-Ok.is) described
