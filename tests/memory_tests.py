@@ -32,6 +32,13 @@ records that wait in its journal. A run must print what one does in which no req
 none. Or it prints `guarddb: Memory` alone, with status 1, and the file is as it was in this; then the command is repeated. After both
 `check` must find the file whole, with the same rows.
 
+    python3 tests/memory_tests.py migrations [EVERY]
+
+With the word `migrations` the command `check FILE` is run over files of format 1, those in crates/system_tests/data/ whose openings
+are stopped too. A run must print what one does in which no request is refused, and the file is of format 2 then. Or it prints
+`guarddb: Memory`, with status 1. Then the command is repeated, and after that the file is of format 2, and is described as after the
+other run.
+
     STORES=crates/storage_tests/out/storage_tests python3 tests/memory_tests.py stores [EVERY]
 
 With the word `stores` it is the program of crates/storage_tests whose requests are refused, the one in the environment variable
@@ -61,6 +68,8 @@ import tempfile
 import threading
 
 TOP = os.path.dirname(os.path.dirname(os.path.abspath(__file__)))
+import data_files   # noqa: E402
+
 DATA = os.path.join(TOP, 'crates', 'system_tests', 'data')
 PROGRAM = os.path.abspath(os.environ.get('GUARDDB') or os.path.join(TOP, 'crates', 'guarddb', 'out', 'guarddb'))
 REFUSAL = 'refused 53200\n'
@@ -291,6 +300,47 @@ class SwitchTest:
         return OUTCOMES[2] if is_refused else OUTCOMES[3]
 
 
+class MigrationTest:
+    """A file of format 1, which a check migrates."""
+
+    def __init__(self, folder, name):
+        self.tests, self.name, self.before = Tests(folder, True), name, data_files.bytes_of_image(name)
+        path = self.tests.path('migrated')
+        self.ample = self.checked(path, COUNTS='1')
+        assert self.ample[:2] == (0, 'ok CHECK\n') and root_of(self.before)[11] == 1
+        self.description = self.described(path)
+
+    def checked(self, path, **words):
+        """The status, the output and the messages of the command over the file as it was."""
+        with open(path, 'wb') as file:
+            file.write(self.before)
+        return self.again(path, **words)
+
+    def again(self, path, **words):
+        return self.tests.program(['check', path], '', {**os.environ, 'LD_PRELOAD': self.tests.library, **words})
+
+    def described(self, path):
+        """The format of a file, and its description."""
+        return root_of(content_of(path))[11], self.tests.program(['describe', path, '--json'], '')
+
+    def requests(self):
+        """How many requests the command makes."""
+        return int(self.ample[2].splitlines()[-1])
+
+    def refused(self, request):
+        """What the run with this request refused gave: an outcome of OUTCOMES, or else what is wrong."""
+        path = self.tests.path(f'migrated{threading.get_ident()}')
+        status, printed, messages = self.checked(path, REFUSED=str(request))
+        is_refused = (status, printed) == (1, '') and messages.endswith('guarddb: Memory\n')
+        if not is_refused and (status, printed) != (0, 'ok CHECK\n'):
+            return f'ended by {(status, printed, messages)!r}'
+        if is_refused and self.again(path)[:2] != (0, 'ok CHECK\n'):
+            return 'was refused, and repeated it gives something else'
+        if self.described(path) != self.description:
+            return 'left another description'
+        return OUTCOMES[2] if is_refused else OUTCOMES[3]
+
+
 def root_of(data):
     """The root sector of the greatest number."""
     return max((data[at:at + 512] for at in (0, 512)), key=lambda root: root[16:24])
@@ -396,6 +446,14 @@ def try_switches(folder, pool, every):
     return tell('a journal turned on and off', counts, OUTCOMES[2:])
 
 
+def try_migrations(folder, pool, every):
+    counts = collections.Counter()
+    for name in (name for name in data_files.names_of('.image') if '\nstop\n' in data_files.text_of(name + '.image') + '\n'):
+        test = MigrationTest(tempfile.mkdtemp(dir=folder), name)
+        counts += counted(pool, f'check of {name}', test, range(1, test.requests() + 1, every), OUTCOMES)
+    return tell('files of format 1 that are migrated', counts, OUTCOMES[2:])
+
+
 def try_stores(folder, pool, every):
     test = Stores(refusing_library(folder))
     if test.ample[0] != 0 or test.ample[1].count(' 0 disagreements\n') != test.given.count('\nagain:'):
@@ -432,7 +490,7 @@ def try_scripts(folder, pool, words):
 def main(words):
     memory = '/dev/shm' if os.path.isdir('/dev/shm') else None      # where a sync takes no time
     with tempfile.TemporaryDirectory(dir=memory) as folder, concurrent.futures.ThreadPoolExecutor(os.cpu_count()) as pool:
-        for word, try_word in (('feeds', try_feeds), ('stores', try_stores), ('switches', try_switches)):
+        for word, try_word in (('feeds', try_feeds), ('stores', try_stores), ('switches', try_switches), ('migrations', try_migrations)):
             if words[:1] == [word]:
                 return try_word(folder, pool, int(words[1]) if words[1:] else 1)
         if words[:1] == ['full']:
