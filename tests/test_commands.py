@@ -109,6 +109,7 @@ class Commands(unittest.TestCase):
             if words[0] != '--memory':
                 make_database(self.path(words[0]), pages, journal=words == ('journal',))
             status, answers, messages = run('run', *words[:-1], self.path(words[-1]) if len(words) == 1 else words[-1], self.path('script'))
+            messages = messages.replace(self.path('script'), 'the script')
             self.assertEqual(answers + messages + (f'status {status}\n' if status else ''), expected)
             if len(words) == 1:
                 os.remove(self.path(words[0]))

@@ -631,20 +631,20 @@ class Program(unittest.TestCase):
                 ('\ufeffopen r root\n', 1, '', mark), ('\ufeff# nothing\r\n', 1, '', mark),
                 ('# nothing\n\r\n', 2, '', ending), ('close r\r\n', 1, '', ending)):
             with self.subTest(text=text):
-                self.told(text, 2, answers, f'guarddb: line {number}\n', [f'line {number}: {rule}'])
+                self.tells(text, 2, answers, f'guarddb: line {number}\n', [f'line {number}: {rule}'])
 
     def test_roles_that_end_in_a_blank(self):
         """The first of them is named once the script has ended. Answers and status are as ever: the role is taken letter for letter."""
         blank, newline = 'ends in a blank, which is read as part of ROLE', 'end the lines of a script with a newline alone'
         ending, refused = f'ends in a carriage return, which is read as part of ROLE; {newline}', 'refused 28000\n'
         script = 'open r root \nr: SELECT 1\nopen s root\nopen t root \n'
-        self.told(script, 0, f'{refused}refused 08003\nok OPEN\n{refused}', '', [f'line 1: {blank}'])
-        self.told('# dos\r\nopen r root\r\nr: SELECT 1\r\n', 0, refused + 'refused 08003\n', '', [f'line 2: {ending}'])
-        self.told('open r root\r\n\r\n', 2, refused, 'guarddb: line 2\n', [f'line 2: ends in a carriage return; {newline}', f'line 1: {ending}'])
+        self.tells(script, 0, f'{refused}refused 08003\nok OPEN\n{refused}', '', [f'line 1: {blank}'])
+        self.tells('# dos\r\nopen r root\r\nr: SELECT 1\r\n', 0, refused + 'refused 08003\n', '', [f'line 2: {ending}'])
+        self.tells('open r root\r\n\r\n', 2, refused, 'guarddb: line 2\n', [f'line 2: ends in a carriage return; {newline}', f'line 1: {ending}'])
         named = 'open r root\nr: CREATE ROLE "ann " LOGIN\nopen a ann \na: SELECT 1\n'
-        self.told(named, 0, 'ok OPEN\nok CREATE ROLE\nok OPEN\nrows 1\n1\n', '', [f'line 3: {blank}'])
+        self.tells(named, 0, 'ok OPEN\nok CREATE ROLE\nok OPEN\nrows 1\n1\n', '', [f'line 3: {blank}'])
 
-    def told(self, text, status, answers, message, notes):
+    def tells(self, text, status, answers, message, notes):
         """What a script prints and what is told of it, over a file, in memory and on standard input."""
         script, path = self.write('s.sql', text), self.path('notes.db')
         make_database(path)
