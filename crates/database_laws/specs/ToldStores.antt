@@ -33,8 +33,8 @@ KeepOutOfSight Reads Leave a w end (event ∷ events) (x ∷ answers) ran =
 KeepOutOfSight Reads Leave a w end [] (x ∷ answers) ran = Unit {0}
 KeepOutOfSight Reads Leave a w end (event ∷ events) [] ran = Unit {0}
 
--- the answers to the tenant's own events are the same, up to the first exception, to the first own event that one store refuses and
--- the other does not for the same, or to the first failure of a device
+-- the answers to the tenant's own events are the same, up to the first exception, to the first own event that a store refuses in
+-- place of the machine, or to the first failure of a device
 pub data IsToldAlikeBy (Reads : ReadingRelation) (Leave LeaveOther : Stops) (a : Tenant) : At → At → List (Event TheText) → List Answer → List (Event TheText) → List Answer → Type 0 where
   all_told : {w v : At} → IsAlikeTo a w.standing.machine v.standing.machine → IsToldAlikeBy Reads Leave LeaveOther a w v [] [] [] []
   told_apart : {w v : At} {event : Event TheText} {events others : List (Event TheText)} {x y : Answer} {answers told : List Answer} → is_text_of a event ≡ true → (read : Event Reading) →
@@ -62,7 +62,7 @@ what_stores_tell_a_tenant Reads Leave LeaveOther = ReadsOnce Reads → (a : Tena
 
 -- ---- one event
 
--- one own event over two stores: an exception; or refused by a store, and not by the other for the same; or answered the same, and such
+-- one own event over two stores: an exception; or refused by a store in place of the machine; or answered the same, and such
 -- that the machines are alike to the tenant again
 pub data GoesAlike (Reads : ReadingRelation) (a : Tenant) (w v next later : At) (event : Event TheText) (x y : Answer) : Type 0 where
   goes_apart : (read : Event Reading) → IsReadAs Reads w.standing.machine event read → IsExceptionFor a w.standing.machine v.standing.machine (happens read) → GoesAlike Reads a w v next later event x y

@@ -42,7 +42,7 @@ pub fn stores_run_the_machine<R: Reader, S: Stopping>()
 
 /// The same as `tenants_are_told_what_they_see` over two stores, each with stops of its own: the tenant's own
 /// events are answered the same, up to the first exception, the first own event that one of the stores refuses
-/// and the other does not for the same (for memory, for space, after the last commit number, or of the device),
+/// in place of the machine (for memory, for space, after the last commit number, or of the device),
 /// or the first failure of a device under an event of another. So goes each own event, and each event of another
 /// leaves the machines alike to the tenant.
 pub fn stores_tell_tenants_what_they_see<R: Reader, S: Stopping, T: Stopping>()

@@ -30,8 +30,8 @@ abbrev pub OthersAreOutOfSight : {S X : Type 0} (state : S → StoreState) (a : 
 OthersAreOutOfSight state a w events answers before after run =
     let ran = run.ran run.sound w run.stood in KeepOutOfSight ReadsText (stops_of (state after.store).time) a w ran.0 (events_of events) answers ran.2
 
--- the answers of both servers to the tenant's own events are the same, up to the first exception, the first refusal of one store
--- alone, or the first failure of a device
+-- the answers of both servers to the tenant's own events are the same, up to the first exception, the first refusal of a store,
+-- or the first failure of a device
 abbrev pub AreToldAlike : {S T X Y : Type 0} → (S → StoreState) → (T → StoreState) → Tenant → At → At → List Event → List Answer → List Event → List Answer → Server S X → Server T Y → Type 0
 AreToldAlike state other_state a w v events answers others told after other_after =
     IsToldAlikeBy ReadsText (stops_of (state after.store).time) (stops_of (other_state other_after.store).time) a w v (events_of events) answers (events_of others) told

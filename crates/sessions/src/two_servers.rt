@@ -11,8 +11,8 @@ use stored_database::stored_databases_are_whole;
 /// act. Where the servers stand, their databases may differ in rows that policies hide from all of these pairs.
 /// Others may do different things to both out of their sight. If the tenant asks both the same events in the same
 /// order, `Server::run` of both answers them the same. It is up to the first exception of
-/// `tenants_are_told_what_they_see`, the first own event that one store refuses and the other does not for the
-/// same (for memory, for space, after the last commit number, or of the device), or the first failure of a
+/// `tenants_are_told_what_they_see`, the first own event that a store refuses in place of the
+/// machine (for memory, for space, after the last commit number, or of the device), or the first failure of a
 /// device under an event of another. So it is of two servers that have just been opened, so goes each
 /// `Server::step` of an own event, and each of another leaves them alike to the tenant.
 pub fn servers_tell_tenants_what_they_see<S: Store, T: Store, X, Y>()
