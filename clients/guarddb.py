@@ -2,24 +2,33 @@
 
     with guarddb.connect(5433) as connection, connection.open('ann') as ann:    # or connect('shop.sock')
         ann.ask('INSERT INTO t VALUES (1, NULL)')       # Done(tag='INSERT', count=1, warning=None)
-        ann.ask('SELECT k, x FROM t')                   # [['1', None]]
+        ann.ask('SELECT k, x FROM t')                   # [['1', None]], whose `columns` are ['k', 'x']
         ann.ask('SELECT k, x FROM t', int, int)         # [[1, None]]
         ann.ask('DELETE FROM t WHERE k = ? OR x = ?', values=(7, "it's"))   # each ? stands for a value
         ann.ask('DROP TABLE other')                     # raises Refused, whose code is '42P01'
         ann.ask('DROP other')                           # raises Refused, whose text shows where the syntax goes wrong
+        ann.transaction(work)                           # work(ann) in a block, again where another session holds the writer lock
 
-A connection is for one thread, and carries one event at a time, of up to 256 sessions. The server takes the next connection
-when this one is closed, and answers it nothing before: connect with a timeout. Where a connection ends before an answer has
-come, which is a ConnectionError, or a TimeoutError, it is not known whether the event was carried out.
+A connection carries one event at a time, of up to 256 sessions; threads that share it wait for each other, and each wants a session
+of its own. The server takes the next connection when this one is closed, and answers it nothing before: then the timeout, 30 seconds,
+ends the wait. Where a connection ends before an answer has come, which is a ConnectionError, or a TimeoutError, it is not known
+whether the event was carried out.
 """
 import collections
+import contextlib
+import errno
+import itertools
+import os
+import random
 import re
 import socket
+import stat
 import struct
 import threading
 import time
 import warnings
 
+import guarddb_layout
 import guarddb_syntax
 
 OPEN, STATEMENT, CLOSE, ANSWER = 1, 2, 3, 4     # the kinds of frames
@@ -38,8 +47,18 @@ TAKEN = {
     'TABLESAMPLE': 'all rows are read'}
 ANY_TAKEN = re.compile(rf"\b({'|'.join(TAKEN)})\b", re.IGNORECASE)
 TOKEN = re.compile(rf'({QUOTED})|[^\W\d][\w$]*|[^\s\w]|\d+')
-SYNTAX = '42601'
+SYNTAX, LOCKED, FAILED = '42601', '55P03', '25P02'
+TIMEOUT = 30                                    # seconds that a connection waits for an answer
+# Why no connection is made, by the number of the system's error.
+CAUSES = {
+    errno.ECONNREFUSED: 'connection refused (no server listens there)',
+    errno.ENOENT: 'no such socket (a server makes it, and removes it at its end)',
+    errno.EACCES: "no right to connect (the modes of the socket's file and of its folder say who may)",
+    errno.EAGAIN: 'no room to wait (too many clients wait for this server)',
+}
 LEAST, GREATEST = -2 ** 63, 2 ** 63 - 1         # of BIGINT
+ENDED = 'the server ended the connection'
+NOT_KNOWN = 'it is not known whether the event was carried out'
 Done = collections.namedtuple('Done', 'tag count warning')      # such as ('INSERT', 3, None), ('GRANT', None, '01007')
 Code = collections.namedtuple('Code', 'name meaning')
 
@@ -121,22 +140,33 @@ def described(code):
     return '{} {}: {}'.format(code, *CODES[code]) if code in CODES else code
 
 
-def connect(place, wait=0, timeout=None):
-    """A connection to a server: at a port, an int, or at the path of a socket, a str. It is tried again for `wait` seconds."""
+def connect(place, wait=0, timeout=TIMEOUT, tables=None):
+    """A connection to a server: at a port, an int, or at the path of a socket, a str. It is tried again for `wait` seconds. An answer
+    that does not come within `timeout` seconds is a TimeoutError, and None is no limit. `tables`, as `guarddb_layout.tables` gives
+    them, are for the columns of `SELECT *`."""
     is_port, end = isinstance(place, int), time.monotonic() + wait
     while True:
         stream = socket.socket(socket.AF_INET if is_port else socket.AF_UNIX)
         stream.settimeout(timeout)
         try:
             stream.connect(('127.0.0.1', place) if is_port else place)
-            return Connection(stream)
+            return Connection(stream, tables)
         except BaseException as fault:
             stream.close()
             if not isinstance(fault, (ConnectionRefusedError, FileNotFoundError, BlockingIOError)) or time.monotonic() >= end:
-                if getattr(fault, 'errno', None):
-                    fault.filename = place      # for its message
-                raise
+                raise with_cause(fault, place) from None
             time.sleep(0.02)
+
+
+def with_cause(fault, place):
+    """The fault of a connection that was not made, with the place and the cause in its message."""
+    if isinstance(fault, socket.timeout):
+        return socket.timeout(f'no connection to {place} in time: the server takes none')
+    if getattr(fault, 'errno', None):
+        is_other = isinstance(place, str) and os.path.exists(place) and not stat.S_ISSOCK(os.stat(place).st_mode)
+        fault.strerror = 'no socket (guarddb serve makes one)' if is_other else CAUSES.get(fault.errno, fault.strerror)
+        fault.filename = place
+    return fault
 
 
 class ClosedAtItsEnd:
@@ -154,34 +184,45 @@ class ClosedAtItsEnd:
 
 class Connection(ClosedAtItsEnd):
     """A connection. Its end closes the sessions that are open, and rolls their blocks back."""
-    def __init__(self, stream):
+    def __init__(self, stream, tables=None):
         if stream.family == socket.AF_INET:
             stream.setsockopt(socket.IPPROTO_TCP, socket.TCP_NODELAY, 1)
-        self.socket, self.input, self.last = stream, stream.makefile('rb'), 0
-        self.turn = threading.Lock()        # of the event that is under way
+        self.socket, self.input, self.tables = stream, stream.makefile('rb'), tables
+        self.numbers = itertools.count(1)                   # of sessions
+        self.turn, self.thread = threading.Lock(), None     # of the event that is under way, and whose it is
+        self.end = None                                     # why the connection is closed
 
     def open(self, login):
         """A session for a role that may log in; the name is taken letter for letter."""
-        self.last += 1
-        read_answer(self.exchange(OPEN, self.last, login))
-        return Session(self, self.last)
+        number = next(self.numbers)
+        read_answer(self.exchange(OPEN, number, login))
+        return Session(self, number)
 
     def exchange(self, kind, number, text=''):
-        """Sends an event of the session of this number, and gives the text of its answer. A RuntimeError, before anything is sent,
-        where another thread waits for an answer."""
+        """Sends an event of the session of this number, and gives the text of its answer, once no other thread waits for one. A
+        RuntimeError where this very thread does, as in the handler of a signal."""
         payload = text.encode()
         if len(payload) > MAX_TEXT:
             raise ValueError(f'{len(payload)} bytes are more than a frame carries')
-        if not self.turn.acquire(blocking=False):
-            raise RuntimeError('another thread waits for an answer on this connection, which is for one thread')
-        try:
-            self.socket.sendall(HEAD.pack(5 + len(payload), kind, number) + payload)
-            return self._answer(number)
-        except BaseException:       # the frame that comes next may belong to this event
-            self.close()
-            raise
-        finally:
-            self.turn.release()
+        if self.thread == threading.get_ident():
+            raise RuntimeError('this thread waits for an answer on this connection already')
+        with self.turn:
+            self._check_open()
+            self.thread = threading.get_ident()
+            try:
+                self.socket.sendall(HEAD.pack(5 + len(payload), kind, number) + payload)
+                return self._answer(number)
+            except BaseException as fault:      # the frame that comes next may belong to this event
+                self._check_open()              # another thread may have closed it
+                fault = no_answer(fault, self.socket.gettimeout())
+                self.close(str(fault) or type(fault).__name__)
+                raise fault from None
+            finally:
+                self.thread = None
+
+    def _check_open(self):
+        if self.end:
+            raise ConnectionError(f'the connection is closed: {self.end}') from None
 
     def _answer(self, number):
         pieces, lines, expected = [], 0, None
@@ -202,20 +243,47 @@ class Connection(ClosedAtItsEnd):
     def _read(self, count):
         found = self.input.read(count)
         if len(found) < count:
-            raise ConnectionError('the connection ended before the answer')
+            raise ConnectionError(ENDED)
         return found
 
-    def close(self):
+    def close(self, why='by this program'):
+        self.end = self.end or why
+        with contextlib.suppress(OSError):      # else another thread that reads would hold the close up
+            self.socket.shutdown(socket.SHUT_RDWR)
         self.input.close()
         self.socket.close()
 
 
+def no_answer(fault, timeout):
+    """The fault of an event that was not answered, with the cause in its message."""
+    if isinstance(fault, socket.timeout):
+        return socket.timeout(f'no answer came within {timeout:g} seconds: {NOT_KNOWN}')
+    if isinstance(fault, ConnectionError) and fault.errno:
+        fault.strerror = ENDED
+    return fault
+
+
+class Rows(list):
+    """The rows of an answer, each a list of fields."""
+    def __init__(self, rows, statement=None, tables=None):
+        super().__init__(rows)
+        self.statement, self.tables = statement, tables
+
+    @property
+    def columns(self):
+        """The names of the columns: those that the statement names, each other one by its text, and those of `*` by the tables of the
+        connection. None where they are not known."""
+        names = self.statement and guarddb_layout.columns(self.statement, self.tables)
+        return None if names and self and len(names) != len(self[0]) else names
+
+
 class Session(ClosedAtItsEnd):
+    """A session, which is for one thread: what others do in it is in its block."""
     def __init__(self, connection, number):
         self.connection, self.number = connection, number
 
     def ask(self, statement, *types, values=None):
-        """Runs a statement. Gives a list of rows, each a list of fields, or else a Done. A field is None for null, else a str.
+        """Runs a statement. Gives Rows, a list of rows, each a list of fields, or else a Done. A field is None for null, else a str.
         `types`, such as int and boolean, are for the first columns, in order: each gets the str of a field that is not null.
         `values`, if given, replace the placeholders of the statement, as in `filled`. Before it is sent a TakenForAlias warns of
         each word that the server takes for an alias."""
@@ -224,9 +292,42 @@ class Session(ClosedAtItsEnd):
             warnings.warn(told, TakenForAlias, stacklevel=2)
         answer = self.connection.exchange(STATEMENT, self.number, text)
         try:
-            return read_answer(answer, types)
+            answer = read_answer(answer, types)
         except Refused as refused:
             raise Refused(refused.code, text) from None
+        return Rows(answer, text, self.connection.tables) if isinstance(answer, list) else answer
+
+    def transaction(self, work, tries=10, pause=0.02):
+        """Runs work(self) in a block, commits it, and gives what work gives. What work raises ends the block by a ROLLBACK. Where
+        another session holds the writer lock, 55P03, work runs again from its beginning, up to `tries` times in all, after a pause: of
+        at most `pause` seconds, which doubles each time. After a ConnectionError or a TimeoutError nothing is tried again, since then
+        it is not known whether the block was committed. The first change of a block takes the lock: what work reads before it, another
+        session may change meanwhile."""
+        for left in reversed(range(tries)):
+            self._begin()
+            try:
+                result = work(self)
+                self._commit()
+                return result
+            except BaseException as fault:
+                with contextlib.suppress(OSError, Refused):     # the fault is what there is to tell
+                    self.ask('ROLLBACK')
+                if not left or getattr(fault, 'code', None) != LOCKED or not isinstance(fault, Refused):
+                    raise
+            time.sleep(pause * random.random())
+            pause *= 2
+        raise ValueError('it is tried once at least')
+
+    def _begin(self):
+        if self.ask('BEGIN').warning:
+            raise RuntimeError('the session is in a block already')
+
+    def _commit(self):
+        done = self.ask('COMMIT')
+        if done.tag == 'ROLLBACK':
+            raise Refused(FAILED, 'COMMIT')
+        if done.warning:
+            raise RuntimeError('the block was ended before it was committed')
 
     def close(self):
         """Closes the session; an open block of it is rolled back."""

@@ -17,6 +17,7 @@ import os
 import re
 import shutil
 import signal
+import socket
 import sys
 import threading
 import time
@@ -314,7 +315,7 @@ def tell_block(opened):
 def why(fault):
     """Why a connection was given up whose server is still there."""
     text = str(fault)
-    return 'No answer came in time' if text == 'timed out' else text[:1].upper() + text[1:]
+    return 'No answer came in time' if isinstance(fault, socket.timeout) else text[:1].upper() + text[1:]
 
 
 @contextlib.contextmanager

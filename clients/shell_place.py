@@ -119,7 +119,7 @@ class Place:
         try:
             return guarddb.connect(int(self.name) if self.is_port else self.name, timeout=self.timeout)
         except (OSError, OverflowError) as fault:
-            raise Fault(CONNECTION, f'No server answers at {self.name}: {cause(fault)}.') from None
+            raise Fault(CONNECTION, f'No server at {self.name}: {cause(fault)}.') from None
 
     def start(self):
         """Starts the server and connects to it."""

@@ -95,10 +95,10 @@ class Server(model.Server):
             self.append(self.late.pop(0))
 
 
-def opened(path):
+def opened(path, lock=fcntl.LOCK_EX):
     try:
         LOCKED.append(open(path, 'rb'))     # to the end of the process
-        fcntl.flock(LOCKED[0], fcntl.LOCK_EX | fcntl.LOCK_NB)
+        fcntl.flock(LOCKED[0], lock | fcntl.LOCK_NB)
         return Server(json.loads(LOCKED[0].readline())[1], path)
     except BlockingIOError:
         raise Fault('InUse')
@@ -106,6 +106,34 @@ def opened(path):
         raise Fault('Device')
     except ValueError:
         raise Fault('NotADatabase')
+
+
+# ---- descriptions
+
+TYPES = {'number': 'BIGINT', 'text': 'TEXT', 'bool': 'BOOLEAN'}
+
+
+def description(db):
+    """What `describe --json` tells of a database, in the order of the names and of the statements."""
+    names = sorted(db.roles, key=str.encode)
+    tables = [(name, db.tables[name]) for name in sorted(db.tables, key=str.encode)]
+    word = lambda role: None if role in (model.SYSTEM, model.PUBLIC) else role
+    return {
+        'roles': [{'role': role, **{it.lower(): it in db.roles[role] for it in ('SUPERUSER', 'LOGIN', 'BYPASSRLS')}} for role in names],
+        'memberships': [{'role': role, 'in': of, 'through': through, 'admin': db.memberships[through, role] if of == through else None}
+                        for role in names for through in names if (through, role) in db.memberships
+                        for of in names if model.is_in(db, through, of)],
+        'tables': [{'table': name, 'owner': it.owner, 'row security': it.security, 'forced': it.forced} for name, it in tables],
+        'columns': [{'table': name, 'column': column, 'type': TYPES[kind], 'not null': not_null,
+                     'key': it.key.index(at) + 1 if at in it.key else None}
+                    for name, it in tables for at, (column, kind, not_null) in enumerate(it.columns)],
+        'privileges': [{'table': table, 'column': None if at is None else db.tables[table].columns[at][0], 'privilege': action,
+                        'to': word(to), 'by': word(by), 'grant option': grantable}
+                       for (by, to, table, action, at), grantable in db.descriptors.items()],
+        'policies': [{'table': name, 'policy': policy, 'kind': 'PERMISSIVE' if found['permissive'] else 'RESTRICTIVE',
+                      'command': found['for'], 'roles': None if model.PUBLIC in found['to'] else found['to'],
+                      'using': found['using'] and found['using'][1], 'with check': found['check'] and found['check'][1]}
+                     for name, it in tables for policy, found in sorted(it.policies.items())]}
 
 
 # ---- scripts
@@ -251,6 +279,8 @@ def perform(words):
     elif words[:1] == ['serve'] and [words[2], words[4]] == ['--socket', '--connections']:
         serve(opened(words[1]), words[3], int(words[5]), idle_in(words))
         os.remove(words[3])
+    elif words[:1] == ['describe'] and words[2:] == ['--json']:
+        print(json.dumps(description(opened(words[1], fcntl.LOCK_SH).committed)))
     elif words[:1] == ['check']:
         opened(words[1])
         print('ok CHECK')

@@ -12,6 +12,7 @@ import os
 import random
 import re
 import shutil
+import signal
 import socket
 import struct
 import sys
@@ -20,8 +21,9 @@ import threading
 import unittest
 import warnings
 
-from program import TOP, make_database, served
+from program import PROGRAM, TOP, make_database, served
 import guarddb
+import guarddb_layout
 from guarddb import Done, Refused
 sys.path.insert(0, os.path.join(TOP, 'scripts'))
 import model
@@ -181,40 +183,172 @@ class Client(unittest.TestCase):
                 session.ask('x' * MAX_TEXT)
 
     def test_two_threads(self):
-        """The second one is told so, and sends nothing; the first one gets its answer."""
+        """The second one sends nothing before the first one has its answer."""
         ours, theirs = socket.socketpair()
         with theirs, guarddb.Connection(ours) as connection:
-            answers = []
-            first = threading.Thread(target=lambda: answers.append(connection.exchange(guarddb.STATEMENT, 1, 'SELECT 1')))
-            first.start()
+            answers, first, second = {}, frame(2, 1, b'SELECT 1'), frame(2, 2, b'SELECT 2')
+
+            def ask(number):
+                answers[number] = connection.exchange(guarddb.STATEMENT, number, f'SELECT {number}')
+            threads = [threading.Thread(target=ask, args=[number]) for number in (1, 2)]
             theirs.settimeout(300)
-            sent = frame(2, 1, b'SELECT 1')
-            self.assertEqual(theirs.recv(len(sent), socket.MSG_WAITALL), sent)
-            with self.assertRaises(RuntimeError):
-                connection.exchange(guarddb.STATEMENT, 2, 'SELECT 2')
+            for thread, sent, number in zip(threads, (first, b''), (1, 2)):
+                thread.start()
+                self.assertEqual(theirs.recv(len(sent), socket.MSG_WAITALL) if sent else b'', sent)
+            theirs.setblocking(False)
+            with self.assertRaises(BlockingIOError):
+                theirs.recv(1)
+            theirs.settimeout(300)
             theirs.sendall(frames(1, b'ok SET\n'))
-            first.join()
-            self.assertEqual(answers, ['ok SET\n'])
+            self.assertEqual(theirs.recv(len(second), socket.MSG_WAITALL), second)
+            theirs.sendall(frames(2, b'ok RESET\n'))
+            for thread in threads:
+                thread.join()
+            self.assertEqual(answers, {1: 'ok SET\n', 2: 'ok RESET\n'})
+
+    def test_a_thread_that_waits_already(self):
+        """The handler of a signal asks on the connection whose answer its thread waits for: it is told so, and the answer comes."""
+        ours, theirs = socket.socketpair()
+        with theirs, guarddb.Connection(ours) as connection:
+            def handle(*_):
+                with self.assertRaisesRegex(RuntimeError, 'this thread waits'):
+                    connection.exchange(guarddb.STATEMENT, 2, 'SELECT 2')
+                theirs.sendall(frames(1, b'ok SET\n'))
+            before = signal.signal(signal.SIGALRM, handle)
+            self.addCleanup(signal.signal, signal.SIGALRM, before)
+            signal.setitimer(signal.ITIMER_REAL, 0.1)
+            self.assertEqual(connection.exchange(guarddb.STATEMENT, 1, 'SELECT 1'), 'ok SET\n')
+
+    def test_a_connection_that_another_thread_closes(self):
+        """Whoever waits for an answer is told at once, and who asks later, too."""
+        ours, theirs = socket.socketpair()
+        with theirs:
+            connection, told = guarddb.Connection(ours, None), []
+
+            def ask():
+                with self.assertRaises(ConnectionError) as found:
+                    connection.exchange(guarddb.STATEMENT, 1, 'SELECT 1')
+                told.append(str(found.exception))
+            thread = threading.Thread(target=ask)
+            thread.start()
+            self.assertTrue(theirs.recv(1))
+            connection.close()
+            thread.join()
+            ask()
+        self.assertEqual(told, ['the connection is closed: by this program'] * 2)
 
     def test_a_server_that_is_not_there(self):
         with socket.create_server(('127.0.0.1', 0)) as listener:
             port = listener.getsockname()[1]
-        with self.assertRaises(ConnectionRefusedError) as found:
-            guarddb.connect(port, wait=0.05)
-        self.assertEqual(str(found.exception), f'[Errno 111] Connection refused: {port}')
-        with self.assertRaises(FileNotFoundError) as found:
-            guarddb.connect('/none/shop.sock')
-        self.assertEqual(str(found.exception), "[Errno 2] No such file or directory: '/none/shop.sock'")
+        with tempfile.TemporaryDirectory() as folder:
+            file, closed = os.path.join(folder, 'shop.db'), os.path.join(folder, 'closed.sock')
+            with open(file, 'w', encoding='utf-8'), socket.socket(socket.AF_UNIX) as listener:
+                listener.bind(closed)
+            for place, kind, told in [
+                (port, ConnectionRefusedError, f'[Errno 111] connection refused (no server listens there): {port}'),
+                (closed, ConnectionRefusedError, f"[Errno 111] connection refused (no server listens there): '{closed}'"),
+                (file, ConnectionRefusedError, f"[Errno 111] no socket (guarddb serve makes one): '{file}'"),
+                ('/none/shop.sock', FileNotFoundError,
+                 "[Errno 2] no such socket (a server makes it, and removes it at its end): '/none/shop.sock'"),
+            ]:
+                with self.subTest(place), self.assertRaises(kind) as found:
+                    guarddb.connect(place, wait=0.05)
+                self.assertEqual(str(found.exception), told)
         with self.assertRaisesRegex(OSError, 'path too long'):
             guarddb.connect('x' * 200)
+
+    def test_a_socket_that_takes_no_more_clients(self):
+        with tempfile.TemporaryDirectory() as folder, socket.socket(socket.AF_UNIX) as listener, contextlib.ExitStack() as waiting:
+            listener.bind(os.path.join(folder, 'a.sock'))
+            listener.listen(0)
+            with self.assertRaisesRegex(OSError, 'too many clients wait|the server takes none'):
+                for _ in range(9):
+                    waiting.enter_context(guarddb.connect(os.path.join(folder, 'a.sock'), timeout=0.05))
 
     def test_a_server_that_does_not_answer(self):
         with socket.create_server(('127.0.0.1', 0)) as listener:
             with guarddb.connect(listener.getsockname()[1], timeout=0.05) as connection:
-                with self.assertRaises(socket.timeout):     # which is the TimeoutError of Python 3.10 and later
+                text = 'no answer came within 0.05 seconds: it is not known whether the event was carried out'
+                with self.assertRaises(socket.timeout) as found:    # which is the TimeoutError of Python 3.10 and later
                     connection.open('root')
-                with self.assertRaises(OSError):        # its answer may come yet, so the connection is closed
+                self.assertEqual(str(found.exception), text)
+                with self.assertRaises(ConnectionError) as found:   # its answer may come yet, so the connection is closed
                     connection.open('root')
+                self.assertEqual(str(found.exception), f'the connection is closed: {text}')
+            with guarddb.connect(listener.getsockname()[1]) as connection:
+                self.assertEqual(connection.socket.gettimeout(), 30)
+
+    def test_a_server_that_ends_the_connection(self):
+        for sent in (b'', frame(4, 1, b'ok BEGIN\n')[:5]):
+            with Peer(frames(1, b'ok OPEN\n') + sent) as connection, connection:
+                session = connection.open('root')
+                with self.assertRaisesRegex(ConnectionError, 'the server ended the connection'):
+                    session.ask('BEGIN')
+
+    def test_columns(self):
+        """Those that the statement names, and those of the tables that are known; None where the rows have another number."""
+        texts = [b'rows 1\n1\tx\n'] * 4 + [b'rows 0\n']
+        with Peer(frames(1, b'ok OPEN\n') + b''.join(frames(1, text) for text in texts)) as connection, connection:
+            root = connection.open('root')
+            self.assertEqual(root.ask('SELECT k, count FROM t').columns, ['k', 'count'])
+            self.assertIsNone(root.ask('SELECT * FROM t').columns)
+            connection.tables = {'t': ['k', 'Name'], 'u': ['k']}
+            self.assertEqual(root.ask('SELECT * FROM t').columns, ['k', 'Name'])
+            self.assertIsNone(root.ask('SELECT * FROM u').columns)
+            self.assertEqual(root.ask('SELECT * FROM t, u').columns, ['k', 'Name', 'k'])
+
+
+class Transactions(unittest.TestCase):
+    """Blocks that are run again, beside a server of bytes."""
+
+    def played(self, *answers, work=lambda session: session.ask('UPDATE'), **more):
+        """What a transaction gives or raises for the answers of its statements, and these statements."""
+        peer = Peer(b''.join(frames(1, text.encode() + b'\n') for text in ('ok OPEN', *answers)))
+        with peer as connection, connection:
+            session = connection.open('root')
+            try:
+                result = session.transaction(work, pause=0.001, **more)
+            except Exception as fault:
+                result = fault
+        sent, found = peer.got[len(frame(1, 1, b'root')):], []
+        while sent:
+            length = guarddb.HEAD.unpack(sent[:9])[0]
+            found.append(sent[9:length + 4].decode())
+            sent = sent[length + 4:]
+        return result, found
+
+    def test_a_block_is_committed(self):
+        self.assertEqual(self.played('ok BEGIN', 'ok UPDATE 3', 'ok COMMIT'), (Done('UPDATE', 3, None), ['BEGIN', 'UPDATE', 'COMMIT']))
+
+    def test_a_block_is_begun_again(self):
+        locked = ['ok BEGIN', 'refused 55P03', 'ok ROLLBACK']
+        result, sent = self.played(*locked, *locked, 'ok BEGIN', 'ok UPDATE 1', 'ok COMMIT')
+        self.assertEqual((result.count, sent), (1, ['BEGIN', 'UPDATE', 'ROLLBACK'] * 2 + ['BEGIN', 'UPDATE', 'COMMIT']))
+        result, sent = self.played(*locked, *locked, tries=2)
+        self.assertEqual((result.code, sent), ('55P03', ['BEGIN', 'UPDATE', 'ROLLBACK'] * 2))
+        self.assertIsInstance(self.played(tries=0)[0], ValueError)
+
+    def test_what_is_not_tried_again(self):
+        """Another refusal, a fault of the work, a block that has failed under it, and a connection that ends."""
+        for code in ('23505', '53100', '58030'):
+            result, sent = self.played('ok BEGIN', f'refused {code}', 'ok ROLLBACK')
+            self.assertEqual((result.code, sent), (code, ['BEGIN', 'UPDATE', 'ROLLBACK']))
+        result, sent = self.played('ok BEGIN', 'ok UPDATE 1', 'refused 53100', 'ok ROLLBACK')
+        self.assertEqual((result.code, sent), ('53100', ['BEGIN', 'UPDATE', 'COMMIT', 'ROLLBACK']))
+        result, sent = self.played('ok BEGIN', 'ok ROLLBACK', work=lambda session: {}['none'])
+        self.assertEqual((type(result), sent), (KeyError, ['BEGIN', 'ROLLBACK']))
+        result, sent = self.played('ok BEGIN', 'ok ROLLBACK', 'warn 25P01 ROLLBACK', work=lambda session: None)
+        self.assertEqual((result.code, sent), ('25P02', ['BEGIN', 'COMMIT', 'ROLLBACK']))
+        result, sent = self.played('ok BEGIN', 'ok COMMIT', 'warn 25P01 COMMIT', 'warn 25P01 ROLLBACK', work=lambda session: session.ask('COMMIT'))
+        self.assertEqual((type(result), sent), (RuntimeError, ['BEGIN', 'COMMIT', 'COMMIT', 'ROLLBACK']))
+        result, sent = self.played('ok BEGIN')
+        self.assertEqual((type(result), sent), (ConnectionError, ['BEGIN', 'UPDATE']))
+
+    def test_a_session_in_a_block(self):
+        """The block goes on as it was."""
+        for answer, kind in [('warn 25001 BEGIN', RuntimeError), ('refused 25P02', Refused)]:
+            result, sent = self.played(answer)
+            self.assertEqual((type(result), sent), (kind, ['BEGIN']))
 
 
 class Values(unittest.TestCase):
@@ -362,6 +496,25 @@ class Aliases(unittest.TestCase):
             self.assertEqual(session.ask('SELECT 1'), [['1']])
 
 
+class Columns(unittest.TestCase):
+    """The names of an answer's columns, by the text of its statement."""
+
+    def test_columns(self):
+        tables = {'notes': ['k', 'note'], 'A b': ['z'], 'orders': ['number']}
+        for statement, expected in [
+            ('SELECT k, n.note, "A b" FROM notes n', ['k', 'note', 'A b']), ('select K from notes', ['k']),
+            ('SELECT 1 +  2, -k, count(*), (1 -- one\n)', ['1 + 2', '-k', 'count(*)', '(1 )']),
+            ("SELECT 'a,  b', NULL, true, current_user", ["'a,  b'", 'NULL', 'true', 'current_user']),
+            ('SELECT "a""b", \'it\'\'s\' FROM t;', ['a"b', "'it''s'"]), ('SELECT * FROM notes', ['k', 'note']),
+            ('SELECT * FROM notes n, "A b" WHERE k IN (1, 2)', ['k', 'note', 'z']), ('select * from NOTES;', ['k', 'note']),
+            ('SELECT * FROM notes JOIN orders o ON k = number CROSS JOIN "A b" ORDER BY k, note', ['k', 'note', 'number', 'z']),
+            ('SELECT * FROM other', None), ('SELECT * FROM notes, other', None), ('DELETE FROM notes', None), ('', None), ('SELECT', None),
+        ]:
+            with self.subTest(statement):
+                self.assertEqual(guarddb_layout.columns(statement, tables), expected)
+        self.assertIsNone(guarddb_layout.columns('SELECT * FROM notes'))
+
+
 class Codes(unittest.TestCase):
     def test_the_table_is_that_of_the_page(self):
         with open(os.path.join(TOP, 'docs', 'sql.md'), encoding='utf-8') as file:
@@ -446,6 +599,24 @@ class Server(OverADatabase):
             self.refuses('28000', connection.open, 'bob')
             self.refuses('08002', guarddb.read_answer, connection.exchange(guarddb.OPEN, root.number, 'root'))
 
+    def test_the_tables_of_a_file(self):
+        """They are told of a file that no server has open, and why not of another one."""
+        with served(self.path) as port, guarddb.connect(port, wait=300, timeout=300) as connection:
+            root = connection.open('root')
+            root.ask('CREATE TABLE t (k BIGINT PRIMARY KEY, "A b" TEXT)')
+            root.ask("INSERT INTO t VALUES (1, 'x')")
+            with self.assertRaisesRegex(guarddb_layout.NotDescribed, 'InUse'):
+                guarddb_layout.tables(self.path, PROGRAM)
+        tables = guarddb_layout.tables(self.path, PROGRAM)
+        self.assertEqual(tables, {'t': ['k', 'A b']})
+        with served(self.path) as port, guarddb.connect(port, wait=300, timeout=300, tables=tables) as connection:
+            rows = connection.open('root').ask('SELECT * FROM t')
+            self.assertEqual([dict(zip(rows.columns, row)) for row in rows], [{'k': '1', 'A b': 'x'}])
+        with self.assertRaisesRegex(guarddb_layout.NotDescribed, 'Device'):
+            guarddb_layout.tables(self.path + '.none', PROGRAM)
+        with self.assertRaisesRegex(guarddb_layout.NotDescribed, '/none cannot be started: No such file or directory'):
+            guarddb_layout.tables(self.path, '/none')
+
     def test_a_connection_that_ends_rolls_back(self):
         with served(self.path, connections=3) as port:
             with guarddb.connect(port, wait=300, timeout=300) as connection:
@@ -502,6 +673,31 @@ class Server(OverADatabase):
                 with connection.open(login) as session:
                     self.assertEqual(session.ask('SELECT current_user, ?', values=['?']), [[login, '?']])
                 root.ask(f'DROP ROLE {name}')
+
+    def test_two_threads(self):
+        """Eight threads over one connection, each in a session of its own: each gets its own answers, and every block is committed."""
+        with served(self.path) as port, guarddb.connect(port, wait=300, timeout=300) as connection:
+            root = connection.open('root')
+            root.ask('CREATE TABLE t (k BIGINT PRIMARY KEY, x BIGINT)')
+            root.ask('INSERT INTO t VALUES (0, 0)')
+            wrong = []
+
+            def work(number, session):
+                def add(session):
+                    session.ask('INSERT INTO t VALUES (?, 0)', values=[number])     # from here on nobody else writes
+                    (x,), = session.ask('SELECT x FROM t WHERE k = 0', int)
+                    session.ask('UPDATE t SET x = ? WHERE k = 0', values=[x + 1])
+                    session.ask('DELETE FROM t WHERE k = ?', values=[number])
+                for _ in range(10):
+                    session.transaction(add, tries=1000, pause=0.001)
+                    if session.ask('SELECT ?', int, values=[number]) != [[number]]:
+                        wrong.append(number)
+            threads = [threading.Thread(target=work, args=(number, connection.open('root'))) for number in range(1, 9)]
+            for thread in threads:
+                thread.start()
+            for thread in threads:
+                thread.join()
+            self.assertEqual((wrong, root.ask('SELECT * FROM t', int, int)), ([], [[0, 80]]))
 
     def test_values_that_are_not_sent(self):
         with served(self.path) as port, guarddb.connect(port, wait=300, timeout=300) as connection:

@@ -674,8 +674,8 @@ class Faults(InAFolder):
         with socket.socket(socket.AF_UNIX) as left:     # a socket whose server is gone
             left.bind(path)
         port = str(free_port())
-        for place, text_told in [(port, f'No server answers at {port}: Connection refused.\n'),
-                            (path, f'No server answers at {path}: Connection refused.\n'),
+        for place, text_told in [(port, f'No server at {port}: connection refused (no server listens there).\n'),
+                            (path, f'No server at {path}: connection refused (no server listens there).\n'),
                             ('none', 'none is not a port, a socket or a file: No such file or directory.\n'
                              'HINT:  Start its server, or make a new database: guarddb format none --pages 64 --admin ROLE\n')]:
             with self.subTest(place):
@@ -748,7 +748,7 @@ class Faults(InAFolder):
                 servers[0].wait()
                 gone = f'The server went away: {NOT_KNOWN} \\c ROLE connects again.\n'
                 self.assertEqual(terminal.answer('SELECT 1;\r', '=> '), f'SELECT 1;\n{gone}')
-                none = f'No server answers at {port}: Connection refused.\n'
+                none = f'No server at {port}: connection refused (no server listens there).\n'
                 self.assertEqual(terminal.answer('\\c root\r', '=> '), f'\\c root\n{none}')
                 start()
                 terminal.answer('\\c root\r', 'root=> ')

@@ -1,0 +1,101 @@
+"""What `guarddb describe` tells of a database in a file, and the names of an answer's columns.
+
+    tables = guarddb_layout.tables('shop.db')                   # {'notes': ['k', 'tenant', 'note']}
+    guarddb_layout.columns('SELECT * FROM notes', tables)       # ['k', 'tenant', 'note']
+    guarddb_layout.columns('SELECT n.k, 1 + 2 FROM notes n')    # ['k', '1 + 2']
+
+An answer has no names of columns. Those of a SELECT's list stand in the statement, and those of `SELECT *` in the tables.
+"""
+import json
+import re
+import subprocess
+
+from guarddb_syntax import tokens_of
+
+ENDS_TABLES = ('WHERE', 'ORDER', 'LIMIT')
+COLUMN = re.compile(r'(?!(?:TRUE|FALSE|NULL|CURRENT_USER|SESSION_USER)\Z)(?:"|[^\W\d]).*', re.DOTALL)
+APART = re.compile(r"""('[^']*'|"[^"]*")|(?:\s|--[^\n\r]*)+""")
+
+
+class NotDescribed(Exception):
+    """A file cannot be described; the text says why."""
+
+
+def described(file, program='guarddb'):
+    """What `guarddb describe FILE --json` tells of a file that no server has open: a list of rows, each a dict, for each of `roles`,
+    `memberships`, `tables`, `columns`, `privileges` and `policies`."""
+    try:
+        done = subprocess.run([program, 'describe', file, '--json'], stdin=subprocess.DEVNULL, capture_output=True)
+    except OSError as fault:
+        raise NotDescribed(f'{program} cannot be started: {fault.strerror}') from None
+    if done.returncode:
+        raise NotDescribed(done.stderr.decode(errors='replace').strip() or f'{program} ended with status {done.returncode}')
+    return json.loads(done.stdout)
+
+
+def columns_by_table(description):
+    """The names of the columns of each table, in their order."""
+    found = {row['table']: [] for row in description['tables']}
+    for row in description['columns']:
+        found[row['table']].append(row['column'])
+    return found
+
+
+def tables(file, program='guarddb'):
+    """The names of the columns of each table of a file that no server has open."""
+    return columns_by_table(described(file, program))
+
+
+def folded(word):
+    """The name that a word stands for, or a name in quotes."""
+    return word[1:-1].replace('""', '"') if word[0] == '"' else re.sub('[A-Z]', lambda found: found[0].lower(), word)
+
+
+def words_of(statement):
+    """The tokens of a statement: each as it is written, or in capitals if it is a keyword that is no name, and where it begins and
+    ends."""
+    return [(statement[begin:end] if 'name' in kinds or not min(kinds).isupper() else min(kinds), begin, end)
+            for kinds, begin, end in tokens_of(statement)]
+
+
+def listed(words):
+    """The items of a SELECT's list, each a list of words, and the words behind the list; none of another statement."""
+    if not words or words[0][0].upper() != 'SELECT':
+        return [], []
+    items, depth = [[]], 0
+    for at, word in enumerate(words[1:], 1):
+        depth += {'(': 1, ')': -1}.get(word[0], 0)
+        if word[0] in ('FROM', ';'):
+            return items, words[at:]
+        if word[0] == ',' and depth == 0:
+            items.append([])
+        else:
+            items[-1].append(word)
+    return items, []
+
+
+def tables_named(words):
+    """The tables of the words from FROM on, in their order."""
+    found, is_list = [], True
+    for (before, _, _), (word, _, _) in zip(words, words[1:]):
+        is_list = is_list and before not in ENDS_TABLES
+        if is_list and before in ('FROM', ',') or before.upper() == 'JOIN':
+            found.append(folded(word))
+    return found
+
+
+def item_name(item, statement):
+    """The name of an item of a SELECT's list: that of the column which it is, else its text, with a blank for each comment."""
+    words = [word for word, _, _ in item]
+    if COLUMN.fullmatch(words[-1]) and (len(words) == 1 or len(words) == 3 and words[1] == '.'):
+        return folded(words[-1])
+    return APART.sub(lambda found: found[1] or ' ', statement[item[0][1]:item[-1][2]])
+
+
+def columns(statement, tables=None):
+    """The names of the columns of a SELECT's answer; None for another statement, and for `*` of a table that is not in `tables`."""
+    items, behind = listed(words_of(statement))
+    if [[word for word, _, _ in item] for item in items] != [['*']]:
+        return [item_name(item, statement) for item in items if item] or None
+    found = [(tables or {}).get(name) for name in tables_named(behind)]
+    return [name for names in found for name in names] if found and None not in found else None
