@@ -23,22 +23,29 @@ import threading
 import time
 
 import guarddb
+from guarddb_layout import columns, columns_by_table
 from guarddb_syntax import pointed
+from shell_copy import copy
 from shell_display import command_at, first_word, heads, in_columns, in_lines, is_blank, names_in, open_quote, shown, split, width
 from shell_help import HELP, KEYWORDS, explained, forms
 from shell_hints import told, warn_of_aliases
+from shell_listing import list_privileges, list_roles, list_table, list_tables, names_of
+from shell_output import Output, csv_lines, edited
 from shell_place import (CONNECTION, NO_READER, OWN, REFUSED, End, Fault, Place, cause, end_by, open_standard_streams, say,
                          signals_held, warn)
 from shell_typing import line_editing, readline
 
 PATIENCE = 3                                    # seconds after which it is said that an open is not answered yet
 KEEP_BLOCK = ('53100', '53200', '58030')        # refusals that leave a block as it was
-WORD = re.compile(r'"((?:[^"]|"")*)"|\S+')
-LIST_COMMAND = re.compile(r'\\(d\w*\+?|l\+?|z)')
+WORD = re.compile(r'''(["'])((?:(?!\1).|\1\1)*)\1|\S+''', re.DOTALL)
+LIST_COMMAND = re.compile(r'\\(d\w*\+?|l\+?)')
+DEFINES = ('CREATE', 'DROP', 'ALTER', 'GRANT', 'REVOKE')        # what a statement begins with that changes what a description tells
+NOTHING_DESCRIBED = {part: [] for part in ('roles', 'memberships', 'tables', 'columns', 'privileges', 'policies')}
 WITHOUT_BACKSLASH = {'quit': r'\q', 'exit': r'\q', 'help': r'\?'}
 MARK = b'\xef\xbb\xbf'                           # with which some editors begin a file of UTF-8
-NO_CATALOGUE = ("There is no catalogue to ask: no statement lists tables, roles or privileges. Of a file that no server has open 'guarddb "
-                "describe FILE' prints them.")
+NO_CATALOGUE = r'A server has one database, and no schemas, views or functions: \dt lists its tables, \du its roles, \dp the privileges.'
+NOT_COMMITTED = 'What the open block defines is not told.'
+NO_TERMINAL = r'\e edits in a terminal alone.'
 NO_SESSION = r'No session is open: \c ROLE opens one.'
 NOTHING_TYPED = 'Nothing is typed so far.'
 NOT_RUN = '\nThe rest of the line was not run.'
@@ -47,15 +54,19 @@ GOES_ON = 'This line belongs to the statement typed so far. Ctrl-C discards that
 
 
 class Opened:
-    """A session that is open. `block` is empty outside a block, '*' in one, and '!' in one that has failed."""
+    """A session that is open. `block` is empty outside a block, '*' in one, and '!' in one that has failed; `defines` says whether it
+    has changed definitions in its block."""
     def __init__(self, session, name, role):
-        self.session, self.name, self.role, self.block = session, name, role, ''
+        self.session, self.name, self.role, self.block, self.defines = session, name, role, '', False
 
     def follow(self, statement, answer):
         """Follows the block by an answer: a Done, rows, or the code of a refusal."""
         tag = getattr(answer, 'tag', None)
         if tag in ('BEGIN', 'COMMIT', 'ROLLBACK'):
             self.block = '*' if tag == 'BEGIN' else ''
+            self.defines = self.defines and tag == 'BEGIN'      # a BEGIN in a block does nothing
+        elif tag:
+            self.defines = self.defines or self.block != '' and tag.startswith(DEFINES)
         elif isinstance(answer, str) and self.block and answer not in KEEP_BLOCK:
             has_no_number = answer == '54000' and first_word(statement) == 'COMMIT'
             self.block = self.block if has_no_number else '!'
@@ -63,11 +74,11 @@ class Opened:
 
 class Shell:
     """Sessions over one connection, and the text that is typed."""
-    def __init__(self, place, is_interactive, is_raw):
+    def __init__(self, place, is_interactive, is_raw, form='aligned'):
         self.place, self.is_interactive, self.is_raw = place, is_interactive, is_raw
-        self.connection = self.current = None
-        self.sessions, self.names = {}, set()
-        self.text = self.quote = ''     # the text typed so far, and the quote that is open in it
+        self.connection = self.current = self.description = None    # what is told of the file, None where that may have changed
+        self.sessions, self.names, self.output = {}, set(), Output(form)
+        self.text = self.quote = self.last = ''     # the text typed so far, the quote that is open in it, and the last statement
         self.expanded, self.is_timed = 'auto', False
 
     # -- sessions
@@ -126,6 +137,7 @@ class Shell:
         self.connection = self.current = None
         self.sessions.clear()
         self.abandon()
+        self.description = None
         self.place.stop(at_once or not is_connected)
 
     # -- lines
@@ -180,12 +192,20 @@ class Shell:
     def run(self, statement):
         if is_blank(statement):
             return
+        begin, self.last = time.monotonic(), statement
+        answer, text = self.ask(statement)
+        spent = time.monotonic() - begin
+        self.names.update(name for name in names_in(statement) if name.upper() not in KEYWORDS)
+        self.show(answer, text, statement)
+        if self.is_timed:
+            (warn if self.is_raw or self.output.form == 'csv' else say)(f'Time: {1000 * spent:.3f} ms')
+
+    def ask(self, statement):
+        """The answer of a statement, and its text."""
         opened = self.current
         if not opened:
             raise Fault(REFUSED, NO_SESSION)
-        begin = time.monotonic()
         text = self.answered(opened.session.connection.exchange, guarddb.STATEMENT, opened.session.number, statement)
-        spent = time.monotonic() - begin
         try:
             answer = self.answered(guarddb.read_answer, text)
         except Fault as fault:
@@ -198,34 +218,79 @@ class Shell:
             raise
         opened.follow(statement, answer)
         warn_of_aliases(statement)
-        self.names.update(name for name in names_in(statement) if name.upper() not in KEYWORDS)
-        self.show(answer, text, statement)
-        if self.is_timed:
-            (warn if self.is_raw else say)(f'Time: {1000 * spent:.3f} ms')
+        if getattr(answer, 'tag', '').startswith((*DEFINES, 'COMMIT')):
+            self.description = None
+        return answer, text
 
     def show(self, answer, text, statement):
         if isinstance(answer, guarddb.Done):
             if answer.warning:
                 warn(f'WARNING:  {guarddb.described(answer.warning)}')
-            if not self.is_raw:
-                say(' '.join(str(part) for part in answer[:2] if part is not None))
-        elif not self.is_raw:
-            say('\n'.join([*self.laid_out(answer, heads(statement)), f"({len(answer)} row{'' if len(answer) == 1 else 's'})"]))
-        elif answer:
-            say(text.partition('\n')[2][:-1])
+            if not self.is_raw and self.output.form != 'csv':
+                self.output.put(' '.join(str(part) for part in answer[:2] if part is not None))
+        elif self.is_raw:
+            if answer:
+                self.output.put(text.partition('\n')[2][:-1])
+        elif self.output.form == 'csv':
+            lines = csv_lines(answer, self.fitting(answer, columns(statement, self.tables())), self.output.null or '')
+            if lines:
+                self.output.put('\n'.join(lines))
+        else:
+            lines = self.laid_out(answer, self.fitting(answer, self.heads(statement)))
+            self.output.put('\n'.join([*lines, f"({len(answer)} row{'' if len(answer) == 1 else 's'})"]), is_paged=True)
+
+    def fitting(self, rows, names):
+        """The names, where there are as many as the rows have columns."""
+        return None if rows and names and len(names) != len(rows[0]) else names
+
+    def heads(self, statement):
+        """The heads of the columns of a SELECT: those of `*` stand in the description of the file."""
+        found = heads(statement)
+        return found or [*map(shown, columns(statement, self.tables()) or [])] or None
 
     def laid_out(self, rows, names):
-        names = None if rows and names and len(names) != len(rows[0]) else names
-        lines = in_columns(rows, names)
-        is_wide = sys.stdout.isatty() and max(map(width, lines), default=0) > shutil.get_terminal_size().columns
-        return in_lines(rows, names) if self.expanded == 'on' or self.expanded == 'auto' and is_wide else lines
+        null = 'NULL' if self.output.null is None else self.output.null
+        lines = in_columns(rows, names, null)
+        is_wide = not self.output.file and sys.stdout.isatty() and max(map(width, lines), default=0) > shutil.get_terminal_size().columns
+        return in_lines(rows, names, null) if self.expanded == 'on' or self.expanded == 'auto' and is_wide else lines
+
+    # -- what is told of the file
+
+    def described(self):
+        """What `guarddb describe` tells of the file, asked anew after each change of it."""
+        if self.description is None:
+            self.description = self.place.describe()
+        return self.description
+
+    def description_or_none(self):
+        """The same, and nothing where it cannot be told, or the open block has changed definitions."""
+        try:
+            return NOTHING_DESCRIBED if self.current and self.current.defines else self.described()
+        except Fault:
+            return NOTHING_DESCRIBED
+
+    def tables(self):
+        """The columns of each table that is known."""
+        return columns_by_table(self.description_or_none())
+
+    def known_names(self):
+        """The names of roles, tables and columns that were used here, or are in the file."""
+        return sorted(self.names | names_of(self.description_or_none()))
+
+    def list(self, listed, *words):
+        lines = listed(self.described(), *words)
+        is_told = any(opened.defines for opened in self.sessions.values())
+        self.output.put('\n'.join([*lines, *[NOT_COMMITTED] * is_told]), is_paged=True)
 
     # -- commands
 
     def command(self, line):
-        name, *words = [found[0] if found[1] is None else found[1].replace('""', '"')
+        name, *words = [found[0] if found[1] is None else found[2].replace(found[1] * 2, found[1])
                         for found in WORD.finditer(line.strip().rstrip(';'))]
+        name = name[:-1] if name in ('\\d+', '\\dt+', '\\du+', '\\dp+') else name
         least, most, call = self.commands().get(name, (0, 0, None))
+        if name == '\\copy':        # whose words are cut otherwise
+            return say(copy(self, line.strip()))
         if call is None:
             is_list = LIST_COMMAND.fullmatch(name)
             raise Fault(REFUSED, NO_CATALOGUE if is_list else rf'Invalid command {name}; \? lists the commands.')
@@ -237,7 +302,12 @@ class Shell:
         """Each command by its name: how many arguments it takes, at least and at most, and what it does."""
         return {
             '\\c': (1, 2, self.change), '\\close': (0, 1, self.close), '\\conninfo': (0, 0, self.tell_sessions),
-            '\\g': (0, 0, self.run_typed), '\\gx': (0, 0, self.run_expanded), '\\p': (0, 0, self.tell_text),
+            '\\d': (0, 1, lambda *words: self.list(list_table if words else list_tables, *words)),
+            '\\dt': (0, 1, lambda *words: self.list(list_tables, *words)), '\\du': (0, 1, lambda *words: self.list(list_roles, *words)),
+            '\\dp': (0, 1, lambda *words: self.list(list_privileges, *words)), '\\copy': (1, 99, None), '\\e': (0, 1, self.edit),
+            '\\o': (0, 1, lambda name=None: self.output.send(name)), '\\pset': (0, 2, self.set_output),
+            '\\z': (0, 1, lambda *words: self.list(list_privileges, *words)),
+            '\\g': (0, 1, self.run_sent), '\\gx': (0, 0, self.run_expanded), '\\p': (0, 0, self.tell_text),
             '\\r': (0, 0, self.abandon), '\\h': (0, 9, lambda *words: say(forms(words))), '\\i': (1, 1, self.run_file),
             '\\timing': (0, 1, self.time), '\\x': (0, 1, self.expand), '\\?': (0, 0, lambda: say(HELP)),
             '\\q': (0, 0, self.quit)}
@@ -263,6 +333,27 @@ class Shell:
         if not self.text:
             raise Fault(REFUSED, NOTHING_TYPED)
         self.run_text()
+
+    def run_sent(self, name=None):
+        """Runs the text typed so far, and sends its answer, this one alone, to a file."""
+        with self.output.sent(name):
+            self.run_typed()
+
+    def edit(self, name=None):
+        """Takes what an editor leaves of the text typed so far, of the last statement, or of a file, as if it were typed."""
+        if not self.is_interactive:
+            raise Fault(REFUSED, NO_TERMINAL)
+        before = '' if name else self.text or self.last
+        text = edited(before, name).rstrip()
+        if text == before.rstrip():
+            return
+        self.abandon()
+        say(shown_lines(text))
+        for line in text.split('\n'):
+            self.take(line + '\n', is_typed=True)
+
+    def set_output(self, name=None, value=None):
+        say(self.output.set(name, value) if name else '\n'.join(self.output.settings().values()))
 
     def run_expanded(self):
         """Runs the text typed so far, and shows the columns of its answer, of this one alone, on lines of their own."""
@@ -304,6 +395,10 @@ class Shell:
     def tell_blocks(self):
         for opened in self.sessions.values():
             tell_block(opened)
+
+
+def shown_lines(text):
+    return '\n'.join(map(shown, text.split('\n')))
 
 
 def tell_block(opened):
@@ -417,7 +512,9 @@ def read_words():
     words.add_argument('-c', metavar='TEXT', type=lambda text: (run_given_text, text), help='runs TEXT and ends', **runs)
     words.add_argument('-f', metavar='FILE', type=lambda name: (run_given_file, name),
                        help='runs FILE and ends; - is standard input', **runs)
-    words.add_argument('-A', action='store_true', help='prints rows alone, as the server writes them, with tabs')
+    forms = words.add_mutually_exclusive_group()
+    forms.add_argument('-A', action='store_true', help='prints rows alone, as the server writes them, with tabs')
+    forms.add_argument('--csv', dest='form', action='store_const', const='csv', default='aligned', help='prints rows alone, as CSV')
     words.add_argument('--timeout', metavar='SECONDS', type=seconds, help='how long to wait for an answer; without it, for ever')
     words.add_argument('--program', metavar='PATH', default=program(), help='the program that serves a file')
     return words.parse_intermixed_args()        # ROLE may stand behind options
@@ -456,7 +553,7 @@ def run_given(shell, given):
 
 def run_shell(given):
     is_interactive = not given.runs and sys.stdin.isatty() and sys.stdout.isatty()
-    shell = Shell(Place(given.place, given.program, given.timeout), is_interactive, given.A)
+    shell = Shell(Place(given.place, given.program, given.timeout), is_interactive, given.A, given.form)
     try:
         run_given(shell, given)
         shell.tell_blocks()
@@ -465,6 +562,7 @@ def run_shell(given):
             raise
         shell.tell_blocks()
     finally:
+        shell.output.close()
         shell.leave()
 
 

@@ -87,11 +87,11 @@ def head(part):
     return text if len(text) <= HEAD_WIDTH else text[:HEAD_WIDTH - 1] + '…'
 
 
-def field(value):
-    """A field as it is shown: NULL, or its text, in quotes if it could be mistaken for something else."""
+def field(value, null='NULL'):
+    """A field as it is shown: NULL, or what stands for it, or its text, in quotes if it could be mistaken for something else."""
     if value is None:
-        return 'NULL'
-    is_plain = value not in ('', 'NULL') and value[0] != "'" and value == value.strip()
+        return null
+    is_plain = value not in ('', 'NULL', null) and value[0] != "'" and value == value.strip()
     return shown(value if is_plain else "'" + value.replace("'", "''") + "'")
 
 
@@ -110,9 +110,9 @@ def padded(text, columns, at_right=False):
     return blanks + text if at_right else text + blanks
 
 
-def in_columns(rows, names):
+def in_columns(rows, names, null='NULL'):
     """The lines of a table: its head, if there are names, and its rows. Columns of numbers are aligned to the right."""
-    lines = ([names] if names else []) + [[field(value) for value in row] for row in rows]
+    lines = ([names] if names else []) + [[field(value, null) for value in row] for row in rows]
     widths = [max(map(width, column)) for column in zip(*lines)]
     at_right = [all(value is None or re.fullmatch('-?[0-9]+', value) for value in column) for column in zip(*rows)]
     at_right += [False] * len(widths)       # if there are no rows
@@ -122,7 +122,7 @@ def in_columns(rows, names):
     return [line.rstrip() for line in lines]
 
 
-def in_lines(rows, names):
+def in_lines(rows, names, null='NULL'):
     """The lines of the same rows, one for each column, and one more for each newline in a text."""
     names = names or [str(number) for number in range(1, len(rows[0]) + 1)] if rows else []
     columns = max(map(width, names), default=0)
@@ -130,5 +130,5 @@ def in_lines(rows, names):
     for number, row in enumerate(rows, 1):
         yield f'-[ {number} ]'.ljust(columns + 10, '-')
         for name, value in zip(names, row):
-            text = re.sub(r'\\(.)', lambda found: found[0] + (newline if found[1] == 'n' else ''), field(value))
+            text = re.sub(r'\\(.)', lambda found: found[0] + (newline if found[1] == 'n' else ''), field(value, null))
             yield f'{padded(name, columns)} | {text}'

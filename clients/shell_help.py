@@ -11,10 +11,16 @@ HELP = r'''Statements end with ; and may take several lines. Ctrl-C discards the
   \c NAME [ROLE]     switches to the session NAME, opening it for ROLE, or for the role NAME, if there is none
   \close [NAME]      closes a session, by default the current one; its open block is rolled back
   \conninfo          shows the server and the open sessions
-  \g  \gx            runs the text typed so far; \gx shows each column on a line of its own
+  \g [FILE]  \gx     runs the text typed so far, its answer to FILE; \gx shows each column on a line of its own
+  \copy T TO FILE    writes the rows of the table T, or of (SELECT ..), to a file of CSV; T FROM FILE inserts them
+  \d [NAME]          lists the tables of the file, or the columns and policies of one; \dt [NAME] the tables
+  \dp  \du [NAME]    list the privileges on tables, the roles
+  \e [FILE]          edits the text typed so far, or the last statement, or a file, and runs it
   \p  \r             shows, discards the text typed so far
   \h [WORD ..]       shows the syntax of all statements, or of those that begin with these words
   \i FILE            runs the statements and commands in a file
+  \o [FILE]          sends answers to a file, and without one to the terminal again
+  \pset [NAME VALUE] null TEXT, format aligned or csv, pager on or off
   \timing [on|off]   shows how long each statement takes
   \x [on|off|auto]   shows each column on a line of its own; auto: if a row is wider than the terminal
   \?                 shows this help

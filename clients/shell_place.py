@@ -10,12 +10,17 @@ import sys
 import tempfile
 
 import guarddb
+import guarddb_layout
 
 OWN, CONNECTION, REFUSED = 1, 2, 3      # exit statuses, beside 0
 NO_READER = 128 + signal.SIGPIPE        # stands for the end by this signal
 SOCKET = 'socket'                       # the name of one in its folder
 LONGEST_PATH = 107                      # bytes of its path
 END_OF_SERVER = 20                      # seconds that a server has to end after its connection
+
+
+NOT_DESCRIBED = ("A served database cannot be described yet: 'guarddb describe FILE' tells of a file that no server has open, and so does this "
+                 "command in a shell over the file.")
 
 
 class Fault(Exception):
@@ -140,6 +145,22 @@ class Place:
         is_in_use |= 'guarddb: InUse' in self.tell_messages()
         hint = ': another program has it open. If that is a server, give its port or its socket' if is_in_use else ''
         raise Fault(CONNECTION, f'No server could be started over {self.name}{hint}.')
+
+    def describe(self):
+        """What `guarddb describe` tells of the file. The server that was started here has it locked, so a copy of it is described: between
+        two answers that server writes nothing."""
+        if not self.is_file:
+            raise Fault(REFUSED, NOT_DESCRIBED)
+        copy = os.path.join(self.folder, 'copy') if self.folder else None
+        try:
+            if copy:
+                shutil.copyfile(self.name, copy)
+            return guarddb_layout.described(copy or self.name, self.program)
+        except (OSError, guarddb_layout.NotDescribed) as fault:
+            raise Fault(REFUSED, f'{self.name} cannot be described: {cause(fault)}.') from None
+        finally:
+            if copy and os.path.exists(copy):
+                os.remove(copy)
 
     def tell_messages(self):
         """Prints the server's new messages, except those of an ordinary start and end."""

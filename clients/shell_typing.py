@@ -2,6 +2,7 @@
 import contextlib
 import glob
 import os
+import re
 try:
     import readline
 except ImportError:         # a Python without it
@@ -11,6 +12,9 @@ from shell_help import KEYWORDS, next_words
 from shell_place import cause, warn
 
 LINES_KEPT = 1000
+OF_FILES = ('\\i', '\\o', '\\g', '\\e')
+COPIED = re.compile(r'.*\s(?:to|from)\s+(\S*)', re.IGNORECASE)      # what stands before the file of \copy
+OF_NAMES = ('\\d', '\\dt', '\\dp', '\\du', '\\z', '\\copy')
 DELIMITERS = ' \t\n();,=<>+-*/%.'
 
 
@@ -62,15 +66,19 @@ class Completer:
         if text.startswith('\\'):
             return beginning(self.shell.commands(), text)
         command, _, typed = before[before.rfind('\\'):].partition(' ') if '\\' in before else ('', '', '')
-        if command == '\\i':
-            return paths(typed.lstrip() + text, text)
+        copied = COPIED.fullmatch(typed) if command == '\\copy' else None
+        if copied or command in OF_FILES:
+            return paths((copied[1] if copied else typed.lstrip()) + text, text)
         if command == '\\h':
             return beginning(in_case(next_words(typed.split()), text), text)
         arguments = {'\\x': ['on', 'off', 'auto'], '\\timing': ['on', 'off'], '\\close': self.shell.sessions,
-                     '\\c': sorted({*self.shell.sessions, *self.shell.names})}
+                     '\\pset': ['null', 'format', 'pager', 'aligned', 'csv', 'on', 'off'],
+                     '\\c': sorted({*self.shell.sessions, *self.shell.known_names()})}
         if command in arguments:
             return beginning(arguments[command], text)
-        return beginning(in_case(KEYWORDS, text) + sorted(self.shell.names), text) if text else []
+        if command in OF_NAMES:
+            return beginning(self.shell.known_names(), text)
+        return beginning(in_case(KEYWORDS, text) + self.shell.known_names(), text) if text else []
 
 
 def beginning(words, text):

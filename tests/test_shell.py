@@ -43,7 +43,7 @@ LETTERS = 'aé日한\u1112\u1161\u11ab🙂\u0301 \'"\\\\\n\r\t\x1b\u202e\u200d-;
 
 def environment(folder):
     kept = {name: value for name, value in os.environ.items() if name not in ('COLUMNS', 'LINES', 'PYTHONPATH', 'PYTHONUNBUFFERED')}
-    return {**kept, 'GUARDDB': PROGRAM, 'GUARDDB_HISTORY': os.path.join(folder, 'history'), 'TERM': 'dumb', 'PS1': '$ ',
+    return {**kept, 'GUARDDB': PROGRAM, 'PAGER': '', 'EDITOR': '', 'VISUAL': '', 'GUARDDB_HISTORY': os.path.join(folder, 'history'), 'TERM': 'dumb', 'PS1': '$ ',
             'LC_ALL': 'C.UTF-8', 'TMPDIR': folder, 'BASH_SILENCE_DEPRECATION_WARNING': '1'}
 
 
@@ -596,6 +596,225 @@ class Batch(InAFolder):
         self.assertEqual((done.returncode, done.stdout), (0, b" '\\u20ac'\n-----\n \\u20ac\n(1 row)\n"))
 
 
+class Lists(InAFolder):
+    """What is told of a file: lists, heads of columns, and names."""
+
+    def setUp(self):
+        super().setUp()
+        self.make('CREATE ROLE ann LOGIN', 'CREATE ROLE team', 'GRANT team TO ann WITH ADMIN OPTION',
+                  'CREATE TABLE notes (tenant TEXT, k BIGINT, "A b" BOOLEAN NOT NULL, PRIMARY KEY (tenant, k))', 'GRANT UPDATE (k) ON notes TO PUBLIC',
+                  "CREATE POLICY own ON notes TO ann, team USING (tenant = '\n' AND k > 1)", "INSERT INTO notes VALUES ('x', 1, true)",
+                  'CREATE POLICY new ON notes AS RESTRICTIVE FOR INSERT WITH CHECK ("A b")', 'ALTER TABLE notes ENABLE ROW LEVEL SECURITY')
+
+    TABLES = ' table | owner | row security | forced\n-------+-------+--------------+--------\n notes | root  | yes          | no\n'
+    COLUMNS = (' column | type    | not null | key\n--------+---------+----------+-----\n tenant | TEXT    | yes      | 1\n'
+               ' k      | BIGINT  | yes      | 2\n A b    | BOOLEAN | yes      | -\n')
+    POLICIES = ('Row security: on\nPolicies:\n  new: RESTRICTIVE, FOR INSERT TO PUBLIC\n    WITH CHECK ("A b")\n'
+                "  own: PERMISSIVE, FOR ALL TO ann, team\n    USING (tenant = '\\n' AND k > 1)\n")
+    ROLES = (' role | attributes       | member of\n------+------------------+------------------------\n'
+             ' ann  | login            | team with admin option\n root | superuser, login | -\n team | -                | -\n')
+
+    def test_lists(self):
+        for text in ('\\d', '\\dt', '\\dt+ notes', '\\dt NOTES;'):
+            self.tells(self.run_shell('root', text), 0, self.TABLES, '')
+        for text in ('\\d notes', '\\d+ "notes"'):
+            self.tells(self.run_shell('root', text), 0, 'Table notes, of the role root\n' + self.COLUMNS + self.POLICIES, '')
+        self.tells(self.run_shell('root', '\\du'), 0, self.ROLES, '')
+        self.assertEqual(len(self.run_shell('root', '\\du team').stdout.split('\n')), 4)
+        privileges = self.run_shell('root', '\\dp', '\\z notes').stdout
+        self.assertEqual(privileges.count(' notes | k      | UPDATE    | PUBLIC | root | no\n'), 2)
+        self.assertEqual(privileges.count(' notes | -      | DELETE    | root   | -    | yes\n'), 2)
+        self.tells(self.run_shell('root', '\\d other'), 3, '', 'There is no table other.\n')
+        self.tells(self.run_shell('root', '\\df'), 3, '', 'A server has one database, and no schemas, views or functions: '
+                   '\\dt lists its tables, \\du its roles, \\dp the privileges.\n')
+        self.is_left_alone()
+
+    def test_before_a_session_is_open(self):
+        self.tells(self.run_shell(None, '\\dt'), 0, self.TABLES, '')
+
+    def test_a_server_that_was_not_started_here(self):
+        text_told = ("A served database cannot be described yet: 'guarddb describe FILE' tells of a file that no server has open, and so does this "
+                "command in a shell over the file.\n")
+        with served(self.path, connections=2) as port:
+            wait_for(port)
+            self.tells(self.run_shell('root', '\\d', place=str(port)), 3, '', text_told)
+            self.tells(self.run_shell('root', 'SELECT * FROM notes', place=str(port)), 0, ' x | 1 | t\n(1 row)\n', '')
+
+    def test_what_is_defined_in_the_shell(self):
+        """It is told once it is committed, and a line says that what an open block defines is not."""
+        made = self.run_shell('root', 'CREATE TABLE a (k BIGINT PRIMARY KEY)', '\\dt a', 'DROP TABLE a', '\\dt').stdout
+        self.assertIn(' a     | root  | no           | no\n', made)
+        self.assertTrue(made.endswith('DROP TABLE\n' + self.TABLES), made)
+        texts = 'BEGIN', 'CREATE TABLE a (k BIGINT PRIMARY KEY)', '\\dt', 'SELECT * FROM a', 'COMMIT', 'SELECT * FROM a'
+        self.tells(self.run_shell('root', *texts), 0, f'BEGIN\nCREATE TABLE\n{self.TABLES}What the open block defines is not told.\n(0 rows)\n'
+                   'COMMIT\n k\n---\n(0 rows)\n', '')
+        texts = 'BEGIN', 'DROP TABLE a', 'CREATE TABLE a (x TEXT PRIMARY KEY)', 'SELECT * FROM a', 'ROLLBACK', 'SELECT * FROM a'
+        self.assertTrue(self.run_shell('root', *texts).stdout.endswith('\n(0 rows)\nROLLBACK\n k\n---\n(0 rows)\n'))
+
+    def test_heads(self):
+        self.tells(self.run_shell('root', 'SELECT * FROM notes n, notes'), 0, ' tenant | k | A b | tenant | k | A b\n'
+                   '--------+---+-----+--------+---+-----\n x      | 1 | t   | x      | 1 | t\n(1 row)\n', '')
+
+    def test_a_file_that_cannot_be_described(self):
+        program = os.path.join(self.folder, 'program')
+        with open(program, 'w', encoding='utf-8') as file:
+            file.write(f'#!/bin/sh\n[ "$1" != describe ] || {{ echo "guarddb: Damaged" >&2; exit 1; }}\nexec {PROGRAM} "$@"\n')
+            os.chmod(file.name, 0o755)
+        done = subprocess.run(self.words(self.path, 'root', '--program', program, '-c', 'SELECT * FROM notes', '-c', '\\d'), capture_output=True,
+                              env=environment(self.folder), encoding='utf-8', timeout=PATIENCE)
+        self.tells(done, 3, ' x | 1 | t\n(1 row)\n', f'{self.path} cannot be described: guarddb: Damaged.\n')
+
+    def test_names_for_tab(self):
+        """Those of the file are completed in a fresh shell."""
+        with self.terminal(self.path, 'root') as terminal:
+            terminal.until('root=> ')
+            for typed, completed in [('SELECT ten\t', 'SELECT tenant'), ('\\d no\t', '\\d notes'), ('\\du tea\t', '\\du team'),
+                                     ('\\copy no\t', '\\copy notes'), ('\\copy notes to sh\t', '\\copy notes to shop.db'),
+                                     ('\\pset pa\t', '\\pset pager')]:
+                since = len(terminal.text())
+                terminal.type(typed)
+                terminal.until(completed, since)
+                terminal.interrupt()
+                terminal.until('\nroot=> ', since)
+            terminal.type(CONTROL_D)
+            self.assertEqual(terminal.end(), 0)
+
+
+class Answers(InAFolder):
+    """Where answers go, and in which form."""
+
+    def setUp(self):
+        super().setUp()
+        self.make('CREATE TABLE t (k BIGINT PRIMARY KEY, o TEXT, s BOOLEAN)',
+                  "INSERT INTO t VALUES (-1, NULL, NULL), (2, '', true), (3, 'a, \"b\"\n', false), (4, ' x ', true)")
+
+    CSV = 'k,o,s\n-1,,\n2,"",t\n3,"a, ""b""\n",f\n4," x ",t\n'
+
+    def read(self, name):
+        with open(os.path.join(self.folder, name), encoding='utf-8', newline='') as file:
+            return file.read()
+
+    def write(self, name, text):
+        with open(os.path.join(self.folder, name), 'w', encoding='utf-8', newline='') as file:
+            file.write(text)
+
+    def test_csv(self):
+        for words, out in [(['-c', 'SELECT * FROM t'], self.CSV), (['-c', 'SELECT k FROM t WHERE k > 9', '-c', 'DELETE FROM t WHERE k > 9'], 'k\n'),
+                           (['-c', "SELECT 'a long expression, with a comma' FROM t WHERE k = 4"],
+                            '"\'a long expression, with a comma\'"\n"a long expression, with a comma"\n'),
+                           (['-c', '\\pset null NULL', '-c', "SELECT o, 'NULL' FROM t WHERE k = -1"], 'Null is shown as "NULL".\no,\'NULL\'\nNULL,"NULL"\n')]:
+            done = subprocess.run(self.words('--csv', self.path, 'root', *words), capture_output=True, env=environment(self.folder), timeout=PATIENCE)
+            self.assertEqual((done.returncode, done.stdout.decode(), told(done.stderr)), (0, out, b''))
+        with served(self.path) as port:
+            wait_for(port)
+            done = subprocess.run(self.words('--csv', str(port), 'root', '-c', 'SELECT * FROM t WHERE k = 2'), capture_output=True,
+                                  env=environment(self.folder), timeout=PATIENCE)
+        self.assertEqual(done.stdout, b'1,2,3\n2,"",t\n')
+        done = subprocess.run(self.words('--csv', '-A', self.path), capture_output=True, env=environment(self.folder), timeout=PATIENCE)
+        self.assertEqual(done.returncode, 1)
+
+    def test_settings(self):
+        settings = 'Null is shown as the format has it.\nThe format is aligned.\nThe pager is on.\n'
+        self.tells(self.run_shell('root', '\\pset'), 0, settings, '')
+        row, query = '   o |   s\n-----+-----\n (x) | (x)\n(1 row)\n', 'SELECT o, s FROM t WHERE k = -1'
+        self.tells(self.run_shell('root', '\\pset null (x)', query), 0, 'Null is shown as "(x)".\n' + row, '')
+        self.tells(self.run_shell('root', "\\pset null '(x) y'", "SELECT '(x) y'"), 0,
+                   "Null is shown as \"(x) y\".\n '(x) y'\n---------\n '(x) y'\n(1 row)\n", '')
+        self.tells(self.run_shell('root', '\\pset format csv', query, '\\pset format aligned', '\\pset pager'), 0,
+                   'The format is csv.\no,s\n,\nThe format is aligned.\nThe pager is off.\n', '')
+        for text in ('\\pset other', '\\pset format html', '\\pset pager maybe'):
+            self.assertEqual(self.run_shell('root', text).returncode, 3)
+
+    def test_answers_to_a_file(self):
+        one = ' 1\n---\n 1\n(1 row)\n'
+        self.tells(self.run_shell('root', '\\o "a b.txt"', 'SELECT 1', 'BEGIN', '\\o', 'SELECT 1', 'SELECT 1 \\g b.txt\nSELECT 1', 'COMMIT'), 0,
+                   one + one + 'COMMIT\n', '')
+        self.assertEqual((self.read('a b.txt'), self.read('b.txt')), (one + 'BEGIN\n', one))
+        self.tells(self.run_shell('root', '\\o none/a'), 1, '', 'none/a cannot be written: No such file or directory.\n')
+        self.tells(self.run_shell('root', '\\o /dev/full', 'SELECT 1'), 1, '', '/dev/full cannot be written: No space left on device.\n')
+
+    def test_copies(self):
+        """Rows that are written to a file come back as they were."""
+        self.tells(self.run_shell('root', '\\copy t TO a.csv', 'DELETE FROM t', "\\copy t from 'a.csv' csv header;", '\\copy (SELECT * FROM t) to b.csv'), 0,
+                   'COPY 4\nDELETE 4\nCOPY 4\nCOPY 4\n', '')
+        self.assertEqual((self.read('a.csv'), self.read('b.csv')), (self.CSV, self.CSV))
+        self.write('c.csv', '\ufeffs,k\r\nTRUE,7\r\n\r\nf,8')
+        self.tells(self.run_shell('root', '\\copy t from c.csv', 'SELECT * FROM t WHERE k > 4'), 0,
+                   'COPY 2\n k |    o | s\n---+------+---\n 7 | NULL | t\n 8 | NULL | f\n(2 rows)\n', '')
+        self.write('d.csv', 'k\n' + ''.join(f'{number}\n' for number in range(10, 1010)))
+        self.assertEqual(self.run_shell('root', '\\copy t (k) from d.csv', 'SELECT count(*) FROM t').stdout.split(), ['COPY', '1000', 'count(*)', '----------', '1006', '(1', 'row)'])
+
+    def test_copies_over_a_server(self):
+        """The types of the columns are tried out, outside a block."""
+        self.write('a.csv', self.CSV)
+        with served(self.path, connections=4) as port:
+            wait_for(port)
+            self.tells(self.run_shell('root', 'DELETE FROM t', '\\copy t from a.csv', '\\copy t (k, o, s) to b.csv', place=str(port)), 0,
+                       'DELETE 4\nCOPY 4\nCOPY 4\n', '')
+            self.assertEqual(self.read('b.csv'), self.CSV)
+            for texts, status, text in [(['\\copy t to b.csv'], 3, 'The columns of t are not known here'), (['BEGIN', '\\copy t from a.csv'], 3, 'The types of'),
+                                        (['\\copy nothing from a.csv'], 3, 'ERROR:  42P01')]:
+                done = self.run_shell('root', *texts, place=str(port))
+                self.assertEqual((done.returncode, done.stderr[:len(text)]), (status, text))
+
+    def test_what_is_not_copied(self):
+        """Then no row of the file is inserted, and a block that was open is as a refusal leaves it."""
+        for text, message in [('k\nx\n', 'a.csv: line 2: This is no BIGINT for the column k.'), ('k,s\n5,maybe\n', 'a.csv: line 2: This is no BOOLEAN for the column s.'),
+                              ('k,o\n5\n', 'a.csv: line 2: There are 1 fields for 2 columns.'), ('k,o\n5,"x', 'a.csv: line 2: A quote stands'),
+                              ('k,o\n5,x"y\n', 'a.csv: line 2: A quote stands'), ('', 'a.csv: The first line does not name columns.'),
+                              ('k,k\n5,6\n', 'a.csv: The first line does not name columns.'), ('k,other\n5,6\n', 'ERROR:  42703'),
+                              ('k\n5\n2\n', 'ERROR:  23505'), (f'k\n{2 ** 63}\n', 'a.csv: line 2: This is no BIGINT')]:
+            with self.subTest(text):
+                self.write('a.csv', text)
+                done = self.run_shell('root', '\\copy t from a.csv')
+                self.assertEqual((done.returncode, done.stdout, done.stderr[:len(message)]), (3, '', message))
+                self.assertEqual(self.run_shell('root', 'SELECT count(*) FROM t').stdout.split()[2], '4')
+        self.tells(self.run_shell('root', '\\copy t from none.csv'), 1, '', 'none.csv cannot be read: No such file or directory.\n')
+        for text in ('\\copy t', '\\copy t into a.csv', '\\copy (SELECT 1) from a.csv', '\\copy t from a.csv binary'):
+            self.assertTrue(self.run_shell('root', text).stderr.startswith(('Write \\copy', 'Wrong arguments')), text)
+        self.write('a.csv', 'k\n5\n2\n')
+        done = self.run_shell('root', 'BEGIN', 'DELETE FROM t', '\\copy t (k) from a.csv', 'COMMIT')
+        self.assertEqual(done.stdout, 'BEGIN\nDELETE 4\nCOPY 2\nCOMMIT\n')
+
+    def test_a_pager(self):
+        """It shows what is longer than the terminal; where it cannot be run, or is off, the answer is shown without it."""
+        join = 'SELECT t.k FROM t, t u, t v;\r'
+        for pager, first in [("sed 's/^/paged: /'", 'paged:  t.k'), ('no-such-pager', ' t.k')]:
+            with Terminal(['env', f'PAGER={pager}', *self.words(self.path, 'root')], self.folder) as terminal:
+                terminal.until('root=> ')
+                shown = terminal.answer(join, 'root=> ')
+                self.assertIn(f'\n{first}\n', shown)
+                self.assertEqual(shown.count('paged:'), 67 * first.startswith('paged'))
+                self.assertNotIn('paged', terminal.answer('SELECT k FROM t;\r', 'root=> '))
+                terminal.answer('\\pset pager off\r', 'root=> ')
+                self.assertNotIn('paged', terminal.answer(join, 'root=> '))
+                terminal.type(CONTROL_D)
+                self.assertEqual(terminal.end(), 0)
+
+    def test_an_editor(self):
+        """What it leaves is run, or is still to be ended; what it does not change is not run again."""
+        editor = os.path.join(self.folder, 'editor')
+        with open(editor, 'w', encoding='utf-8') as file:
+            file.write('#!/bin/sh\nsed -i "s/9/1;/" "$1"\n')
+            os.chmod(file.name, 0o755)
+        self.write('a.sql', "SELECT 'of a file'\n;\n")
+        with Terminal(['env', f'EDITOR={editor}', *self.words(self.path, 'root')], self.folder) as terminal:
+            terminal.until('root=> ')
+            self.assertIn('SELECT\n', terminal.answer('SELECT\r', 'root-> '))
+            terminal.answer('9\r', 'root-> ')
+            self.assertEqual(terminal.answer('\\e\r', 'root=> '), '\\e\nSELECT\n1;\n 1\n---\n 1\n(1 row)\n')
+            self.assertEqual(terminal.answer('\\e\r', 'root=> '), '\\e\n')
+            self.assertIn('\n of a file\n(1 row)\n', terminal.answer('\\e a.sql\r', 'root=> '))
+            terminal.type(CONTROL_D)
+            self.assertEqual(terminal.end(), 0)
+        with Terminal(['env', 'EDITOR=false', *self.words(self.path, 'root')], self.folder) as terminal:
+            terminal.until('root=> ')
+            self.assertIn('false ended with status 1: nothing was run.', terminal.answer('\\e\r', 'root=> '))
+            terminal.type(CONTROL_D)
+            self.assertEqual(terminal.end(), 0)
+        self.tells(self.run_shell('root', '\\e'), 3, '', '\\e edits in a terminal alone.\n')
+
+
 class Faults(InAFolder):
     """Streams, signals and servers that fail."""
 
@@ -618,7 +837,7 @@ class Faults(InAFolder):
         done = subprocess.run(['sh', '-c', 'exec "$@" <&-', 'sh', *self.words(self.path, 'root')], capture_output=True,
                               env=environment(self.folder), timeout=PATIENCE)
         self.assertEqual((done.returncode, done.stdout, done.stderr), (1, b'', b'Standard input is closed.\n'))
-        self.assertEqual(self.run_shell('root', 'SELECT * FROM t').stdout, ' 1 | a\n 2 | NULL\n(2 rows)\n')
+        self.assertEqual(self.run_shell('root', 'SELECT * FROM t').stdout, ' k | o\n---+------\n 1 | a\n 2 | NULL\n(2 rows)\n')
         self.is_left_alone()
 
     def test_a_pipe_that_is_broken(self):
@@ -983,9 +1202,9 @@ class Keys(InAFolder):
     def test_a_table_that_is_wider_than_the_terminal(self):
         with self.terminal(self.path, 'root', columns=60) as terminal:
             terminal.until('root=> ')
-            self.assertIn('\n-[ 1 ]-----\n1 | 1\n2 | \'long ', terminal.answer('SELECT * FROM t;\r', 'root=> '))
+            self.assertIn('\n-[ 1 ]-----\nk | 1\no | \'long ', terminal.answer('SELECT * FROM t;\r', 'root=> '))
             self.assertIn('Expanded display is off.', terminal.answer('\\x off\r', 'root=> '))
-            self.assertIn("\n 1 | 'long ", terminal.answer('SELECT * FROM t;\r', 'root=> '))
+            self.assertIn("\n---+-", terminal.answer('SELECT * FROM t;\r', 'root=> '))
             terminal.type('quit\r')
             self.assertEqual(terminal.end(), 0)
 
