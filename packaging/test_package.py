@@ -22,7 +22,7 @@ import guarddb      # noqa: E402
 STARTS = f'#!/bin/sh\nexec {shlex.quote(PROGRAM)} "$@"\n'     # what is packed, since the program may find its parts by its own path
 PRESENT = [('usr/bin/guarddb', 0o755), ('usr/bin/guarddb-shell', 0o755), ('usr/lib/python3/dist-packages/guarddb.py', 0o644),
            ('usr/lib/python3/dist-packages/guarddb_syntax.py', 0o644), ('usr/lib/python3/dist-packages/guarddb_layout.py', 0o644),
-           ('usr/share/guarddb/shell.py', 0o644), ('usr/share/guarddb/shell_display.py', 0o644),
+           ('usr/share/guarddb/shell.py', 0o644), ('usr/share/guarddb/alter.py', 0o644), ('usr/share/guarddb/shell_display.py', 0o644),
            ('usr/lib/systemd/system/guarddb@.service', 0o644), ('usr/lib/sysusers.d/guarddb.conf', 0o644),
            ('etc/guarddb/example.conf.sample', 0o644), ('usr/share/man/man1/guarddb.1.gz', 0o644),
            ('usr/share/man/man1/guarddb-shell.1.gz', 0o644), ('usr/share/doc/guarddb/copyright', 0o644),
