@@ -3,8 +3,8 @@
 
 tests/second_program.py hands it the lines, and python3 journals.py makes them. It shares nothing with the code, and keeps of a device
 only how many commits it has, its root's number and where its records end (docs/formats.md). What it says beside that is what is promised:
-that a record writes its parts and syncs; that a commit to the pages writes a leaf, a map page, and, after a sync, the root; that no
-record or commit is lost, and that none is half there. Where a journal is turned on or off, it keeps the formats of the two roots too.
+that a record reads the first page, writes it with its parts, and syncs; that a commit to the pages writes a leaf, a map page, and, after
+a sync, the root; that no record or commit is lost, and that none is half there. Where a journal is turned on or off, it keeps the formats of the two roots too.
 Where a line asks for what nothing promises, it ends with an error. The lines are described at the head of src/journals.rt.
 """
 import typing
@@ -13,7 +13,7 @@ PART = 488                  # of a record's bytes in a sector
 FIRST, ROOM = 2, 6          # the sectors of a journal
 LEAF = 4096 - 4             # of the cells of a leaf
 PAGES = [8 * page + sector for page in (1, 2) for sector in range(8)]       # those of a leaf and a map page, or of other pages
-JOURNAL = list(range(FIRST, FIRST + ROOM))
+FIRST_PAGE = list(range(8)) # which a write of sectors of the journal reads and writes
 MOST_CHANGES = 12           # wait in a journal behind a tree of one leaf, for which a device of 64 pages has room
 
 
@@ -51,17 +51,19 @@ class Script:
                 assert name in ("put", "remove")
 
     def steps(self, holding):
-        """The sectors that the next commit writes, those before each sync together, and what the device has after it."""
+        """The sectors that the next commit writes, those before each sync together, what the device has after it, and the sectors
+        that make it whole."""
         if holding.made >= len(self.batches):
-            return [], holding._replace(made=holding.made + 1)
+            return [], holding._replace(made=holding.made + 1), []
         changes, parts = self.batches[holding.made]
         made, waiting = holding.made + 1, holding.waiting + changes
         if holding.end + parts <= ROOM:
             assert waiting <= MOST_CHANGES, "nothing promises a record"
             first = FIRST + holding.end
-            return [list(range(first, first + parts))], holding._replace(made=made, end=holding.end + parts, waiting=waiting)
+            after = holding._replace(made=made, end=holding.end + parts, waiting=waiting)
+            return [FIRST_PAGE], after, list(range(first, first + parts))
         root = holding.root + 1
-        return [PAGES, [root % 2]], Holding(made, root)
+        return [PAGES, [root % 2]], Holding(made, root), [root % 2]
 
 
 CHOICES = [lambda sector: False, lambda sector: True, lambda sector: sector % 2 == 0, lambda sector: sector % 2 == 1]
@@ -82,12 +84,13 @@ def unsynced_after(steps, writes):
     return [], True, len(steps)
 
 
-def left_after(steps, before, after, unsynced, syncs, is_new):
-    """What the device has after such a stop: what comes last of a commit decides, if all of it is there."""
+def left_after(steps, before, after, whole, unsynced, syncs, is_new):
+    """What the device has after such a stop: the sectors that make a commit whole decide, if all of them are there. The others that
+    are written with them are as they were."""
     if syncs == len(steps):
         return after
     is_last = syncs == len(steps) - 1
-    return after if is_last and len(unsynced) == len(steps[-1]) and all(map(is_new, unsynced)) else before
+    return after if is_last and all(sector in unsynced and is_new(sector) for sector in whole) else before
 
 
 class Stops:
@@ -105,14 +108,14 @@ class Stops:
 
     def stop_at(self, holding, life, index):
         while holding.made < index:
-            _, holding = self.script.steps(holding)
-        steps, after = self.script.steps(holding)
+            _, holding, _ = self.script.steps(holding)
+        steps, after, whole = self.script.steps(holding)
         is_whole, writes = False, 0
         while not is_whole:
             unsynced, is_whole, syncs = unsynced_after(steps, writes)
             self.stops, writes = self.stops + 1, writes + 1
             for is_new in choices_for(unsynced):
-                self.waiting.append((left_after(steps, holding, after, unsynced, syncs, is_new), life + 1))
+                self.waiting.append((left_after(steps, holding, after, whole, unsynced, syncs, is_new), life + 1))
 
     def live(self, holding, life):
         self.restarts += 1
@@ -133,7 +136,7 @@ def committed(script, kind):
     """What a device has after the next commit."""
     if kind.form == 2:
         return Kind(Holding(kind.holding.made + 1, kind.holding.root + 1), 2, 2)
-    _, holding = script.steps(kind.holding)
+    _, holding, _ = script.steps(kind.holding)
     return Kind(holding, 3, kind.other if holding.root == kind.holding.root else 3)
 
 
@@ -144,11 +147,11 @@ def under(kind, root, form):
 
 def turned(kind, word):
     """The sectors that turning a journal on or off writes, those before each sync together, and what the device has once these are
-    there. `on` puts zeros in place of the journal, and then the next root says that there is one. `off` brings what waits to the
+    there. `on` writes the first page with zeros in place of the journal, and then the next root says that there is one. `off` brings what waits to the
     pages under the next root; the one after that says that there is no journal, and the sector of the one before it becomes empty."""
     root = kind.holding.root + 1
     if word == "on" and kind.form == 2:
-        return [(JOURNAL, kind), ([], kind), ([root % 2], under(kind, root, 3))]
+        return [(FIRST_PAGE, kind), ([], kind), ([root % 2], under(kind, root, 3))]
     if word == "off" and kind.form == 3:
         pages, off = under(kind, root, 3), under(under(kind, root, 3), root + 1, 2)
         return [(PAGES if kind.holding.end else [], kind), ([root % 2], pages), ([], pages), ([(root + 1) % 2], off),
@@ -190,9 +193,10 @@ def failing(script):
     calls = devices = 0
     holding = Holding()
     for _ in script.batches:
-        steps, holding = script.steps(holding)
+        steps, holding, _ = script.steps(holding)
         for sectors in steps:
-            for unsynced in range(len(sectors) + 1):        # so many writes, and then a write or the sync
+            reads = len(sectors) if sectors == FIRST_PAGE else 0
+            for unsynced in [0] * reads + list(range(len(sectors) + 1)):        # a read, or so many writes, and then a write or the sync
                 calls += 2
                 devices += 2 * (1 + len(choices_for(sectors[:unsynced])))
     return f"{calls} failing calls, {devices} devices, 0 disagreements"
@@ -202,7 +206,7 @@ def counted(script):
     writes = syncs = 0
     holding = Holding()
     for _ in script.batches:
-        steps, holding = script.steps(holding)
+        steps, holding, _ = script.steps(holding)
         writes, syncs = writes + sum(map(len, steps)), syncs + len(steps)
     return f"{writes} sectors, {syncs} syncs, 0 disagreements"
 
@@ -256,7 +260,7 @@ MANY = " ".join(f"put:{row % 7 + 0x61:02x}:{row % 251:02x} commit" for row in ra
 
 
 def lines():
-    yield "# What commits of one row write: six records of one sector and one sync, and then the pages with two"
+    yield "# What commits of one row write: six records, each with the first page and one sync, and then the pages with two"
     yield from [f"counts:256 {ROWS}", f"counts:256 {LONG}", f"counts:1 {MIXED}", f"counts:256 {MANY}"]
     yield "# Stops, up to three lives deep, with a cache of all pages and with one of one page"
     yield from [f"stops:256:3:151 {ROWS}", f"stops:1:1:1 {ROWS}", f"stops:256:2:211 {LONG}", f"stops:1:3:173 {MIXED}"]

@@ -3,8 +3,8 @@
 
 tests/second_program.py hands it the lines, and python3 stores.py makes them. It shares nothing with the code: it keeps a dictionary for each tree and each store, and reads nodes and devices as
 docs/formats.md describes them. What it says beside that is what is promised: that a commit of one change writes a leaf, a map
-page and a root, and syncs before the root and after it; that with a journal it is a record, which takes one sync, where that has
-room behind the others, and else all that waits is made in the pages with it; that a page which is read or written stays in a cache that has room for
+page and a root, and syncs before the root and after it; that with a journal it is a record, which takes a read and a
+write of the first page and one sync, where that has room behind the others, and else all that waits is made in the pages with it; that a page which is read or written stays in a cache that has room for
 it; that a store takes what it has room for; that leaves of keys which rise are nine tenths full. Where a line asks for what
 nothing promises, it ends with an error. The calls are described at the head of src/stores.rt.
 """
@@ -17,7 +17,9 @@ MAGIC = b"GUARDDB1"
 JOURNAL_MAGIC = b"GDBJ"
 JOURNAL_START, PARTS, PART = 2, 6, 488  # the sectors of a journal, and a record's bytes in each
 MOST_CHANGES = 6  # wait in a journal, for which the devices here have room
-COMMIT_WRITES = 17  # of one change in the place of another: two pages of eight sectors, and a root
+# How many sectors a commit of one change in the place of another reads and writes before each sync: two pages, and a root
+PAGES_STEPS = [(0, 16), (0, 1)]
+RECORD_STEPS = [(8, 8)]  # and those of a record: the first page
 KEYS = 1024
 BATCHES = 200
 
@@ -397,9 +399,10 @@ class Store(Table):
         return "ok"
 
     def steps(self, changes, after, form):
-        """How many sectors are written before each sync, none where that is not promised, and what the store has after them."""
+        """How many sectors are read and written before each sync, none where that is not promised, and what the store has after
+        them."""
         one = len(changes) == 1 and all(value is not None and len(self.entries.get(key, b"")) == len(value) for key, value in changes.items())
-        pages = [COMMIT_WRITES - 1, 1] if one or not changes or size_of(after) <= ROOM else None
+        pages = PAGES_STEPS if one or not changes or size_of(after) <= ROOM else None
         if form != 3:
             is_other = after != self.entries or form != self.held.form
             return pages, Held(self.held.number + is_other, after, form)
@@ -407,7 +410,7 @@ class Store(Table):
         root, end, waiting = self.held.root, self.held.end + parts, self.held.waiting + len(changes)
         if end <= PARTS:
             assert waiting <= MOST_CHANGES, "nothing promises a record"
-            return [parts], Held(self.held.number + 1, after, 3, root, end, waiting)
+            return RECORD_STEPS, Held(self.held.number + 1, after, 3, root, end, waiting)
         return pages, Held(max(self.held.number, root + 1), after, 3, root + 1)
 
     def record_format(self):
@@ -477,7 +480,7 @@ class Device:
         return size <= room
 
     def makes(self, steps, before, after):
-        """Whether the device lets a commit pass that writes so many sectors before each sync, and keeps what it has then."""
+        """Whether the device lets a commit pass that reads and writes so many sectors before each sync, and keeps what it has then."""
         self.image, self.last, self.synced = None, after, after
         if self.writes_left is None and self.calls_left is None:
             return True
@@ -495,22 +498,23 @@ class Device:
         if syncs == len(steps):
             return True
         self.last = self.synced = before
-        if syncs == len(steps) - 1 and writes == steps[-1]:
+        is_record = steps is RECORD_STEPS
+        if syncs == len(steps) - 1 and writes >= (JOURNAL_START + after.end if is_record else steps[-1][1]):
             self.last = after
-        elif after.form == 3 and len(steps) == 1 and writes > 0:
+        elif is_record and writes > JOURNAL_START + before.end:
             # Of a record that was cut off nothing is left but its number.
             self.last = before._replace(number=after.number)
         return False
 
     def writes_that_pass(self, steps):
         """How many sectors are written after the last sync that passes, and how many syncs pass."""
-        for syncs, sectors in enumerate(steps):
-            left = self.calls_left if self.writes_left is None else self.writes_left
-            if left < sectors or left == sectors:
+        for syncs, (reads, sectors) in enumerate(steps):
+            left = self.calls_left - reads if self.writes_left is None else self.writes_left
+            if left <= sectors:
                 self.calls_left, self.writes_left = None, None if self.writes_left is None else 0
-                return min(left, sectors), syncs
+                return max(0, min(left, sectors)), syncs
             if self.writes_left is None:
-                self.calls_left -= sectors + 1
+                self.calls_left -= reads + sectors + 1
             else:
                 self.writes_left -= sectors
         return 0, len(steps)
@@ -802,15 +806,15 @@ def lines_of_journals():
     yield from laid_out("open:256", put_each(40, 2, 10, 7) + ["rise:0:20:400*07", "commit", "number", "put:00000003:09", "commit", "number", "scan"])
     yield from ["restart:synced", AGAIN]
     yield "# A stop within a record leaves what was there, under its number or the next; behind its last sector it leaves the record too"
-    for size, writes in [(10, 0), (10, 1), (10, 2), (1200, 0), (1200, 1), (1200, 2), (1200, 3), (1200, 4)]:
+    for size, writes in [(10, 0), (10, 3), (10, 4), (10, 8), (10, 9), (1200, 0), (1200, 3), (1200, 4), (1200, 5), (1200, 6), (1200, 9)]:
         for kind in ["synced", "last"]:
             yield from [JOURNALED, "open:256 put:61:07 commit put:62:%d*08 stop:%d commit get:61" % (size, writes), "restart:" + kind]
             yield from laid_out("open:256", ["number", "scan", "put:63:500*09", "commit", "number", "get:62"])
             yield from ["restart:synced", AGAIN]
-    yield "# A call fails within a record, and within a commit to the pages with two syncs"
-    for calls in [0, 1, 16, 17, 18, 19]:
+    yield "# A call fails within a record, and behind it, and within a commit to the pages with two syncs and behind it"
+    for calls, records in [(0, 0), (8, 0), (10, 0), (11, 0), (16, 0), (17, 0), (16, 6), (17, 6), (18, 6), (19, 6)]:
         yield JOURNALED
-        first = put_each(1, 6, 10, 7) if calls >= 16 else []
+        first = put_each(1, records, 10, 7)
         yield from laid_out("open:256", first + ["put:00000001:10*08", "fail:%d" % calls, "commit", "commit"])
         yield from ["restart:last", AGAIN]
 

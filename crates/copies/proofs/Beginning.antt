@@ -30,7 +30,7 @@ use Rattle.kv_store.specs.PageStore.{pages_of, store_state}
 use Rattle.copies.specs.RecordCopies.{mark}
 use Rattle.copies.specs.declared.fault.CopyFault.{CopyFault}
 use Rattle.copies.specs.declared.fault.CopyFault.TheVariants.{Pages, Read, Write, WrongSize, Full}
-use Rattle.copies.specs.DeviceCopies.{CannotBegin, HasNoneOrMark, IsBegun, IsNotBegun, Marks, marked, records_on, told_opening}
+use Rattle.copies.specs.DeviceCopies.{CannotBegin, HasNoneOrMark, IsBegun, IsNotBegun, Marks, marked, records_on, of_target}
 
 -- the root names as many pages as the device has
 pub sectors_are : {D : Type 0} {g : Ghosts D} (p : CowPages D g) → (root_of p).pages ≡ (device_below p).sectors / 8
@@ -157,7 +157,7 @@ module _ (d e : DeviceState) (size : is_size d.sectors ≡ true) (writes : Write
       by_fault pages.Device not is failed = failed_later d e f writes.history cannot.history (failed refl)
       by_fault pages.Memory not is failed = absurd (not refl)
 
-  pub refused : {D : Type 0} (g : Ghosts D) (fault : OpenFault) (old new : D) → g.state old ≡ d → (e.faithful → IsLeft e e.content) → CannotOpen e fault (g.state new) → CannotBegin g (told_opening fault) old new
+  pub refused : {D : Type 0} (g : Ghosts D) (fault : OpenFault) (old new : D) → g.state old ≡ d → (e.faithful → IsLeft e e.content) → CannotOpen e fault (g.state new) → CannotBegin g (of_target fault) old new
   refused g fault old new same content cannot =
       by_fault fault cannot
     where
@@ -165,7 +165,7 @@ module _ (d e : DeviceState) (size : is_size d.sectors ≡ true) (writes : Write
       of_device named other is =
           subst (λ (s : DeviceState). IsNotBegun s (g.state new) × (s.faithful → HasFailed s (g.state new))) (sym same) (not_begun (g.state new) named is, not_named (g.state new) named content is other)
 
-      by_fault : (named : OpenFault) → CannotOpen e named (g.state new) → CannotBegin g (told_opening named) old new
+      by_fault : (named : OpenFault) → CannotOpen e named (g.state new) → CannotBegin g (of_target named) old new
       by_fault pages.WrongSize is = of_device pages.WrongSize (λ bad. let no : pages.WrongSize ≡ pages.Memory = bad in cc) is
       by_fault pages.NotADatabase is = of_device pages.NotADatabase (λ bad. let no : pages.NotADatabase ≡ pages.Memory = bad in cc) is
       by_fault pages.Damaged is = of_device pages.Damaged (λ bad. let no : pages.Damaged ≡ pages.Memory = bad in cc) is

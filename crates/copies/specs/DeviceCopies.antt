@@ -118,10 +118,10 @@ abbrev pub Begins : {D : Type 0} (g : Ghosts D) → D → Result (PageStore D g)
 Begins g old (Ok store) = IsBegun (g.state old) store
 Begins g old (Err refused) = CannotBegin g refused.1 old refused.0
 
--- why a store that has just been made is not opened: its device failed, unless memory was refused
-abbrev pub told_opening : OpenFault → CopyFault
-told_opening opening.WrongSize = Write write.Device
-told_opening opening.NotADatabase = Write write.Device
-told_opening opening.Damaged = Write write.Device
-told_opening opening.Device = Write write.Device
-told_opening opening.Memory = Write write.Memory
+-- why a store is not made, or not opened once it is: its device failed, unless memory was refused
+abbrev pub of_target : OpenFault → CopyFault
+of_target opening.WrongSize = Write write.Device
+of_target opening.NotADatabase = Write write.Device
+of_target opening.Damaged = Write write.Device
+of_target opening.Device = Write write.Device
+of_target opening.Memory = Write write.Memory

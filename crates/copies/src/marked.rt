@@ -1,12 +1,12 @@
 //! A new store that has the mark of a copy alone.
 
 ghost use Rattle.std.specs.Prelude.{◌≡◌, IfErr, IfOk};
-ghost use Rattle.copies.specs.DeviceCopies.{Begins, Marks, told_opening};
+ghost use Rattle.copies.specs.DeviceCopies.{Begins, Marks, of_target};
 
 use crate::fault::CopyFault;
 use crate::mark::mark_of_a_copy;
 use cow_pages::page_count;
-use kv_store::{FormatFault, OpenFault, PageStore, StoreFault};
+use kv_store::{OpenFault, PageStore, StoreFault};
 use sector_device::Device;
 use std::alloc::Global;
 
@@ -24,13 +24,13 @@ pub(crate) fn marked_store<D: Device>(
     }
     match PageStore::open(alloc, target) {
         Ok(store) => Ok(store),
-        Err((target, fault)) => Err((target, fault_of_opening(fault))),
+        Err((target, fault)) => Err((target, fault_of_target(fault))),
     }
 }
 
-// Why a store that has just been made is not opened: its device failed, unless memory was refused.
-fn fault_of_opening(fault: OpenFault) -> CopyFault
-    ensures { result ≡ told_opening fault }
+// Why a store is not made, or not opened once it is: its device failed, unless memory was refused.
+fn fault_of_target(fault: OpenFault) -> CopyFault
+    ensures { result ≡ of_target fault }
 {
     match fault {
         OpenFault::Memory => CopyFault::Write(StoreFault::Memory),
@@ -51,7 +51,6 @@ fn mark_device<D: Device>(alloc: Global, target: &mut D) -> Result<(), CopyFault
     };
     match PageStore::format(alloc, target, &mark) {
         Ok(()) => Ok(()),
-        Err(FormatFault::Memory) => Err(CopyFault::Write(StoreFault::Memory)),
-        Err(FormatFault::Device) => Err(CopyFault::Write(StoreFault::Device)),
+        Err(fault) => Err(fault_of_target(fault)),
     }
 }

@@ -2,7 +2,7 @@
 use Rattle.std.proofs.Common.{◌≡◌, ◌<◌, ◌≤◌, ◌+◌, ◌*◌, ◌/◌, ◌⊎◌, ℕ, List, Bool, true, false, if◌then◌else◌, Option, Some, None, Result, Ok, Err, IfErr, get_or, refl, sym, ap, subst, ◌∙◌, arith, inl, inr}
 use Rattle.std.specs.Prelude.{IsErrOf}
 use Rattle.std.proofs.lemmas.List.{get_or_default}
-use Rattle.sector_device.specs.Device.{DeviceState, Image, IsSynced}
+use Rattle.sector_device.specs.Device.{DeviceState, Image, HasFailed, IsSynced}
 use Rattle.page_roots.specs.Root.{RootFields, home}
 use Rattle.page_roots.specs.Sector.{root_at}
 use Rattle.page_roots.specs.Chosen.{IsChosen, IsOlder}
@@ -11,7 +11,7 @@ use Rattle.page_roots.specs.MapPage.{entries_in}
 use Rattle.page_roots.proofs.Choosing.{chosen_where}
 use Rattle.cow_pages.specs.Image.{is_size, first_fault, fault_of_image, fault_of_root, bytes_of_page}
 use Rattle.cow_pages.specs.Held.{AreSpelled, IsSettled, IsFixedPage}
-use Rattle.cow_pages.specs.Opening.{IsRootFound, IsNamedFor}
+use Rattle.cow_pages.specs.Opening.{IsRootFound, IsNamedFor, IsOfReading, NamesFault}
 use Rattle.cow_pages.specs.declared.open.OpenFault.{OpenFault}
 use Rattle.cow_pages.specs.declared.open.OpenFault.TheVariants.{WrongSize, NotADatabase, Damaged, Device, Memory}
 use Rattle.cow_pages.proofs.Bytes.{same_page}
@@ -34,7 +34,7 @@ named_after fault first (inr memory) after = rw memory after
 
 -- what a `?` gives back
 pub given_back : {T : Type 0} (r : Result T OpenFault) (fault : OpenFault) (first : Option OpenFault) → (x : OpenFault) × (r ≡ Err x) × (x ≡ fault) → IsNamedFor fault first
-    → IfErr r (λ e. IsNamedFor e first)
+    → NamesFault r first
 given_back r fault first p named = rw (p.1, p.2) named
 
 -- where a device failure is given back, it was one
@@ -54,6 +54,23 @@ damage_given r damaged is = let e : Damaged ≡ Device = device_given r Damaged 
 
 pub none_given : {T P : Type 0} (x : T) → IsErrOf (Ok x) Device → P
 none_given x is = let e : Ok x ≡ Err Device = is in absurd cc
+
+-- a read is refused because the device failed, or for memory
+pub device_read : (fault : OpenFault) (old new : DeviceState) → fault ≡ Device → HasFailed old new → IsOfReading fault old new
+device_read fault old new is failed = rw is failed
+
+pub memory_read : (fault : OpenFault) (old new : DeviceState) → fault ≡ Memory → IsOfReading fault old new
+memory_read fault old new is = rw is tt
+
+pub read_named : (fault : OpenFault) (old new : DeviceState) → IsOfReading fault old new → (fault ≡ Device) ⊎ (fault ≡ Memory)
+read_named WrongSize old new is = absurd is
+read_named NotADatabase old new is = absurd is
+read_named Damaged old new is = absurd is
+read_named Device old new is = inl refl
+read_named Memory old new is = inr refl
+
+pub read_failed : (fault : OpenFault) (old new : DeviceState) → fault ≡ Device → IsOfReading fault old new → HasFailed old new
+read_failed fault old new is read = subst (λ (f : OpenFault). IsOfReading f old new) is read
 
 -- a fault that is given back is such a one
 pub fault_given : {T : Type 0} (r : Result T OpenFault) (P : OpenFault → Type 0) (x : OpenFault) → r ≡ Err x → P x → IfErr r P

@@ -1,6 +1,7 @@
 -- What each call on pages over a device does, by its answer.
-use Rattle.std.specs.Prelude.{◌≡◌, ◌+◌, ◌-◌, ◌^◌, ◌<◌, ◌⊎◌, ℕ, List, Some, None, Result, Err, IsOk, IsSome, MatchResult, true, false, slice_index}
-use Rattle.sector_device.specs.Device.{DeviceState, KeepsHistory, HasFailed}
+use Rattle.std.specs.Prelude.{◌≡◌, ◌+◌, ◌-◌, ◌^◌, ◌<◌, ◌⊎◌, ℕ, List, Some, None, Result, Err, IsOk, IsSome, OnOk, MatchResult, true, false, slice_index}
+use Rattle.sector_device.specs.Device.{DeviceState, KeepsHistory, KeepsSize, HasFailed, IsSynced}
+use Rattle.sector_device.specs.Sectors.{HoldsSectors, WritesSectors}
 use Rattle.sector_device.specs.declared.device.Device.{Ghosts}
 use Rattle.page_roots.specs.declared.format.Format.{Format}
 use Rattle.cow_pages.specs.declared.cow.CowPages.{CowPages}
@@ -184,6 +185,15 @@ Commits next result old new = MatchResult result (λ _. IsCommitted next old new
 abbrev pub CommitsNothing : {D : Type 0} {g : Ghosts D} → Format → Result (Unit {0}) CommitFault → CowPages D g → CowPages D g → Type 0
 CommitsNothing next result old new = old.map.root.format ≡ next → old.map.working.items ≡ old.map.durable.items
     → (new.device ≡ old.device) × (old.has_failed ≡ false → IsOk result)
+
+-- ---- write_protected
+
+-- each of these sectors is written by itself, and no other; where that is done they have these bytes, which alone a stop leaves
+pub record WritesProtected {E : Type 0} (first : ℕ) (sectors : List (List ℕ)) (result : Result (Unit {0}) E) (old new : DeviceState) : Type 0 where
+  pub size : KeepsSize old new
+  pub writes : old.faithful → WritesSectors first sectors old new
+  pub written : old.faithful → OnOk result (HoldsSectors first sectors new.content)
+  pub synced : old.faithful → OnOk result (IsSynced new)
 
 -- ---- within the calls that write
 

@@ -1,5 +1,5 @@
 -- How the durable root changes.
-use Rattle.std.specs.Prelude.{◌≡◌, ◌<◌, ◌+◌, ◌*◌, ◌⊎◌, ℕ, List, Result, MatchResult, slice_index}
+use Rattle.std.specs.Prelude.{◌≡◌, ◌<◌, ◌≤◌, ◌+◌, ◌*◌, ◌⊎◌, ℕ, List, Result, MatchResult, length, slice_index}
 use Rattle.sector_device.specs.Timeline.{LeavesOnly}
 use Rattle.sector_device.specs.Device.{DeviceState, Image, timeline}
 use Rattle.sector_device.specs.Page.{IsOutside}
@@ -37,6 +37,13 @@ pub record CanSwitch (d : DeviceState) (root : RootFields) (durable : List ℕ) 
   pub pages_is : next.pages ≡ root.pages
   pub spelled : AreSpelled (bytes_of_page d.content) next.maps working
   pub sound : IsSound next.pages next.maps working
+
+-- what the write of map pages needs: these pages, where 0 is none, are on the device, no two are the same, and the entries have a part for each
+pub record CanWriteMaps (d : DeviceState) (pages entries : List ℕ) : Type 0 where
+  pub inside : (j : ℕ) → 8 * slice_index pages j + 8 ≤ d.sectors
+  pub size : d.sectors ≤ 524288
+  pub differ : (j k : ℕ) → 0 < slice_index pages j → slice_index pages j ≡ slice_index pages k → j ≡ k
+  pub count : length entries ≡ 65536
 
 -- what a commit begins with, once the pages of its new map pages are reserved
 pub record CanCommit (d : DeviceState) (map : PageMap) (next : RootFields) : Type 0 where

@@ -105,6 +105,11 @@ pub record StaysDurable {D : Type 0} {g : Ghosts D} (old new : CowPages D g) : T
   pub settled : IsSettled (g.state new.device) old.map.root old.map.durable.items
   pub same : (l : ℕ) → durable_array new l ≡ durable_array old l
 
+-- a stop at any moment between the two leaves the durable array, and so it does from the new one on
+pub record KeepsDurableArray {D : Type 0} {g : Ghosts D} (old new : CowPages D g) : Type 0 where
+  pub leaves : LeavesDurable old new
+  pub stays : StaysDurable old new
+
 -- a logical page has these bytes, or with none is in use no more, and no other has changed
 pub record ChangesPage {D : Type 0} {g : Ghosts D} (page : ℕ) (bytes : Option (List ℕ)) (old new : CowPages D g) : Type 0 where
   pub here : working_array new page ≡ bytes

@@ -17,6 +17,11 @@ IsUnmarked image = (s : ℕ) → s < 2 → begins_with_magic (image s) ≡ false
 abbrev pub IsBlank : DeviceState → Type 0
 IsBlank d = (s : ℕ) → s < 2 → (c : List ℕ) → d.left s c → begins_with_magic c ≡ false
 
+-- the bytes of sector 1 are those of this root, and are read as it
+pub record IsFirstRoot (root : RootFields) (bytes : List ℕ) : Type 0 where
+  pub spelled : bytes ≡ root_bytes root
+  pub read : root_at 1 bytes ≡ Found root
+
 -- the content of the device, but with this root in sector 1
 pub record HasRoot (d : DeviceState) (root : RootFields) (image : Image) : Type 0 where
   pub here : root_at 1 (image 1) ≡ Found root

@@ -44,6 +44,16 @@ pub record FindsNoPage (old new : PageMap) : Type 0 where
 abbrev pub IsNextOf : RootFields → PageMap → PageMap → Type 0
 IsNextOf next old new = IsNextRoot old.root next old.durable.items new.reserved old.working.items
 
+-- there is a next root, with so many map pages, for each of which a page is reserved or the durable one stays
+pub record HasNextRoot (map : PageMap) (count : ℕ) : Type 0 where
+  pub number : map.root.number < 2 ^ 64 - 1
+  pub used : 0 < slice_index map.working.items 0
+  pub least : length map.root.maps ≤ count
+  pub most : count ≤ 64
+  pub each : (j : ℕ) → j < count → HasMapPage map.root.maps map.durable.items map.working.items map.reserved j
+  pub unreserved : (j : ℕ) → count ≤ j → slice_index map.reserved j ≡ 0
+  pub beyond : (l : ℕ) → 1024 * count ≤ l → slice_index map.working.items l ≡ 0
+
 -- why there is no next root
 abbrev pub CannotPrepare : CommitFault → PageMap → Type 0
 CannotPrepare NoRoom map = HasNoMapRoom map.root.pages map.root.maps map.durable.items map.working.items

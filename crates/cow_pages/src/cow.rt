@@ -449,11 +449,10 @@ impl<D: Device> CowPages<D> {
 }
 
 impl<D: ProtectedSectors> CowPages<D> {
-    ghost use Rattle.std.specs.Prelude.{true, false, length, OnOk, IsErr, MatchResult};
-    ghost use Rattle.cow_pages.specs.Cow.{device_below, has_failed, working_array, KeepsMemory, IsFaulted, LeavesDurable, StaysDurable, MakesNoDeviceCall};
+    ghost use Rattle.std.specs.Prelude.{true, false, length, IsErr, MatchResult};
+    ghost use Rattle.cow_pages.specs.Calls.{WritesProtected};
+    ghost use Rattle.cow_pages.specs.Cow.{device_below, has_failed, working_array, KeepsDurableArray, KeepsMemory, IsFaulted, MakesNoDeviceCall};
     ghost use Rattle.cow_pages.specs.Preserved.{HoldsDurable};
-    ghost use Rattle.sector_device.specs.Device.{KeepsSize, IsSynced};
-    ghost use Rattle.sector_device.specs.Sectors.{WritesSectors, HoldsSectors};
 
     /// Writes sectors that the device keeps beside, one after the other, from `first` on, and makes them last with one
     /// sync. A stop during the call or after it leaves in each of them, by itself, what it might have left before or the
@@ -464,19 +463,13 @@ impl<D: ProtectedSectors> CowPages<D> {
         first: u32,
         sectors: &[[u8; SECTOR_SIZE]],
     ) -> Result<(), DeviceFault>
-        requires inside { first + length sectors.now ≤ (device_below self.old).sectors }
+        requires room { SECTORS_PER_PAGE ≤ (device_below self.old).sectors }
         requires beside { (i : ℕ) → i < length sectors.now → (device_below self.old).beside (first + i) }
-        ensures size { KeepsSize (device_below self.old) (device_below self.new) }
-        ensures writes { (device_below self.old).faithful
-            → WritesSectors first sectors.now (device_below self.old) (device_below self.new) }
-        ensures written { (device_below self.old).faithful
-            → OnOk result (HoldsSectors first sectors.now (device_below self.new).content) }
-        ensures synced { (device_below self.old).faithful → OnOk result (IsSynced (device_below self.new)) }
+        ensures device { WritesProtected first sectors.now result (device_below self.old) (device_below self.new) }
         ensures memory { KeepsMemory self.old self.new }
         ensures array { (device_below self.old).faithful
             → (l : ℕ) → working_array self.new l ≡ working_array self.old l }
-        ensures leaves { HoldsDurable self.old → LeavesDurable self.old self.new }
-        ensures stays { HoldsDurable self.old → StaysDurable self.old self.new }
+        ensures durable { HoldsDurable self.old → KeepsDurableArray self.old self.new }
         ensures outcome { MatchResult result (λ _. has_failed self.new ≡ false) (λ _. IsFaulted self.old self.new) }
         ensures closed { has_failed self.old ≡ true → IsErr result × MakesNoDeviceCall self.old self.new }
     {

@@ -4,11 +4,8 @@ ghost use Rattle.std.specs.Prelude.{◌≡◌, ◌≢◌, ◌≤◌, ◌/◌, �
 ghost use Rattle.sector_device.specs.Timeline.{LeavesOnly};
 ghost use Rattle.sector_device.specs.Device.{KeepsHistory, IsSynced, HasFailed, Image, IsLeft, timeline};
 ghost use Rattle.sector_device.specs.Page.{IsAlone, IsOutside};
-ghost use Rattle.page_roots.specs.Root.{home, root_bytes};
-ghost use Rattle.page_roots.specs.Sector.{root_at};
-ghost use Rattle.page_roots.specs.declared.sector.RootSector.TheVariants.{Found};
 ghost use Rattle.cow_pages.specs.Image.{Means, is_size, one_page, first_fault};
-ghost use Rattle.cow_pages.specs.Formatting.{IsUnmarked, IsBlank, IsLeftOrHasRoot, IsNoneOrFirst, first_entries, HasFirstPages, HasFirstBytes};
+ghost use Rattle.cow_pages.specs.Formatting.{IsUnmarked, IsBlank, IsFirstRoot, IsLeftOrHasRoot, IsNoneOrFirst, first_entries, HasFirstPages, HasFirstBytes};
 
 use page_roots::{ENTRIES_PER_MAP_PAGE, Format, Root, empty_sector, write_map_page};
 use sector_device::{Device, DeviceFault, PAGE_SIZE, SECTORS_PER_PAGE, write_page};
@@ -55,10 +52,8 @@ fn finish<D: Device>(device: &mut D, root: &Root) -> Result<(), DeviceFault>
     requires room { 2 ≤ (D.state device.old).sectors }
     requires first { root.now.number ≡ 1 }
     ensures history { KeepsHistory (D.state device.old) (D.state device.new) }
-    ensures root { (D.state device.old).faithful
-        → OnOk result (root_at 1 ((D.state device.new).content 1) ≡ Found root.now) }
-    ensures spelled { (D.state device.old).faithful
-        → OnOk result ((D.state device.new).content 1 ≡ root_bytes root.now) }
+    ensures written { (D.state device.old).faithful
+        → OnOk result (IsFirstRoot root.now ((D.state device.new).content 1)) }
     ensures any_moment { (D.state device.old).faithful
         → LeavesOnly (IsLeftOrHasRoot (D.state device.old) root.now)
         (timeline (D.state device.old)) (timeline (D.state device.new)) }

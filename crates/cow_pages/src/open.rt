@@ -5,10 +5,10 @@ ghost use Rattle.sector_device.specs.Device.{KeepsHistory, IsSynced, HasFailed, 
 ghost use Rattle.cow_pages.specs.Image.{is_size, IsSizeOf, first_fault, fault_of_image, fault_of_root, bytes_of_page};
 ghost use Rattle.cow_pages.specs.Held.{KeepsContent, SpellsEach, AreSpelled, IsSettled};
 ghost use Rattle.page_roots.specs.MapPage.{entries_in};
-ghost use Rattle.page_roots.specs.Reach.{IsSound, IsPage, is_reached};
+ghost use Rattle.page_roots.specs.Reach.{IsPage, is_reached};
 ghost use Rattle.page_allocator.specs.TakenPages.{IsTaken, AreReached};
-ghost use Rattle.cow_pages.specs.PageMap.{IsIdle, EndsWith};
-ghost use Rattle.cow_pages.specs.Opening.{IsRootFound, IsNamedFor};
+ghost use Rattle.cow_pages.specs.PageMap.{IsIdle};
+ghost use Rattle.cow_pages.specs.Opening.{IsMapOf, IsOfReading, IsRootFound, NamesFault};
 
 use crate::page_map::PageMap;
 use crate::spans::Span;
@@ -141,10 +141,8 @@ pub(crate) fn read_maps<D: Device>(
     ensures count { IfOk result (λ entries. length entries.items ≡ 1024 * length root.now.maps) }
     ensures spelled { (D.state device.old).faithful → IfOk result (λ entries.
         SpellsEach (bytes_of_page (D.state device.old).content) root.now.maps entries.items) }
-    ensures cause { IsErrOf result OpenFault.Device
-        → HasFailed (D.state device.old) (D.state device.new) }
     ensures fault { IfErr result (λ fault.
-        (fault ≡ OpenFault.Device) ⊎ (fault ≡ OpenFault.Memory)) }
+        IsOfReading fault (D.state device.old) (D.state device.new)) }
 {
     let maps = root.maps();
     let mut entries = Vec::with_capacity(alloc, MAX_ENTRIES)?;
@@ -169,17 +167,11 @@ pub(crate) fn read_map<D: Device>(
     ensures history { KeepsHistory (D.state device.old) (D.state device.new) }
     ensures reads { (D.state device.old).faithful
         → KeepsContent (D.state device.old) (D.state device.new) }
-    ensures count { IfOk result (λ entries. length entries.items ≡ 65536) }
-    ensures sound { IfOk result (λ entries. IsSound root.now.pages root.now.maps entries.items) }
-    ensures ended { IfOk result (λ entries. EndsWith root.now.maps entries.items) }
+    ensures map { IfOk result (λ entries. IsMapOf root.now entries.items) }
     ensures spelled { (D.state device.old).faithful → IfOk result (λ entries.
         AreSpelled (bytes_of_page (D.state device.old).content) root.now.maps entries.items) }
-    ensures none { (D.state device.old).faithful
-        → OnOk result (fault_of_root root.now.pages (D.state device.old).content (Some root.now)
-        ≡ None) }
-    ensures fault { (D.state device.old).faithful → IfErr result (λ fault.
-        IsNamedFor fault
-        (fault_of_root root.now.pages (D.state device.old).content (Some root.now))) }
+    ensures fault { (D.state device.old).faithful → NamesFault result
+        (fault_of_root root.now.pages (D.state device.old).content (Some root.now)) }
     ensures cause { IsErrOf result OpenFault.Device
         → HasFailed (D.state device.old) (D.state device.new) }
 {
@@ -230,9 +222,7 @@ pub(crate) fn reserve(
 fn arrange(alloc: Global, root: Root, durable: Vec<u32>) -> Result<PageMap, AllocError>
     requires least { 64 ≤ root.pages }
     requires most { root.pages ≤ 65536 }
-    requires count { length durable.items ≡ 65536 }
-    requires sound { IsSound root.pages root.maps durable.items }
-    requires ended { EndsWith root.maps durable.items }
+    requires map { IsMapOf root durable.items }
     ensures root { IfOk result (λ map. map.root ≡ root) }
     ensures durable { IfOk result (λ map. map.durable.items ≡ durable.items) }
     ensures working { IfOk result (λ map. map.working.items ≡ durable.items) }
@@ -263,11 +253,8 @@ pub(crate) fn load<D: Device>(alloc: Global, device: &mut D) -> Result<PageMap, 
         → KeepsContent (D.state device.old) (D.state device.new) }
     ensures settled { (D.state device.old).faithful
         → IfOk result (λ map. IsSettled (D.state device.new) map.root map.durable.items) }
-    ensures none { (D.state device.old).faithful
-        → OnOk result (first_fault (D.state device.old).sectors (D.state device.old).content
-        ≡ None) }
-    ensures fault { (D.state device.old).faithful → IfErr result (λ fault.
-        IsNamedFor fault (first_fault (D.state device.old).sectors (D.state device.old).content)) }
+    ensures fault { (D.state device.old).faithful → NamesFault result
+        (first_fault (D.state device.old).sectors (D.state device.old).content) }
     ensures cause { IsErrOf result OpenFault.Device
         → HasFailed (D.state device.old) (D.state device.new) }
 {

@@ -56,7 +56,7 @@ pub(crate) struct PageMap {
 }
 
 impl PageMap {
-    ghost use Rattle.cow_pages.specs.MapCalls.{ChangesWorkingMap, KeepsMaps, HasNoOwnPage, IsShared, IsUnmapped, GetsPage, FindsNoPage, IsNextOf, CannotPrepare, RestoresPart, KeepsOtherParts, IsUnusedPart, IsUsedFrom, IsChangedAt, IsNeededAt, HasMapPageIn, IsFullWith, IsNextMapPage, IsReplacedMapPage};
+    ghost use Rattle.cow_pages.specs.MapCalls.{ChangesWorkingMap, KeepsMaps, HasNoOwnPage, IsShared, IsUnmapped, GetsPage, FindsNoPage, IsNextOf, HasNextRoot, CannotPrepare, RestoresPart, KeepsOtherParts, IsUnusedPart, IsUsedFrom, IsChangedAt, IsNeededAt, HasMapPageIn, IsFullWith, IsNextMapPage, IsReplacedMapPage};
 
     // The physical page of a logical page, 0 where it is not in use.
     pub(crate) fn page(&self, logical: u32) -> u32
@@ -386,13 +386,7 @@ impl PageMap {
 
     // The next root, of this format and with so many map pages.
     fn next_root(&self, format: Format, count: usize) -> Root
-        requires number { self.now.root.number < 2 ^ 64 - 1 }
-        requires used { 0 < slice_index self.now.working.items 0 }
-        requires least { length self.now.root.maps ≤ count }
-        requires most { count ≤ 64 }
-        requires each { (j : ℕ) → j < count → HasMapPageIn self.now self.now.reserved j }
-        requires unreserved { (j : ℕ) → count ≤ j → slice_index self.now.reserved j ≡ 0 }
-        requires beyond { (l : ℕ) → 1024 * count ≤ l → slice_index self.now.working.items l ≡ 0 }
+        requires { HasNextRoot self.now count }
         ensures next { IsNextOf result self.now self.now }
         ensures format { result.format ≡ format }
     {

@@ -9,7 +9,7 @@ ghost use Rattle.page_roots.specs.MapPage.{entries_in};
 ghost use Rattle.cow_pages.specs.Image.{bytes_of_page};
 ghost use Rattle.cow_pages.specs.Held.{part_of};
 ghost use Rattle.cow_pages.specs.Cached.{AgreesWith};
-ghost use Rattle.cow_pages.specs.Commit.{IsApart, AgreesApart, CanSwitch, SwitchesRoot, CanCommit, WritesNext};
+ghost use Rattle.cow_pages.specs.Commit.{IsApart, AgreesApart, CanSwitch, SwitchesRoot, CanCommit, CanWriteMaps, WritesNext};
 
 use crate::page_map::PageMap;
 use page_cache::PageCache;
@@ -36,11 +36,7 @@ fn write_maps<D: Device>(
     pages: &[u32; MAX_MAP_PAGES],
     entries: &[u32],
 ) -> Result<(), DeviceFault>
-    requires inside { (j : ℕ) → 8 * slice_index pages.now j + 8 ≤ (D.state device.old).sectors }
-    requires size { (D.state device.old).sectors ≤ 524288 }
-    requires differ { (j k : ℕ) → 0 < slice_index pages.now j
-        → slice_index pages.now j ≡ slice_index pages.now k → j ≡ k }
-    requires count { length entries.now ≡ 65536 }
+    requires { CanWriteMaps (D.state device.old) pages.now entries.now }
     ensures history { KeepsHistory (D.state device.old) (D.state device.new) }
     ensures any_moment { (D.state device.old).faithful
         → LeavesOnly (AgreesApart pages.now (D.state device.old))

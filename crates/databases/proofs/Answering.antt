@@ -164,8 +164,8 @@ module _ {S X : Type 0} (Reads : ReadingRelation) (state : S → StoreState) whe
     -- with no session open a server is within the limit
     none_within : (server : Server S X) → (state server.store).sound → LeavesNoSession state server → server.stopped ≡ false → StandsWithinLimit state server
     none_within server sound left works =
-        let none : length left.0.standing.machine.sessions ≡ 0 = ap (λ (m : Machine). length m.sessions) (left.2 works) in
-        (sound, (left.0, left.1, omega (arith, none)))
+        let none : left.0.standing.machine.sessions ≡ [] = ap (λ (m : Machine). m.sessions) (left.2 works) in
+        (sound, (left.0, left.1, rw none tt, rw none (omega arith)))
 
     pub connections_ran : (old new : Server S X) (before after : Option Listening) (connections : List (Connection K)) (each : ServesEach Reads state k old before connections new after)
         (w : At) → (state old.store).sound → (old.stopped ≡ false → StandsWithinLimit state old) → Represents state old w

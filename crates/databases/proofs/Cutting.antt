@@ -104,7 +104,7 @@ module _ (Reads : ReadingRelation) (time : Timeline (Option Contents)) where
 
     -- an event more was done before
     one_done : (w nxt : At) (e : Event) (answer : Answer) (m : ℕ) (events : List Event) (told : List Answer) (moments : List ℕ) (next : Standing) → nxt.moment ≡ m → m ≤ stop
-        → Happens Reads (stops_of time) w (event_of e) answer nxt
+        → Happens Reads (stops_of time) w (event_of 0 e) answer nxt
         → StopsIn Reads time nxt stop events told moments next → StopsIn Reads time w stop (e ∷ events) (answer ∷ told) (m ∷ moments) next
     one_done w nxt e answer m events told moments next at up happens it = record {
       done = e ∷ it.done;
@@ -153,7 +153,7 @@ module _ (Reads : ReadingRelation) (time : Timeline (Option Contents)) where
 
     -- the first event is under way
     first_under_way : (w nxt : At) (e : Event) (answer : Answer) (m : ℕ) (events : List Event) (told : List Answer) (moments : List ℕ) → nxt.moment ≡ m
-        → Happens Reads (stops_of time) w (event_of e) answer nxt → IsSettled w.standing.under_way w.standing.machine → w.moment < stop → stop < nxt.moment → AreAfter stop (m ∷ moments)
+        → Happens Reads (stops_of time) w (event_of 0 e) answer nxt → IsSettled w.standing.under_way w.standing.machine → w.moment < stop → stop < nxt.moment → AreAfter stop (m ∷ moments)
         → (next : Standing) × StopsIn Reads time w stop (e ∷ events) (answer ∷ told) (m ∷ moments) next × ((x : Option Contents) → IsLeftAt time stop x → IsFoundLeft next x)
     first_under_way w nxt e answer m events told moments at happens settled from before later =
         let it = within_step w.standing.under_way happens.step settled in (

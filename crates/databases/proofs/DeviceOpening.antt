@@ -186,4 +186,4 @@ opened_on {D} {g} {X} present d s o opened faithful history was_migrated is numb
 
 -- a server that has just been opened has no session open
 pub none_open : {D : Type 0} {g : Ghosts D} {X : Type 0} (d : DeviceState) (o : Opened D X g) → IsOpenedOn d o → StandsWithinLimit store_state o.server
-none_open d o is = (is.sound, (at_start (store_state o.server.store) is.database, is.represents, omega arith))
+none_open d o is = (is.sound, (at_start (store_state o.server.store) is.database, is.represents, tt, omega arith))

@@ -28,7 +28,7 @@ module _ (Reads : ReadingRelation) where
   ran_past t u w end [] [] [] past le ran = ran
   ran_past t u w end (e ∷ events) (answer ∷ told) (m ∷ moments) past le ran =
       let rest = ran_later (stops_of t) ran.0 end events told moments ran.3 in
-      (ran.0, ran.1, happens_past Reads t u w ran.0 (event_of e) answer past (omega (arith, le, rest)) ran.2, ran_past t u ran.0 end events told moments past le ran.3)
+      (ran.0, ran.1, happens_past Reads t u w ran.0 (event_of 0 e) answer past (omega (arith, le, rest)) ran.2, ran_past t u ran.0 end events told moments past le ran.3)
   ran_past t u w end events told moments past le ran = absurd ran
 
   -- two runs are one
@@ -41,7 +41,7 @@ module _ (Reads : ReadingRelation) where
   ran_joined Leave w mid end events more told others moments later ran rest = absurd ran
 
   -- a run has moments
-  ran_at : (Leave : Stops) (w end : At) (events : List Event) (told : List Answer) → RanBy (Happens Reads Leave) w (events_of events) told end
+  ran_at : (Leave : Stops) (w end : At) (events : List Event) (told : List Answer) → RanBy (Happens Reads Leave) w (events_of 0 events) told end
       → (moments : List ℕ) × RanAt Reads Leave w events told moments end
   ran_at Leave w end [] [] ran = ([], ran)
   ran_at Leave w end (e ∷ events) (answer ∷ told) ran =
@@ -56,7 +56,7 @@ module _ {S X : Type 0} (Reads : ReadingRelation) (state : S → StoreState) whe
   runs_none server w here = (w, here, refl, λ a b x le stop. stop)
 
   -- a run of a server has moments
-  pub runs_at : (first last : Server S X) (w : At) (events : List Event) (told : List Answer) → Runs Reads state first events told last → (state first.store).sound → Represents state first w
+  pub runs_at : (first last : Server S X) (w : At) (events : List Event) (told : List Answer) → Runs Reads state 0 first events told last → (state first.store).sound → Represents state first w
       → (moments : List ℕ) × RunsAt Reads state first w events told moments last
   runs_at first last w events told runs sound here =
       let ran = runs sound w here in

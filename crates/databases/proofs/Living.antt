@@ -37,7 +37,7 @@ happens_past Reads t u w next e answer past le happens = record {
 module _ {S X : Type 0} (Reads : ReadingRelation) (state : S → StoreState) where
   -- one step more
   pub steps_more : (first mid new : Server S X) (events : List Event) (told : List Answer) (moments : List ℕ) (e : Event) (answer : Answer)
-      → StepsAt Reads state first events told moments mid → KeepsHistory (state mid.store) (state new.store) → Steps Reads state mid e answer new
+      → StepsAt Reads state first events told moments mid → KeepsHistory (state mid.store) (state new.store) → Steps Reads state 0 mid e answer new
       → StepsAt Reads state first (events ++ e ∷ []) (told ++ answer ∷ []) (moments ++ (state new.store).time.moment ∷ []) new
   steps_more first mid new [] [] [] e answer steps history more =
       (new, subst (λ (s : Server S X). IsStepAt Reads state s e answer (state new.store).time.moment new) steps (record { history = history; steps = more; clock = refl }), refl)
@@ -73,7 +73,7 @@ module _ {S X : Type 0} (Reads : ReadingRelation) (state : S → StoreState) whe
         (
           now.0,
           clock ∙ steps.1.clock,
-          happens_past Reads (state mid.store).time (state last.store).time w now.0 (event_of e) answer rest.3 (omega (arith, clock)) now.2,
+          happens_past Reads (state mid.store).time (state last.store).time w now.0 (event_of 0 e) answer rest.3 (omega (arith, clock)) now.2,
           rest.2,
         ),
         λ a b x le stop. now.3 a b x le (rest.3 a b x (omega (arith, le, clock, began, later)) stop),

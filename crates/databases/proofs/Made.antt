@@ -1,15 +1,15 @@
 -- A store whose one record is that of an administrator stands for a new database, with a journal or without.
-use Rattle.std.proofs.Common.{◌≡◌, ◌⊎◌, ◌/◌, ℕ, Bool, true, false, Some, Ok, Err, inl, inr, refl, sym, subst, arith}
+use Rattle.std.proofs.Common.{◌≡◌, ◌⊎◌, ◌/◌, ℕ, Bool, true, false, Some, Result, Ok, Err, inl, inr, refl, sym, subst, arith}
 use Rattle.sector_device.specs.Timeline.{weakened}
 use Rattle.sector_device.specs.Device.{DeviceState, Image, IsLeft, timeline}
 use Rattle.sector_device.specs.declared.device.Device.{Ghosts}
 use Rattle.cow_pages.specs.Image.{first_fault, is_size}
-use Rattle.cow_pages.specs.declared.open.OpenFault.TheVariants.{Device, NotADatabase}
+use Rattle.cow_pages.specs.declared.open.OpenFault.{OpenFault}
+use Rattle.cow_pages.specs.declared.open.OpenFault.TheVariants.{WrongSize, NotADatabase, Damaged, Device, Memory}
 use Rattle.storage_sizes.specs.Spellings.{current}
 use Rattle.store.specs.Memory.{admin_record, new_records}
 use Rattle.kv_store.specs.Numbered.{HasContentsUnder}
 use Rattle.kv_store.specs.Formatting.{HasFirst, WritesStore, IsMade as IsStoreMade}
-use Rattle.kv_store.specs.declared.formatting.FormatFault.TheVariants as format
 use Rattle.journal_store.specs.Formatting.{first_contents, HasFirst as HasFirstJournaled, HasNoParts, WritesStore as WritesJournaled, IsMade as IsJournaledMade}
 use Rattle.journal_store.specs.Images.{IsJournaledUnder}
 use Rattle.journal_store.proofs.Clearing.{no_numbers, no_parts_blank}
@@ -88,14 +88,36 @@ module _ (admin : TheName) (stands : StandsFor (new_records admin) (new_database
   -- ---- either
 
   module _ {D : Type 0} (g : Ghosts D) (old new : D) (size : is_size (g.state old).sectors ≡ true) where
-    pub makes : (journal : Bool) → FormatsOfKind g journal (admin_record admin) (Ok tt) old new → Makes g.state journal admin (Ok tt) old new
-    makes true is = (writes_journaled (g.state old) (g.state new) size is.0, λ faithful. made_journaled (g.state old) (g.state new) (is.1 faithful))
-    makes false is = (writes_new (g.state old) (g.state new) size is.0, λ faithful. made_new (g.state old) (g.state new) (is.1 faithful))
+    made : (journal : Bool) → FormatsOfKind g journal (admin_record admin) (Ok tt) old new → Makes g.state journal admin (Ok tt) old new
+    made true is = (writes_journaled (g.state old) (g.state new) size is.0, λ faithful. made_journaled (g.state old) (g.state new) (is.1 faithful))
+    made false is = (writes_new (g.state old) (g.state new) size is.0, λ faithful. made_new (g.state old) (g.state new) (is.1 faithful))
 
-    pub fails : (journal : Bool) → FormatsOfKind g journal (admin_record admin) (Err format.Device) old new → Makes g.state journal admin (Err Device) old new
+    -- where the device failed, and where memory was refused, which comes first
+    fails : (journal : Bool) → FormatsOfKind g journal (admin_record admin) (Err Device) old new → Makes g.state journal admin (Err Device) old new
     fails true is = (writes_journaled (g.state old) (g.state new) size is.0, is.1)
     fails false is = (writes_new (g.state old) (g.state new) size is.0, is.1)
 
-    pub unwritten : (journal : Bool) → FormatsOfKind g journal (admin_record admin) (Err format.Memory) old new → new ≡ old
-    unwritten true is = is
-    unwritten false is = is
+    refused : (journal : Bool) → FormatsOfKind g journal (admin_record admin) (Err Memory) old new → Makes g.state journal admin (Err Memory) old new
+    refused true is = (size, is)
+    refused false is = (size, is)
+
+    -- no other fault comes
+    none_wrong : (journal : Bool) → FormatsOfKind g journal (admin_record admin) (Err WrongSize) old new → Makes g.state journal admin (Err WrongSize) old new
+    none_wrong true is = absurd is
+    none_wrong false is = absurd is
+
+    none_other : (journal : Bool) → FormatsOfKind g journal (admin_record admin) (Err NotADatabase) old new → Makes g.state journal admin (Err NotADatabase) old new
+    none_other true is = absurd is
+    none_other false is = absurd is
+
+    none_damaged : (journal : Bool) → FormatsOfKind g journal (admin_record admin) (Err Damaged) old new → Makes g.state journal admin (Err Damaged) old new
+    none_damaged true is = absurd is
+    none_damaged false is = absurd is
+
+    pub makes : (journal : Bool) (result : Result (Unit {0}) OpenFault) → FormatsOfKind g journal (admin_record admin) result old new → Makes g.state journal admin result old new
+    makes journal (Ok x) is = made journal is
+    makes journal (Err Device) is = fails journal is
+    makes journal (Err Memory) is = refused journal is
+    makes journal (Err WrongSize) is = none_wrong journal is
+    makes journal (Err NotADatabase) is = none_other journal is
+    makes journal (Err Damaged) is = none_damaged journal is

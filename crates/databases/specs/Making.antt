@@ -12,7 +12,6 @@ use Rattle.store.specs.Records.{Record}
 use Rattle.store.specs.Store.{Contents}
 use Rattle.kv_store.specs.Numbered.{HasContentsUnder}
 use Rattle.kv_store.specs.Formatting.{Formats}
-use Rattle.kv_store.specs.declared.formatting.FormatFault.{FormatFault}
 use Rattle.journal_store.specs.Formatting.{GoesOn, Formats as FormatsJournaled}
 use Rattle.journal_store.specs.Images.{IsJournaledUnder}
 use Rattle.abstract_database.specs.Lists.{TheName}
@@ -60,6 +59,6 @@ Makes state journal admin (Err NotADatabase) old new = ⊥
 Makes state journal admin (Err Damaged) old new = ⊥
 
 -- what making the store of a new database does, with a journal or without
-abbrev pub FormatsOfKind : {D : Type 0} (g : Ghosts D) → Bool → Record → Result (Unit {0}) FormatFault → D → D → Type 0
+abbrev pub FormatsOfKind : {D : Type 0} (g : Ghosts D) → Bool → Record → Result (Unit {0}) OpenFault → D → D → Type 0
 FormatsOfKind g true first result old new = FormatsJournaled g first result old new
 FormatsOfKind g false first result old new = Formats g current first result old new

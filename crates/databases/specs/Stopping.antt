@@ -49,7 +49,7 @@ pub data GoesOnFrom (Reads : ReadingRelation) (time : Timeline (Option Contents)
   between : here.moment ≡ stop → next ≡ here.standing → GoesOnFrom Reads time stop here others rest after next
   during : (event : Event) (events : List Event) (answer : Answer) (told : List Answer) (following : At) (moments : List ℕ)
       → others ≡ event ∷ events → rest ≡ answer ∷ told → after ≡ following.moment ∷ moments
-      → (happens : Happens Reads (stops_of time) here (event_of event) answer following)
+      → (happens : Happens Reads (stops_of time) here (event_of 0 event) answer following)
       → here.moment < stop
       → next.machine ≡ here.standing.machine
       → ((db : Database) → IsFoundAt next db ↔ (IsFoundAt here.standing db ⊎ IsBrought happens.step db))

@@ -10,7 +10,7 @@ ghost use Rattle.databases.specs.Making.{FormatsOfKind, Makes};
 
 use cow_pages::page_count;
 use journal_store::{JournalDevice, JournalStore};
-use kv_store::{Entry, FormatFault, OpenFault, PageStore};
+use kv_store::{Entry, OpenFault, PageStore};
 use sector_device::Device;
 use sql_types::name::Name;
 use std::alloc::{AllocError, Global};
@@ -43,14 +43,8 @@ pub fn make_database<D: JournalDevice>(
     let Some(_pages) = page_count(device.sectors()) else {
         return Err(OpenFault::WrongSize);
     };
-    let Ok(first) = record_of_admin(alloc, admin) else {
-        return Err(OpenFault::Memory);
-    };
-    match format_store(alloc, device, &first, journal) {
-        Ok(()) => Ok(()),
-        Err(FormatFault::Memory) => Err(OpenFault::Memory),
-        Err(FormatFault::Device) => Err(OpenFault::Device),
-    }
+    let first = record_of_admin(alloc, admin)?;
+    format_store(alloc, device, &first, journal)
 }
 
 // Makes a new store of one record on a device, with a journal or without.
@@ -59,7 +53,7 @@ fn format_store<D: JournalDevice>(
     device: &mut D,
     first: &Entry,
     journal: bool,
-) -> Result<(), FormatFault>
+) -> Result<(), OpenFault>
     requires size { is_size (D.state device.old).sectors ≡ true }
     requires key { IsKeySize first.now.0 }
     requires value { length first.now.1 ≤ max_value_length }

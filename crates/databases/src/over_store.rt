@@ -9,7 +9,7 @@ ghost use Rattle.databases.specs.Lives.{IsFoundLeft, Lives, IsRefused, StepsAt, 
 
 use recovery::{OpeningFault, Refused, open};
 use server::decide::EventHandler;
-use server::server::Server;
+use server::server::{ONLY_CLIENT, Server};
 use sql_types::answer::Answer;
 use sql_types::event::Event;
 use std::alloc::{AllocError, Global};
@@ -94,7 +94,7 @@ fn step_by_step<S: Store, X: EventHandler>(
 {
     answers.reserve(events.len())?;
     for event in events {
-        let answer = server.step(event);
+        let answer = server.step(ONLY_CLIENT, event);
         match answers.push(answer) {
             Ok(()) => {}
             Err(_) => unreachable!(),

@@ -4,4 +4,5 @@ pub mod Sectors
 pub mod Changes
 pub mod Records
 pub mod Journals
+pub mod Appends
 pub mod Reading

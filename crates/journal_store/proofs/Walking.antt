@@ -1,5 +1,5 @@
 -- Walks of a store on a device, by those of its kind.
-use Rattle.std.proofs.Common.{◌≡◌, Bool, true, false, inl, Result, Ok, Err, refl, sym, ap, subst, ◌∙◌}
+use Rattle.std.proofs.Common.{◌≡◌, ℕ, List, Bool, true, false, inl, Result, Ok, Err, refl, sym, ap, subst, ◌∙◌}
 use Rattle.std.proofs.lemmas.Bool.{false≢true}
 use Rattle.store.specs.Steps.{Goes, Takes}
 use Rattle.store.specs.Store.{StoreState}
@@ -12,7 +12,7 @@ use Rattle.sector_device.specs.declared.device.Device.{Ghosts}
 use Rattle.store.specs.Records.{Records}
 use Rattle.journal_store.specs.declared.device_stores.DeviceStore.{DeviceStore}
 use Rattle.journal_store.specs.declared.places.StorePlace.{StorePlace}
-use Rattle.journal_store.specs.DeviceReads.{AreAhead, IsFoundAt, nowhere, faithful_under, present_on}
+use Rattle.journal_store.specs.DeviceReads.{AreAhead, AreAheadWithin, IsFoundAt, nowhere, faithful_under, present_on}
 use Rattle.journal_store.specs.DeviceStores.{device_of, store_state}
 
 -- an answer as one of another type
@@ -77,3 +77,15 @@ module _ {D : Type 0} {g : Ghosts D} (present : (device : D) → (g.state device
       subst (λ (y : DeviceStore D g). Goes (Steps y) result (store_state y) (store_state s)) (sym is)
       (subst (λ (r : Result Bool StoreFault). Goes (Steps s) r (store_state s) (store_state s)) (sym answer)
       (goes_nowhere (store_state s) (λ sound. present_on s (present (device_of s) (faithful_under s sound))) (Steps s) (λ records ahead. absurd (none records ahead))))
+
+-- nor one up to a stop
+module _ {D : Type 0} {g : Ghosts D} (stop : List ℕ) (present : (device : D) → (g.state device).faithful → IsPresent (timeline (g.state device))) (x s : DeviceStore D g) (is : x ≡ s) (place later : StorePlace) (result : Result Bool StoreFault)
+    (answer : result ≡ nowhere (store_state s).has_failed) (none : (records : Records) → AreAheadWithin s stop place records → ⊥) where
+  abbrev StepsWithin : DeviceStore D g → Bool → Type 0
+  StepsWithin y found = (records : Records) → AreAheadWithin y stop place records → Takes (λ e. IsFoundAt s later e) (λ es. AreAheadWithin s stop later es) found records
+
+  pub steps_within_nowhere : Goes (StepsWithin x) result (store_state x) (store_state s)
+  steps_within_nowhere =
+      subst (λ (y : DeviceStore D g). Goes (StepsWithin y) result (store_state y) (store_state s)) (sym is)
+      (subst (λ (r : Result Bool StoreFault). Goes (StepsWithin s) r (store_state s) (store_state s)) (sym answer)
+      (goes_nowhere (store_state s) (λ sound. present_on s (present (device_of s) (faithful_under s sound))) (StepsWithin s) (λ records ahead. absurd (none records ahead))))

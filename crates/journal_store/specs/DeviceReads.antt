@@ -1,10 +1,12 @@
 -- What reads of a store on a device leave alone, and what a walk over it has ahead.
-use Rattle.std.specs.Prelude.{◌/◌, Bool, true, false, Result, Ok, Err}
+use Rattle.std.proofs.Common.{refl}
+use Rattle.std.specs.Prelude.{◌/◌, ℕ, List, Bool, true, false, Result, Ok, Err}
 use Rattle.sector_device.specs.Timeline.{IsPresent}
 use Rattle.sector_device.specs.Device.{timeline}
 use Rattle.sector_device.specs.declared.device.Device.{Ghosts}
 use Rattle.sector_device.proofs.Runs.{present_lifted}
-use Rattle.store.specs.Records.{Record, Records, IsOrdered}
+use Rattle.store.specs.Records.{Record, Records, IsOrdered, entries_where}
+use Rattle.store.specs.Walks.{is_within}
 use Rattle.store.specs.declared.fault.StoreFault.{StoreFault}
 use Rattle.store.specs.declared.fault.StoreFault.TheVariants.{Device}
 use Rattle.page_tree.specs.Ahead.{IsFoundBy}
@@ -12,8 +14,8 @@ use Rattle.kv_store.specs.PageStore.{pages_of}
 use Rattle.kv_store.specs.TreeLaws.{keys_rise}
 use Rattle.kv_store.specs.Unwritten.{WritesNothing}
 use Rattle.kv_store.specs.UnwrittenLaws.{nothing_written, nothing_written_joined}
-use Rattle.kv_store.specs.Walks.{AreAhead as AreAheadInPages, ahead_later}
-use Rattle.journal_store.specs.Reads.{KeepsJournal, IsAhead, IsFoundIn, keeps_same, keeps_joined, ahead_stays as stays_in_journal, records_rise}
+use Rattle.kv_store.specs.Walks.{AreAhead as AreAheadInPages, AreAheadWithin as AheadInPagesWithin, ahead_later}
+use Rattle.journal_store.specs.Reads.{KeepsJournal, IsAhead, IsAheadWithin, IsFoundIn, keeps_same, keeps_joined, ahead_stays as stays_in_journal, ahead_cut as cut_in_journal, records_rise}
 use Rattle.journal_store.specs.declared.device_stores.DeviceStore.{DeviceStore}
 use Rattle.journal_store.specs.declared.device_stores.DeviceStore.TheVariants.{Pages, Journaled}
 use Rattle.journal_store.specs.declared.places.StorePlace.{StorePlace}
@@ -53,6 +55,12 @@ module _ {D : Type 0} {g : Ghosts D} where
   AreAhead (Journaled s) (UnderChanges place) records = IsAhead s place records
   AreAhead s place records = ⊥
 
+  -- and these up to a stop
+  abbrev pub AreAheadWithin : DeviceStore D g → List ℕ → StorePlace → Records → Type 0
+  AreAheadWithin (Pages s) stop (InPages walk) records = AheadInPagesWithin s.tree stop walk records
+  AreAheadWithin (Journaled s) stop (UnderChanges place) records = IsAheadWithin s stop place records
+  AreAheadWithin s stop place records = ⊥
+
   -- the last step to it found this record
   abbrev pub IsFoundAt : DeviceStore D g → StorePlace → Record → Type 0
   IsFoundAt (Pages s) (InPages walk) found = IsFoundBy walk found
@@ -67,6 +75,13 @@ module _ {D : Type 0} {g : Ghosts D} where
   ahead_stays (Journaled s) (Journaled later) (InPages walk) records keeps ahead = absurd ahead
   ahead_stays (Pages s) (Journaled later) place records nothing ahead = absurd nothing
   ahead_stays (Journaled s) (Pages later) place records nothing ahead = absurd nothing
+
+  -- of what is ahead that part is ahead up to a stop which is within it
+  pub ahead_cut : (s : DeviceStore D g) (stop : List ℕ) (place : StorePlace) (records : Records) → IsOrdered records → AreAhead s place records → AreAheadWithin s stop place (entries_where (is_within stop) records)
+  ahead_cut (Pages s) stop (InPages walk) records rise ahead = (records, refl, rise, ahead)
+  ahead_cut (Journaled s) stop (UnderChanges place) records rise ahead = cut_in_journal s stop place records rise ahead
+  ahead_cut (Pages s) stop (UnderChanges place) records rise ahead = absurd ahead
+  ahead_cut (Journaled s) stop (InPages walk) records rise ahead = absurd ahead
 
   -- the keys of a sound store's records rise
   pub records_rise_on : (s : DeviceStore D g) → (store_state s).sound → IsOrdered (store_state s).map

@@ -6,13 +6,12 @@ use Rattle.sector_device.specs.Device.{DeviceState, Image, KeepsSize, HasFailed,
 use Rattle.sector_device.specs.Page.{IsAlone, IsOutside}
 use Rattle.sector_device.specs.declared.device.Device.{Ghosts}
 use Rattle.journal.specs.Sectors.{zeros}
-use Rattle.cow_pages.specs.declared.open.OpenFault.TheVariants.{NotADatabase}
+use Rattle.cow_pages.specs.declared.open.OpenFault.{OpenFault}
+use Rattle.cow_pages.specs.declared.open.OpenFault.TheVariants.{WrongSize, NotADatabase, Damaged, Device, Memory}
 use Rattle.cow_pages.specs.Image.{first_fault}
 use Rattle.cow_pages.specs.Formatting.{IsBlank}
 use Rattle.store.specs.Records.{Record}
 use Rattle.store.specs.Store.{Contents}
-use Rattle.kv_store.specs.declared.formatting.FormatFault.{FormatFault}
-use Rattle.kv_store.specs.declared.formatting.FormatFault.TheVariants.{Memory, Device}
 use Rattle.journal_store.specs.Meaning.{HasJournaledContents}
 
 -- the contents of a new store
@@ -47,7 +46,11 @@ pub record IsMade (entry : Record) (old new : DeviceState) : Type 0 where
   pub left : (image : Image) → IsLeft new image → HasFirst (old.sectors / 8) entry image × HasNoParts image
   pub synced : IsSynced new
 
-abbrev pub Formats : {D : Type 0} (g : Ghosts D) → Record → Result (Unit {0}) FormatFault → D → D → Type 0
+-- a new store is made, or memory is refused before anything is written, or the device fails; no other fault comes
+abbrev pub Formats : {D : Type 0} (g : Ghosts D) → Record → Result (Unit {0}) OpenFault → D → D → Type 0
 Formats g entry (Ok x) old new = WritesStore entry (g.state old) (g.state new) × ((g.state old).faithful → IsMade entry (g.state old) (g.state new))
+Formats g entry (Err WrongSize) old new = ⊥
+Formats g entry (Err NotADatabase) old new = ⊥
+Formats g entry (Err Damaged) old new = ⊥
 Formats g entry (Err Memory) old new = new ≡ old
 Formats g entry (Err Device) old new = WritesStore entry (g.state old) (g.state new) × HasFailed (g.state old) (g.state new)

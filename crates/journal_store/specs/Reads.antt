@@ -1,5 +1,5 @@
 -- What reads of a store with a journal leave alone, and what a walk over it has ahead.
-use Rattle.std.specs.Prelude.{true, Result, Err}
+use Rattle.std.specs.Prelude.{ℕ, List, true, Result, Err}
 use Rattle.std.proofs.Common.{◌≡◌, refl, ◌∙◌}
 use Rattle.sector_device.specs.Timeline.{IsPresent}
 use Rattle.sector_device.proofs.Runs.{present_lifted}
@@ -10,16 +10,17 @@ use Rattle.page_tree.specs.Ahead.{IsFoundBy}
 use Rattle.page_tree.specs.declared.tree_walk.TreeWalk.{TreeWalk}
 use Rattle.store.specs.declared.fault.StoreFault.{StoreFault}
 use Rattle.store.specs.declared.fault.StoreFault.TheVariants.{Device}
-use Rattle.store.specs.Records.{Record, Records, IsOrdered}
+use Rattle.store.specs.Records.{Record, Records, IsOrdered, entries_where}
+use Rattle.store.specs.Walks.{is_within}
 use Rattle.transactions.specs.Views.{ordered_view}
 use Rattle.transactions.specs.Calls.{KeepsRecords, records_same, records_joined}
-use Rattle.transactions.specs.Places.{AreAhead, IsFoundAt, ahead_later}
+use Rattle.transactions.specs.Places.{AreAhead, AreAheadTo, IsFoundAt, ahead_cut as cut_under, ahead_later}
 use Rattle.transactions.specs.declared.place.ViewPlace.{ViewPlace}
 use Rattle.kv_store.specs.TreeStore.{pages_of, store_state}
 use Rattle.kv_store.specs.TreeLaws.{keys_rise}
 use Rattle.kv_store.specs.Unwritten.{WritesNothing}
 use Rattle.kv_store.specs.UnwrittenLaws.{nothing_written, nothing_written_joined}
-use Rattle.kv_store.specs.Walks.{AreAhead as AreAheadInPages, ahead_later as later_in_pages}
+use Rattle.kv_store.specs.Walks.{AreAhead as AreAheadInPages, AreAheadWithin, ahead_later as later_in_pages}
 use Rattle.journal_store.specs.declared.stores.JournalStore.{JournalStore}
 use Rattle.journal_store.specs.Images.{IsReadAs}
 use Rattle.journal_store.specs.Stores.{device_under, base_of, IsSoundJournal, journal_state}
@@ -54,6 +55,10 @@ IsStill result old new = old.store.has_failed ≡ true → (result ≡ Err Devic
 abbrev pub IsAhead : {D : Type 0} {g : Ghosts D} → JournalStore D g → ViewPlace TreeWalk → Records → Type 0
 IsAhead s place records = AreAhead (λ walk es. AreAheadInPages s.store walk es) s.waiting (store_state s.store) place records
 
+-- and these up to a stop
+abbrev pub IsAheadWithin : {D : Type 0} {g : Ghosts D} → JournalStore D g → List ℕ → ViewPlace TreeWalk → Records → Type 0
+IsAheadWithin s stop place records = AreAheadTo (λ walk es. AreAheadWithin s.store stop walk es) stop s.waiting (store_state s.store) place records
+
 -- the last step to a place found this record
 abbrev pub IsFoundIn : ViewPlace TreeWalk → Record → Type 0
 IsFoundIn place found = IsFoundAt (λ walk e. IsFoundBy walk e) place found
@@ -63,6 +68,12 @@ pub ahead_stays : {D : Type 0} {g : Ghosts D} (s later : JournalStore D g) (plac
 ahead_stays s later place records keeps is =
     ahead_later (λ walk es. AreAheadInPages s.store walk es) (λ walk es. AreAheadInPages later.store walk es) s.waiting later.waiting (store_state s.store) (store_state later.store)
     (λ walk es ahead. later_in_pages s.store later.store walk es keeps.nothing ahead) keeps.waiting keeps.records place records is
+
+-- of what is ahead that part is ahead up to a stop which is within it
+pub ahead_cut : {D : Type 0} {g : Ghosts D} (s : JournalStore D g) (stop : List ℕ) (place : ViewPlace TreeWalk) (records : Records) → IsOrdered records → IsAhead s place records → IsAheadWithin s stop place (entries_where (is_within stop) records)
+ahead_cut s stop place records rise is =
+    cut_under (λ walk es. AreAheadInPages s.store walk es) (λ walk es. AreAheadWithin s.store stop walk es) stop s.waiting (store_state s.store) (λ sound. keys_rise s.store sound)
+    (λ walk rest rises at. (rest, refl, rises, at)) place records rise is
 
 -- the keys of a sound store's records rise
 pub records_rise : {D : Type 0} {g : Ghosts D} (s : JournalStore D g) → IsSoundJournal s → IsOrdered (journal_state s).map

@@ -1,7 +1,7 @@
 //! Reads of a store on a device, which are those of its kind.
 ghost use Rattle.std.specs.Prelude.{◌≡◌};
 ghost use Rattle.journal_store.specs.DeviceStores.{device_of, store_state};
-ghost use Rattle.journal_store.specs.DeviceReads.{OnlyLooksInto, AreAhead, IsFoundAt, looks_none, looks_joined, ahead_stays, records_rise_on, faithful_under, present_on, nowhere};
+ghost use Rattle.journal_store.specs.DeviceReads.{OnlyLooksInto, AreAhead, AreAheadWithin, IsFoundAt, looks_none, looks_joined, ahead_stays, ahead_cut, records_rise_on, faithful_under, present_on, nowhere};
 
 use crate::device_stores::DeviceStore;
 use crate::places::StorePlace;
@@ -21,9 +21,13 @@ impl<D: Device> Map for DeviceStore<D> {
 
     ghost ahead = { λ s place records. AreAhead s place records };
 
+    ghost ahead_within = { λ s stop place records. AreAheadWithin s stop place records };
+
     ghost found_at = { λ s place found. IsFoundAt s place found };
 
     ghost ahead_stays = { λ s later place records looks is. ahead_stays s later place records looks is };
+
+    ghost ahead_cut = { λ s stop place records rise is. ahead_cut s stop place records rise is };
 
     ghost ordered = { λ s sound. records_rise_on s sound };
 
@@ -54,11 +58,11 @@ impl<D: Device> Map for DeviceStore<D> {
         }
     }
 
-    /// Counts the records of a span, as `Map` says, and writes nothing.
-    fn count(&mut self, start: &[u8], stop: &[u8]) -> Result<u64, StoreFault> {
+    /// Counts the records of a span up to `most`, as `Map` says, and writes nothing.
+    fn count_to(&mut self, start: &[u8], stop: &[u8], most: u64) -> Result<u64, StoreFault> {
         match self {
-            DeviceStore::Pages(store) => Map::count(store, start, stop),
-            DeviceStore::Journaled(store) => Map::count(store, start, stop),
+            DeviceStore::Pages(store) => store.count_to(start, stop, most),
+            DeviceStore::Journaled(store) => store.count_to(start, stop, most),
         }
     }
 
@@ -86,6 +90,21 @@ impl<D: Device> Map for DeviceStore<D> {
             DeviceStore::Journaled(store) => match place {
                 StorePlace::InPages(_) => step_nowhere(store.has_failed()),
                 StorePlace::UnderChanges(place) => store.step(place),
+            },
+        }
+    }
+
+    /// Goes on with a walk up to a stop, as `Map` says, and writes nothing. Of a place of a store of the other kind nothing is
+    /// said.
+    fn step_within(&mut self, place: &mut StorePlace, stop: &[u8]) -> Result<bool, StoreFault> {
+        match self {
+            DeviceStore::Pages(store) => match place {
+                StorePlace::InPages(walk) => store.step_within(walk, stop),
+                StorePlace::UnderChanges(_) => step_nowhere(store.has_failed()),
+            },
+            DeviceStore::Journaled(store) => match place {
+                StorePlace::InPages(_) => step_nowhere(store.has_failed()),
+                StorePlace::UnderChanges(place) => store.step_within(place, stop),
             },
         }
     }

@@ -9,8 +9,8 @@ ghost use Rattle.journal_store.specs.Formatting.{Formats};
 
 use crate::devices::JournalDevice;
 use crate::stores::{JOURNAL_ROOM, JOURNAL_START, JournalStore};
-use cow_pages::{Format, PAGE_SIZE, format};
-use kv_store::{FormatFault, write_leaf_of};
+use cow_pages::{Format, OpenFault, PAGE_SIZE, format};
+use kv_store::write_leaf_of;
 use sector_device::{DeviceFault, SECTOR_SIZE};
 use std::alloc::Global;
 use store::Entry;
@@ -35,7 +35,7 @@ impl<D: JournalDevice> JournalStore<D> {
     ///
     /// On a device that is blank, as a new one of zeros is, a stop at any moment leaves no database or the new one whole,
     /// also where the device fails. `Memory`: an allocation failed, and nothing was written. `Device`: the device failed.
-    pub fn format(alloc: Global, device: &mut D, first: &Entry) -> Result<(), FormatFault>
+    pub fn format(alloc: Global, device: &mut D, first: &Entry) -> Result<(), OpenFault>
         requires size { is_size (D.state device.old).sectors ≡ true }
         requires key { IsKeySize first.now.0 }
         requires value { length first.now.1 ≤ max_value_length }
@@ -44,11 +44,11 @@ impl<D: JournalDevice> JournalStore<D> {
         let mut page = [0; PAGE_SIZE];
         write_leaf_of(alloc, first, &mut page)?;
         let Ok(()) = clear_journal(device) else {
-            return Err(FormatFault::Device);
+            return Err(OpenFault::Device);
         };
         match format(device, Format::Three, &page) {
             Ok(()) => Ok(()),
-            Err(_) => Err(FormatFault::Device),
+            Err(_) => Err(OpenFault::Device),
         }
     }
 }

@@ -9,8 +9,7 @@ use crate::room::reserve_with;
 use journal::write_sectors;
 use kv_store::{Reserve, TreeStore};
 use sector_device::Device;
-use sql_types::try_copy::TryCopy;
-use std::alloc::{AllocError, Global};
+use std::alloc::Global;
 use store::{Batch, Store, StoreFault};
 use transactions::ChangeLists;
 
@@ -86,7 +85,7 @@ impl<D: Device> JournalStore<D> {
 }
 
 impl<D: JournalDevice> JournalStore<D> {
-    ghost use Rattle.std.specs.Prelude.{[], Err, false, IfOk, OnOk};
+    ghost use Rattle.std.specs.Prelude.{[], Err, false, OnOk};
     ghost use Rattle.sector_device.specs.Device.{KeepsHistory};
     ghost use Rattle.kv_store.specs.Batches.{HadNoRoom};
     ghost use Rattle.store.specs.Records.{Records, Changes, IsOrdered, applied};
@@ -126,20 +125,6 @@ impl<D: JournalDevice> JournalStore<D> {
         self.top = number;
         self.end += sectors.len() as u16;
         Ok(())
-    }
-
-    // All that waits and then a batch, in one batch.
-    fn joined_with(&self, batch: &Batch) -> Result<Batch, AllocError>
-        ensures { IfOk result (λ joined. (es : Records) → IsOrdered es
-            → applied joined es ≡ applied batch.now (applied_all self.now.waiting es)) }
-    {
-        let mut lists = ChangeLists::new(self.alloc);
-        let waiting = self.waiting.join()?;
-        let copy = batch.try_copy(self.alloc)?;
-        lists.record(waiting)?;
-        lists.record(copy)?;
-        let joined = lists.join()?;
-        Ok(joined)
     }
 
     // Commits to the pages these changes, which are all that waits and a batch, and keeps the reserve or may take it.
@@ -192,7 +177,7 @@ impl<D: JournalDevice> JournalStore<D> {
         if self.waiting.is_empty() {
             return self.commit_joined(batch, reserve);
         }
-        let Ok(joined) = self.joined_with(batch) else {
+        let Ok(joined) = self.waiting.join_with(batch) else {
             return Err(StoreFault::Memory);
         };
         self.commit_joined(&joined, reserve)

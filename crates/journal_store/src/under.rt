@@ -3,9 +3,9 @@ ghost use Rattle.std.specs.Prelude.{◌≡◌, is_some};
 ghost use Rattle.store.specs.Records.{Records, entry_at, entries_where, first_from, is_from, lookup};
 ghost use Rattle.store.specs.Steps.{Goes, Takes};
 ghost use Rattle.store.specs.Store.{Reads};
-ghost use Rattle.store.specs.Walks.{count_of, span};
+ghost use Rattle.store.specs.Walks.{count_to, span};
 ghost use Rattle.transactions.specs.Calls.{KeepsRecords};
-ghost use Rattle.transactions.specs.Places.{AreAhead, IsFoundAt};
+ghost use Rattle.transactions.specs.Places.{AreAhead, AreAheadTo, IsFoundAt};
 ghost use Rattle.transactions.specs.Views.{applied_all, view_state};
 
 use std::alloc::Global;
@@ -69,22 +69,23 @@ pub(crate) fn contains_under<M: Map>(
     found
 }
 
-// Counts the records of a span, as `count` of a view does.
+// Counts the records of a span up to a bound, as `count_to` of a view does.
 pub(crate) fn count_under<M: Map>(
     alloc: Global,
     map: &mut M,
     lists: &[Batch],
     start: &[u8],
     stop: &[u8],
+    most: u64,
 ) -> Result<u64, StoreFault>
     ensures preserved { M.preserved map.old map.new }
     ensures records { KeepsRecords (M.state map.old) (M.state map.new) }
     ensures goes { Goes (λ count. count
-        ≡ count_of (span start.now stop.now (applied_all lists.now (M.state map.old).map)))
+        ≡ count_to most (span start.now stop.now (applied_all lists.now (M.state map.old).map)))
         result (view_state lists.now (M.state map.old)) (view_state lists.now (M.state map.new)) }
 {
     let mut view = View::new(alloc, map, lists);
-    let counted = view.count(start, stop);
+    let counted = view.count_to(start, stop, most);
     view.into_map();
     counted
 }
@@ -125,6 +126,29 @@ pub(crate) fn step_under<M: Map>(
 {
     let mut view = View::new(alloc, map, lists);
     let found = view.step(place);
+    view.into_map();
+    found
+}
+
+// Goes on with a walk up to a stop, as `step_within` of a view does.
+pub(crate) fn step_within_under<M: Map>(
+    alloc: Global,
+    map: &mut M,
+    lists: &[Batch],
+    place: &mut ViewPlace<M::Place>,
+    stop: &[u8],
+) -> Result<bool, StoreFault>
+    ensures preserved { M.preserved map.old map.new }
+    ensures records { KeepsRecords (M.state map.old) (M.state map.new) }
+    ensures goes { Goes (λ found. (records : Records)
+        → AreAheadTo (M.ahead_within map.old stop.now) stop.now lists.now (M.state map.old) place.old records
+        → Takes (IsFoundAt (M.found_at map.new) place.new)
+        (AreAheadTo (M.ahead_within map.new stop.now) stop.now lists.now (M.state map.new) place.new)
+        found records)
+        result (view_state lists.now (M.state map.old)) (view_state lists.now (M.state map.new)) }
+{
+    let mut view = View::new(alloc, map, lists);
+    let found = view.step_within(place, stop);
     view.into_map();
     found
 }

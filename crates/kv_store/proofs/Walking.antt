@@ -1,5 +1,5 @@
 -- Walks over a store in pages.
-use Rattle.std.proofs.Common.{◌≡◌, ◌-◌, ◌^◌, ◌||◌, min, length, arith, ℕ, Bool, true, false, List, [], ◌∷◌, None, Result, Ok, Err, refl, ap, sym, ◌∙◌}
+use Rattle.std.proofs.Common.{◌≡◌, ◌||◌, min, length, arith, ℕ, Bool, true, false, List, [], ◌∷◌, None, Result, Ok, Err, refl, ap, sym, ◌∙◌}
 use Rattle.std.specs.declared.cmp.Ordering.{Ordering}
 use Rattle.std.specs.declared.cmp.Ordering.TheVariants.{Less, Equal, Greater}
 use Rattle.std.specs.Ordering.{is_lt}
@@ -16,7 +16,7 @@ use Rattle.page_tree.specs.declared.tree_walk.TreeWalk.{TreeWalk}
 use Rattle.store.specs.Records.{Record, Records, key_cmp, entries_where, has_prefix, is_from, is_not_less}
 use Rattle.store.specs.Steps.{Goes, Takes}
 use Rattle.store.specs.Store.{StoreState, OnlyReads, Reads}
-use Rattle.store.specs.Walks.{count_of, is_within, span}
+use Rattle.store.specs.Walks.{count_to, is_within, span}
 use Rattle.store.proofs.Walking.{same_prefix}
 use Rattle.store.specs.declared.fault.StoreFault.{StoreFault}
 use Rattle.store.specs.declared.fault.StoreFault.TheVariants.{Full, Memory, Device, Number}
@@ -63,9 +63,9 @@ count_is stop (e ∷ es) = go (is_within stop e.0) refl (count_is stop es)
     go true is later = rw (within_is stop e.0, is) (omega (arith, later))
     go false is later = rw (within_is stop e.0, is) later
 
-pub span_counted : (start stop : List ℕ) (es : Records) (count : ℕ) → IsRising es → count ≡ min (count_within stop (rest_entries start es)) (2 ^ 64 - 1) → count ≡ count_of (span start stop es)
-span_counted start stop es count rising is =
-    is ∙ ap (λ (n : ℕ). min n (2 ^ 64 - 1)) (ap (count_within stop) (rest_is start es rising) ∙ count_is stop (entries_where (is_from start) es))
+pub span_counted : (start stop : List ℕ) (most : ℕ) (es : Records) (count : ℕ) → IsRising es → count ≡ min (count_within stop (rest_entries start es)) most → count ≡ count_to most (span start stop es)
+span_counted start stop most es count rising is =
+    is ∙ ap (λ (n : ℕ). min n most) (ap (count_within stop) (rest_is start es rising) ∙ count_is stop (entries_where (is_from start) es))
 
 -- ---- the answers of walks
 

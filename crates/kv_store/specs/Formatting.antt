@@ -6,15 +6,14 @@ use Rattle.sector_device.specs.Page.{IsAlone, IsOutside}
 use Rattle.sector_device.specs.declared.device.Device.{Ghosts}
 use Rattle.storage_sizes.specs.declared.record_format.RecordFormat.{RecordFormat}
 use Rattle.page_roots.specs.Formats.{format_of}
-use Rattle.cow_pages.specs.declared.open.OpenFault.TheVariants.{NotADatabase}
+use Rattle.cow_pages.specs.declared.open.OpenFault.{OpenFault}
+use Rattle.cow_pages.specs.declared.open.OpenFault.TheVariants.{WrongSize, NotADatabase, Damaged, Device, Memory}
 use Rattle.cow_pages.specs.Image.{first_fault}
 use Rattle.cow_pages.specs.Formatting.{IsBlank, HasFirstBytes}
 use Rattle.page_nodes.specs.declared.cell.NodeKind.TheVariants.{Leaf}
 use Rattle.page_nodes.specs.Node.{IsNode}
 use Rattle.store.specs.Records.{Record}
 use Rattle.kv_store.specs.Contents.{HasContents}
-use Rattle.kv_store.specs.declared.formatting.FormatFault.{FormatFault}
-use Rattle.kv_store.specs.declared.formatting.FormatFault.TheVariants.{Memory, Device}
 
 -- an image has this record and no other, in this spelling and under number 1
 abbrev pub HasFirst : ℕ → RecordFormat → Record → Image → Type 0
@@ -38,7 +37,11 @@ pub record IsMade (record_format : RecordFormat) (entry : Record) (old new : Dev
   pub leaf : IsNode Leaf [] (entry ∷ []) page
   pub bytes : HasFirstBytes (old.sectors / 8) (format_of record_format) page new.content
 
-abbrev pub Formats : {D : Type 0} (g : Ghosts D) → RecordFormat → Record → Result (Unit {0}) FormatFault → D → D → Type 0
+-- a new store is made, or memory is refused before anything is written, or the device fails; no other fault comes
+abbrev pub Formats : {D : Type 0} (g : Ghosts D) → RecordFormat → Record → Result (Unit {0}) OpenFault → D → D → Type 0
 Formats g record_format entry (Ok x) old new = WritesStore record_format entry (g.state old) (g.state new) × ((g.state old).faithful → IsMade record_format entry (g.state old) (g.state new))
+Formats g record_format entry (Err WrongSize) old new = ⊥
+Formats g record_format entry (Err NotADatabase) old new = ⊥
+Formats g record_format entry (Err Damaged) old new = ⊥
 Formats g record_format entry (Err Memory) old new = new ≡ old
 Formats g record_format entry (Err Device) old new = WritesStore record_format entry (g.state old) (g.state new) × HasFailed (g.state old) (g.state new)

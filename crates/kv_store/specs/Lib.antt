@@ -7,6 +7,7 @@ pub mod Switches
 pub mod Unwritten
 pub mod UnwrittenLaws
 pub mod TreeStore
+pub mod Changing
 pub mod TreeLaws
 pub mod PageStore
 pub mod StoreLaws

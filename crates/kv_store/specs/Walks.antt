@@ -1,4 +1,5 @@
 -- What a walk of a store in pages has ahead.
+use Rattle.std.specs.Prelude.{ℕ, List}
 use Rattle.std.proofs.Common.{subst, sym}
 use Rattle.std.proofs.Math.Path.{fun_ext}
 use Rattle.sector_device.specs.declared.device.Device.{Ghosts}
@@ -9,6 +10,7 @@ use Rattle.page_tree.specs.Ahead.{HasAhead}
 use Rattle.page_tree.specs.Walk.{records_of}
 use Rattle.page_tree.specs.declared.tree_walk.TreeWalk.{TreeWalk}
 use Rattle.store.specs.Records.{Records}
+use Rattle.store.specs.Steps.{AheadWithin}
 use Rattle.kv_store.specs.declared.tree_store.TreeStore.{TreeStore}
 use Rattle.kv_store.specs.TreeStore.{pages_of}
 use Rattle.kv_store.specs.Unwritten.{WritesNothing}
@@ -18,7 +20,11 @@ pub record AreAhead {D : Type 0} {g : Ghosts D} (s : TreeStore D g) (walk : Tree
   pub durable : HoldsDurable (pages_of s)
   pub in_map : HasAhead (records_of (durable_array (pages_of s))) walk records
 
--- and still are where nothing was written
+-- and these up to a stop
+abbrev pub AreAheadWithin : {D : Type 0} {g : Ghosts D} → TreeStore D g → List ℕ → TreeWalk → Records → Type 0
+AreAheadWithin s stop walk records = AheadWithin stop (λ all. AreAhead s walk all) records
+
+-- what is ahead of a walk still is where nothing was written
 pub ahead_later : {D : Type 0} {g : Ghosts D} (s later : TreeStore D g) (walk : TreeWalk) (records : Records) → WritesNothing (pages_of s) (pages_of later) → AreAhead s walk records → AreAhead later walk records
 ahead_later {D} {g} s later walk records nothing ahead = record {
   durable = nothing.preserved.holds ahead.durable;

@@ -1,18 +1,17 @@
 //! Sectors that a device keeps beside the pages of a store.
-ghost use Rattle.std.specs.Prelude.{◌≤◌, ◌+◌, OnOk};
+ghost use Rattle.std.specs.Prelude.{◌≤◌, ◌+◌};
 ghost use Rattle.store.specs.Store.{Contents};
 ghost use Rattle.cow_pages.specs.Cow.{device_below};
 ghost use Rattle.kv_store.specs.Contents.{HoldsContents};
 ghost use Rattle.kv_store.specs.TreeStore.{pages_of, IsStill};
 
 use crate::tree_store::TreeStore;
-use sector_device::{ProtectedSectors, SECTOR_SIZE};
+use sector_device::{ProtectedSectors, SECTOR_SIZE, SECTORS_PER_PAGE};
 use store::StoreFault;
 
 impl<D: ProtectedSectors> TreeStore<D> {
     ghost use Rattle.std.specs.Prelude.{◌<◌, ℕ, length};
-    ghost use Rattle.sector_device.specs.Device.{KeepsSize, IsSynced};
-    ghost use Rattle.sector_device.specs.Sectors.{WritesSectors, HoldsSectors};
+    ghost use Rattle.cow_pages.specs.Calls.{WritesProtected};
     ghost use Rattle.kv_store.specs.Numbered.{LeavesBefore};
     ghost use Rattle.kv_store.specs.Beside.{KeepsStore, WritesBeside};
 
@@ -25,16 +24,11 @@ impl<D: ProtectedSectors> TreeStore<D> {
         first: u32,
         sectors: &[[u8; SECTOR_SIZE]],
     ) -> Result<(), StoreFault>
-        requires inside { first + length sectors.now ≤ (device_below (pages_of self.old)).sectors }
+        requires room { SECTORS_PER_PAGE ≤ (device_below (pages_of self.old)).sectors }
         requires beside { (i : ℕ) → i < length sectors.now
             → (device_below (pages_of self.old)).beside (first + i) }
-        ensures size { KeepsSize (device_below (pages_of self.old)) (device_below (pages_of self.new)) }
-        ensures writes { (device_below (pages_of self.old)).faithful → WritesSectors first sectors.now
+        ensures device { WritesProtected first sectors.now result
             (device_below (pages_of self.old)) (device_below (pages_of self.new)) }
-        ensures written { (device_below (pages_of self.old)).faithful
-            → OnOk result (HoldsSectors first sectors.now (device_below (pages_of self.new)).content) }
-        ensures synced { (device_below (pages_of self.old)).faithful
-            → OnOk result (IsSynced (device_below (pages_of self.new))) }
         ensures leaves { (contents : Contents) → HoldsContents contents (pages_of self.old)
             → LeavesBefore contents (pages_of self.old) (pages_of self.new) }
         ensures keeps { KeepsStore self.old self.new }

@@ -9,30 +9,11 @@ ghost use Rattle.store.specs.Records.{IsKeySize};
 ghost use Rattle.kv_store.specs.Formatting.{Formats};
 
 use crate::page_store::PageStore;
-use cow_pages::{Format, PAGE_SIZE, format};
+use cow_pages::{Format, OpenFault, PAGE_SIZE, format};
 use page_nodes::{NodeKind, push_cell, write_node};
 use sector_device::Device;
 use std::alloc::{AllocError, Global};
 use store::{Entry, RecordFormat};
-
-/// Why a new store was not made.
-#[derive(Clone, Copy, Drop, PartialEq, Eq)]
-pub enum FormatFault {
-    /// An allocation failed, before anything was written.
-    Memory,
-    /// The device failed.
-    Device,
-}
-
-impl From<AllocError> for FormatFault {
-    ghost use Rattle.kv_store.specs.declared.formatting.FormatFault.TheVariants.{Memory};
-
-    ghost from_gives = { λ _ fault. fault ≡ Memory };
-
-    fn from(_: AllocError) -> Self {
-        FormatFault::Memory
-    }
-}
 
 /// The page of a leaf that has one entry. The only error is that an allocation failed, and then nothing is said of the page.
 pub fn write_leaf_of(
@@ -52,7 +33,7 @@ pub fn write_leaf_of(
 
 impl<D: Device> PageStore<D> {
     /// Makes a new store as `format_as` does, with the spelling in which databases are made.
-    pub fn format(alloc: Global, device: &mut D, first: &Entry) -> Result<(), FormatFault>
+    pub fn format(alloc: Global, device: &mut D, first: &Entry) -> Result<(), OpenFault>
         requires size { is_size (D.state device.old).sectors ≡ true }
         requires key { IsKeySize first.now.0 }
         requires value { length first.now.1 ≤ max_value_length }
@@ -72,7 +53,7 @@ impl<D: Device> PageStore<D> {
         device: &mut D,
         record_format: RecordFormat,
         first: &Entry,
-    ) -> Result<(), FormatFault>
+    ) -> Result<(), OpenFault>
         requires size { is_size (D.state device.old).sectors ≡ true }
         requires key { IsKeySize first.now.0 }
         requires value { length first.now.1 ≤ max_value_length }
@@ -82,7 +63,7 @@ impl<D: Device> PageStore<D> {
         write_leaf_of(alloc, first, &mut page)?;
         match format(device, Format::of_spelling(record_format), &page) {
             Ok(()) => Ok(()),
-            Err(_) => Err(FormatFault::Device),
+            Err(_) => Err(OpenFault::Device),
         }
     }
 }

@@ -10,11 +10,12 @@ mod journal_kind;
 mod laws;
 mod page_store;
 mod read_only;
+mod refusals;
 mod reserve;
 mod tree_store;
 
 pub use cow_pages::{DEFAULT_CACHE_PAGES, MAX_CACHE_PAGES, OpenFault};
-pub use formatting::{FormatFault, write_leaf_of};
+pub use formatting::write_leaf_of;
 pub use laws::{one_contents, sound_images, tree_and_records};
 pub use page_store::PageStore;
 pub use reserve::Reserve;

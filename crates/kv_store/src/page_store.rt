@@ -76,6 +76,7 @@ impl<D: Device> PageStore<D> {
 }
 
 impl<D: Device> Map for PageStore<D> {
+    ghost use Rattle.std.proofs.Common.{refl};
     ghost use Rattle.std.specs.Prelude.{is_some};
     ghost use Rattle.cow_pages.specs.Cow.{device_of};
     ghost use Rattle.page_tree.specs.Ahead.{IsFoundBy};
@@ -83,14 +84,14 @@ impl<D: Device> Map for PageStore<D> {
     ghost use Rattle.store.specs.Records.{first_from as first_record_from};
     ghost use Rattle.store.specs.Steps.{Goes, Takes};
     ghost use Rattle.store.specs.Store.{Reads};
-    ghost use Rattle.store.specs.Walks.{count_of, span};
+    ghost use Rattle.store.specs.Walks.{count_to, span};
     ghost use Rattle.kv_store.specs.PageStore.{pages_of, store_state};
     ghost use Rattle.kv_store.specs.StoreLaws.{present_now};
     ghost use Rattle.kv_store.specs.TreeLaws.{keys_rise};
     ghost use Rattle.kv_store.specs.TreeStore.{CountsRead, IsStill};
     ghost use Rattle.kv_store.specs.Unwritten.{WritesNothing};
     ghost use Rattle.kv_store.specs.UnwrittenLaws.{nothing_written, nothing_written_joined};
-    ghost use Rattle.kv_store.specs.Walks.{AreAhead, ahead_later};
+    ghost use Rattle.kv_store.specs.Walks.{AreAhead, AreAheadWithin, ahead_later};
 
     type Place = TreeWalk;
 
@@ -105,10 +106,14 @@ impl<D: Device> Map for PageStore<D> {
 
     ghost ahead = { λ s walk records. AreAhead s.tree walk records };
 
+    ghost ahead_within = { λ s stop walk records. AreAheadWithin s.tree stop walk records };
+
     ghost found_at = { λ s walk found. IsFoundBy walk found };
 
     ghost ahead_stays = { λ s later walk records nothing ahead.
         ahead_later s.tree later.tree walk records nothing ahead };
+
+    ghost ahead_cut = { λ s stop walk records rise ahead. (records, refl, rise, ahead) };
 
     ghost ordered = { λ s sound. keys_rise s.tree sound };
 
@@ -151,17 +156,17 @@ impl<D: Device> Map for PageStore<D> {
         self.tree.contains(key)
     }
 
-    /// Counts the records of a span, as `Map` says, and writes nothing, whatever it answers. Once the store has answered Device
+    /// Counts the records of a span up to `most`, as `Map` says, and writes nothing, whatever it answers. Once the store has answered Device
     /// nothing changes, and `failures` rises with an answer Device alone.
-    fn count(&mut self, start: &[u8], stop: &[u8]) -> Result<u64, StoreFault>
+    fn count_to(&mut self, start: &[u8], stop: &[u8], most: u64) -> Result<u64, StoreFault>
         ensures preserved { WritesNothing (pages_of self.old) (pages_of self.new) }
         ensures goes { Goes (λ count. count
-            ≡ count_of (span start.now stop.now (store_state self.old).map))
+            ≡ count_to most (span start.now stop.now (store_state self.old).map))
             result (store_state self.old) (store_state self.new) }
         ensures still { IsStill result self.old.tree self.new.tree }
         ensures counts { CountsRead result self.old.tree self.new.tree }
     {
-        Map::count(&mut self.tree, start, stop)
+        self.tree.count_to(start, stop, most)
     }
 
     /// Begins a walk at `key`, as `Map` says. No page is read yet, and nothing changes.
@@ -187,6 +192,20 @@ impl<D: Device> Map for PageStore<D> {
         ensures counts { CountsRead result self.old.tree self.new.tree }
     {
         self.tree.step(walk)
+    }
+
+    /// Goes on with a walk up to a stop, as `Map` says, and writes nothing, whatever it answers. Once the store has answered
+    /// Device nothing changes, and `failures` rises with an answer Device alone.
+    fn step_within(&mut self, walk: &mut TreeWalk, stop: &[u8]) -> Result<bool, StoreFault>
+        ensures preserved { WritesNothing (pages_of self.old) (pages_of self.new) }
+        ensures goes { Goes (λ found. (records : Records)
+            → AreAheadWithin self.old.tree stop.now walk.old records
+            → Takes (IsFoundBy walk.new) (AreAheadWithin self.new.tree stop.now walk.new) found records)
+            result (store_state self.old) (store_state self.new) }
+        ensures still { IsStill result self.old.tree self.new.tree }
+        ensures counts { CountsRead result self.old.tree self.new.tree }
+    {
+        self.tree.step_within(walk, stop)
     }
 
     fn entry<'a>(&'a self, walk: &'a TreeWalk) -> EntryRef<'a> {

@@ -1,4 +1,5 @@
 //! A store in pages on a device, whose root says whether there is a journal.
+ghost use Rattle.std.proofs.Common.{refl};
 ghost use Rattle.std.specs.Prelude.{◌≡◌, ◌≢◌, ◌≤◌, ◌+◌, [], true, false, Ok, Err, IfOk, OnOk, OnErr, is_some};
 ghost use Rattle.storage_sizes.specs.declared.record_format.RecordFormat.TheVariants.{V1, V2};
 ghost use Rattle.page_roots.specs.Formats.{record_format_of, has_journal};
@@ -6,31 +7,33 @@ ghost use Rattle.store.specs.Store.{Contents, Reads, Commits, stored};
 ghost use Rattle.store.specs.Contents.{changed_by_batch, changed_in};
 ghost use Rattle.store.specs.Records.{Records, entry_at, entries_where, is_from, lookup, applied};
 ghost use Rattle.store.specs.Steps.{Goes, Takes};
-ghost use Rattle.store.specs.Walks.{count_of, span};
+ghost use Rattle.store.specs.Walks.{count_to, span};
 ghost use Rattle.page_tree.specs.Ahead.{IsFoundBy};
-ghost use Rattle.kv_store.specs.Walks.{AreAhead, ahead_later};
+ghost use Rattle.kv_store.specs.Walks.{AreAhead, AreAheadWithin, ahead_later};
 ghost use Rattle.store.specs.Records.{first_from as first_record_from};
 ghost use Rattle.kv_store.specs.Contents.{HoldsContents, is_journaled};
 ghost use Rattle.kv_store.specs.declared.reserve.Reserve.TheVariants.{Kept, Open};
 ghost use Rattle.sector_device.specs.Device.{KeepsHistory};
 ghost use Rattle.cow_pages.specs.Cow.{device_of, device_below};
 ghost use Rattle.kv_store.specs.TreeStore.{store_state, pages_of, RefusesRead, RefusesCommit, CountsRefusal, CountsAlone, CountsRead, CountsCommit, CommitsWhole, IsStill};
-ghost use Rattle.kv_store.specs.Refusals.{RefusesOpen};
 ghost use Rattle.kv_store.specs.Opening.{OpensWith};
 ghost use Rattle.kv_store.specs.Numbered.{LeavesNumbered};
-ghost use Rattle.kv_store.specs.Switches.{IsAnew};
+ghost use Rattle.kv_store.specs.Changing.{ChangesStore};
 ghost use Rattle.kv_store.specs.Unwritten.{WritesNothing};
 ghost use Rattle.kv_store.specs.UnwrittenLaws.{nothing_written, nothing_written_joined};
 ghost use Rattle.kv_store.specs.TreeLaws.{keys_rise, present_now, settled_now};
 
 use crate::commit::{RootWrite, commit_batch};
 use crate::read_only::ReadOnlyPages;
+use crate::refusals::refuse_open;
 use crate::reserve::Reserve;
 use cow_pages::{CowPages, Format, MAX_CACHE_PAGES, OpenFault, PageFault, preserved_stays};
-use page_tree::{Scratch, TreeCursor, TreeWalk, check_tree, contains, count, first_on, get, step};
+use page_tree::{
+    Scratch, TreeCursor, TreeWalk, check_tree, contains, count_to, first_on, get, step,
+};
 use sector_device::Device;
 use std::alloc::Global;
-use store::{Batch, Entry, EntryRef, Map, RecordFormat, Store, StoreFault};
+use store::{Batch, Entry, EntryRef, Map, RecordFormat, Store, StoreFault, is_within};
 
 /// A store in pages on a device: its records are the entries of the tree from logical page 0 of the durable array. Where its
 /// root says that there is a journal, these are the records of the pages alone, and no call but `write_protected` touches the
@@ -68,19 +71,6 @@ fn copy_to(out: &mut Entry, key: &[u8], value: &[u8]) -> Result<bool, StoreFault
 {
     out.set(key, value)?;
     Ok(true)
-}
-
-// Why a store is not opened where the check of its tree failed, over pages that have failed or work still.
-fn refuse_open(fault: PageFault, has_failed: bool) -> OpenFault
-    ensures { RefusesOpen fault has_failed result }
-{
-    if has_failed {
-        return OpenFault::Device;
-    }
-    match fault {
-        PageFault::Memory => OpenFault::Memory,
-        PageFault::Full | PageFault::Device | PageFault::Malformed => OpenFault::Damaged,
-    }
 }
 
 impl<D: Device> TreeStore<D> {
@@ -220,10 +210,14 @@ impl<D: Device> Map for TreeStore<D> {
 
     ghost ahead = { λ s walk records. AreAhead s walk records };
 
+    ghost ahead_within = { λ s stop walk records. AreAheadWithin s stop walk records };
+
     ghost found_at = { λ s walk found. IsFoundBy walk found };
 
     ghost ahead_stays = { λ s later walk records nothing ahead.
         ahead_later s later walk records nothing ahead };
+
+    ghost ahead_cut = { λ s stop walk records rise ahead. (records, refl, rise, ahead) };
 
     ghost ordered = { λ s sound. keys_rise s sound };
 
@@ -286,12 +280,12 @@ impl<D: Device> Map for TreeStore<D> {
         }
     }
 
-    /// Counts the records of a span, as `Map` says, and writes nothing, whatever it answers. Once the store has answered Device
+    /// Counts the records of a span up to `most`, as `Map` says, and writes nothing, whatever it answers. Once the store has answered Device
     /// nothing changes, and `failures` rises with an answer Device alone.
-    fn count(&mut self, start: &[u8], stop: &[u8]) -> Result<u64, StoreFault>
+    fn count_to(&mut self, start: &[u8], stop: &[u8], most: u64) -> Result<u64, StoreFault>
         ensures preserved { WritesNothing (pages_of self.old) (pages_of self.new) }
         ensures goes { Goes (λ count. count
-            ≡ count_of (span start.now stop.now (store_state self.old).map))
+            ≡ count_to most (span start.now stop.now (store_state self.old).map))
             result (store_state self.old) (store_state self.new) }
         ensures still { IsStill result self.old self.new }
         ensures counts { CountsRead result self.old self.new }
@@ -299,7 +293,8 @@ impl<D: Device> Map for TreeStore<D> {
         if self.has_failed {
             return Err(StoreFault::Device);
         }
-        match count(*self.value.allocator(), &mut self.pages, start, stop) {
+        let alloc = *self.value.allocator();
+        match count_to(alloc, &mut self.pages, start, stop, most) {
             Ok(count) => Ok(count),
             Err(fault) => Err(self.refuse_read(fault)),
         }
@@ -339,6 +334,24 @@ impl<D: Device> Map for TreeStore<D> {
         }
     }
 
+    /// Goes on with a walk up to a stop, as `Map` says, and writes nothing, whatever it answers. Once the store has answered
+    /// Device nothing changes, and `failures` rises with an answer Device alone.
+    fn step_within(&mut self, walk: &mut TreeWalk, stop: &[u8]) -> Result<bool, StoreFault>
+        ensures preserved { WritesNothing (pages_of self.old) (pages_of self.new) }
+        ensures goes { Goes (λ found. (records : Records)
+            → AreAheadWithin self.old stop.now walk.old records
+            → Takes (IsFoundBy walk.new) (AreAheadWithin self.new stop.now walk.new) found records)
+            result (store_state self.old) (store_state self.new) }
+        ensures still { IsStill result self.old self.new }
+        ensures counts { CountsRead result self.old self.new }
+    {
+        match self.step(walk) {
+            Ok(true) => Ok(is_within(stop, self.entry(walk).key)),
+            Ok(false) => Ok(false),
+            Err(fault) => Err(fault),
+        }
+    }
+
     fn entry<'a>(&'a self, walk: &'a TreeWalk) -> EntryRef<'a> {
         let (key, value) = walk.entry();
         EntryRef { key, value }
@@ -357,22 +370,7 @@ impl<D: Device> TreeStore<D> {
     ) -> Result<(), StoreFault>
         requires works { (store_state self.old).has_failed ≡ false }
         requires kind { has_journal format ≡ is_journaled (pages_of self.old) }
-        ensures kind { is_journaled (pages_of self.new) ≡ is_journaled (pages_of self.old) }
-        ensures commits { Commits result
-            (changed_in (record_format_of format) batch.now (stored (store_state self.old)))
-            (store_state self.old) (store_state self.new) }
-        ensures batch { CommitsWhole reserve batch.now (changed_in (record_format_of format) batch.now)
-            result self.old self.new }
-        ensures counts { CountsCommit result self.old self.new }
-        ensures rises { (store_state self.old).sound → stored (store_state self.old)
-            ≢ changed_in (record_format_of format) batch.now (stored (store_state self.old))
-            → OnOk result ((store_state self.new).number ≡ (store_state self.old).number + 1) }
-        ensures history { KeepsHistory
-            (device_below (pages_of self.old)) (device_below (pages_of self.new)) }
-        ensures anew { IsAnew switch result (pages_of self.old) (pages_of self.new) }
-        ensures numbered { (contents : Contents) → HoldsContents contents (pages_of self.old)
-            → LeavesNumbered result contents (changed_in (record_format_of format) batch.now contents)
-            (pages_of self.old) (pages_of self.new) }
+        ensures { ChangesStore (record_format_of format) switch reserve batch.now result self.old self.new }
     {
         self.cursor.reset();
         let pages = &mut self.pages.below;

@@ -210,3 +210,12 @@ goes_on map start stop count passed next before found walk rising to step within
 -- nothing more is
 pub ends : (map : List Entry) (start stop : List ℕ) (count : ℕ) (before : TreeWalk) → (to : IsCountedTo map start stop count before) → count_within stop to.later ≡ 0 → count ≡ min (count_within stop (rest_entries start map)) (2 ^ 64 - 1)
 ends map start stop count before to none = omega (arith, to.total, to.fits, none)
+
+-- up to a bound
+pub ends_below : (map : List Entry) (start stop : List ℕ) (count most : ℕ) (before : TreeWalk) → (to : IsCountedTo map start stop count before) → count_within stop to.later ≡ 0 → count < most → most ≤ 2 ^ 64 - 1
+    → count ≡ min (count_within stop (rest_entries start map)) most
+ends_below map start stop count most before to none less fits = omega (arith, to.total, to.fits, none, less, fits)
+
+-- as many as are wanted are counted
+pub counts_enough : (map : List Entry) (start stop : List ℕ) (count most : ℕ) (before : TreeWalk) → IsCountedTo map start stop count before → most ≤ count → most ≡ min (count_within stop (rest_entries start map)) most
+counts_enough map start stop count most before to enough = omega (arith, to.total, to.fits, enough)

@@ -1,5 +1,5 @@
 -- Counts of the entries of a span of keys.
-use Rattle.std.specs.Prelude.{◌≡◌, ◌+◌, ◌-◌, ◌^◌, min, nat_eq, ℕ, Bool, ◌||◌, if◌then◌else◌, Result, List, [], ◌∷◌, ◌++◌}
+use Rattle.std.specs.Prelude.{◌≡◌, ◌+◌, min, nat_eq, ℕ, Bool, ◌||◌, if◌then◌else◌, Result, List, [], ◌∷◌, ◌++◌}
 use Rattle.std.specs.List.{starts_with}
 use Rattle.pages.specs.declared.array.PageFault.{PageFault}
 use Rattle.pages.specs.declared.array.Pages.{Ghosts}
@@ -26,8 +26,8 @@ pub record IsPassed (map : List Entry) (stop : List ℕ) (passed : ℕ) (walk : 
   pub all : count_within stop front ≡ passed
   pub ahead : HasAhead map walk later
 
--- the entries of the map from a key on that are within a stop are counted, up to 2^64 - 1
-abbrev pub Counts : {P : Type 0} (g : Ghosts P) (old new : P) (start stop : List ℕ) (result : Result ℕ PageFault) → Type 0
-Counts g old new start stop result =
+-- the entries of the map from a key on that are within a stop are counted, up to a bound
+abbrev pub Counts : {P : Type 0} (g : Ghosts P) (old new : P) (start stop : List ℕ) (most : ℕ) (result : Result ℕ PageFault) → Type 0
+Counts g old new start stop most result =
     (g.state old).sound → (map : List Entry) → Represents map (g.state old).array
-    → Gives g old new result (λ count. count ≡ min (count_within stop (rest_entries start map)) (2 ^ 64 - 1))
+    → Gives g old new result (λ count. count ≡ min (count_within stop (rest_entries start map)) most)

@@ -15,24 +15,29 @@ pub(crate) fn is_within(stop: &[u8], key: &[u8]) -> bool
     key.starts_with(stop) || is_less(key, stop)
 }
 
-/// How many entries have a key from `start` on that comes before `stop` or begins with it, up to `u64::MAX`. Of a leaf whose
-/// last key does, the cells are counted, and no other key is compared. A fault comes from the pages, or is Memory where an
+/// How many entries have a key from `start` on that comes before `stop` or begins with it, or `most` where they are as many or
+/// more: no leaf is read behind those that tell it. Of a leaf whose last key does, the cells are counted, and no other key is
+/// compared. A fault comes from the pages, or is Memory where an
 /// allocation failed, and is never Full; the pages stay as they are, also then.
-pub fn count<P: Pages>(
+pub fn count_to<P: Pages>(
     alloc: Global,
     pages: &mut P,
     start: &[u8],
     stop: &[u8],
+    most: u64,
 ) -> Result<u64, PageFault>
     ensures preserved { P.preserved pages.old pages.new }
     ensures works { P.works pages.old → OnOk result (P.works pages.new) }
     ensures only_reads { LeavesPages P.Pages pages.old pages.new }
-    ensures counted { Counts P.Pages pages.old pages.new start.now stop.now result }
+    ensures counted { Counts P.Pages pages.old pages.new start.now stop.now most result }
     ensures faults { IfErr result (λ f. f ≢ PageFault.Full) }
 {
     let mut walk = TreeWalk::from_key(alloc, start)?;
     let mut count = 0u64;
     for _ in 0..u64::MAX {
+        if count >= most {
+            return Ok(most);
+        }
         if !step(pages, &mut walk)? {
             return Ok(count);
         }

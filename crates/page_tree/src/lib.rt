@@ -19,7 +19,7 @@ mod tree_walk;
 
 pub use changes::change_first;
 pub use check::check_tree;
-pub use counting::count;
+pub use counting::count_to;
 pub use cursor::{TreeCursor, first_from, first_on, next};
 pub use laws::{leaf_alone, represented_map};
 pub use scratch::Scratch;

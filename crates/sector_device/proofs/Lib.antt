@@ -7,3 +7,4 @@ pub mod Files
 pub mod Pages
 pub mod EachSector
 pub mod Guarding
+pub mod OneWrite

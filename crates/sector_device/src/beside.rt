@@ -3,7 +3,7 @@ ghost use Rattle.std.specs.Prelude.{◌≡◌, ◌≤◌, ◌<◌, ◌+◌, [], 
 ghost use Rattle.sector_device.specs.Device.{KeepsSize, HasFailed, IsSynced};
 ghost use Rattle.sector_device.specs.Sectors.{WritesSectors, HoldsSectors};
 
-use crate::{Device, DeviceFault, SECTOR_SIZE};
+use crate::{Device, DeviceFault, SECTOR_SIZE, SECTORS_PER_PAGE};
 
 /// A device that keeps sectors beside, which are written by this call alone.
 pub trait ProtectedSectors: Device {
@@ -16,7 +16,7 @@ pub trait ProtectedSectors: Device {
         first: u32,
         sectors: &[[u8; SECTOR_SIZE]],
     ) -> Result<(), DeviceFault>
-        requires inside { first + length sectors.now ≤ (Self.state self.old).sectors }
+        requires room { SECTORS_PER_PAGE ≤ (Self.state self.old).sectors }
         requires beside { (i : ℕ) → i < length sectors.now
             → (Self.state self.old).beside (first + i) }
         ensures size { KeepsSize (Self.state self.old) (Self.state self.new) }

@@ -2,11 +2,12 @@
 ghost use Rattle.std.specs.Prelude.{◌≡◌, ℕ};
 ghost use Rattle.sector_device.specs.Beside.{guarded_state};
 
-use crate::sectors::write_and_sync;
+use crate::first_page::write_in_first_page;
 use crate::{Device, DeviceFault, PAGE_SIZE, ProtectedSectors, SECTOR_SIZE};
 
 /// The device below, of which the six sectors behind the two root sectors are kept beside: no call of
-/// `Device` writes them, and `write_protected` alone does. Its failures are those of the device below.
+/// `Device` writes them, and `write_protected` alone does, by one write of the first page. Its failures
+/// are those of the device below.
 #[derive(Drop)]
 pub struct WriteProtected<D: Device> {
     device: D,
@@ -85,6 +86,6 @@ impl<D: Device> ProtectedSectors for WriteProtected<D> {
         first: u32,
         sectors: &[[u8; SECTOR_SIZE]],
     ) -> Result<(), DeviceFault> {
-        write_and_sync(&mut self.device, first, sectors)
+        write_in_first_page(&mut self.device, first, sectors)
     }
 }

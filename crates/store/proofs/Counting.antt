@@ -1,5 +1,5 @@
 -- How many records changes in pieces put within a stop.
-use Rattle.std.proofs.Common.{◌≡◌, ℕ, zero, suc, ◌+◌, ◌-◌, ◌<◌, ◌≤◌, Bool, true, false, if◌then◌else◌, List, [], ◌∷◌, ◌++◌, Option, Some, None, add-one, refl, ap, sym, ◌∙◌, subst, arith, length, get_or, take, drop, set}
+use Rattle.std.proofs.Common.{◌≡◌, ℕ, zero, suc, ◌+◌, ◌-◌, ◌^◌, ◌<◌, ◌≤◌, min, Bool, true, false, if◌then◌else◌, List, [], ◌∷◌, ◌++◌, Option, Some, None, add-one, refl, ap, sym, ◌∙◌, subst, arith, length, get_or, take, drop, set}
 use Rattle.std.specs.List.{AllByRecursion, insert, remove}
 use Rattle.std.proofs.lemmas.List.{length-append}
 use Rattle.std.proofs.Math.ListN.{length-set}
@@ -7,7 +7,7 @@ use Rattle.store.specs.Records.{Changes, Records, IsBefore, IsOrdered, entries_w
 use Rattle.store.specs.Batch.{all_changes}
 use Rattle.store.specs.Place.{IsStopPlace}
 use Rattle.store.specs.Pieces.{AreFilled, last_of, ends_within, from_place, puts, puts_within, weight}
-use Rattle.store.specs.Walks.{is_within}
+use Rattle.store.specs.Walks.{count_of, count_to, is_within}
 use Rattle.store.proofs.InOrder.{start_ordered}
 use Rattle.store.proofs.Stops.{all_in}
 use Rattle.store.proofs.Turns.{end_ordered}
@@ -250,3 +250,13 @@ last_counted stop zero at (p ∷ ps) d o f inside ends =
     ∙ ap (λ (es : Records). length (puts_within stop (drop at p)) + length es) none
     ∙ omega arith
 last_counted stop (suc piece) at (p ∷ ps) d o f inside ends = last_counted stop piece at ps d (end_ordered p (all_changes ps) o) f.1 (omega arith) ends
+
+-- ---- up to a bound
+
+-- what is counted and what is left are all, and as many as are wanted were counted
+pub counted_enough : (records : Records) (count left most : ℕ) → min (count + left) (2 ^ 64 - 1) ≡ count_of records → most ≤ count → count ≤ 2 ^ 64 - 1 → most ≡ count_to most records
+counted_enough records count left most all enough fits = omega (arith, all, enough, fits)
+
+-- all were counted
+pub counted_whole : (records : Records) (count most : ℕ) → count ≡ count_of records → most ≤ 2 ^ 64 - 1 → min count most ≡ count_to most records
+counted_whole records count most all fits = omega (arith, all, fits)

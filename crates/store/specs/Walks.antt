@@ -24,9 +24,13 @@ is_within stop key = has_prefix stop key || is_lt (key_cmp key stop)
 abbrev pub span : List ℕ → List ℕ → Records → Records
 span start stop records = entries_where (is_within stop) (entries_where (is_from start) records)
 
+-- how many records these are, up to a bound
+abbrev pub count_to : ℕ → Records → ℕ
+count_to most records = min (length records) most
+
 -- how many records these are, up to 2 ^ 64 - 1
 abbrev pub count_of : Records → ℕ
-count_of records = min (length records) (2 ^ 64 - 1)
+count_of records = count_to (2 ^ 64 - 1) records
 
 -- what a walk has yet to find
 abbrev pub left : Walk → Records → Records

@@ -4,11 +4,9 @@ ghost use Rattle.std.specs.Ordering.{is_lt};
 ghost use Rattle.store.specs.Records.{Records, entries_where, has_prefix, is_from, key_cmp};
 ghost use Rattle.store.specs.Walks.{Walk, Advances, is_within, span, walk_between};
 
-use crate::prefix::begins_with;
 use crate::{Entry, Map, StoreFault};
 use std::alloc::{AllocError, Global};
 use std::marker::Model;
-use storage_sizes::comes_before;
 
 /// Where a walk goes on, where it stops, and the entry that it found last. A step takes memory
 /// only for a key or a value that is longer than all before it.
@@ -81,11 +79,17 @@ impl Cursor {
     }
 }
 
-// Whether a key begins with this stop or comes before it.
-pub(crate) fn is_within(stop: &[u8], key: &[u8]) -> bool
+/// Whether a key begins with this stop or comes before it.
+pub fn is_within(stop: &[u8], key: &[u8]) -> bool
     ensures { result ≡ is_within stop.now key.now }
 {
-    begins_with(key, stop) || comes_before(key, stop)
+    let shared = key.len().min(stop.len());
+    for at in 0..shared {
+        if key[at] != stop[at] {
+            return key[at] < stop[at];
+        }
+    }
+    true
 }
 
 // The least key after this one.

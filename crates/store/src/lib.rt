@@ -21,7 +21,7 @@ mod store;
 
 pub use batch::Batch;
 pub use change::Change;
-pub use cursor::{Cursor, prefix_is_a_span};
+pub use cursor::{Cursor, is_within, prefix_is_a_span};
 pub use entry::{Entry, EntryRef};
 pub use fault::{Fault, StoreFault};
 pub use items::{

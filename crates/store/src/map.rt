@@ -1,10 +1,10 @@
 //! Maps of records, as what reads them sees them.
-ghost use Rattle.std.specs.Prelude.{◌≡◌, is_some};
+ghost use Rattle.std.specs.Prelude.{◌≡◌, List, ℕ, is_some};
 ghost use Rattle.sector_device.specs.Timeline.{IsPresent};
 ghost use Rattle.store.specs.Records.{Record, Records, IsOrdered, entries_where, entry_at, first_from, is_from, lookup};
 ghost use Rattle.store.specs.Store.{StoreState, OnlyReads, Reads, HasReadCause};
 ghost use Rattle.store.specs.Steps.{Goes, Takes};
-ghost use Rattle.store.specs.Walks.{count_of, span};
+ghost use Rattle.store.specs.Walks.{count_to, is_within, span};
 
 use crate::{Entry, EntryRef, StoreFault};
 
@@ -32,6 +32,9 @@ pub trait Map {
     /// These are the records ahead of a place.
     ghost ahead: { Self → Self.Place → Records → Type 0 };
 
+    /// These are the records ahead of a place, up to the last whose key comes before a stop or begins with it.
+    ghost ahead_within: { Self → List ℕ → Self.Place → Records → Type 0 };
+
     /// The last step to this place found this record.
     ghost found_at: { Self → Self.Place → Record → Type 0 };
 
@@ -56,11 +59,11 @@ pub trait Map {
         ensures goes { Goes (λ found. found ≡ is_some (lookup key.now (state self.old).map))
             result (state self.old) (state self.new) };
 
-    /// How many records have a key from `start` on that comes before `stop` or begins with it, up to `u64::MAX`. The faults
-    /// are Memory and Device.
-    fn count(&mut self, start: &[u8], stop: &[u8]) -> Result<u64, StoreFault>
+    /// How many records have a key from `start` on that comes before `stop` or begins with it, or `most` where they are as
+    /// many or more: a count ends where it has come to `most`. The faults are Memory and Device.
+    fn count_to(&mut self, start: &[u8], stop: &[u8], most: u64) -> Result<u64, StoreFault>
         ensures preserved { preserved self.old self.new }
-        ensures goes { Goes (λ count. count ≡ count_of (span start.now stop.now (state self.old).map))
+        ensures goes { Goes (λ count. count ≡ count_to most (span start.now stop.now (state self.old).map))
             result (state self.old) (state self.new) };
 
     /// The place before the least key that is `key` or comes after it, where a walk begins. The
@@ -80,6 +83,16 @@ pub trait Map {
             → Takes (found_at self.new place.new) (ahead self.new place.new) found records)
             result (state self.old) (state self.new) };
 
+    /// Goes behind the first record ahead of a place whose key comes before `stop` or begins with
+    /// it: a step of a walk in which each step has this stop. True: `entry` lends that record.
+    /// False: none is ahead, and nothing is said of the place, nor after a fault. Of what lies
+    /// behind the stop one record at most is looked at. The faults are Memory and Device.
+    fn step_within(&mut self, place: &mut Self::Place, stop: &[u8]) -> Result<bool, StoreFault>
+        ensures preserved { preserved self.old self.new }
+        ensures goes { Goes (λ found. (records : Records) → ahead_within self.old stop.now place.old records
+            → Takes (found_at self.new place.new) (ahead_within self.new stop.now place.new) found records)
+            result (state self.old) (state self.new) };
+
     /// The record that the last step to this place found, lent.
     fn entry<'a>(&'a self, place: &'a Self::Place) -> EntryRef<'a>
         ensures { (e : Record) → found_at self.now place.now e → result ≡ e };
@@ -87,6 +100,12 @@ pub trait Map {
     /// Reads leave what is ahead of a place.
     ghost ahead_stays: { (map later : Self) (place : Self.Place) (records : Records)
         → preserved map later → ahead map place records → ahead later place records };
+
+    /// Of what is ahead of a place that part is ahead up to a stop whose keys come before it or
+    /// begin with it.
+    ghost ahead_cut: { (map : Self) (stop : List ℕ) (place : Self.Place) (records : Records)
+        → IsOrdered records → ahead map place records
+        → ahead_within map stop place (entries_where (is_within stop) records) };
 
     /// Keys rise.
     ghost ordered: { (map : Self) → (state map).sound → IsOrdered (state map).map };

@@ -11,6 +11,7 @@ ghost use Rattle.store.specs.Memory.{memory_state};
 ghost use Rattle.storage_sizes.specs.Spellings.{current};
 
 use crate::admin::put_admin;
+use crate::cursor::is_within;
 use crate::pieces::{Pieces, Place};
 use crate::{Batch, Change, Entry, EntryRef, Map, Piece, Store, StoreFault};
 use sql_types::name::Name;
@@ -297,6 +298,7 @@ fn copy_puts(alloc: Global, pieces: &[Piece]) -> Result<Vec<Change>, AllocError>
 
 impl Map for MemStore {
     ghost use Rattle.store.specs.Places.{ahead_in, IsFoundAt};
+    ghost use Rattle.store.specs.Steps.{AheadWithin};
 
     type Place = Place;
 
@@ -310,9 +312,14 @@ impl Map for MemStore {
 
     ghost ahead = { λ s place records. ahead_in s.entries place ≡ records };
 
+    ghost ahead_within = { λ s stop place records.
+        AheadWithin stop (λ all. ahead_in s.entries place ≡ all) records };
+
     ghost found_at = { λ s place e. IsFoundAt s.entries place e };
 
     ghost ahead_stays = { λ s later place records kept is. rw kept.1 is };
+
+    ghost ahead_cut = { λ s stop place records rise is. (records, refl, rise, is) };
 
     ghost ordered = { λ s sound. s.ordered };
 
@@ -331,10 +338,9 @@ impl Map for MemStore {
     fn scan_from(&mut self, key: &[u8], out: &mut Entry) -> Result<bool, StoreFault> {
         let place = self.entries.place_from(key, self.next);
         match self.entries.step_from(place) {
-            Some(next) => {
+            Some((next, entry)) => {
                 self.next = next;
-                let (key, value) = self.entries.put_before(next);
-                out.set(key, value)?;
+                out.set(entry.key, entry.value)?;
                 Ok(true)
             }
             None => Ok(false),
@@ -345,9 +351,9 @@ impl Map for MemStore {
         Ok(self.has_record(key))
     }
 
-    fn count(&mut self, start: &[u8], stop: &[u8]) -> Result<u64, StoreFault> {
+    fn count_to(&mut self, start: &[u8], stop: &[u8], most: u64) -> Result<u64, StoreFault> {
         let from = self.entries.place_from(start, self.next);
-        Ok(self.entries.count_within(from, stop))
+        Ok(self.entries.count_within(from, stop, most))
     }
 
     fn seek(&mut self, key: &[u8]) -> Result<Place, StoreFault> {
@@ -358,9 +364,19 @@ impl Map for MemStore {
 
     fn step(&mut self, place: &mut Place) -> Result<bool, StoreFault> {
         match self.entries.step_from(*place) {
-            Some(next) => {
+            Some((next, _)) => {
                 *place = next;
                 Ok(true)
+            }
+            None => Ok(false),
+        }
+    }
+
+    fn step_within(&mut self, place: &mut Place, stop: &[u8]) -> Result<bool, StoreFault> {
+        match self.entries.step_from(*place) {
+            Some((next, entry)) => {
+                *place = next;
+                Ok(is_within(stop, entry.key))
             }
             None => Ok(false),
         }

@@ -5,10 +5,10 @@ ghost use Rattle.std.specs.List.{AllByRecursion};
 ghost use Rattle.store.specs.Records.{IsOrdered, IsOrdered-prop, changed, entry_at, entries_where, first_from, is_from, lookup};
 ghost use Rattle.store.specs.Batch.{all_changes};
 ghost use Rattle.store.specs.Pieces.{AreFilled, AreFilled-prop, IsIndex, IsHome, IsSpot, IsStopIndex, from_place, puts_within};
-ghost use Rattle.store.specs.Walks.{count_of};
+ghost use Rattle.store.specs.Walks.{count_to};
 
 use crate::behind::copy_pieces;
-use crate::{Change, Piece};
+use crate::{Change, EntryRef, Piece};
 use std::alloc::{AllocError, Global};
 
 /// How many changes a piece may have: a put among them moves no more.
@@ -274,12 +274,13 @@ impl Pieces {
         }
     }
 
-    // The place behind the first change at a place or behind it that puts a value.
-    pub(crate) fn step_from(&self, from: Place) -> Option<Place>
+    // The place behind the first change at a place or behind it that puts a value, and what it
+    // puts, lent.
+    pub(crate) fn step_from(&self, from: Place) -> Option<(Place, EntryRef)>
         ensures { MatchOption result
             (ahead_in self.now from ≡ [])
-            (λ next. (e : Record) × ((ahead_in self.now from ≡ e ∷ ahead_in self.now next)
-            × IsFoundAt self.now next e)) }
+            (λ found. (ahead_in self.now from ≡ found.1 ∷ ahead_in self.now found.0)
+            × IsFoundAt self.now found.0 found.1) }
     {
         let mut place = from;
         while place.piece < self.list.len() {
@@ -288,7 +289,10 @@ impl Pieces {
                 let change = &changes[place.at];
                 place.at += 1;
                 match change.value() {
-                    Some(_) => return Some(place),
+                    Some(value) => {
+                        let key = change.key();
+                        return Some((place, EntryRef { key, value }));
+                    }
                     None => {}
                 }
             } else {
@@ -319,23 +323,28 @@ impl Pieces {
         }
     }
 
-    // How many changes from a place on, of keys within a stop, put a value, up to `u64::MAX`.
-    pub(crate) fn count_within(&self, from: Place, stop: &[u8]) -> u64
-        ensures { result ≡ count_of (puts_within stop.now
+    // How many changes from a place on, of keys within a stop, put a value, up to `most`.
+    pub(crate) fn count_within(&self, from: Place, stop: &[u8], most: u64) -> u64
+        ensures { result ≡ count_to most (puts_within stop.now
             (from_place from.piece from.at self.now.list.items)) }
     {
         let whole = self.stop_index(stop);
         let mut place = from;
         let mut count: u64 = 0;
         while place.piece < whole {
+            if count >= most {
+                return most;
+            }
             count = count.saturating_add(self.list[place.piece].count_from(place.at) as u64);
             place.piece += 1;
             place.at = 0;
         }
         if place.piece >= self.list.len() {
-            return count;
+            return count.min(most);
         }
-        count.saturating_add(self.list[place.piece].count_within(place.at, stop) as u64)
+        count
+            .saturating_add(self.list[place.piece].count_within(place.at, stop) as u64)
+            .min(most)
     }
 
     // The index of the first piece that does not end within a stop.

@@ -10,7 +10,7 @@ ghost use Rattle.table_rows.specs.Ranged.{records_of, FindsRows};
 ghost use Rattle.table_rows.specs.Visits.{VisitsAll};
 
 use crate::target::Target;
-use crate::visit::{Flow, RowVisitor, is_within, table_prefix, visit_record};
+use crate::visit::{Flow, RowVisitor, table_prefix, visit_record};
 use crate::walk::visit_key;
 use key_ranges::KeyRange;
 use sql_ast::columns::Columns;
@@ -82,13 +82,10 @@ fn visit_first_rows<M: Map, V: RowVisitor>(
 {
     let mut place = records.seek(start)?;
     for visited in 0..u64::MAX {
-        if !records.step(&mut place)? {
+        if !records.step_within(&mut place, stop)? {
             return Ok(None);
         }
         let entry = records.entry(&place);
-        if !is_within(stop, entry.key) {
-            return Ok(None);
-        }
         match visit_record(columns, &entry, visitor)? {
             Flow::Continue => {}
             Flow::Done => return Ok(None),

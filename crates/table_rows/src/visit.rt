@@ -5,7 +5,7 @@ ghost use Rattle.sql_types.specs.Row.{Row};
 ghost use Rattle.sql_types.specs.declared.state.SqlState.{SqlState as Code};
 ghost use Rattle.sql_ast.specs.Layout.{Layout};
 ghost use Rattle.sql_ast.specs.Fits.{FitsTable};
-ghost use Rattle.store.specs.Walks.{is_within, span};
+ghost use Rattle.store.specs.Walks.{span};
 ghost use Rattle.abstract_database.specs.Whole.{Each};
 ghost use Rattle.row_codec.specs.Rows.{row_prefix, Spells};
 ghost use Rattle.stored_database.specs.RecordFormat.{row_record};
@@ -90,32 +90,16 @@ pub(crate) fn visit_rows<M: Map, V: RowVisitor>(
 {
     let mut place = records.seek(start)?;
     for _ in 0..u64::MAX {
-        if !records.step(&mut place)? {
+        if !records.step_within(&mut place, stop)? {
             return Ok(());
         }
         let entry = records.entry(&place);
-        if !is_within(stop, entry.key) {
-            return Ok(());
-        }
         match visit_record(columns, &entry, visitor)? {
             Flow::Continue => {}
             Flow::Done => return Ok(()),
         }
     }
     Err(StatementError::Failed(Fault::Memory))
-}
-
-/// Whether a key begins with this stop or comes before it.
-pub(crate) fn is_within(stop: &[u8], key: &[u8]) -> bool
-    ensures { result ≡ is_within stop.now key.now }
-{
-    let shared = key.len().min(stop.len());
-    for at in 0..shared {
-        if key[at] != stop[at] {
-            return key[at] < stop[at];
-        }
-    }
-    true
 }
 
 /// Visits the row that a record spells, read in place. The failures are those of the visit, and

@@ -1,48 +1,27 @@
 -- Counts of the records of a span under lists of changes.
-use Rattle.std.proofs.Common.{◌≡◌, ◌<◌, ◌≤◌, ◌^◌, ◌-◌, ℕ, Bool, true, false, ◌&&◌, if◌then◌else◌, List, [], ◌∷◌, ◌+◌, Option, Some, None, length, refl, ap, sym, ◌∙◌, subst, arith}
+use Rattle.std.proofs.Common.{◌≡◌, ◌<◌, ◌≤◌, ℕ, Bool, true, false, ◌&&◌, if◌then◌else◌, List, [], ◌∷◌, ◌+◌, Option, Some, None, length, refl, ap, sym, ◌∙◌, subst, arith}
 use Rattle.std.proofs.lemmas.Bool.{false≢true}
 use Rattle.std.specs.declared.cmp.Ordering.{Ordering}
 use Rattle.std.specs.declared.cmp.Ordering.TheVariants.{Less, Equal, Greater}
 use Rattle.store.specs.Records.{Entries, Record, Records, Changes, IsOrdered, applied, entries_where, found_by, is_from, key_cmp, lookup}
-use Rattle.store.specs.Walks.{count_of, is_within, span}
-use Rattle.store.proofs.Changes.{entries_where-applied, itself, ordered_applied, ordered_entries_where, reversed, same_key}
+use Rattle.store.specs.Walks.{count_to, is_within, span}
+use Rattle.store.proofs.Changes.{entries_where-applied, itself, ordered_applied, reversed, same_key}
 use Rattle.store.proofs.Walking.{none_within}
-use Rattle.transactions.specs.Views.{applied_all, latest, or_earlier, ordered_view, HasLeast, IsLeast}
-use Rattle.transactions.specs.Merging.{AreMerged}
-use Rattle.transactions.specs.declared.merge.MergedPlace.{MergedPlace}
+use Rattle.transactions.specs.Views.{applied_all, latest, or_earlier, HasLeast, IsLeast}
 
--- ---- entries that pass a test
+-- ---- counts up to a bound
 
 -- the first entry is one of them
-pub one_more : (stop : List ℕ) (records : Records) (e : Record) (later : Records) → records ≡ e ∷ later → is_within stop e.0 ≡ true
-    → length (entries_where (is_within stop) records) ≡ 1 + length (entries_where (is_within stop) later)
-one_more stop records e later is within =
-    let all : entries_where (is_within stop) records ≡ e ∷ entries_where (is_within stop) later =
-    ap (entries_where (is_within stop)) is ∙ ap (λ (b : Bool). if b then e ∷ entries_where (is_within stop) later else entries_where (is_within stop) later) within in
-    omega (arith, ap (λ (es : Records). length es) all)
+pub one_less : (records left : Records) (e : Record) (later : Records) (count : ℕ) → length records ≡ count + length left → left ≡ e ∷ later → length records ≡ count + 1 + length later
+one_less records left e later count is first = omega (arith, is, ap (λ (es : Records). length es) first)
 
--- it is not, nor is one behind it
-pub none_more : (stop : List ℕ) (records : Records) (e : Record) (later : Records) → records ≡ e ∷ later → is_within stop e.0 ≡ false → IsOrdered records → length (entries_where (is_within stop) records) ≡ 0
-none_more stop records e later is past rise =
-    let ordered : IsOrdered (e ∷ later) = subst (λ (es : Records). IsOrdered es) is rise in
-    let all : entries_where (is_within stop) records ≡ entries_where (is_within stop) later =
-    ap (entries_where (is_within stop)) is ∙ ap (λ (b : Bool). if b then e ∷ entries_where (is_within stop) later else entries_where (is_within stop) later) past in
-    ap (λ (es : Records). length es) (all ∙ none_within stop e.0 later past ordered.0)
+-- none is left to count
+pub ends_here : (records left : Records) (count most : ℕ) → length records ≡ count + length left → left ≡ [] → count < most → count ≡ count_to most records
+ends_here records left count most is none less = omega (arith, is, ap (λ (es : Records). length es) none, less)
 
--- the count of entries of which none is left to count
-pub ends_here : (stop : List ℕ) (records later : Records) (count : ℕ) → length (entries_where (is_within stop) records) ≡ count + length (entries_where (is_within stop) later) → length (entries_where (is_within stop) later) ≡ 0 → count < 2 ^ 64 - 1
-    → count ≡ count_of (entries_where (is_within stop) records)
-ends_here stop records later count is none fits = omega (arith, is, none, fits)
-
--- and of as many as are counted
-pub counted_all : (stop : List ℕ) (records later : Records) (count : ℕ) → length (entries_where (is_within stop) records) ≡ count + length (entries_where (is_within stop) later) → 2 ^ 64 - 1 ≤ count
-    → 2 ^ 64 - 1 ≡ count_of (entries_where (is_within stop) records)
-counted_all stop records later count is many = omega (arith, is, many)
-
--- the entries that are ahead of a place rise
-pub merged_rise : {P : Type 0} (below : P → Records → Type 0) (lists : List Changes) (es : Records) (place : MergedPlace P) (records : Records) → IsOrdered es → AreMerged below lists es place records → IsOrdered records
-merged_rise {P} below lists es place records rise is =
-    subst (λ (rs : Records). IsOrdered rs) is.merge.records_are (ordered_entries_where (is_from is.merge.from) (applied_all lists es) (ordered_view lists es rise))
+-- as many as are wanted were counted
+pub counted_most : (records left : Records) (count most : ℕ) → length records ≡ count + length left → most ≤ count → most ≡ count_to most records
+counted_most records left count most is many = omega (arith, is, many)
 
 -- ---- spans of which no list says anything
 

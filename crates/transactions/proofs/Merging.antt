@@ -11,7 +11,8 @@ use Rattle.store.specs.Steps.{Goes, Takes}
 use Rattle.store.specs.Store.{StoreState, OnlyReads}
 use Rattle.store.specs.declared.fault.StoreFault.{StoreFault}
 use Rattle.transactions.specs.Views.{applied_all, view_state, ordered_view, HasLeast, IsLeast}
-use Rattle.transactions.specs.Places.{AreAhead, IsFoundAt}
+use Rattle.transactions.specs.Within.{AreMergedTo}
+use Rattle.transactions.specs.Places.{AreAhead, AreAheadTo, IsFoundAt}
 use Rattle.transactions.specs.declared.place.ViewPlace.{ViewPlace}
 use Rattle.transactions.specs.declared.place.ViewPlace.TheVariants.{Merged}
 use Rattle.transactions.specs.declared.merge.MergedPlace.{MergedPlace}
@@ -287,3 +288,23 @@ module _ {P : Type 0} (lists : List Changes) (below later_below : P → Records 
       → Goes (λ found. (records : Records) → AreAhead below lists old place records → Takes (λ e. IsFoundAt found_below (Merged after) e) (λ later. AreAhead later_below lists new (Merged after) later) found records) result (view_state lists old) (view_state lists new)
   merged_steps (Ok found) goes = record { only_reads = goes.only_reads; answer = λ sound. takes found sound (goes.answer sound); cause = tt; failed = goes.failed; closed = goes.closed }
   merged_steps (Err fault) goes = record { only_reads = goes.only_reads; answer = λ sound. tt; cause = goes.cause; failed = goes.failed; closed = goes.closed }
+
+-- and one up to a stop
+module _ {P : Type 0} (stop : List ℕ) (lists : List Changes) (below later_below : P → Records → Type 0) (found_below : P → Record → Type 0) (old new : StoreState) (place : ViewPlace P) (merged after : MergedPlace P) (is : place ≡ Merged merged)
+    (reads : OnlyReads old new) where
+  -- what a step over the merge takes, a step of the view does
+  takes_to : (found : Bool) → old.sound → ((records : Records) → AreMergedTo below stop lists old.map merged records → Takes (IsLent found_below after) (AreMergedTo later_below stop lists old.map after) found records)
+      → (records : Records) → AreAheadTo below stop lists old place records → Takes (λ e. IsFoundAt found_below (Merged after) e) (λ later. AreAheadTo later_below stop lists new (Merged after) later) found records
+  takes_to true sound step records ahead =
+      let at = subst (λ (p : ViewPlace P). AreAheadTo below stop lists old p records) is ahead in
+      let took = step records at.1 in
+      (took.0, took.1, took.2, took.3, (reads.history.sound sound, subst (λ (es : Records). AreMergedTo later_below stop lists es after took.1) (sym (reads.unchanged sound).map) took.4))
+  takes_to false sound step records ahead =
+      let at = subst (λ (p : ViewPlace P). AreAheadTo below stop lists old p records) is ahead in
+      step records at.1
+
+  pub merged_steps_to : (result : Result Bool StoreFault)
+      → Goes (λ found. (records : Records) → AreMergedTo below stop lists old.map merged records → Takes (IsLent found_below after) (AreMergedTo later_below stop lists old.map after) found records) result (view_state lists old) (view_state lists new)
+      → Goes (λ found. (records : Records) → AreAheadTo below stop lists old place records → Takes (λ e. IsFoundAt found_below (Merged after) e) (λ later. AreAheadTo later_below stop lists new (Merged after) later) found records) result (view_state lists old) (view_state lists new)
+  merged_steps_to (Ok found) goes = record { only_reads = goes.only_reads; answer = λ sound. takes_to found sound (goes.answer sound); cause = tt; failed = goes.failed; closed = goes.closed }
+  merged_steps_to (Err fault) goes = record { only_reads = goes.only_reads; answer = λ sound. tt; cause = goes.cause; failed = goes.failed; closed = goes.closed }

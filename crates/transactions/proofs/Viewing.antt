@@ -10,6 +10,7 @@ use Rattle.store.specs.declared.fault.Fault.{Fault}
 use Rattle.store.specs.declared.fault.Fault.TheVariants as reader
 use Rattle.store.specs.Store.{StoreState, HasReadCause, OnlyReads, Reads, failed_after}
 use Rattle.store.specs.Readers.{HasRead}
+use Rattle.store.proofs.Reading.{cause_later, reads_joined}
 use Rattle.transactions.specs.Views.{applied_all, view_state, latest}
 use Rattle.transactions.specs.Calls.{KeepsRecords}
 use Rattle.transactions.proofs.Latest.{lookup-applied_all}
@@ -82,6 +83,24 @@ view_found lists does x old new reads same is = record {
   answer = is;
   cause = tt;
   failed = same;
+  closed = λ none had. absurd none;
+}
+
+-- what is answered after reads of the map, and after reads before these
+pub view_goes_later : {T : Type 0} (lists : List Changes) (old mid new : StoreState) → OnlyReads old mid → mid.has_failed ≡ old.has_failed → (A B : T → Type 0) (result : Result T StoreFault) → (old.sound → (x : T) → A x → B x) → OnlyReads mid new
+    → Goes A result (view_state lists mid) (view_state lists new) → Goes B result (view_state lists old) (view_state lists new)
+view_goes_later lists old mid new first same A B (Ok x) so second goes = record {
+  only_reads = view_only_reads lists old new (reads_joined old mid new first second);
+  answer = λ sound. so sound x (goes.answer (first.history.sound sound));
+  cause = tt;
+  failed = goes.failed ∙ same;
+  closed = λ none had. absurd none;
+}
+view_goes_later {T} lists old mid new first same A B (Err fault) so second goes = record {
+  only_reads = view_only_reads lists old new (reads_joined old mid new first second);
+  answer = λ sound. tt;
+  cause = cause_later fault (view_state lists old) (view_state lists mid) (view_state lists new) (view_only_reads lists old mid first).history same (view_only_reads lists mid new second).history goes.cause;
+  failed = goes.failed ∙ ap (λ (b : Bool). failed_after {T = T} (Err fault) b) same;
   closed = λ none had. absurd none;
 }
 

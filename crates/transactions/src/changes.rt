@@ -137,6 +137,17 @@ impl ChangeLists {
         }
         Ok(joined)
     }
+
+    /// All lists and then one more in one, which makes of records what the lists make of them and
+    /// then the one. Each list is copied once. The only error is that an allocation failed.
+    pub fn join_with(&self, last: &Batch) -> Result<Batch, AllocError>
+        ensures { IfOk result (λ joined. (es : Records) → IsOrdered es
+            → applied joined es ≡ applied last.now (applied_all self.now es)) }
+    {
+        let mut joined = self.join()?;
+        add_list(&mut joined, last)?;
+        Ok(joined)
+    }
 }
 
 // Adds changes to those of the last list. False: there is no list, or an allocation failed on the

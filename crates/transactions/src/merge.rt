@@ -1,19 +1,20 @@
 //! A walk between the records of a map and the changes of lists.
-ghost use Rattle.std.specs.Prelude.{◌≡◌, ◌≢◌, ◌++◌, ◌∷◌, [], List, IfOk, IfErr, OnOk};
+ghost use Rattle.std.specs.Prelude.{◌≡◌, ◌≢◌, ◌++◌, ◌∷◌, [], List, ℕ, IfOk, IfErr, OnOk};
 ghost use Rattle.std.specs.Option.{option_copied};
 ghost use Rattle.std.specs.Ordering.{is_lt};
 ghost use Rattle.store.specs.Records.{Record, Records, Changes, IsOrdered, entries_where, is_from, key_cmp};
 ghost use Rattle.store.specs.Steps.{Goes, Takes};
-ghost use Rattle.store.specs.Walks.{count_of, is_within};
+ghost use Rattle.store.specs.Walks.{count_to, is_within};
 ghost use Rattle.store.specs.Store.{OnlyReads, HasReadCause, failed_after};
 ghost use Rattle.transactions.specs.Views.{applied_all, view_state, HasLeast};
 ghost use Rattle.transactions.specs.Merging.{AreMerged, IsHeld, IsLent, IsMerge, IsPassed, IsReadBelow, comes_first, is_read, is_unread, passed};
+ghost use Rattle.transactions.specs.Within.{AreMergedTo, change_within, cut_at, cut_below, lists_within};
 
 use crate::view::{found_before, least_change};
 use sql_types::try_copy::TryCopy;
 use std::alloc::{AllocError, Global};
 use std::mem;
-use store::{Batch, Change, Entry, EntryRef, Map, StoreFault, begins_with, comes_before};
+use store::{Batch, Change, Entry, EntryRef, Map, StoreFault, comes_before, is_within};
 
 /// What the map has ahead of a walk.
 #[derive(Clone, Copy, Drop)]
@@ -63,6 +64,23 @@ impl Below {
             Below::Ended => Below::Ended,
         }
     }
+
+    // What is ahead up to a stop, where this is the record that was read.
+    fn cut(self, stop: &[u8], read: &Entry) -> Below
+        ensures { result ≡ cut_below self (is_within stop.now read.now.0) }
+    {
+        match self {
+            Below::Read => {
+                if is_within(stop, read.key()) {
+                    Below::Read
+                } else {
+                    Below::Ended
+                }
+            }
+            Below::Unread => Below::Unread,
+            Below::Ended => Below::Ended,
+        }
+    }
 }
 
 /// Where the entry lies that a walk found last.
@@ -106,6 +124,22 @@ pub struct Merge {
 pub struct MergedPlace<P> {
     pub(crate) below: P,
     pub(crate) merge: Merge,
+}
+
+// A change, if its key is within a stop.
+fn within(stop: &[u8], change: Option<Change>) -> Option<Change>
+    ensures { result ≡ change_within stop.now change }
+{
+    match change {
+        Some(change) => {
+            if is_within(stop, change.key()) {
+                Some(change)
+            } else {
+                None
+            }
+        }
+        None => None,
+    }
 }
 
 // A copy of a change, if there is one.
@@ -165,11 +199,25 @@ impl Merge {
         Ok(())
     }
 
-    // Passes what comes first, where the record of the map that is ahead was read.
+    // Leaves out what is ahead behind a stop.
+    fn cut(&mut self, stop: &[u8])
+        ensures { self.new ≡ cut_at stop.now self.old }
+    {
+        self.ahead = self.ahead.cut(stop, &self.read);
+        self.least = within(stop, self.least.take());
+    }
+
+    // Passes what comes first, where the record of the map that is ahead was read. A walk up to a
+    // stop, of which nothing behind it was left, is to be cut there again.
     fn pass(&mut self, lists: &[Batch]) -> Result<Passed, AllocError>
         ensures passed { (rest : Records) (es : Records) (records : Records) → IsOrdered es
             → self.old.ahead ≢ Below.Unread → IsMerge rest lists.now es self.old records
             → IfOk result (λ passed. IsPassed rest lists.now es passed self.new records) }
+        ensures within { (stop : List ℕ) (rest : Records) (es : Records) (records : Records)
+            → IsOrdered es → self.old.ahead ≢ Below.Unread
+            → IsMerge rest (lists_within stop lists.now) (entries_where (is_within stop) es) self.old records
+            → IfOk result (λ passed. IsPassed rest (lists_within stop lists.now)
+            (entries_where (is_within stop) es) passed (cut_at stop self.new) records) }
         ensures ended { OnOk result (self.old.ahead ≡ Below.Ended → self.new.ahead ≡ Below.Ended) }
     {
         let found = self.ahead.is_read();
@@ -269,6 +317,72 @@ pub(crate) fn step_merged<M: Map>(
     Err(StoreFault::Memory)
 }
 
+// Goes on in the map up to a stop, where nothing is known of what is ahead of its place. True: the
+// next record comes first, and is found. False: it comes behind a change and was read, or no record
+// within the stop is ahead.
+fn read_within<M: Map>(
+    map: &mut M,
+    place: &mut MergedPlace<M::Place>,
+    stop: &[u8],
+) -> Result<bool, StoreFault>
+    ensures preserved { M.preserved map.old map.new }
+    ensures only_reads { OnlyReads (M.state map.old) (M.state map.new) }
+    ensures failed { (M.state map.new).has_failed
+        ≡ failed_after result (M.state map.old).has_failed }
+    ensures cause { IfErr result (λ f. HasReadCause f (M.state map.old) (M.state map.new)) }
+    ensures read { (M.state map.old).sound → IfOk result (λ found. (lists : List Changes) (es : Records)
+        (records : Records) → IsOrdered es → AreMerged (M.ahead_within map.old stop.now) lists es place.old records
+        → IsReadBelow (IsLent (M.found_at map.new) place.new)
+        (AreMerged (M.ahead_within map.new stop.now) lists es place.new)
+        place.new.merge.ahead found records) }
+{
+    if !place.merge.ahead.is_unread() {
+        return Ok(false);
+    }
+    if !map.step_within(&mut place.below, stop)? {
+        place.merge.ahead = Below::Ended;
+        return Ok(false);
+    }
+    if is_first(map, place) {
+        place.merge.found = Found::InMap;
+        return Ok(true);
+    }
+    let entry = map.entry(&place.below);
+    place.merge.read.set(entry.key, entry.value)?;
+    place.merge.ahead = Below::Read;
+    Ok(false)
+}
+
+// Goes on to the first entry ahead whose key is within a stop. True: it was found. False: none is
+// ahead, and no removal behind the stop was passed. The faults are those of the map, and Memory.
+pub(crate) fn step_merged_within<M: Map>(
+    map: &mut M,
+    lists: &[Batch],
+    place: &mut MergedPlace<M::Place>,
+    stop: &[u8],
+) -> Result<bool, StoreFault>
+    ensures preserved { M.preserved map.old map.new }
+    ensures only_reads { OnlyReads (M.state map.old) (M.state map.new) }
+    ensures goes { Goes (λ found. (records : Records) → AreMergedTo (M.ahead_within map.old stop.now)
+        stop.now lists.now (M.state map.old).map place.old records
+        → Takes (IsLent (M.found_at map.new) place.new) (AreMergedTo (M.ahead_within map.new stop.now)
+        stop.now lists.now (M.state map.old).map place.new) found records)
+        result (view_state lists.now (M.state map.old)) (view_state lists.now (M.state map.new)) }
+{
+    for _ in 0..u64::MAX {
+        place.merge.cut(stop);
+        if read_within(map, place, stop)? {
+            return Ok(true);
+        }
+        match place.merge.pass(lists)? {
+            Passed::Entry => return Ok(true),
+            Passed::Nothing => return Ok(false),
+            Passed::Removal => {}
+        }
+    }
+    Err(StoreFault::Memory)
+}
+
 // The entry that the last step to a place found, lent by the map or the place.
 pub(crate) fn lent<'a, M: Map>(map: &'a M, place: &'a MergedPlace<M::Place>) -> EntryRef<'a>
     ensures { (e : Record) → IsLent (M.found_at map.now) place.now e → result ≡ e }
@@ -282,35 +396,25 @@ pub(crate) fn lent<'a, M: Map>(map: &'a M, place: &'a MergedPlace<M::Place>) -> 
     }
 }
 
-// Whether a key begins with this stop or comes before it.
-pub(crate) fn is_within(stop: &[u8], key: &[u8]) -> bool
-    ensures { result ≡ is_within stop.now key.now }
-{
-    begins_with(key, stop) || comes_before(key, stop)
-}
-
-// How many of the entries ahead have a key that comes before `stop` or begins with it, up to
-// `u64::MAX`. The faults are those of the map, and Memory.
+// How many of the entries ahead have a key that comes before `stop` or begins with it, up to `most`.
+// The faults are those of the map, and Memory.
 pub(crate) fn count_merged<M: Map>(
     map: &mut M,
     lists: &[Batch],
     place: &mut MergedPlace<M::Place>,
     stop: &[u8],
+    most: u64,
 ) -> Result<u64, StoreFault>
     ensures preserved { M.preserved map.old map.new }
     ensures only_reads { OnlyReads (M.state map.old) (M.state map.new) }
-    ensures goes { Goes (λ count. (records : Records)
-        → AreMerged (M.ahead map.old) lists.now (M.state map.old).map place.old records
-        → count ≡ count_of (entries_where (is_within stop.now) records))
+    ensures goes { Goes (λ count. (records : Records) → AreMergedTo (M.ahead_within map.old stop.now)
+        stop.now lists.now (M.state map.old).map place.old records → count ≡ count_to most records)
         result (view_state lists.now (M.state map.old)) (view_state lists.now (M.state map.new)) }
 {
-    for count in 0..u64::MAX {
-        if !step_merged(map, lists, place)? {
-            return Ok(count);
-        }
-        if !is_within(stop, lent(map, place).key) {
+    for count in 0..most {
+        if !step_merged_within(map, lists, place, stop)? {
             return Ok(count);
         }
     }
-    Ok(u64::MAX)
+    Ok(most)
 }

@@ -6,13 +6,13 @@ ghost use Rattle.store.specs.Records.{Changes, Record, Records, IsOrdered, key_c
 ghost use Rattle.store.specs.Walks.{span};
 ghost use Rattle.store.specs.Store.{OnlyReads, HasReadCause, failed_after};
 ghost use Rattle.transactions.specs.Views.{view_state, ordered_view, latest, HasLeast, applied_all};
-ghost use Rattle.transactions.specs.Places.{AreAhead, IsFoundAt, ahead_later};
+ghost use Rattle.transactions.specs.Places.{AreAhead, AreAheadTo, IsFoundAt, ahead_cut, ahead_later};
 ghost use Rattle.transactions.specs.Calls.{IsStep, KeepsLists, keeps_same, keeps_joined, KeepsRecords, records_same, records_joined};
 
-use crate::merge::{Merge, MergedPlace, count_merged, is_within, lent, step_merged};
+use crate::merge::{Merge, MergedPlace, count_merged, lent, step_merged, step_merged_within};
 use crate::place::ViewPlace;
 use std::alloc::{AllocError, Global};
-use store::{Batch, Change, Entry, EntryRef, Map, StoreFault, comes_before};
+use store::{Batch, Change, Entry, EntryRef, Map, StoreFault, comes_before, is_within};
 
 /// A map as it would be with lists of changes made, the first list first. It is a map itself, so
 /// that what reads a store reads a transaction's records in the same way.
@@ -212,6 +212,9 @@ impl<'a, M: Map> Map for View<'a, M> {
     ghost ahead = { λ v place records. AreAhead (M.ahead v.map.now) v.lists.now (M.state v.map.now)
         place records };
 
+    ghost ahead_within = { λ v stop place records. AreAheadTo (M.ahead_within v.map.now stop) stop
+        v.lists.now (M.state v.map.now) place records };
+
     ghost found_at = { λ v place found. IsFoundAt (M.found_at v.map.now) place found };
 
     ghost ahead_stays = { λ v later place records kept is. ahead_later (M.ahead v.map.now)
@@ -219,6 +222,11 @@ impl<'a, M: Map> Map for View<'a, M> {
         (M.state later.map.now)
         (λ below stay. M.ahead_stays v.map.now later.map.now below stay kept.1)
         kept.0.lists kept.2 place records is };
+
+    ghost ahead_cut = { λ v stop place records rise is. ahead_cut (M.ahead v.map.now)
+        (M.ahead_within v.map.now stop) stop v.lists.now (M.state v.map.now)
+        (λ sound. M.ordered v.map.now sound)
+        (λ below rest rises at. M.ahead_cut v.map.now stop below rest rises at) place records rise is };
 
     ghost ordered = { λ v sound.
         ordered_view v.lists.now (M.state v.map.now).map (M.ordered v.map.now sound) };
@@ -261,14 +269,14 @@ impl<'a, M: Map> Map for View<'a, M> {
         }
     }
 
-    fn count(&mut self, start: &[u8], stop: &[u8]) -> Result<u64, StoreFault> {
+    fn count_to(&mut self, start: &[u8], stop: &[u8], most: u64) -> Result<u64, StoreFault> {
         if !changes_span(self.lists, start, stop) {
-            return self.map.count(start, stop);
+            return self.map.count_to(start, stop, most);
         }
         let below = self.map.seek(start)?;
         let merge = Merge::from_key(self.alloc, self.lists, start)?;
         let mut place = MergedPlace { below, merge };
-        count_merged(self.map, self.lists, &mut place, stop)
+        count_merged(self.map, self.lists, &mut place, stop, most)
     }
 
     fn seek(&mut self, key: &[u8]) -> Result<ViewPlace<M::Place>, StoreFault> {
@@ -284,6 +292,17 @@ impl<'a, M: Map> Map for View<'a, M> {
         match place {
             ViewPlace::Below(below) => self.map.step(below),
             ViewPlace::Merged(merged) => step_merged(self.map, self.lists, merged),
+        }
+    }
+
+    fn step_within(
+        &mut self,
+        place: &mut ViewPlace<M::Place>,
+        stop: &[u8],
+    ) -> Result<bool, StoreFault> {
+        match place {
+            ViewPlace::Below(below) => self.map.step_within(below, stop),
+            ViewPlace::Merged(merged) => step_merged_within(self.map, self.lists, merged, stop),
         }
     }
 

@@ -40,5 +40,5 @@ pub fn step<M: Map>(map: &mut M, place: &mut M::Place) -> Result<bool, StoreFaul
 
 /// How many records there are.
 pub fn count<M: Map>(map: &mut M) -> Result<u64, StoreFault> {
-    map.count(&[], &[])
+    map.count_to(&[], &[], u64::MAX)
 }

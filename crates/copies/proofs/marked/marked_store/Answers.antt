@@ -16,6 +16,6 @@ returns-in-Ok-open g c =
 pub returns-in-Err-open : goal.returns-in-Err-open
 returns-in-Err-open g c =
     let made = c.in-Ok.ensures in
-    subst (λ (f : CopyFault). CannotBegin g.D.Device f c.args.target c.in-Err-open.target) (sym c.fault_of_opening.ensures)
+    subst (λ (f : CopyFault). CannotBegin g.D.Device f c.args.target c.in-Err-open.target) (sym c.fault_of_target.ensures)
     (refused (g.D.Device.state c.args.target) (g.D.Device.state c.mark_device.new.target) made.0 made.1 made.2 g.D.Device c.in-Err-open.fault c.args.target c.in-Err-open.target refl
     (λ faithful s inside. g.met.D.Device.content_left c.mark_device.new.target s faithful inside) c.in-Err-open.ensures)

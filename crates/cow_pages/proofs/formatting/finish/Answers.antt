@@ -80,17 +80,15 @@ returns-clause-cause g c =
 pub returns-clause-synced : goal.returns-clause-synced
 returns-clause-synced g c first = c.sync-2.ensures.synced (c.write.ensures.history.faithful (c.sync.ensures.history.faithful first))
 
-pub returns-clause-spelled : goal.returns-clause-spelled
-returns-clause-spelled g c first =
+pub returns-clause-written : goal.returns-clause-written
+returns-clause-written g c first =
     let second = c.sync.ensures.history.faithful first in
     let third = c.write.ensures.history.faithful second in
-    on_ok_always c.sync-2.result ((c.sync-2.ensures.only_reads third).content 1 ∙ c.in_ok-write.ensures.written second ∙ c.bytes.ensures.spelled)
-
-pub returns-clause-root : goal.returns-clause-root
-returns-clause-root g c first =
-    let second = c.sync.ensures.history.faithful first in
-    let third = c.write.ensures.history.faithful second in
-    on_ok_always c.sync-2.result (ap (λ (b : List ℕ). root_at 1 b) ((c.sync-2.ensures.only_reads third).content 1 ∙ c.in_ok-write.ensures.written second) ∙ found g (goal.at.returns-clause-root g c).After-write)
+    let same = (c.sync-2.ensures.only_reads third).content 1 ∙ c.in_ok-write.ensures.written second in
+    on_ok_always c.sync-2.result (record {
+      spelled = same ∙ c.bytes.ensures.spelled;
+      read = ap (λ (b : List ℕ). root_at 1 b) same ∙ found g (goal.at.returns-clause-written g c).After-write;
+    })
 
 pub write-requires-clause-not_beside : goal.write-requires-clause-not_beside
 write-requires-clause-not_beside g c beside =

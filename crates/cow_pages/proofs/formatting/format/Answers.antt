@@ -26,10 +26,10 @@ returns-clause-means g c first =
     let made = first_made g (goal.at.returns-clause-means g c).After-new in
     let size = size_is d.sectors c.requires.size in
     let laid = c.in_ok-lay_out.ensures.written first in
-    on_ok_both c.finish.result (c.finish.ensures.synced second) (c.finish.ensures.root second)
-    (λ synced root. formatted e mid.content (d.sectors / 8) c.args.format 1023 c.args.first.now
+    on_ok_both c.finish.result (c.finish.ensures.synced second) (c.finish.ensures.written second)
+    (λ synced written. formatted e mid.content (d.sectors / 8) c.args.format 1023 c.args.first.now
     (c.finish.ensures.history.sectors ∙ c.lay_out.ensures.history.sectors ∙ size.0) (omega (arith, size.1)) synced
-    (λ s other. (c.finish.ensures.alone second s other).content) (root ∙ ap Found made)
+    (λ s other. (c.finish.ensures.alone second s other).content) (written.read ∙ ap Found made)
     (even_empty mid.content laid.even) laid.page laid.entries)
 
 pub returns-clause-bytes : goal.returns-clause-bytes
@@ -41,10 +41,10 @@ returns-clause-bytes g c first =
     let laid = c.in_ok-lay_out.ensures.written first in
     let made = first_made g (goal.at.returns-clause-bytes g c).After-new in
     let alone : (s : ℕ) → s ≢ 1 → e.content s ≡ mid.content s = λ s other. (c.finish.ensures.alone second s other).content in
-    on_ok_also c.finish.result (c.finish.ensures.spelled second)
-    (λ odd. record {
+    on_ok_also c.finish.result (c.finish.ensures.written second)
+    (λ written. record {
       even = alone 0 (omega arith) ∙ laid.even;
-      odd = odd ∙ ap root_bytes made;
+      odd = written.spelled ∙ ap root_bytes made;
       page = same_page e.content mid.content 1 (λ k lt. alone (8 * 1 + k) (omega arith)) ∙ laid.page;
       map = same_page e.content mid.content 2 (λ k lt. alone (8 * 2 + k) (omega arith)) ∙ laid.map;
     })

@@ -11,13 +11,13 @@ invariant_of-result c =
     let durable = c.args.durable.items in
     let marks = c.in_ok-allocator.allocator in
     let value : c.extend_from_slice.new.self.items ≡ durable = c.in_ok-extend_from_slice.ensures.items ∙ ap (λ (l : List ℕ). l ++ c.deref.result.now) c.in_ok-working.ensures.items ∙ c.deref.ensures.value in
-    let first = consistent_first root.pages root.maps durable (replicate 64 zero) marks c.requires.least c.requires.most c.requires.count c.requires.sound (λ j. zero_there 64 j) (length-replicate 64 zero)
+    let first = consistent_first root.pages root.maps durable (replicate 64 zero) marks c.requires.least c.requires.most c.requires.map.count c.requires.map.sound (λ j. zero_there 64 j) (length-replicate 64 zero)
     (c.in_ok-allocator.ensures.count ∙ c.pages.ensures) (rw (c.maps.ensures.maps, c.deref-2.ensures.value) at c.in_ok-allocator.ensures.taken) in
     record {
       consistent = subst (λ (w : List ℕ). IsConsistent root.pages root.maps durable (replicate 64 zero) w marks) (sym value) first;
       parts = subst (λ (w : List ℕ). AreChangedParts durable w (replicate 64 false)) (sym value) (changed_first durable (replicate 64 false) (length-replicate 64 false));
       within = λ l outside. ap (λ (w : List ℕ). get_or w l 0) value;
-      ended = c.requires.ended;
+      ended = c.requires.map.ended;
       used = λ l below. absurd (omega (arith, below));
     }
 

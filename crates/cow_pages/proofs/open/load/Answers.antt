@@ -67,7 +67,7 @@ pub returns-in_err-arrange-clause-fault : goal.returns-in_err-arrange-clause-fau
 returns-in_err-arrange-clause-fault g c first =
     let d = g.D.Device.state c.args.device.now in
     let at = goal.at.returns-in_err-arrange-clause-fault g c in
-    let none = of_root g at.In_ok-root (of_sectors g at.In-Some) first ∙ c.in_ok-durable.ensures.none (c.read_roots.ensures.history.faithful first) in
+    let none = of_root g at.In_ok-root (of_sectors g at.In-Some) first ∙ c.in_ok-durable.ensures.fault (c.read_roots.ensures.history.faithful first) in
     let r = c.from_residual-in_err-arrange.result in
     let p = err_from_is_err_and r c.from_residual-in_err-arrange.ensures.1 in
     given_back r p.0 (first_fault d.sectors d.content) (p.0, p.1, refl) (named_after p.0 (first_fault d.sectors d.content) (inr p.2) (inl none))
@@ -95,13 +95,13 @@ returns-clause-settled g c first =
     let found : IsRootFound c.in-Some.pages (e.content 0) (e.content 1) root = rw (even, odd) c.in_ok-root.ensures.found in
     let spelled = spelled_same e.content mid.content root.maps c.in_ok-durable.durable.items reads.content (c.in_ok-durable.ensures.spelled (c.read_roots.ensures.history.faithful first)) in
     let settled : IsSettled e root c.in_ok-durable.durable.items = settled_found e c.in-Some.pages root c.in_ok-durable.durable.items
-    (c.read_map.ensures.history.sectors ∙ c.read_roots.ensures.history.sectors ∙ sym c.sectors.ensures ∙ size.1) (omega (arith, size.2)) synced found spelled c.in_ok-durable.ensures.sound in
+    (c.read_map.ensures.history.sectors ∙ c.read_roots.ensures.history.sectors ∙ sym c.sectors.ensures ∙ size.1) (omega (arith, size.2)) synced found spelled c.in_ok-durable.ensures.map.sound in
     rw (made.root, made.durable) settled
 
-pub returns-clause-none : goal.returns-clause-none
-returns-clause-none g c first =
-    let at = goal.at.returns-clause-none g c in
-    of_root g at.In_ok-root (of_sectors g at.In-Some) first ∙ c.in_ok-durable.ensures.none (c.read_roots.ensures.history.faithful first)
+pub returns-clause-fault : goal.returns-clause-fault
+returns-clause-fault g c first =
+    let at = goal.at.returns-clause-fault g c in
+    of_root g at.In_ok-root (of_sectors g at.In-Some) first ∙ c.in_ok-durable.ensures.fault (c.read_roots.ensures.history.faithful first)
 
 pub returns-in_default-clause-reads : goal.returns-in_default-clause-reads
 returns-in_default-clause-reads g c first = reads_none _ (g.met.D.Device.only_now c.args.device.now first)
@@ -153,9 +153,6 @@ returns-in_default-clause-idle g c = tt
 pub returns-in_default-clause-settled : goal.returns-in_default-clause-settled
 returns-in_default-clause-settled g c first = tt
 
-pub returns-in_default-clause-none : goal.returns-in_default-clause-none
-returns-in_default-clause-none g c first = tt
-
 pub returns-in_err-read_roots-clause-history : goal.returns-in_err-read_roots-clause-history
 returns-in_err-read_roots-clause-history g c = c.read_roots.ensures.history
 
@@ -173,9 +170,6 @@ returns-in_err-read_roots-clause-idle g c = never_ok _ _ _ (err_from_is_err_and 
 
 pub returns-in_err-read_roots-clause-settled : goal.returns-in_err-read_roots-clause-settled
 returns-in_err-read_roots-clause-settled g c first = never_ok _ _ _ (err_from_is_err_and c.from_residual.result c.from_residual.ensures.1).1
-
-pub returns-in_err-read_roots-clause-none : goal.returns-in_err-read_roots-clause-none
-returns-in_err-read_roots-clause-none g c first = never_ok _ _ _ (err_from_is_err_and c.from_residual.result c.from_residual.ensures.1).1
 
 pub returns-in_err-root-clause-history : goal.returns-in_err-root-clause-history
 returns-in_err-root-clause-history g c = c.read_roots.ensures.history
@@ -195,9 +189,6 @@ returns-in_err-root-clause-idle g c = never_ok _ _ _ (err_from_is_err_and c.from
 pub returns-in_err-root-clause-settled : goal.returns-in_err-root-clause-settled
 returns-in_err-root-clause-settled g c first = never_ok _ _ _ (err_from_is_err_and c.from_residual-in_err-root.result c.from_residual-in_err-root.ensures.1).1
 
-pub returns-in_err-root-clause-none : goal.returns-in_err-root-clause-none
-returns-in_err-root-clause-none g c first = never_ok _ _ _ (err_from_is_err_and c.from_residual-in_err-root.result c.from_residual-in_err-root.ensures.1).1
-
 pub returns-in_err-durable-clause-sized : goal.returns-in_err-durable-clause-sized
 returns-in_err-durable-clause-sized g c = never_ok _ _ _ (err_from_is_err_and c.from_residual-in_err-durable.result c.from_residual-in_err-durable.ensures.1).1
 
@@ -209,9 +200,6 @@ returns-in_err-durable-clause-idle g c = never_ok _ _ _ (err_from_is_err_and c.f
 
 pub returns-in_err-durable-clause-settled : goal.returns-in_err-durable-clause-settled
 returns-in_err-durable-clause-settled g c first = never_ok _ _ _ (err_from_is_err_and c.from_residual-in_err-durable.result c.from_residual-in_err-durable.ensures.1).1
-
-pub returns-in_err-durable-clause-none : goal.returns-in_err-durable-clause-none
-returns-in_err-durable-clause-none g c first = never_ok _ _ _ (err_from_is_err_and c.from_residual-in_err-durable.result c.from_residual-in_err-durable.ensures.1).1
 
 pub returns-in_err-arrange-clause-sized : goal.returns-in_err-arrange-clause-sized
 returns-in_err-arrange-clause-sized g c = never_ok _ _ _ (err_from_is_err_and c.from_residual-in_err-arrange.result c.from_residual-in_err-arrange.ensures.1).1
@@ -225,14 +213,8 @@ returns-in_err-arrange-clause-idle g c = never_ok _ _ _ (err_from_is_err_and c.f
 pub returns-in_err-arrange-clause-settled : goal.returns-in_err-arrange-clause-settled
 returns-in_err-arrange-clause-settled g c first = never_ok _ _ _ (err_from_is_err_and c.from_residual-in_err-arrange.result c.from_residual-in_err-arrange.ensures.1).1
 
-pub returns-in_err-arrange-clause-none : goal.returns-in_err-arrange-clause-none
-returns-in_err-arrange-clause-none g c first = never_ok _ _ _ (err_from_is_err_and c.from_residual-in_err-arrange.result c.from_residual-in_err-arrange.ensures.1).1
-
 pub returns-clause-idle : goal.returns-clause-idle
 returns-clause-idle g c = c.in_ok-arrange.ensures.idle
-
-pub returns-clause-fault : goal.returns-clause-fault
-returns-clause-fault g c first = tt
 
 pub returns-clause-cause : goal.returns-clause-cause
 returns-clause-cause g c is = none_given _ is

@@ -1,4 +1,4 @@
-use Rattle.std.proofs.Common.{Err, ◌≡◌, ◌≤◌, ◌-◌, ◌++◌, ℕ, List, length, replicate, refl, ap, sym, subst, ◌∙◌, inr, arith}
+use Rattle.std.proofs.Common.{◌≡◌, ◌≤◌, ◌-◌, ◌++◌, ℕ, List, length, replicate, refl, ap, sym, subst, ◌∙◌, inr, arith}
 use Rattle.std.proofs.lemmas.List.{take_all, get_or_past}
 use Rattle.std.proofs.lemmas.Result.{err_from_is_err_and}
 use Rattle.page_roots.specs.Reach.{IsSound, is_sound}
@@ -8,7 +8,7 @@ use Rattle.cow_pages.specs.Image.{bytes_of_page, map_in}
 use Rattle.cow_pages.proofs.Parts.{map_whole, padded_same, padded_spelled}
 use Rattle.cow_pages.proofs.Sound.{sound_same, fault_unsound, none_sound, sound_or_damaged}
 use Rattle.cow_pages.proofs.Reading.{reads_none}
-use Rattle.cow_pages.proofs.Loading.{device_given, memory_given, damage_given, none_given, given_back, named_after}
+use Rattle.cow_pages.proofs.Loading.{device_given, memory_given, damage_given, none_given, given_back, named_after, read_named, read_failed}
 use Rattle.cow_pages.proofs.open.read_map.Given.{Over}
 use Rattle.cow_pages.proofs.open.read_map.Goals.{In_ok-is_sound_reach, In_ok-resize}
 use Rattle.sector_device.specs.Device.{history_none}
@@ -37,22 +37,19 @@ pub returns-then-not-branch-clause-fault : goal.returns-then-not-branch-clause-f
 returns-then-not-branch-clause-fault g c first =
     fault_unsound (g.D.Device.state c.args.device.now).content c.args.root.now (tested g (goal.at.returns-then-not-branch-clause-fault g c).In_ok-is_sound_reach first ∙ c.if-not-branch.true)
 
-pub returns-clause-sound : goal.returns-clause-sound
-returns-clause-sound g c =
-    let root = c.args.root.now in
-    let items = c.in_ok-entries.entries.items in
-    let padded = behind_zeros g (goal.at.returns-clause-sound g c).In_ok-resize in
-    let sound : IsSound root.pages root.maps items = rw (c.pages-2.ensures, c.maps-maps.ensures.maps, c.deref.ensures.value) at (c.in_ok-is_sound_reach.ensures.sound.0 c.if-not-branch.false) in
-    subst (λ (es : List ℕ). IsSound root.pages root.maps es) (sym padded) (sound_same root.pages root.maps items _ (λ l. padded_same items (65536 - c.in_ok-entries.entries.len) l) sound)
-
-pub returns-clause-ended : goal.returns-clause-ended
-returns-clause-ended g c =
+pub returns-clause-map : goal.returns-clause-map
+returns-clause-map g c =
     let root = c.args.root.now in
     let items = c.in_ok-entries.entries.items in
     let count = c.in_ok-entries.ensures.count in
-    let padded = behind_zeros g (goal.at.returns-clause-ended g c).In_ok-resize in
-    subst (λ (es : List ℕ). EndsWith root.maps es) (sym padded)
-    (λ l past. padded_same items (65536 - c.in_ok-entries.entries.len) l ∙ get_or_past items l 0 (omega (arith, past, count)))
+    let padded = behind_zeros g (goal.at.returns-clause-map g c).In_ok-resize in
+    let sound : IsSound root.pages root.maps items = rw (c.pages-2.ensures, c.maps-maps.ensures.maps, c.deref.ensures.value) at (c.in_ok-is_sound_reach.ensures.sound.0 c.if-not-branch.false) in
+    record {
+      count = sym c.resize.new.self.ok.0 ∙ c.in_ok-resize.ensures.len;
+      sound = subst (λ (es : List ℕ). IsSound root.pages root.maps es) (sym padded) (sound_same root.pages root.maps items _ (λ l. padded_same items (65536 - c.in_ok-entries.entries.len) l) sound);
+      ended = subst (λ (es : List ℕ). EndsWith root.maps es) (sym padded)
+          (λ l past. padded_same items (65536 - c.in_ok-entries.entries.len) l ∙ get_or_past items l 0 (omega (arith, past, count)));
+    }
 
 pub returns-clause-spelled : goal.returns-clause-spelled
 returns-clause-spelled g c first =
@@ -64,16 +61,16 @@ returns-clause-spelled g c first =
     subst (λ (es : List ℕ). AreSpelled (bytes_of_page d.content) root.maps es) (sym padded)
     (padded_spelled (bytes_of_page d.content) root.maps items (65536 - c.in_ok-entries.entries.len) count (c.in_ok-entries.ensures.spelled first))
 
-pub returns-clause-none : goal.returns-clause-none
-returns-clause-none g c first =
-    none_sound (g.D.Device.state c.args.device.now).content c.args.root.now (tested g (goal.at.returns-clause-none g c).In_ok-is_sound_reach first ∙ c.if-not-branch.false)
+pub returns-clause-fault : goal.returns-clause-fault
+returns-clause-fault g c first =
+    none_sound (g.D.Device.state c.args.device.now).content c.args.root.now (tested g (goal.at.returns-clause-fault g c).In_ok-is_sound_reach first ∙ c.if-not-branch.false)
 
 pub returns-in_err-entries-clause-fault : goal.returns-in_err-entries-clause-fault
 returns-in_err-entries-clause-fault g c first =
     let image = (g.D.Device.state c.args.device.now).content in
     let fault = c.in_err-entries.field-0.0 in
     given_back c.from_residual.result fault _ (err_from_is_err_and c.from_residual.result c.from_residual.ensures.1)
-    (named_after fault _ c.in_err-entries.ensures.fault (sound_or_damaged image c.args.root.now))
+    (named_after fault _ (read_named fault _ _ c.in_err-entries.ensures.fault) (sound_or_damaged image c.args.root.now))
 
 pub returns-in_err-is_sound_reach-clause-fault : goal.returns-in_err-is_sound_reach-clause-fault
 returns-in_err-is_sound_reach-clause-fault g c first =
@@ -94,7 +91,7 @@ returns-then-not-are_inside-clause-reads g c first = reads_none _ (g.met.D.Devic
 
 pub returns-in_err-entries-clause-cause : goal.returns-in_err-entries-clause-cause
 returns-in_err-entries-clause-cause g c is =
-    c.in_err-entries.ensures.cause (ap Err (device_given c.from_residual.result c.in_err-entries.field-0.0 (err_from_is_err_and c.from_residual.result c.from_residual.ensures.1) is))
+    read_failed c.in_err-entries.field-0.0 _ _ (device_given c.from_residual.result c.in_err-entries.field-0.0 (err_from_is_err_and c.from_residual.result c.from_residual.ensures.1) is) c.in_err-entries.ensures.fault
 
 pub returns-in_err-is_sound_reach-clause-cause : goal.returns-in_err-is_sound_reach-clause-cause
 returns-in_err-is_sound_reach-clause-cause g c is =
@@ -109,20 +106,11 @@ returns-in_err-resize-clause-cause g c is =
 pub returns-then-not-are_inside-clause-history : goal.returns-then-not-are_inside-clause-history
 returns-then-not-are_inside-clause-history g c = history_none (g.D.Device.state c.args.device.now)
 
-pub returns-then-not-are_inside-clause-count : goal.returns-then-not-are_inside-clause-count
-returns-then-not-are_inside-clause-count g c = tt
-
-pub returns-then-not-are_inside-clause-sound : goal.returns-then-not-are_inside-clause-sound
-returns-then-not-are_inside-clause-sound g c = tt
-
-pub returns-then-not-are_inside-clause-ended : goal.returns-then-not-are_inside-clause-ended
-returns-then-not-are_inside-clause-ended g c = tt
+pub returns-then-not-are_inside-clause-map : goal.returns-then-not-are_inside-clause-map
+returns-then-not-are_inside-clause-map g c = tt
 
 pub returns-then-not-are_inside-clause-spelled : goal.returns-then-not-are_inside-clause-spelled
 returns-then-not-are_inside-clause-spelled g c first = tt
-
-pub returns-then-not-are_inside-clause-none : goal.returns-then-not-are_inside-clause-none
-returns-then-not-are_inside-clause-none g c first = tt
 
 pub returns-then-not-are_inside-clause-cause : goal.returns-then-not-are_inside-clause-cause
 returns-then-not-are_inside-clause-cause g c is = damage_given _ refl is
@@ -133,20 +121,11 @@ returns-in_err-entries-clause-history g c = c.read_maps.ensures.history
 pub returns-in_err-entries-clause-reads : goal.returns-in_err-entries-clause-reads
 returns-in_err-entries-clause-reads g c = c.read_maps.ensures.reads
 
-pub returns-in_err-entries-clause-count : goal.returns-in_err-entries-clause-count
-returns-in_err-entries-clause-count g c = never_ok _ _ _ (err_from_is_err_and c.from_residual.result c.from_residual.ensures.1).1
-
-pub returns-in_err-entries-clause-sound : goal.returns-in_err-entries-clause-sound
-returns-in_err-entries-clause-sound g c = never_ok _ _ _ (err_from_is_err_and c.from_residual.result c.from_residual.ensures.1).1
-
-pub returns-in_err-entries-clause-ended : goal.returns-in_err-entries-clause-ended
-returns-in_err-entries-clause-ended g c = never_ok _ _ _ (err_from_is_err_and c.from_residual.result c.from_residual.ensures.1).1
+pub returns-in_err-entries-clause-map : goal.returns-in_err-entries-clause-map
+returns-in_err-entries-clause-map g c = never_ok _ _ _ (err_from_is_err_and c.from_residual.result c.from_residual.ensures.1).1
 
 pub returns-in_err-entries-clause-spelled : goal.returns-in_err-entries-clause-spelled
 returns-in_err-entries-clause-spelled g c first = never_ok _ _ _ (err_from_is_err_and c.from_residual.result c.from_residual.ensures.1).1
-
-pub returns-in_err-entries-clause-none : goal.returns-in_err-entries-clause-none
-returns-in_err-entries-clause-none g c first = never_ok _ _ _ (err_from_is_err_and c.from_residual.result c.from_residual.ensures.1).1
 
 pub returns-in_err-is_sound_reach-clause-history : goal.returns-in_err-is_sound_reach-clause-history
 returns-in_err-is_sound_reach-clause-history g c = c.read_maps.ensures.history
@@ -154,20 +133,11 @@ returns-in_err-is_sound_reach-clause-history g c = c.read_maps.ensures.history
 pub returns-in_err-is_sound_reach-clause-reads : goal.returns-in_err-is_sound_reach-clause-reads
 returns-in_err-is_sound_reach-clause-reads g c = c.read_maps.ensures.reads
 
-pub returns-in_err-is_sound_reach-clause-count : goal.returns-in_err-is_sound_reach-clause-count
-returns-in_err-is_sound_reach-clause-count g c = never_ok _ _ _ (err_from_is_err_and c.from_residual-in_err-is_sound_reach.result c.from_residual-in_err-is_sound_reach.ensures.1).1
-
-pub returns-in_err-is_sound_reach-clause-sound : goal.returns-in_err-is_sound_reach-clause-sound
-returns-in_err-is_sound_reach-clause-sound g c = never_ok _ _ _ (err_from_is_err_and c.from_residual-in_err-is_sound_reach.result c.from_residual-in_err-is_sound_reach.ensures.1).1
-
-pub returns-in_err-is_sound_reach-clause-ended : goal.returns-in_err-is_sound_reach-clause-ended
-returns-in_err-is_sound_reach-clause-ended g c = never_ok _ _ _ (err_from_is_err_and c.from_residual-in_err-is_sound_reach.result c.from_residual-in_err-is_sound_reach.ensures.1).1
+pub returns-in_err-is_sound_reach-clause-map : goal.returns-in_err-is_sound_reach-clause-map
+returns-in_err-is_sound_reach-clause-map g c = never_ok _ _ _ (err_from_is_err_and c.from_residual-in_err-is_sound_reach.result c.from_residual-in_err-is_sound_reach.ensures.1).1
 
 pub returns-in_err-is_sound_reach-clause-spelled : goal.returns-in_err-is_sound_reach-clause-spelled
 returns-in_err-is_sound_reach-clause-spelled g c first = never_ok _ _ _ (err_from_is_err_and c.from_residual-in_err-is_sound_reach.result c.from_residual-in_err-is_sound_reach.ensures.1).1
-
-pub returns-in_err-is_sound_reach-clause-none : goal.returns-in_err-is_sound_reach-clause-none
-returns-in_err-is_sound_reach-clause-none g c first = never_ok _ _ _ (err_from_is_err_and c.from_residual-in_err-is_sound_reach.result c.from_residual-in_err-is_sound_reach.ensures.1).1
 
 pub returns-in_err-resize-clause-history : goal.returns-in_err-resize-clause-history
 returns-in_err-resize-clause-history g c = c.read_maps.ensures.history
@@ -175,20 +145,11 @@ returns-in_err-resize-clause-history g c = c.read_maps.ensures.history
 pub returns-in_err-resize-clause-reads : goal.returns-in_err-resize-clause-reads
 returns-in_err-resize-clause-reads g c = c.read_maps.ensures.reads
 
-pub returns-in_err-resize-clause-count : goal.returns-in_err-resize-clause-count
-returns-in_err-resize-clause-count g c = never_ok _ _ _ (err_from_is_err_and c.from_residual-in_err-resize.result c.from_residual-in_err-resize.ensures.1).1
-
-pub returns-in_err-resize-clause-sound : goal.returns-in_err-resize-clause-sound
-returns-in_err-resize-clause-sound g c = never_ok _ _ _ (err_from_is_err_and c.from_residual-in_err-resize.result c.from_residual-in_err-resize.ensures.1).1
-
-pub returns-in_err-resize-clause-ended : goal.returns-in_err-resize-clause-ended
-returns-in_err-resize-clause-ended g c = never_ok _ _ _ (err_from_is_err_and c.from_residual-in_err-resize.result c.from_residual-in_err-resize.ensures.1).1
+pub returns-in_err-resize-clause-map : goal.returns-in_err-resize-clause-map
+returns-in_err-resize-clause-map g c = never_ok _ _ _ (err_from_is_err_and c.from_residual-in_err-resize.result c.from_residual-in_err-resize.ensures.1).1
 
 pub returns-in_err-resize-clause-spelled : goal.returns-in_err-resize-clause-spelled
 returns-in_err-resize-clause-spelled g c first = never_ok _ _ _ (err_from_is_err_and c.from_residual-in_err-resize.result c.from_residual-in_err-resize.ensures.1).1
-
-pub returns-in_err-resize-clause-none : goal.returns-in_err-resize-clause-none
-returns-in_err-resize-clause-none g c first = never_ok _ _ _ (err_from_is_err_and c.from_residual-in_err-resize.result c.from_residual-in_err-resize.ensures.1).1
 
 pub returns-then-not-branch-clause-history : goal.returns-then-not-branch-clause-history
 returns-then-not-branch-clause-history g c = c.read_maps.ensures.history
@@ -196,20 +157,11 @@ returns-then-not-branch-clause-history g c = c.read_maps.ensures.history
 pub returns-then-not-branch-clause-reads : goal.returns-then-not-branch-clause-reads
 returns-then-not-branch-clause-reads g c = c.read_maps.ensures.reads
 
-pub returns-then-not-branch-clause-count : goal.returns-then-not-branch-clause-count
-returns-then-not-branch-clause-count g c = tt
-
-pub returns-then-not-branch-clause-sound : goal.returns-then-not-branch-clause-sound
-returns-then-not-branch-clause-sound g c = tt
-
-pub returns-then-not-branch-clause-ended : goal.returns-then-not-branch-clause-ended
-returns-then-not-branch-clause-ended g c = tt
+pub returns-then-not-branch-clause-map : goal.returns-then-not-branch-clause-map
+returns-then-not-branch-clause-map g c = tt
 
 pub returns-then-not-branch-clause-spelled : goal.returns-then-not-branch-clause-spelled
 returns-then-not-branch-clause-spelled g c first = tt
-
-pub returns-then-not-branch-clause-none : goal.returns-then-not-branch-clause-none
-returns-then-not-branch-clause-none g c first = tt
 
 pub returns-then-not-branch-clause-cause : goal.returns-then-not-branch-clause-cause
 returns-then-not-branch-clause-cause g c is = damage_given _ refl is
@@ -219,9 +171,6 @@ returns-clause-history g c = c.read_maps.ensures.history
 
 pub returns-clause-reads : goal.returns-clause-reads
 returns-clause-reads g c = c.read_maps.ensures.reads
-
-pub returns-clause-fault : goal.returns-clause-fault
-returns-clause-fault g c first = tt
 
 pub returns-clause-cause : goal.returns-clause-cause
 returns-clause-cause g c is = none_given _ is

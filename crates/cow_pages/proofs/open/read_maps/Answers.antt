@@ -1,11 +1,11 @@
-use Rattle.std.proofs.Common.{◌≡◌, ◌*◌, ◌+◌, ℕ, List, length, get_or, ap, sym, ◌∙◌, inl, inr, arith, below_more, length-append}
+use Rattle.std.proofs.Common.{◌≡◌, ◌*◌, ◌+◌, ℕ, List, length, get_or, ap, sym, ◌∙◌, arith, below_more, length-append}
 use Rattle.sector_device.specs.Device.{history_none, history_joined}
 use Rattle.page_roots.specs.MapPage.{entries_in}
 use Rattle.cow_pages.specs.Held.{part_of}
 use Rattle.cow_pages.specs.ReadingLaws.{reads_joined}
 use Rattle.std.proofs.lemmas.Result.{err_from_is_err_and}
 use Rattle.cow_pages.specs.PreservedLaws.{failed_later}
-use Rattle.cow_pages.proofs.Loading.{memory_given, none_given, fault_given}
+use Rattle.cow_pages.proofs.Loading.{device_read, memory_read, fault_given}
 use Rattle.cow_pages.proofs.Reading.{reads_none, reads_alone}
 use Rattle.cow_pages.proofs.Parts.{part_before, part_here}
 use Rattle.cow_pages.proofs.Bytes.{page_is, same_page}
@@ -46,23 +46,11 @@ loop-page-preserved g c =
 pub returns-in_err-entries-clause-reads : goal.returns-in_err-entries-clause-reads
 returns-in_err-entries-clause-reads g c first = reads_none _ (g.met.D.Device.only_now c.args.device.now first)
 
-pub returns-in_err-entries-clause-cause : goal.returns-in_err-entries-clause-cause
-returns-in_err-entries-clause-cause g c is = memory_given c.from_residual.result (err_from_is_err_and c.from_residual.result c.from_residual.ensures.1) is
-
 pub returns-in_err-read_page-clause-history : goal.returns-in_err-read_page-clause-history
 returns-in_err-read_page-clause-history g c = history_joined _ _ (g.D.Device.state c.read_page.new.device) c.loop-page.invariant.history c.read_page.ensures.history
 
-pub returns-in_err-read_page-clause-cause : goal.returns-in_err-read_page-clause-cause
-returns-in_err-read_page-clause-cause g c is =
-    failed_later _ _ (g.D.Device.state c.read_page.new.device) c.loop-page.invariant.history c.read_page.ensures.history c.in_err-read_page.ensures.cause
-
 pub returns-in_err-extend_from_slice-clause-history : goal.returns-in_err-extend_from_slice-clause-history
 returns-in_err-extend_from_slice-clause-history g c = history_joined _ _ (g.D.Device.state c.read_page.new.device) c.loop-page.invariant.history c.read_page.ensures.history
-
-pub returns-in_err-extend_from_slice-clause-cause : goal.returns-in_err-extend_from_slice-clause-cause
-returns-in_err-extend_from_slice-clause-cause g c is =
-    let r = c.from_residual-in_err-extend_from_slice.result in
-    memory_given r (err_from_is_err_and r c.from_residual-in_err-extend_from_slice.ensures.1) is
 
 pub returns-in_err-entries-clause-history : goal.returns-in_err-entries-clause-history
 returns-in_err-entries-clause-history g c = history_none (g.D.Device.state c.args.device.now)
@@ -74,7 +62,7 @@ pub returns-in_err-entries-clause-spelled : goal.returns-in_err-entries-clause-s
 returns-in_err-entries-clause-spelled g c first = never_ok _ _ _ (err_from_is_err_and c.from_residual.result c.from_residual.ensures.1).1
 
 pub returns-in_err-entries-clause-fault : goal.returns-in_err-entries-clause-fault
-returns-in_err-entries-clause-fault g c = let back = err_from_is_err_and c.from_residual.result c.from_residual.ensures.1 in fault_given _ _ _ back.1 (inr back.2)
+returns-in_err-entries-clause-fault g c = let back = err_from_is_err_and c.from_residual.result c.from_residual.ensures.1 in fault_given _ _ _ back.1 (memory_read _ _ _ back.2)
 
 pub returns-in_err-read_page-clause-count : goal.returns-in_err-read_page-clause-count
 returns-in_err-read_page-clause-count g c = never_ok _ _ _ (err_from_is_err_and c.from_residual-in_err-read_page.result c.from_residual-in_err-read_page.ensures.1).1
@@ -83,7 +71,8 @@ pub returns-in_err-read_page-clause-spelled : goal.returns-in_err-read_page-clau
 returns-in_err-read_page-clause-spelled g c first = never_ok _ _ _ (err_from_is_err_and c.from_residual-in_err-read_page.result c.from_residual-in_err-read_page.ensures.1).1
 
 pub returns-in_err-read_page-clause-fault : goal.returns-in_err-read_page-clause-fault
-returns-in_err-read_page-clause-fault g c = let back = err_from_is_err_and c.from_residual-in_err-read_page.result c.from_residual-in_err-read_page.ensures.1 in fault_given _ _ _ back.1 (inl back.2)
+returns-in_err-read_page-clause-fault g c = let back = err_from_is_err_and c.from_residual-in_err-read_page.result c.from_residual-in_err-read_page.ensures.1 in fault_given _ _ _ back.1
+    (device_read _ _ _ back.2 (failed_later _ _ (g.D.Device.state c.read_page.new.device) c.loop-page.invariant.history c.read_page.ensures.history c.in_err-read_page.ensures.cause))
 
 pub returns-in_err-extend_from_slice-clause-count : goal.returns-in_err-extend_from_slice-clause-count
 returns-in_err-extend_from_slice-clause-count g c = never_ok _ _ _ (err_from_is_err_and c.from_residual-in_err-extend_from_slice.result c.from_residual-in_err-extend_from_slice.ensures.1).1
@@ -92,10 +81,7 @@ pub returns-in_err-extend_from_slice-clause-spelled : goal.returns-in_err-extend
 returns-in_err-extend_from_slice-clause-spelled g c first = never_ok _ _ _ (err_from_is_err_and c.from_residual-in_err-extend_from_slice.result c.from_residual-in_err-extend_from_slice.ensures.1).1
 
 pub returns-in_err-extend_from_slice-clause-fault : goal.returns-in_err-extend_from_slice-clause-fault
-returns-in_err-extend_from_slice-clause-fault g c = let back = err_from_is_err_and c.from_residual-in_err-extend_from_slice.result c.from_residual-in_err-extend_from_slice.ensures.1 in fault_given _ _ _ back.1 (inr back.2)
+returns-in_err-extend_from_slice-clause-fault g c = let back = err_from_is_err_and c.from_residual-in_err-extend_from_slice.result c.from_residual-in_err-extend_from_slice.ensures.1 in fault_given _ _ _ back.1 (memory_read _ _ _ back.2)
 
 pub returns-clause-fault : goal.returns-clause-fault
 returns-clause-fault g c = tt
-
-pub returns-clause-cause : goal.returns-clause-cause
-returns-clause-cause g c is = none_given _ is

@@ -36,8 +36,8 @@ returns-clause-begins g c sound kind second =
     (before_leaves p q (contents_of p) kind (is.leaves (contents_of p) held)) in
     let kind_now : is_journaled q ≡ false = ap (λ (root : RootFields). has_journal root.format) same ∙ kind in
     subst (λ (root : RootFields). Begins g.D.Device (contents_of p) c.commit_kind.result root (device_below p) (device_below r)) same
-    (begins g.met.D.Device.only_now g.met.D.JournalDevice.all_beside (device_below p) q r (contents_of p) c.requires.room is.size
-    (clears_some (device_below p) (device_below q) (is.writes sound.faithful)) (all_cleared (device_below p) (device_below q) (is.written sound.faithful) (is.synced sound.faithful))
+    (begins g.met.D.Device.only_now g.met.D.JournalDevice.all_beside (device_below p) q r (contents_of p) c.requires.room is.device.size
+    (clears_some (device_below p) (device_below q) (is.device.writes sound.faithful)) (all_cleared (device_below p) (device_below q) (is.device.written sound.faithful) (is.device.synced sound.faithful))
     (is.outcome.holds (contents_of p) held) second kind_now first c.commit_kind.ensures.history c.commit_kind.result c.commit_kind.ensures.switches)
 
 pub returns-clause-number : goal.returns-clause-number

@@ -1,11 +1,9 @@
-use Rattle.std.proofs.Common.{◌∙◌, ◌++◌, ◌∷◌, [], ℕ, IfErr, Result, Ok, Err, refl, ap, subst}
+use Rattle.std.proofs.Common.{◌∙◌, ◌++◌, ◌∷◌, [], ℕ, IfErr, Result, Ok, Err, ap, subst}
 use Rattle.store.specs.declared.stop.StatementError.{StatementError}
 use Rattle.store.specs.Records.{Record, entries_where, is_from}
 use Rattle.store.specs.Walks.{span}
 use Rattle.store.proofs.Changes.{ordered_entries_where}
-use Rattle.store.specs.Walks.{is_within}
 use Rattle.store.proofs.Reading.{reads_joined}
-use Rattle.store.proofs.Spans.{none_ahead, one_ahead}
 use Rattle.key_ranges.specs.declared.range.KeyRange.TheVariants.{Span}
 use Rattle.table_rows.specs.HeldRows.{SpellsRow}
 use Rattle.table_rows.specs.Visits.{VisitsAll, VisitsRecord}
@@ -24,34 +22,32 @@ loop-visited-init g c =
       preserved = c.in_ok-place.ensures.preserved;
       reads = goes.only_reads;
       works = goes.failed;
-      remains = λ s. (span c.args.start.now c.args.stop.now records, (entries_where from records, refl, ordered_entries_where from records (g.met.M.Map.ordered c.args.records.now s), goes.answer s), remains_first c.args.columns.now (span c.args.start.now c.args.stop.now records) old);
+      remains = λ s. (span c.args.start.now c.args.stop.now records, g.met.M.Map.ahead_cut _ c.args.stop.now _ (entries_where from records) (ordered_entries_where from records (g.met.M.Map.ordered c.args.records.now s)) (goes.answer s), remains_first c.args.columns.now (span c.args.start.now c.args.stop.now records) old);
     }
 
-pub returns-in_err-step-clause-preserved : goal.returns-in_err-step-clause-preserved
-returns-in_err-step-clause-preserved g c = g.M.Map.preserved_joined c.args.records.now c.loop-visited.records c.step.new.self c.loop-visited.invariant.preserved c.in_err-step.ensures.preserved
+pub returns-in_err-step_within-clause-preserved : goal.returns-in_err-step_within-clause-preserved
+returns-in_err-step_within-clause-preserved g c = g.M.Map.preserved_joined c.args.records.now c.loop-visited.records c.step_within.new.self c.loop-visited.invariant.preserved c.in_err-step_within.ensures.preserved
 
 pub returns-then-not-branch-clause-preserved : goal.returns-then-not-branch-clause-preserved
-returns-then-not-branch-clause-preserved g c = g.M.Map.preserved_joined c.args.records.now c.loop-visited.records c.step.new.self c.loop-visited.invariant.preserved c.in_ok-step.ensures.preserved
-
-pub returns-then-not-is_within-clause-preserved : goal.returns-then-not-is_within-clause-preserved
-returns-then-not-is_within-clause-preserved g c = g.M.Map.preserved_joined c.args.records.now c.loop-visited.records c.step.new.self c.loop-visited.invariant.preserved c.in_ok-step.ensures.preserved
+returns-then-not-branch-clause-preserved g c = g.M.Map.preserved_joined c.args.records.now c.loop-visited.records c.step_within.new.self c.loop-visited.invariant.preserved c.in_ok-step_within.ensures.preserved
 
 pub returns-in_err-visit_record-clause-preserved : goal.returns-in_err-visit_record-clause-preserved
-returns-in_err-visit_record-clause-preserved g c = g.M.Map.preserved_joined c.args.records.now c.loop-visited.records c.step.new.self c.loop-visited.invariant.preserved c.in_ok-step.ensures.preserved
+returns-in_err-visit_record-clause-preserved g c = g.M.Map.preserved_joined c.args.records.now c.loop-visited.records c.step_within.new.self c.loop-visited.invariant.preserved c.in_ok-step_within.ensures.preserved
 
 pub returns-in-Done-clause-preserved : goal.returns-in-Done-clause-preserved
-returns-in-Done-clause-preserved g c = g.M.Map.preserved_joined c.args.records.now c.loop-visited.records c.step.new.self c.loop-visited.invariant.preserved c.in_ok-step.ensures.preserved
+returns-in-Done-clause-preserved g c = g.M.Map.preserved_joined c.args.records.now c.loop-visited.records c.step_within.new.self c.loop-visited.invariant.preserved c.in_ok-step_within.ensures.preserved
+
+pub returns-then-visited-most-clause-preserved : goal.returns-then-visited-most-clause-preserved
+returns-then-visited-most-clause-preserved g c = g.M.Map.preserved_joined c.args.records.now c.loop-visited.records c.step_within.new.self c.loop-visited.invariant.preserved c.in_ok-step_within.ensures.preserved
 
 pub loop-visited-preserved : goal.loop-visited-preserved
 loop-visited-preserved g c = record {
-  preserved = g.M.Map.preserved_joined c.args.records.now c.loop-visited.records c.step.new.self c.loop-visited.invariant.preserved c.in_ok-step.ensures.preserved;
-  reads = reads_joined (g.M.Map.state c.args.records.now) (g.M.Map.state c.loop-visited.records) (g.M.Map.state c.step.new.self) c.loop-visited.invariant.reads c.in_ok-step.ensures.goes.only_reads;
-  works = c.in_ok-step.ensures.goes.failed ∙ c.loop-visited.invariant.works;
+  preserved = g.M.Map.preserved_joined c.args.records.now c.loop-visited.records c.step_within.new.self c.loop-visited.invariant.preserved c.in_ok-step_within.ensures.preserved;
+  reads = reads_joined (g.M.Map.state c.args.records.now) (g.M.Map.state c.loop-visited.records) (g.M.Map.state c.step_within.new.self) c.loop-visited.invariant.reads c.in_ok-step_within.ensures.goes.only_reads;
+  works = c.in_ok-step_within.ensures.goes.failed ∙ c.loop-visited.invariant.works;
   remains = λ s.
       let left = c.loop-visited.invariant.remains s in
-      let takes = one_ahead c.args.stop.now _ _ _ c.in_ok-step.field-0 c.is_within.result left.0 c.if-not-branch.false left.1 (c.in_ok-step.ensures.goes.answer (c.loop-visited.invariant.reads.history.sound s))
-      (λ e found. c.is_within.ensures ∙ ap (λ (entry : Record). is_within c.args.stop.now entry.0) (c.entry.view_is ∙ c.entry-entry.ensures e found)) in
-      let took = taken _ _ c.is_within.result left.0 c.if-not-is_within.false takes in
+      let took = taken _ _ c.in_ok-step_within.field-0 left.0 c.if-not-branch.false (c.in_ok-step_within.ensures.goes.answer (c.loop-visited.invariant.reads.history.sound s) left.0 left.1) in
       let now = λ (id : ℕ). g.V.RowVisitor.after c.loop-visited.visitor id c.args.columns.now in
       let then = λ (id : ℕ). g.V.RowVisitor.after c.visit_record.new.visitor id c.args.columns.now in
       let flow = c.in_ok-visit_record.field-0 in (
@@ -66,14 +62,7 @@ loop-visited-preserved g c = record {
 pub returns-then-not-branch-clause-part : goal.returns-then-not-branch-clause-part
 returns-then-not-branch-clause-part g c = λ s early id.
     let left = c.loop-visited.invariant.remains s in
-    part_last id c.args.columns.now _ _ left.0 _ _ (left.2.walked id) (none_ahead c.args.stop.now _ _ _ c.in_ok-step.field-0 left.0 c.if-not-branch.true left.1 (c.in_ok-step.ensures.goes.answer (c.loop-visited.invariant.reads.history.sound s)))
-
-pub returns-then-not-is_within-clause-part : goal.returns-then-not-is_within-clause-part
-returns-then-not-is_within-clause-part g c = λ s early id.
-    let left = c.loop-visited.invariant.remains s in
-    let takes = one_ahead c.args.stop.now _ _ _ c.in_ok-step.field-0 c.is_within.result left.0 c.if-not-branch.false left.1 (c.in_ok-step.ensures.goes.answer (c.loop-visited.invariant.reads.history.sound s))
-    (λ e found. c.is_within.ensures ∙ ap (λ (entry : Record). is_within c.args.stop.now entry.0) (c.entry.view_is ∙ c.entry-entry.ensures e found)) in
-    part_last id c.args.columns.now _ _ left.0 _ _ (left.2.walked id) (none_taken _ _ c.is_within.result left.0 c.if-not-is_within.true takes)
+    part_last id c.args.columns.now _ _ left.0 _ _ (left.2.walked id) (none_taken _ _ c.in_ok-step_within.field-0 left.0 c.if-not-branch.true (c.in_ok-step_within.ensures.goes.answer (c.loop-visited.invariant.reads.history.sound s) left.0 left.1))
 
 pub returns-in-Done-clause-part : goal.returns-in-Done-clause-part
 returns-in-Done-clause-part g c = λ s early. absurd (never_done g.V.RowVisitor.ends_early c.in_ok-visit_record.field-0 c.in-Done.is early c.in_ok-visit_record.ensures.ends)
@@ -81,9 +70,7 @@ returns-in-Done-clause-part g c = λ s early. absurd (never_done g.V.RowVisitor.
 pub returns-in_err-visit_record-clause-fails : goal.returns-in_err-visit_record-clause-fails
 returns-in_err-visit_record-clause-fails g c = λ s id rows h.
     let left = c.loop-visited.invariant.remains s in
-    let takes = one_ahead c.args.stop.now _ _ _ c.in_ok-step.field-0 c.is_within.result left.0 c.if-not-branch.false left.1 (c.in_ok-step.ensures.goes.answer (c.loop-visited.invariant.reads.history.sound s))
-    (λ e found. c.is_within.ensures ∙ ap (λ (entry : Record). is_within c.args.stop.now entry.0) (c.entry.view_is ∙ c.entry-entry.ensures e found)) in
-    let took = taken _ _ c.is_within.result left.0 c.if-not-is_within.false takes in
+    let took = taken _ _ c.in_ok-step_within.field-0 left.0 c.if-not-branch.false (c.in_ok-step_within.ensures.goes.answer (c.loop-visited.invariant.reads.history.sound s) left.0 left.1) in
     let now = λ (id : ℕ). g.V.RowVisitor.after c.loop-visited.visitor id c.args.columns.now in
     let last = λ (id : ℕ). g.V.RowVisitor.after c.visit_record.new.visitor id c.args.columns.now in
     let failure = c.in_err-visit_record.field-0.0 in
@@ -94,9 +81,7 @@ returns-in_err-visit_record-clause-fails g c = λ s id rows h.
 pub returns-then-visited-most-clause-part : goal.returns-then-visited-most-clause-part
 returns-then-visited-most-clause-part g c = λ s early id.
     let left = c.loop-visited.invariant.remains s in
-    let takes = one_ahead c.args.stop.now _ _ _ c.in_ok-step.field-0 c.is_within.result left.0 c.if-not-branch.false left.1 (c.in_ok-step.ensures.goes.answer (c.loop-visited.invariant.reads.history.sound s))
-    (λ e found. c.is_within.ensures ∙ ap (λ (entry : Record). is_within c.args.stop.now entry.0) (c.entry.view_is ∙ c.entry-entry.ensures e found)) in
-    let took = taken _ _ c.is_within.result left.0 c.if-not-is_within.false takes in
+    let took = taken _ _ c.in_ok-step_within.field-0 left.0 c.if-not-branch.false (c.in_ok-step_within.ensures.goes.answer (c.loop-visited.invariant.reads.history.sound s) left.0 left.1) in
     let now = λ (id : ℕ). g.V.RowVisitor.after c.loop-visited.visitor id c.args.columns.now in
     let then = λ (id : ℕ). g.V.RowVisitor.after c.visit_record.new.visitor id c.args.columns.now in
     let flow = c.in_ok-visit_record.field-0 in

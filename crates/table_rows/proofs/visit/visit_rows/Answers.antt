@@ -1,10 +1,8 @@
-use Rattle.std.proofs.Common.{◌∙◌, ℕ, Ok, Err, refl, ap, subst}
+use Rattle.std.proofs.Common.{◌∙◌, ℕ, Ok, Err, ap, subst}
 use Rattle.store.specs.Records.{Record, entries_where, is_from}
 use Rattle.store.specs.Walks.{span}
 use Rattle.store.proofs.Changes.{ordered_entries_where}
-use Rattle.store.specs.Walks.{is_within}
 use Rattle.store.proofs.Reading.{reads_joined}
-use Rattle.store.proofs.Spans.{none_ahead, one_ahead}
 use Rattle.table_rows.specs.HeldRows.{SpellsRow}
 use Rattle.table_rows.specs.Visits.{VisitsAll, VisitsRecord, SpellsVisited}
 use Rattle.table_rows.specs.Walked.{Walks}
@@ -22,63 +20,37 @@ loop-init g c =
       preserved = c.in_ok-place.ensures.preserved;
       reads = goes.only_reads;
       works = goes.failed;
-      remains = λ s. (span c.args.start.now c.args.stop.now records, (entries_where from records, refl, ordered_entries_where from records (g.met.M.Map.ordered c.args.records.now s), goes.answer s), remains_first c.args.columns.now (span c.args.start.now c.args.stop.now records) old);
+      remains = λ s. (span c.args.start.now c.args.stop.now records, g.met.M.Map.ahead_cut _ c.args.stop.now _ (entries_where from records) (ordered_entries_where from records (g.met.M.Map.ordered c.args.records.now s)) (goes.answer s), remains_first c.args.columns.now (span c.args.start.now c.args.stop.now records) old);
     }
 
-pub returns-in_err-step-clause-preserved : goal.returns-in_err-step-clause-preserved
-returns-in_err-step-clause-preserved g c = g.M.Map.preserved_joined c.args.records.now c.loop.records c.step.new.self c.loop.invariant.preserved c.in_err-step.ensures.preserved
+pub returns-in_err-step_within-clause-preserved : goal.returns-in_err-step_within-clause-preserved
+returns-in_err-step_within-clause-preserved g c = g.M.Map.preserved_joined c.args.records.now c.loop.records c.step_within.new.self c.loop.invariant.preserved c.in_err-step_within.ensures.preserved
 
 pub returns-then-not-branch-clause-preserved : goal.returns-then-not-branch-clause-preserved
-returns-then-not-branch-clause-preserved g c = g.M.Map.preserved_joined c.args.records.now c.loop.records c.step.new.self c.loop.invariant.preserved c.in_ok-step.ensures.preserved
-
-pub returns-then-not-is_within-clause-preserved : goal.returns-then-not-is_within-clause-preserved
-returns-then-not-is_within-clause-preserved g c = g.M.Map.preserved_joined c.args.records.now c.loop.records c.step.new.self c.loop.invariant.preserved c.in_ok-step.ensures.preserved
+returns-then-not-branch-clause-preserved g c = g.M.Map.preserved_joined c.args.records.now c.loop.records c.step_within.new.self c.loop.invariant.preserved c.in_ok-step_within.ensures.preserved
 
 pub returns-then-not-branch-clause-visits : goal.returns-then-not-branch-clause-visits
 returns-then-not-branch-clause-visits g c = λ s id rows h.
     let left = c.loop.invariant.remains s in
-    all_visited c.args.columns.now _ left.0 _ _ left.2 (none_ahead c.args.stop.now _ _ _ c.in_ok-step.field-0 left.0 c.if-not-branch.true left.1 (c.in_ok-step.ensures.goes.answer (c.loop.invariant.reads.history.sound s))) id rows h
-
-pub returns-then-not-is_within-clause-visits : goal.returns-then-not-is_within-clause-visits
-returns-then-not-is_within-clause-visits g c = λ s id rows h.
-    let left = c.loop.invariant.remains s in
-    let takes = one_ahead c.args.stop.now _ _ _ c.in_ok-step.field-0 c.is_within.result left.0 c.if-not-branch.false left.1 (c.in_ok-step.ensures.goes.answer (c.loop.invariant.reads.history.sound s))
-    (λ e found. c.is_within.ensures ∙ ap (λ (entry : Record). is_within c.args.stop.now entry.0) (c.entry.view_is ∙ c.entry-entry.ensures e found)) in
-    all_visited c.args.columns.now _ left.0 _ _ left.2 (none_taken _ _ c.is_within.result left.0 c.if-not-is_within.true takes) id rows h
+    all_visited c.args.columns.now _ left.0 _ _ left.2 (none_taken _ _ c.in_ok-step_within.field-0 left.0 c.if-not-branch.true (c.in_ok-step_within.ensures.goes.answer (c.loop.invariant.reads.history.sound s) left.0 left.1)) id rows h
 
 pub returns-then-not-branch-clause-walked : goal.returns-then-not-branch-clause-walked
 returns-then-not-branch-clause-walked g c = λ s id.
     let left = c.loop.invariant.remains s in
-    all_walked c.args.columns.now _ left.0 _ _ left.2 (none_ahead c.args.stop.now _ _ _ c.in_ok-step.field-0 left.0 c.if-not-branch.true left.1 (c.in_ok-step.ensures.goes.answer (c.loop.invariant.reads.history.sound s))) id
-
-pub returns-then-not-is_within-clause-walked : goal.returns-then-not-is_within-clause-walked
-returns-then-not-is_within-clause-walked g c = λ s id.
-    let left = c.loop.invariant.remains s in
-    let takes = one_ahead c.args.stop.now _ _ _ c.in_ok-step.field-0 c.is_within.result left.0 c.if-not-branch.false left.1 (c.in_ok-step.ensures.goes.answer (c.loop.invariant.reads.history.sound s))
-    (λ e found. c.is_within.ensures ∙ ap (λ (entry : Record). is_within c.args.stop.now entry.0) (c.entry.view_is ∙ c.entry-entry.ensures e found)) in
-    all_walked c.args.columns.now _ left.0 _ _ left.2 (none_taken _ _ c.is_within.result left.0 c.if-not-is_within.true takes) id
+    all_walked c.args.columns.now _ left.0 _ _ left.2 (none_taken _ _ c.in_ok-step_within.field-0 left.0 c.if-not-branch.true (c.in_ok-step_within.ensures.goes.answer (c.loop.invariant.reads.history.sound s) left.0 left.1)) id
 
 pub returns-then-not-branch-clause-spelled : goal.returns-then-not-branch-clause-spelled
 returns-then-not-branch-clause-spelled g c = λ s early.
     let left = c.loop.invariant.remains s in
-    all_spelled c.args.columns.now _ left.0 _ _ left.2 (none_ahead c.args.stop.now _ _ _ c.in_ok-step.field-0 left.0 c.if-not-branch.true left.1 (c.in_ok-step.ensures.goes.answer (c.loop.invariant.reads.history.sound s)))
-
-pub returns-then-not-is_within-clause-spelled : goal.returns-then-not-is_within-clause-spelled
-returns-then-not-is_within-clause-spelled g c = λ s early.
-    let left = c.loop.invariant.remains s in
-    let takes = one_ahead c.args.stop.now _ _ _ c.in_ok-step.field-0 c.is_within.result left.0 c.if-not-branch.false left.1 (c.in_ok-step.ensures.goes.answer (c.loop.invariant.reads.history.sound s))
-    (λ e found. c.is_within.ensures ∙ ap (λ (entry : Record). is_within c.args.stop.now entry.0) (c.entry.view_is ∙ c.entry-entry.ensures e found)) in
-    all_spelled c.args.columns.now _ left.0 _ _ left.2 (none_taken _ _ c.is_within.result left.0 c.if-not-is_within.true takes)
+    all_spelled c.args.columns.now _ left.0 _ _ left.2 (none_taken _ _ c.in_ok-step_within.field-0 left.0 c.if-not-branch.true (c.in_ok-step_within.ensures.goes.answer (c.loop.invariant.reads.history.sound s) left.0 left.1))
 
 pub returns-in_err-visit_record-clause-preserved : goal.returns-in_err-visit_record-clause-preserved
-returns-in_err-visit_record-clause-preserved g c = g.M.Map.preserved_joined c.args.records.now c.loop.records c.step.new.self c.loop.invariant.preserved c.in_ok-step.ensures.preserved
+returns-in_err-visit_record-clause-preserved g c = g.M.Map.preserved_joined c.args.records.now c.loop.records c.step_within.new.self c.loop.invariant.preserved c.in_ok-step_within.ensures.preserved
 
 pub returns-in_err-visit_record-clause-visits : goal.returns-in_err-visit_record-clause-visits
 returns-in_err-visit_record-clause-visits g c = λ s id rows h.
     let left = c.loop.invariant.remains s in
-    let takes = one_ahead c.args.stop.now _ _ _ c.in_ok-step.field-0 c.is_within.result left.0 c.if-not-branch.false left.1 (c.in_ok-step.ensures.goes.answer (c.loop.invariant.reads.history.sound s))
-    (λ e found. c.is_within.ensures ∙ ap (λ (entry : Record). is_within c.args.stop.now entry.0) (c.entry.view_is ∙ c.entry-entry.ensures e found)) in
-    let took = taken _ _ c.is_within.result left.0 c.if-not-is_within.false takes in
+    let took = taken _ _ c.in_ok-step_within.field-0 left.0 c.if-not-branch.false (c.in_ok-step_within.ensures.goes.answer (c.loop.invariant.reads.history.sound s) left.0 left.1) in
     let now = λ (id : ℕ). g.V.RowVisitor.after c.loop.visitor id c.args.columns.now in
     let last = λ (id : ℕ). g.V.RowVisitor.after c.visit_record.new.visitor id c.args.columns.now in
     let failure = c.in_err-visit_record.field-0.0 in
@@ -89,9 +61,7 @@ returns-in_err-visit_record-clause-visits g c = λ s id rows h.
 pub returns-in_err-visit_record-clause-walked : goal.returns-in_err-visit_record-clause-walked
 returns-in_err-visit_record-clause-walked g c = λ s id.
     let left = c.loop.invariant.remains s in
-    let takes = one_ahead c.args.stop.now _ _ _ c.in_ok-step.field-0 c.is_within.result left.0 c.if-not-branch.false left.1 (c.in_ok-step.ensures.goes.answer (c.loop.invariant.reads.history.sound s))
-    (λ e found. c.is_within.ensures ∙ ap (λ (entry : Record). is_within c.args.stop.now entry.0) (c.entry.view_is ∙ c.entry-entry.ensures e found)) in
-    let took = taken _ _ c.is_within.result left.0 c.if-not-is_within.false takes in
+    let took = taken _ _ c.in_ok-step_within.field-0 left.0 c.if-not-branch.false (c.in_ok-step_within.ensures.goes.answer (c.loop.invariant.reads.history.sound s) left.0 left.1) in
     let now = λ (id : ℕ). g.V.RowVisitor.after c.loop.visitor id c.args.columns.now in
     let last = λ (id : ℕ). g.V.RowVisitor.after c.visit_record.new.visitor id c.args.columns.now in
     let failure = c.in_err-visit_record.field-0.0 in
@@ -102,14 +72,12 @@ returns-in_err-visit_record-clause-walked g c = λ s id.
     (λ id. subst (λ (e : Record). VisitsRecord id c.args.columns.now e (Err failure) (now id) (last id)) (c.entry-entry.ensures took.0 took.3) (c.in_err-visit_record.ensures.visits id)) id)
 
 pub returns-in-Done-clause-preserved : goal.returns-in-Done-clause-preserved
-returns-in-Done-clause-preserved g c = g.M.Map.preserved_joined c.args.records.now c.loop.records c.step.new.self c.loop.invariant.preserved c.in_ok-step.ensures.preserved
+returns-in-Done-clause-preserved g c = g.M.Map.preserved_joined c.args.records.now c.loop.records c.step_within.new.self c.loop.invariant.preserved c.in_ok-step_within.ensures.preserved
 
 pub returns-in-Done-clause-visits : goal.returns-in-Done-clause-visits
 returns-in-Done-clause-visits g c = λ s id rows h.
     let left = c.loop.invariant.remains s in
-    let takes = one_ahead c.args.stop.now _ _ _ c.in_ok-step.field-0 c.is_within.result left.0 c.if-not-branch.false left.1 (c.in_ok-step.ensures.goes.answer (c.loop.invariant.reads.history.sound s))
-    (λ e found. c.is_within.ensures ∙ ap (λ (entry : Record). is_within c.args.stop.now entry.0) (c.entry.view_is ∙ c.entry-entry.ensures e found)) in
-    let took = taken _ _ c.is_within.result left.0 c.if-not-is_within.false takes in
+    let took = taken _ _ c.in_ok-step_within.field-0 left.0 c.if-not-branch.false (c.in_ok-step_within.ensures.goes.answer (c.loop.invariant.reads.history.sound s) left.0 left.1) in
     let now = λ (id : ℕ). g.V.RowVisitor.after c.loop.visitor id c.args.columns.now in
     let then = λ (id : ℕ). g.V.RowVisitor.after c.visit_record.new.visitor id c.args.columns.now in
     let flow = c.in_ok-visit_record.field-0 in
@@ -119,9 +87,7 @@ returns-in-Done-clause-visits g c = λ s id rows h.
 pub returns-in-Done-clause-walked : goal.returns-in-Done-clause-walked
 returns-in-Done-clause-walked g c = λ s id.
     let left = c.loop.invariant.remains s in
-    let takes = one_ahead c.args.stop.now _ _ _ c.in_ok-step.field-0 c.is_within.result left.0 c.if-not-branch.false left.1 (c.in_ok-step.ensures.goes.answer (c.loop.invariant.reads.history.sound s))
-    (λ e found. c.is_within.ensures ∙ ap (λ (entry : Record). is_within c.args.stop.now entry.0) (c.entry.view_is ∙ c.entry-entry.ensures e found)) in
-    let took = taken _ _ c.is_within.result left.0 c.if-not-is_within.false takes in
+    let took = taken _ _ c.in_ok-step_within.field-0 left.0 c.if-not-branch.false (c.in_ok-step_within.ensures.goes.answer (c.loop.invariant.reads.history.sound s) left.0 left.1) in
     let now = λ (id : ℕ). g.V.RowVisitor.after c.loop.visitor id c.args.columns.now in
     let then = λ (id : ℕ). g.V.RowVisitor.after c.visit_record.new.visitor id c.args.columns.now in
     let flow = c.in_ok-visit_record.field-0 in
@@ -131,14 +97,12 @@ returns-in-Done-clause-walked g c = λ s id.
 
 pub loop-preserved : goal.loop-preserved
 loop-preserved g c = record {
-  preserved = g.M.Map.preserved_joined c.args.records.now c.loop.records c.step.new.self c.loop.invariant.preserved c.in_ok-step.ensures.preserved;
-  reads = reads_joined (g.M.Map.state c.args.records.now) (g.M.Map.state c.loop.records) (g.M.Map.state c.step.new.self) c.loop.invariant.reads c.in_ok-step.ensures.goes.only_reads;
-  works = c.in_ok-step.ensures.goes.failed ∙ c.loop.invariant.works;
+  preserved = g.M.Map.preserved_joined c.args.records.now c.loop.records c.step_within.new.self c.loop.invariant.preserved c.in_ok-step_within.ensures.preserved;
+  reads = reads_joined (g.M.Map.state c.args.records.now) (g.M.Map.state c.loop.records) (g.M.Map.state c.step_within.new.self) c.loop.invariant.reads c.in_ok-step_within.ensures.goes.only_reads;
+  works = c.in_ok-step_within.ensures.goes.failed ∙ c.loop.invariant.works;
   remains = λ s.
       let left = c.loop.invariant.remains s in
-      let takes = one_ahead c.args.stop.now _ _ _ c.in_ok-step.field-0 c.is_within.result left.0 c.if-not-branch.false left.1 (c.in_ok-step.ensures.goes.answer (c.loop.invariant.reads.history.sound s))
-      (λ e found. c.is_within.ensures ∙ ap (λ (entry : Record). is_within c.args.stop.now entry.0) (c.entry.view_is ∙ c.entry-entry.ensures e found)) in
-      let took = taken _ _ c.is_within.result left.0 c.if-not-is_within.false takes in
+      let took = taken _ _ c.in_ok-step_within.field-0 left.0 c.if-not-branch.false (c.in_ok-step_within.ensures.goes.answer (c.loop.invariant.reads.history.sound s) left.0 left.1) in
       let now = λ (id : ℕ). g.V.RowVisitor.after c.loop.visitor id c.args.columns.now in
       let then = λ (id : ℕ). g.V.RowVisitor.after c.visit_record.new.visitor id c.args.columns.now in
       let flow = c.in_ok-visit_record.field-0 in (

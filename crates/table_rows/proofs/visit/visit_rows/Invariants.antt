@@ -1,6 +1,5 @@
 use Rattle.std.proofs.Common.{◌≡◌}
 use Rattle.store.specs.Records.{Records}
-use Rattle.store.specs.Steps.{AheadWithin}
 use Rattle.store.specs.Store.{OnlyReads}
 use Rattle.store.specs.Walks.{span}
 use Rattle.table_rows.proofs.Fronts.{Remains}
@@ -11,6 +10,6 @@ invariant-loop g l = record {
   preserved : g.M.Map.preserved l.fn.records l.records;
   reads : OnlyReads (g.M.Map.state l.fn.records) (g.M.Map.state l.records);
   works : (g.M.Map.state l.records).has_failed ≡ (g.M.Map.state l.fn.records).has_failed;
-  remains : (g.M.Map.state l.fn.records).sound → (left : Records) × (AheadWithin l.stop (g.M.Map.ahead l.records l.place) left)
+  remains : (g.M.Map.state l.fn.records).sound → (left : Records) × g.M.Map.ahead_within l.records l.stop l.place left
       × Remains l.columns (span l.start l.stop (g.M.Map.state l.fn.records).map) left (λ id. g.V.RowVisitor.after l.fn.visitor id l.columns) (λ id. g.V.RowVisitor.after l.visitor id l.columns);
 }

@@ -26,7 +26,7 @@ returns-in-Ok-take_memory g c =
           let now = c.load.ensures.history.faithful first in
           let same : e.content ≡ d.content = fun_ext (c.load.ensures.reads first).content in
           record {
-            no_fault = found.none first;
+            no_fault = found.fault first;
             means = subst (λ (image : Image). Means root.pages root.format root.number (array_of e.content durable) image) same
                 (content_means e root durable (found.settled first) (λ s inside. g.met.D.Device.content_left c.load.new.device s now inside));
             is_open = record { faithful = now; has_not_failed = refl; settled = found.settled first };
@@ -47,5 +47,5 @@ returns-in-Err-take_memory g c = record {
   history = c.load.ensures.history;
   cause = λ is. let e : Memory ≡ Device = is in absurd cc;
   content = c.load.ensures.reads;
-  named = λ first. inl (c.in-Ok.ensures.none first);
+  named = λ first. inl (c.in-Ok.ensures.fault first);
 }

@@ -1,6 +1,7 @@
-use Rattle.std.proofs.Common.{◌≡◌, ◌<◌, ◌+◌, ℕ, length, refl, inl, ◌∙◌}
+use Rattle.std.proofs.Common.{◌≡◌, ◌<◌, ◌+◌, ℕ, length, refl, inl, ◌∙◌, arith}
 use Rattle.sector_device.specs.Timeline.{LeavesOnly}
 use Rattle.sector_device.specs.Device.{DeviceState, IsBehindRoots, timeline}
+use Rattle.sector_device.proofs.EachSector.{none_written}
 use Rattle.cow_pages.specs.Cached.{AgreesWith}
 use Rattle.cow_pages.specs.Dirty.{overlaid_array}
 use Rattle.cow_pages.specs.DirtyPages.{dirty_bytes}
@@ -58,27 +59,25 @@ returns-in-Ok-clause-array g c = working g (goal.at.returns-in-Ok-clause-array g
 pub returns-in-Err-clause-array : goal.returns-in-Err-clause-array
 returns-in-Err-clause-array g c = working g (goal.at.returns-in-Err-clause-array g c).After-write_protected
 
-pub returns-in-Ok-clause-leaves : goal.returns-in-Ok-clause-leaves
-returns-in-Ok-clause-leaves g c holds = durable_left g (goal.at.returns-in-Ok-clause-leaves g c).After-write_protected holds
+pub returns-in-Ok-clause-durable : goal.returns-in-Ok-clause-durable
+returns-in-Ok-clause-durable g c holds =
+    let at = (goal.at.returns-in-Ok-clause-durable g c).After-write_protected in
+    record { leaves = durable_left g at holds; stays = record { settled = settled g at holds; same = same g at holds } }
 
-pub returns-in-Err-clause-leaves : goal.returns-in-Err-clause-leaves
-returns-in-Err-clause-leaves g c holds = durable_left g (goal.at.returns-in-Err-clause-leaves g c).After-write_protected holds
+pub returns-in-Err-clause-durable : goal.returns-in-Err-clause-durable
+returns-in-Err-clause-durable g c holds =
+    let at = (goal.at.returns-in-Err-clause-durable g c).After-write_protected in
+    record { leaves = durable_left g at holds; stays = record { settled = settled g at holds; same = same g at holds } }
 
-pub returns-in-Ok-clause-stays : goal.returns-in-Ok-clause-stays
-returns-in-Ok-clause-stays g c holds =
-    let at = (goal.at.returns-in-Ok-clause-stays g c).After-write_protected in
-    record { settled = settled g at holds; same = same g at holds }
-
-pub returns-in-Err-clause-stays : goal.returns-in-Err-clause-stays
-returns-in-Err-clause-stays g c holds =
-    let at = (goal.at.returns-in-Err-clause-stays g c).After-write_protected in
-    record { settled = settled g at holds; same = same g at holds }
-
-pub returns-then-self-clause-written : goal.returns-then-self-clause-written
-returns-then-self-clause-written g c first = tt
-
-pub returns-then-self-clause-synced : goal.returns-then-self-clause-synced
-returns-then-self-clause-synced g c first = tt
+pub returns-then-self-clause-device : goal.returns-then-self-clause-device
+returns-then-self-clause-device g c =
+    let p = c.args.self.now in
+    record {
+      size = record { sectors = refl; faithful = λ is. is; was_faithful = λ is. is; failures = omega arith; same_beside = λ s. (λ is. is, λ is. is) };
+      writes = λ faithful. none_written c.args.first c.args.sectors.now (g.D.Device.state p.device) (g.met.D.Device.only_now p.device faithful);
+      written = λ faithful. tt;
+      synced = λ faithful. tt;
+    }
 
 pub returns-then-self-clause-memory : goal.returns-then-self-clause-memory
 returns-then-self-clause-memory g c = record { root = refl; durable = refl; working = refl; dirty = refl }
@@ -86,20 +85,19 @@ returns-then-self-clause-memory g c = record { root = refl; durable = refl; work
 pub returns-then-self-clause-array : goal.returns-then-self-clause-array
 returns-then-self-clause-array g c first l = refl
 
-pub returns-then-self-clause-leaves : goal.returns-then-self-clause-leaves
-returns-then-self-clause-leaves g c holds = holds.now
-
-pub returns-then-self-clause-stays : goal.returns-then-self-clause-stays
-returns-then-self-clause-stays g c holds = record { settled = holds.settled; same = λ l. refl }
+pub returns-then-self-clause-durable : goal.returns-then-self-clause-durable
+returns-then-self-clause-durable g c holds = record { leaves = holds.now; stays = record { settled = holds.settled; same = λ l. refl } }
 
 pub returns-then-self-clause-outcome : goal.returns-then-self-clause-outcome
 returns-then-self-clause-outcome g c = record { has_failed = c.if-self.true; cause = inl c.if-self.true }
 
-pub returns-in-Ok-clause-size : goal.returns-in-Ok-clause-size
-returns-in-Ok-clause-size g c = c.write_protected.ensures.size
-
-pub returns-in-Ok-clause-writes : goal.returns-in-Ok-clause-writes
-returns-in-Ok-clause-writes g c = c.write_protected.ensures.writes
+pub returns-in-Ok-clause-device : goal.returns-in-Ok-clause-device
+returns-in-Ok-clause-device g c = record {
+  size = c.write_protected.ensures.size;
+  writes = c.write_protected.ensures.writes;
+  written = c.in-Ok.ensures.written;
+  synced = c.in-Ok.ensures.synced;
+}
 
 pub returns-in-Ok-clause-memory : goal.returns-in-Ok-clause-memory
 returns-in-Ok-clause-memory g c = record { root = refl; durable = refl; working = refl; dirty = refl }
@@ -110,17 +108,13 @@ returns-in-Ok-clause-outcome g c = c.if-self.false
 pub returns-in-Ok-clause-closed : goal.returns-in-Ok-clause-closed
 returns-in-Ok-clause-closed g c was = not_both _ c.if-self.false was
 
-pub returns-in-Err-clause-size : goal.returns-in-Err-clause-size
-returns-in-Err-clause-size g c = c.write_protected.ensures.size
-
-pub returns-in-Err-clause-writes : goal.returns-in-Err-clause-writes
-returns-in-Err-clause-writes g c = c.write_protected.ensures.writes
-
-pub returns-in-Err-clause-written : goal.returns-in-Err-clause-written
-returns-in-Err-clause-written g c first = tt
-
-pub returns-in-Err-clause-synced : goal.returns-in-Err-clause-synced
-returns-in-Err-clause-synced g c first = tt
+pub returns-in-Err-clause-device : goal.returns-in-Err-clause-device
+returns-in-Err-clause-device g c = record {
+  size = c.write_protected.ensures.size;
+  writes = c.write_protected.ensures.writes;
+  written = λ first. tt;
+  synced = λ first. tt;
+}
 
 pub returns-in-Err-clause-memory : goal.returns-in-Err-clause-memory
 returns-in-Err-clause-memory g c = record { root = refl; durable = refl; working = refl; dirty = refl }

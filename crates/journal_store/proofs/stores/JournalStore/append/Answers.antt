@@ -32,7 +32,7 @@ returns-in_default-write_protected g c =
     append_failed g.met.D.Device.only_now (λ device q faithful lt. g.met.D.Device.content_left device q faithful lt) s _ c.args.batch c.args.number c.args.bytes.now sectors
     c.requires.works c.requires.next c.requires.spells c.requires.some c.requires.fits count
     (spelled_as items sectors c.number-root.result (root_number s) c.args.number c.args.bytes.now same c.number-root.ensures few c.in-Ok.ensures.read)
-    c.in-Ok-record.ensures.ok c.write_protected.ensures.size c.write_protected.ensures.writes c.write_protected.ensures.leaves c.write_protected.ensures.keeps c.in_default-write_protected.ensures.outcome.1
+    c.in-Ok-record.ensures.ok c.write_protected.ensures.device.size c.write_protected.ensures.device.writes c.write_protected.ensures.leaves c.write_protected.ensures.keeps c.in_default-write_protected.ensures.outcome.1
 
 pub returns : goal.returns
 returns g c =
@@ -45,6 +45,6 @@ returns g c =
     append_done g.met.D.Device.only_now (λ device q faithful lt. g.met.D.Device.content_left device q faithful lt) s _ c.args.batch c.args.number c.args.bytes.now sectors
     c.requires.works c.requires.next c.requires.spells c.requires.some c.requires.fits count
     (spelled_as items sectors c.number-root.result (root_number s) c.args.number c.args.bytes.now same c.number-root.ensures few c.in-Ok.ensures.read)
-    c.in-Ok-record.ensures.ok c.write_protected.ensures.size c.write_protected.ensures.writes c.write_protected.ensures.leaves c.write_protected.ensures.keeps
-    refl (omega (arith, c.len.ensures, ap (λ (xs : List (List ℕ)). length xs) same)) c.in-Ok-write_protected.ensures.outcome c.in-Ok-write_protected.ensures.written c.in-Ok-write_protected.ensures.synced
+    c.in-Ok-record.ensures.ok c.write_protected.ensures.device.size c.write_protected.ensures.device.writes c.write_protected.ensures.leaves c.write_protected.ensures.keeps
+    refl (omega (arith, c.len.ensures, ap (λ (xs : List (List ℕ)). length xs) same)) c.in-Ok-write_protected.ensures.outcome c.in-Ok-write_protected.ensures.device.written c.in-Ok-write_protected.ensures.device.synced
     (omega (arith, c.requires.fits, count, s.room))

@@ -1,8 +1,10 @@
 use Rattle.std.proofs.Common.{List, refl, ap, sym, subst}
+use Rattle.std.specs.Prelude.{OnOk}
 use Rattle.store.specs.Records.{Changes, applied}
 use Rattle.transactions.specs.Views.{applied_all}
 use Rattle.kv_store.specs.declared.reserve.Reserve.{Reserve}
 use Rattle.kv_store.specs.Batches.{HadNoRoom}
+use Rattle.kv_store.specs.Reserve.{KeepsReserve}
 use Rattle.kv_store.specs.TreeStore.{pages_of}
 use Rattle.journal_store.specs.Stores.{base_of}
 use Rattle.journal_store.proofs.Records.{refused_memory}
@@ -28,3 +30,7 @@ returns-then-is_empty-clause-room g c sound full = record {
 
 pub returns-clause-room : goal.returns-clause-room
 returns-clause-room g c sound full = record { changes = c.in-Ok.joined; all = c.in-Ok.ensures; none = subst (λ (r : Reserve). HadNoRoom r c.in-Ok.joined (base_of c.args.self.now).records (pages_of c.args.self.now.store)) c.reserve_with-reserve.ensures (c.commit_joined-2.ensures.room sound full) }
+
+pub returns-clause-spares : goal.returns-clause-spares
+returns-clause-spares g c sound =
+    subst (λ (r : Reserve). OnOk c.commit_joined-2.result (KeepsReserve r (pages_of c.args.self.now.store) (pages_of c.commit_joined-2.new.self.store))) c.reserve_with-reserve.ensures (c.commit_joined-2.ensures.spares sound)

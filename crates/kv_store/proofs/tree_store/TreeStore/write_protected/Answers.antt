@@ -18,10 +18,12 @@ pub returns-then-self : goal.returns-then-self
 returns-then-self g c =
     let p = c.args.self.now.pages.below in
     record {
-      size = record { sectors = refl; faithful = λ is. is; was_faithful = λ is. is; failures = omega arith; same_beside = λ s. (λ is. is, λ is. is) };
-      writes = λ faithful. none_written c.args.first c.args.sectors.now (device_below p) (g.met.D.Device.only_now p.device faithful);
-      written = λ faithful. tt;
-      synced = λ faithful. tt;
+      device = record {
+        size = record { sectors = refl; faithful = λ is. is; was_faithful = λ is. is; failures = omega arith; same_beside = λ s. (λ is. is, λ is. is) };
+        writes = λ faithful. none_written c.args.first c.args.sectors.now (device_below p) (g.met.D.Device.only_now p.device faithful);
+        written = λ faithful. tt;
+        synced = λ faithful. tt;
+      };
       leaves = λ contents holds. before_still contents contents p p holds (open_holds p (g.met.D.Device.only_now p.device holds.is_open.faithful) holds.is_open).now p refl;
       keeps = record { sound = λ sound. sound; contents = λ sound. refl; root = refl; fulls = refl; failures = omega arith };
       outcome = (refl, record { failed = c.if-self.true; cause = inl c.if-self.true });
@@ -45,14 +47,11 @@ returns-in-Ok g c =
     let is = c.in-Ok.ensures in
     let present = g.met.D.Device.only_now in
     record {
-      size = is.size;
-      writes = is.writes;
-      written = is.written;
-      synced = is.synced;
-      leaves = λ contents holds. leaves_beside present p q is.size is.memory is.array is.leaves is.stays contents holds;
+      device = record { size = is.device.size; writes = is.device.writes; written = is.device.written; synced = is.device.synced };
+      leaves = λ contents holds. leaves_beside present p q is.device.size is.memory is.array (λ h. (is.durable h).leaves) (λ h. (is.durable h).stays) contents holds;
       keeps = record {
-        sound = λ sound. sound_kept present p q is.size is.memory is.array is.leaves is.stays old new refl refl c.if-self.false refl (λ works. is.outcome) sound;
-        contents = λ sound. contents_kept present p q is.size is.memory is.array is.leaves is.stays old new refl refl c.if-self.false refl (λ works. is.outcome) sound;
+        sound = λ sound. sound_kept present p q is.device.size is.memory is.array (λ h. (is.durable h).leaves) (λ h. (is.durable h).stays) old new refl refl c.if-self.false refl (λ works. is.outcome) sound;
+        contents = λ sound. contents_kept present p q is.device.size is.memory is.array (λ h. (is.durable h).leaves) (λ h. (is.durable h).stays) old new refl refl c.if-self.false refl (λ works. is.outcome) sound;
         root = is.memory.root;
         fulls = refl;
         failures = omega arith;
@@ -60,7 +59,7 @@ returns-in-Ok g c =
       outcome = record {
         works = refl;
         counts = record { fulls = refl; failures = refl };
-        holds = λ contents holds. holds_beside present p q is.size is.memory is.array is.leaves is.stays contents holds is.outcome;
+        holds = λ contents holds. holds_beside present p q is.device.size is.memory is.array (λ h. (is.durable h).leaves) (λ h. (is.durable h).stays) contents holds is.outcome;
       };
       still = λ had. absurd (false≢true (sym c.if-self.false ∙ had));
     }
@@ -77,15 +76,17 @@ returns-in-Err g c =
     let same : pages_of new ≡ q = ap (λ (x : ReadOnlyPages g.row.D.Denot g.D.Device). x.below) c.count.ensures.pages in
     let works : new.has_failed ≡ false → q.has_failed ≡ false = λ not. absurd (false≢true (sym not ∙ counted.failed)) in
     record {
-      size = subst (λ (x : CowPages g.row.D.Denot g.D.Device). KeepsSize (device_below p) (device_below x)) (sym same) is.size;
-      writes = λ faithful. subst (λ (x : CowPages g.row.D.Denot g.D.Device). WritesSectors c.args.first c.args.sectors.now (device_below p) (device_below x)) (sym same) (is.writes faithful);
-      written = λ faithful. tt;
-      synced = λ faithful. tt;
+      device = record {
+        size = subst (λ (x : CowPages g.row.D.Denot g.D.Device). KeepsSize (device_below p) (device_below x)) (sym same) is.device.size;
+        writes = λ faithful. subst (λ (x : CowPages g.row.D.Denot g.D.Device). WritesSectors c.args.first c.args.sectors.now (device_below p) (device_below x)) (sym same) (is.device.writes faithful);
+        written = λ faithful. tt;
+        synced = λ faithful. tt;
+      };
       leaves = λ contents holds. subst (λ (x : CowPages g.row.D.Denot g.D.Device). LeavesBefore contents p x) (sym same)
-          (leaves_beside present p q is.size is.memory is.array is.leaves is.stays contents holds);
+          (leaves_beside present p q is.device.size is.memory is.array (λ h. (is.durable h).leaves) (λ h. (is.durable h).stays) contents holds);
       keeps = record {
-        sound = λ sound. sound_kept present p q is.size is.memory is.array is.leaves is.stays old new refl same c.if-self.false c.count.ensures.cursor works sound;
-        contents = λ sound. contents_kept present p q is.size is.memory is.array is.leaves is.stays old new refl same c.if-self.false c.count.ensures.cursor works sound;
+        sound = λ sound. sound_kept present p q is.device.size is.memory is.array (λ h. (is.durable h).leaves) (λ h. (is.durable h).stays) old new refl same c.if-self.false c.count.ensures.cursor works sound;
+        contents = λ sound. contents_kept present p q is.device.size is.memory is.array (λ h. (is.durable h).leaves) (λ h. (is.durable h).stays) old new refl same c.if-self.false c.count.ensures.cursor works sound;
         root = ap (λ (x : CowPages g.row.D.Denot g.D.Device). root_of x) same ∙ is.memory.root;
         fulls = c.count.ensures.alone;
         failures = c.count.ensures.failures;

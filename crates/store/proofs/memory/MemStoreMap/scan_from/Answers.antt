@@ -12,8 +12,7 @@ returns-in_ok-set-in-Some-clause-reads c =
     let entries = c.args.self.now.entries in
     let found = c.in-Some.ensures in
     let from = puts_from c.args.key.now (changes_of entries) _ entries.ordered c.place_from-place.ensures in
-    let copied = c.in_ok-set-in-Some.ensures ∙ c.put_before.ensures found.0 found.1.1 in
-    read_in_memory c.args.self.now.record_format (records_of entries) _ _ _ (ap (λ (es : Records). first es) (sym from ∙ found.1.0) ∙ ap (λ (e : Record). Some e) (sym copied)) tt
+    read_in_memory c.args.self.now.record_format (records_of entries) _ _ _ (ap (λ (es : Records). first es) (sym from ∙ found.0) ∙ ap (λ (e : Record). Some e) (sym (c.in_ok-set-in-Some.ensures ∙ c.entry.view_is))) tt
 
 -- or there is none
 pub returns-in-None-clause-reads : goal.returns-in-None-clause-reads

@@ -1,4 +1,4 @@
-use Rattle.std.proofs.Common.{◌<◌, ◌≤◌, ◌+◌, ◌-◌, length, sym, ◌∙◌, ap, arith}
+use Rattle.std.proofs.Common.{◌<◌, ◌≤◌, ◌+◌, ◌-◌, ℕ, List, ◌∷◌, Some, length, sym, ◌∙◌, ap, arith}
 use Rattle.store.specs.Records.{Changes}
 use Rattle.store.specs.Pieces.{from_place, puts}
 use Rattle.store.proofs.Stepping.{puts_passed, puts_read, read_before}
@@ -11,10 +11,14 @@ returns-in-Some c =
     let ps = c.args.self.now.list.items in
     let here = c.loop-place.place in
     let change = c.index-changes-place.result in
-    let value = c.in-Some.field-0.now in
+    let value = c.in-Some.value.now in
     let inside : here.piece < length ps = omega (arith, c.loop-place-test.true, c.len.ensures, c.args.self.now.list.ok) in
     let read = one_read here.piece here.at ps c.index.result.now c.as_slice-changes.result.now change inside c.index.ensures c.as_slice-changes.ensures c.if-place-changes.true c.index-changes-place.is in
-    ((change.0, value), (sym c.loop-place.invariant ∙ puts_read change value (from_place here.piece here.at ps) (from_place here.piece (here.at + 1) ps) read c.in-Some.ensures, (omega arith, read_before here.piece here.at ps c.index.result.now c.as_slice-changes.result.now change value inside c.index.ensures c.as_slice-changes.ensures c.if-place-changes.true c.index-changes-place.is c.in-Some.ensures)))
+    let next = from_place here.piece (here.at + 1) ps in
+    let key = sym c.key-key.ensures in
+    let first = sym c.loop-place.invariant ∙ puts_read change value (from_place here.piece here.at ps) next read c.in-Some.ensures in
+    let before = read_before here.piece here.at ps c.index.result.now c.as_slice-changes.result.now change value inside c.index.ensures c.as_slice-changes.ensures c.if-place-changes.true c.index-changes-place.is c.in-Some.ensures in
+    (first ∙ ap (λ (k : List ℕ). (k, value) ∷ puts next) key, (omega arith, before ∙ ap (λ (k : List ℕ). Some (k, Some value)) key))
 
 pub loop-place-smaller-in-None : goal.loop-place-smaller-in-None
 loop-place-smaller-in-None c =
