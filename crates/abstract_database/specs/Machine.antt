@@ -1,5 +1,5 @@
 -- The machine of sessions over the abstract database: what each event of a session answers, and the machine after it.
-use Rattle.std.specs.Prelude.{ℕ, nat_eq, nat_le, ◌==◌, Bool, true, false, not, ◌&&◌, ◌||◌, if◌then◌else◌, List, [], ◌∷◌, length, is_some, Option, Some, None, Result, Ok, Err}
+use Rattle.std.specs.Prelude.{ℕ, ◌+◌, ◌*◌, ◌/◌, ◌%◌, nat_eq, nat_le, ◌==◌, Bool, true, false, not, ◌&&◌, ◌||◌, if◌then◌else◌, List, [], ◌∷◌, length, filter, is_some, Option, Some, None, Result, Ok, Err}
 use Rattle.std.specs.Map.{lookup, remove_entry}
 use Rattle.sql_types.specs.declared.state.SqlState.{SqlState}
 use Rattle.sql_types.specs.declared.state.SqlState.TheVariants.{UndefinedObject, InsufficientPrivilege, InFailedTransaction, LockNotAvailable, InvalidAuthorization, TooManyConnections, ConnectionDoesNotExist, ConnectionNameInUse, IoError}
@@ -50,6 +50,24 @@ pub record Session : Type 0 where
   pub login : TheName
   pub role : TheName
   pub block : Block
+
+-- ---- clients
+
+-- the number in the machine of a client's own session: each client has 2^32 numbers, and no number of another
+abbrev pub number_in : ℕ → ℕ → ℕ
+number_in client session = client * 4294967296 + session % 4294967296
+
+-- the client's own number of the session that has this number in the machine
+abbrev pub own_number : ℕ → ℕ
+own_number number = number % 4294967296
+
+-- the client whose session has this number in the machine
+abbrev pub client_of : ℕ → ℕ
+client_of number = number / 4294967296
+
+-- the open sessions of a client
+abbrev pub own_sessions : ℕ → List (ℕ × Session) → List (ℕ × Session)
+own_sessions client sessions = filter (λ e. nat_eq client (client_of e.0)) sessions
 
 -- ---- machines
 
@@ -136,10 +154,11 @@ seen m number = seen_by number m.holder m.committed
 
 -- ---- opening and closing
 
+-- a client has 256 sessions open at most
 abbrev pub open_session : Machine → ℕ → TheName → Transition
 open_session m number login =
     if is_some (session_of number m.sessions) then refuses m ConnectionNameInUse
-    else if nat_le 256 (length m.sessions) then refuses m TooManyConnections
+    else if nat_le 256 (length (own_sessions (client_of number) m.sessions)) then refuses m TooManyConnections
     else if may_log_in m.committed login then succeeds tag.Open (with_session_changed m number (record { login = login; role = login; block = Outside }))
     else refuses m InvalidAuthorization
 

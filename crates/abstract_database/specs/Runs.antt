@@ -8,7 +8,7 @@ use Rattle.sql_ast.specs.declared.statement.Statement.{Statement}
 use Rattle.sql_ast.specs.declared.statement.Statement.TheVariants as statement
 use Rattle.sql_ast.specs.declared.statement.SessionStatement.TheVariants as of_session
 use Rattle.abstract_database.specs.Database.{Database}
-use Rattle.abstract_database.specs.Machine.{Block, Outside, Inside, Failed, Session, Event, opens, executes, closes, Reading, Machine, Holder, Transition, transition_to, session_of, is_writing, transition}
+use Rattle.abstract_database.specs.Machine.{Block, Outside, Inside, Failed, Session, Event, opens, executes, closes, Reading, Machine, Holder, Transition, transition_to, client_of, own_sessions, session_of, is_writing, transition}
 
 -- ---- reading
 
@@ -71,7 +71,7 @@ MayCallStore m (closes number) = ⊥
 
 -- an allocation may fail there, and for an open that is not refused before anything is made
 abbrev pub MayRunOutOfMemory : Machine → Event TheText → Type 0
-MayRunOutOfMemory m (opens number login) = (m.stopped ≡ false) × (session_of number m.sessions ≡ None) × (length m.sessions < 256)
+MayRunOutOfMemory m (opens number login) = (m.stopped ≡ false) × (session_of number m.sessions ≡ None) × (length (own_sessions (client_of number) m.sessions) < 256)
 MayRunOutOfMemory m (executes number text) = MayCallStore m (executes number text)
 MayRunOutOfMemory m (closes number) = ⊥
 

@@ -136,7 +136,7 @@ module _ {X : Type 0} (Reads : ReadingRelation) (admin : TheName) where
       let ends = ends_so k run.ending run.told e after run.ends in
       let to = lines.ran tt start represents in
       let Leave = stops_of (memory_store_state run.server.store).time in
-      let works : to.0.standing.machine.stopped ≡ false = run_lasts Reads Leave start to.0 (events_of lines.events) lines.answers to.2 to.1.counts.failures refl in
+      let works : to.0.standing.machine.stopped ≡ false = run_lasts Reads Leave start to.0 (events_of 0 lines.events) lines.answers to.2 to.1.counts.failures refl in
       let goes : run.server.stopped ≡ false = sym to.1.stopped ∙ works in
       let zero : IsZero to.0.counts = record { number = to.1.counts.number goes; fulls = to.1.counts.fulls; failures = to.1.counts.failures } in
       record {
@@ -146,7 +146,7 @@ module _ {X : Type 0} (Reads : ReadingRelation) (admin : TheName) where
         names = lines.names;
         last = to.0.standing.machine;
         requested = lines.requested;
-        ran = run_answers Reads Leave start to.0 (events_of lines.events) lines.answers to.2 zero;
+        ran = run_answers Reads Leave start to.0 (events_of 0 lines.events) lines.answers to.2 zero;
         printed = printed_at e run.ending (k.held before) lines.answers (k.held run.told) (k.held after) ends lines.written run.kept;
         ends = ends_at e run.ending (lines_of script) lines.count ends lines.ends;
         works = goes_on e run.ending opened run.server lines.events lines.answers ends lines.ends_at goes;

@@ -31,7 +31,7 @@ use Rattle.cli.specs.Running.{IsNotOpened, IsRun, RunsOver, IsNotRun, IsRunOverN
 
 -- a server that has just been opened has no session open
 pub none_open : {S X : Type 0} (state : S → StoreState) (contents : Contents) (server : Server S X) → (state server.store).sound → IsOpened state contents server → StandsWithinLimit state server
-none_open state contents server sound opened = (sound, (at_start (state server.store) opened.database, opened.represents, omega arith))
+none_open state contents server sound opened = (sound, (at_start (state server.store) opened.database, opened.represents, tt, omega arith))
 
 -- over memory no device fails
 no_device : (old new : MemStore) → HasDeviceCause (memory_store_state old) (memory_store_state new) → ⊥

@@ -43,14 +43,14 @@ pub record HasDefinitions (d : DeviceState) (definitions : Definitions) : Type 0
   pub shows : ShowsAs holds.contents definitions database
 
 -- a fault that a reading may have: none of a migration
-abbrev pub IsOfReading : DatabaseFault → Type 0
-IsOfReading (Pages fault) = Unit {0}
-IsOfReading (Records (opening.Read fault)) = Unit {0}
-IsOfReading (Records (opening.Commit fault)) = ⊥
+abbrev pub IsOfReadFile : DatabaseFault → Type 0
+IsOfReadFile (Pages fault) = Unit {0}
+IsOfReadFile (Records (opening.Read fault)) = Unit {0}
+IsOfReadFile (Records (opening.Commit fault)) = ⊥
 
 -- the fault stands in what the device holds, or a call of it failed
 pub record HasFault (d : DeviceState) (fault : DatabaseFault) (e : DeviceState) : Type 0 where
-  pub of_reading : IsOfReading fault
+  pub of_reading : IsOfReadFile fault
   pub stands : StandsIn fault d
   pub failed : IsOfDevice fault → HasFailed d e
 

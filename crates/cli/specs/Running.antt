@@ -85,7 +85,7 @@ pub record PrintsRun (Reads : ReadingRelation) (admin : TheName) (script : List 
   pub names : Names
   pub last : Machine
   pub requested : Requests [] (take count (lines_of script)) events names
-  pub ran : RanBy (IsAnswered Reads) (machine_over (new_database admin)) (events_of events) answers last
+  pub ran : RanBy (IsAnswered Reads) (machine_over (new_database admin)) (events_of 0 events) answers last
   pub printed : Writes e before answers after
   pub ends : EndsAfter (lines_of script) count e
   pub works : e ≢ end.Stopped

@@ -3,7 +3,7 @@ use Rattle.std.specs.Prelude.{[], codes, map, ◌++◌, ◌+◌, ◌∷◌}
 use Rattle.sql_types.specs.declared.state.SqlState.TheVariants as state
 use Rattle.sql_types.specs.declared.tag.Tag.TheVariants as tag
 use Rattle.sql_ast.specs.declared.columns.ColumnType.TheVariants as type
-use Rattle.abstract_database.specs.Machine.{closes, opens}
+use Rattle.abstract_database.specs.Machine.{closes, number_in, opens}
 use Rattle.database_examples.specs.Expressions.{div, long_text, null, num, str, yes}
 use Rattle.database_examples.specs.Wording.{called_as, column_named, counting, create, create_named, create_role_named, create_table, create_u, drop_table, from_t, from_tables, insert, insert_columns, insert_in, insert_keys, key_column, not_null_column, numbered_names, on, only_to, plain_column, policy, roles_named, select_count, the_role, update, using, using_blanks}
 use Rattle.database_examples.specs.Lines.{Shows, a, b, c, inserted, numbers, ok, r, refused, updated, ◌gives◌}
@@ -97,7 +97,8 @@ longest_policy = Shows (
     ∷ a (create (only_to (the_role "bob") (using_blanks 1183 (policy "q")))) gives ok tag.CreatePolicy
     ∷ [])
 
--- 256 sessions may be open, and a closed one makes room; a number that is open and the limit come before the login
+-- 256 sessions of a client may be open, and a closed one makes room; a number that is open and the limit come before the login.
+-- Another client has its own
 abbrev pub open_sessions : Type 0
 open_sessions = Shows (
     map (λ n. opens (n + 5) (codes "bob") gives ok tag.Open) (counting 251)
@@ -108,4 +109,5 @@ open_sessions = Shows (
     ∷ (opens 300 (codes "nobody") gives refused state.InvalidAuthorization)
     ∷ (opens 300 (codes "bob") gives ok tag.Open)
     ∷ (opens 2 (codes "ann") gives refused state.TooManyConnections)
+    ∷ (opens (number_in 1 2) (codes "ann") gives ok tag.Open)
     ∷ [])

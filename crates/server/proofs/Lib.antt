@@ -1,3 +1,4 @@
+pub mod Clients
 pub mod Passing
 pub mod Carrying
 pub mod Stepping

@@ -10,13 +10,14 @@ use Rattle.server.specs.declared.server.Server.{Server}
 use Rattle.server.specs.Standing.{event_of, events_of, stops_of}
 use Rattle.server.specs.Runs.{Steps, Runs}
 
-events_more : (es : List Event) (e : Event) → events_of (es ++ e ∷ []) ≡ events_of es ++ event_of e ∷ []
-events_more [] e = refl
-events_more (f ∷ es) e = ap (λ (l : List (MachineEvent TheText)). event_of f ∷ l) (events_more es e)
+module _ (client : ℕ) where
+  events_more : (es : List Event) (e : Event) → events_of client (es ++ e ∷ []) ≡ events_of client es ++ event_of client e ∷ []
+  events_more [] e = refl
+  events_more (f ∷ es) e = ap (λ (l : List (MachineEvent TheText)). event_of client f ∷ l) (events_more es e)
 
-events_joined : (es fs : List Event) → events_of (es ++ fs) ≡ events_of es ++ events_of fs
-events_joined [] fs = refl
-events_joined (e ∷ es) fs = ap (λ (l : List (MachineEvent TheText)). event_of e ∷ l) (events_joined es fs)
+  events_joined : (es fs : List Event) → events_of client (es ++ fs) ≡ events_of client es ++ events_of client fs
+  events_joined [] fs = refl
+  events_joined (e ∷ es) fs = ap (λ (l : List (MachineEvent TheText)). event_of client e ∷ l) (events_joined es fs)
 
 module _ (Reads : ReadingRelation) where
   -- moments do not go back
@@ -71,45 +72,45 @@ length_more [] x = refl
 length_more (y ∷ xs) x = let rest = length_more xs x in omega (arith, rest)
 
 -- before the first event
-pub runs_none : {S X : Type 0} (Reads : ReadingRelation) (state : S → StoreState) (server : Server S X) → Runs Reads state server [] [] server
-runs_none Reads state server sound w at = (w, at, refl, λ a b x le stop. stop)
+pub runs_none : {S X : Type 0} (Reads : ReadingRelation) (state : S → StoreState) (client : ℕ) (server : Server S X) → Runs Reads state client server [] [] server
+runs_none Reads state client server sound w at = (w, at, refl, λ a b x le stop. stop)
 
 -- a run and one step more
-pub runs_more : {S X : Type 0} (Reads : ReadingRelation) (state : S → StoreState) (first mid new : Server S X) (es : List Event) (told : List Answer) (e : Event) (answer : Answer)
-    → ((state first.store).sound → (state mid.store).sound) → Runs Reads state first es told mid → Steps Reads state mid e answer new → Runs Reads state first (es ++ e ∷ []) (told ++ answer ∷ []) new
-runs_more Reads state first mid new es told e answer lasts ran stepped sound w at =
+pub runs_more : {S X : Type 0} (Reads : ReadingRelation) (state : S → StoreState) (client : ℕ) (first mid new : Server S X) (es : List Event) (told : List Answer) (e : Event) (answer : Answer)
+    → ((state first.store).sound → (state mid.store).sound) → Runs Reads state client first es told mid → Steps Reads state client mid e answer new → Runs Reads state client first (es ++ e ∷ []) (told ++ answer ∷ []) new
+runs_more Reads state client first mid new es told e answer lasts ran stepped sound w at =
     let before = ran sound w at in
     let now = stepped (lasts sound) before.0 before.1 in
     let old = (state mid.store).time in
     let late = (state new.store).time in
     let here = before.1.moment in
     let same : before.0.moment ≤ old.moment = omega (arith, here) in
-    let passed = ran_past Reads old late old.moment now.3 w before.0 (events_of es) told same before.2 in
-    let first_later = ran_later Reads (stops_of old) w before.0 (events_of es) told before.2 in
+    let passed = ran_past Reads old late old.moment now.3 w before.0 (events_of client es) told same before.2 in
+    let first_later = ran_later Reads (stops_of old) w before.0 (events_of client es) told before.2 in
     let began = at.moment in
     let since : (state first.store).time.moment ≤ old.moment = omega (arith, first_later, here, began) in (
       now.0,
       now.1,
-      rw (events_more es e) (ran_more Reads (stops_of late) w before.0 now.0 (events_of es) told (event_of e) answer passed now.2),
+      rw (events_more client es e) (ran_more Reads (stops_of late) w before.0 now.0 (events_of client es) told (event_of client e) answer passed now.2),
       λ a b x le stop. before.3 a b x le (now.3 a b x (omega (arith, le, since)) stop),
     )
 
 -- a run and then another
-pub runs_joined : {S X : Type 0} (Reads : ReadingRelation) (state : S → StoreState) (first mid new : Server S X) (es fs : List Event) (answers others : List Answer)
-    → ((state first.store).sound → (state mid.store).sound) → Runs Reads state first es answers mid → Runs Reads state mid fs others new → Runs Reads state first (es ++ fs) (answers ++ others) new
-runs_joined Reads state first mid new es fs answers others lasts ran more sound w at =
+pub runs_joined : {S X : Type 0} (Reads : ReadingRelation) (state : S → StoreState) (client : ℕ) (first mid new : Server S X) (es fs : List Event) (answers others : List Answer)
+    → ((state first.store).sound → (state mid.store).sound) → Runs Reads state client first es answers mid → Runs Reads state client mid fs others new → Runs Reads state client first (es ++ fs) (answers ++ others) new
+runs_joined Reads state client first mid new es fs answers others lasts ran more sound w at =
     let before = ran sound w at in
     let now = more (lasts sound) before.0 before.1 in
     let old = (state mid.store).time in
     let late = (state new.store).time in
     let here = before.1.moment in
     let same : before.0.moment ≤ old.moment = omega (arith, here) in
-    let passed = ran_past Reads old late old.moment now.3 w before.0 (events_of es) answers same before.2 in
-    let first_later = ran_later Reads (stops_of old) w before.0 (events_of es) answers before.2 in
+    let passed = ran_past Reads old late old.moment now.3 w before.0 (events_of client es) answers same before.2 in
+    let first_later = ran_later Reads (stops_of old) w before.0 (events_of client es) answers before.2 in
     let began = at.moment in
     let since : (state first.store).time.moment ≤ old.moment = omega (arith, first_later, here, began) in (
       now.0,
       now.1,
-      rw (events_joined es fs) (ran_joined Reads (stops_of late) w before.0 now.0 (events_of es) (events_of fs) answers others passed now.2),
+      rw (events_joined client es fs) (ran_joined Reads (stops_of late) w before.0 now.0 (events_of client es) (events_of client fs) answers others passed now.2),
       λ a b x le stop. before.3 a b x le (now.3 a b x (omega (arith, le, since)) stop),
     )

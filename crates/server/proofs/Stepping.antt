@@ -1,5 +1,5 @@
 -- From what a server made of an event to where it stands then.
-use Rattle.std.proofs.Common.{◌≡◌, ◌^◌, ◌-◌, ℕ, Bool, true, false, inl, inr, ⊎_elim, refl, sym, ◌∙◌, subst, Option, Some, None, List, Ok, Err, arith}
+use Rattle.std.proofs.Common.{◌≡◌, ◌^◌, ◌-◌, ℕ, Bool, true, false, inl, inr, ⊎_elim, refl, sym, ◌∙◌, subst, Option, Some, None, List, Result, Ok, Err, arith}
 use Rattle.sector_device.specs.Timeline.{IsPresent}
 use Rattle.sql_types.specs.declared.answer.Answer.{Answer}
 use Rattle.sql_types.specs.declared.answer.Answer.TheVariants.{Refused}
@@ -15,6 +15,7 @@ use Rattle.abstract_database.specs.Runs.{TheText, ReadingRelation, IsTransition,
 use Rattle.server.specs.declared.server.Server.{Server}
 use Rattle.server.specs.Standing.{event_of, stops_of, Works, Represents}
 use Rattle.server.specs.Runs.{KeepsPast, Steps}
+use Rattle.server.specs.Attempts.{code_of, answer_to, after_fault, after_attempt}
 use Rattle.server.specs.Decisions.{machine_at, LeadsTo, WorksAs, Passes, Fails, Performs, Attempts}
 
 wrong : (b : Bool) → b ≡ false → b ≡ true → ⊥
@@ -126,39 +127,25 @@ represents_stopped state server db holder es t old is same f = record {
 
 -- ---- what was attempted
 
--- what an event is refused with for a fault
-abbrev pub code_of : StoreFault → SqlState
-code_of Memory = OutOfMemory
-code_of Full = DiskFull
-code_of Number = ProgramLimitExceeded
-code_of Device = IoError
-
--- the server then: where its device failed it stops
-abbrev pub after_fault : {S X : Type 0} → StoreFault → Server S X → Server S X
-after_fault Memory server = server
-after_fault Full server = server
-after_fault Number server = server
-after_fault Device server = record server { stopped = true }
-
-module _ {S X : Type 0} (Reads : ReadingRelation) (state : S → StoreState) (old : Server S X) where
+module _ {S X : Type 0} (Reads : ReadingRelation) (state : S → StoreState) (client : ℕ) (old : Server S X) where
   -- the server stands where the event leads from here
   abbrev StandsAfter : Server S X → At → MachineEvent TheText → Answer → Type 0
   StandsAfter new w e answer = (next : At) × Represents state new next × Happens Reads (stops_of (state new.store).time) w e answer next × KeepsPast (state old.store).time (state new.store).time
 
   -- it is enough to say so of the machine that a server that works shows
   from_shown : (new : Server S X) (e : Event) (answer : Answer) → old.stopped ≡ false
-      → ((state old.store).sound → (db : Database) (holder : Option Holder) → Works state old db holder → StandsAfter new (at_of (state old.store) (machine_at db holder old.sessions.entries)) (event_of e) answer)
-      → Steps Reads state old e answer new
+      → ((state old.store).sound → (db : Database) (holder : Option Holder) → Works state old db holder → StandsAfter new (at_of (state old.store) (machine_at db holder old.sessions.entries)) (event_of client e) answer)
+      → Steps Reads state client old e answer new
   from_shown new e answer runs leads sound w at =
-      subst (λ (z : At). StandsAfter new z (event_of e) answer) (sym (at_is state old w at runs)) (leads sound w.standing.machine.committed w.standing.machine.holder (at.works runs).1)
+      subst (λ (z : At). StandsAfter new z (event_of client e) answer) (sym (at_is state old w at runs)) (leads sound w.standing.machine.committed w.standing.machine.holder (at.works runs).1)
 
   -- an event that was answered
-  pub answered_steps : (tried : Server S X) (e : Event) (answer : Answer) → ((state tried.store).sound → IsPresent (state tried.store).time) → KeepsHistory (state old.store) (state tried.store) → old.stopped ≡ false
-      → Attempts Reads state old tried (event_of e) (Ok answer) → Steps Reads state old e answer tried
+  answered_steps : (tried : Server S X) (e : Event) (answer : Answer) → ((state tried.store).sound → IsPresent (state tried.store).time) → KeepsHistory (state old.store) (state tried.store) → old.stopped ≡ false
+      → Attempts Reads state old tried (event_of client e) (Ok answer) → Steps Reads state client old e answer tried
   answered_steps tried e answer present history runs attempts = from_shown tried e answer runs (λ sound db holder works.
       let m = machine_at db holder old.sessions.entries in
       let p = attempts sound runs db holder works in
-      (at_of (state tried.store) p.0, represents_at state tried p.0 p.2, happens_next Reads (state old.store) (state tried.store) m p.0 (event_of e) answer (present (history.sound sound)) p.1 p.3, p.3.during.past))
+      (at_of (state tried.store) p.0, represents_at state tried p.0 p.2, happens_next Reads (state old.store) (state tried.store) m p.0 (event_of client e) answer (present (history.sound sound)) p.1 p.3, p.3.during.past))
 
   -- a fault leaves the machine as it was, or stops it
   refused_for : (tried : Server S X) (db : Database) (holder : Option Holder) (e : MachineEvent TheText) (fault : StoreFault) → IsPresent (state tried.store).time → Performs Reads state old tried db holder e (Err fault)
@@ -181,10 +168,17 @@ module _ {S X : Type 0} (Reads : ReadingRelation) (state : S → StoreState) (ol
       )
 
   -- an event that was refused for a fault
-  pub refused_steps : (tried : Server S X) (e : Event) (raised fault : StoreFault) → raised ≡ fault → ((state tried.store).sound → IsPresent (state tried.store).time) → KeepsHistory (state old.store) (state tried.store)
-      → old.stopped ≡ false → Attempts Reads state old tried (event_of e) (Err raised) → Steps Reads state old e (Refused (code_of fault)) (after_fault fault tried)
+  refused_steps : (tried : Server S X) (e : Event) (raised fault : StoreFault) → raised ≡ fault → ((state tried.store).sound → IsPresent (state tried.store).time) → KeepsHistory (state old.store) (state tried.store)
+      → old.stopped ≡ false → Attempts Reads state old tried (event_of client e) (Err raised) → Steps Reads state client old e (Refused (code_of fault)) (after_fault fault tried)
   refused_steps tried e raised fault is present history runs attempts = from_shown (after_fault fault tried) e (Refused (code_of fault)) runs (λ sound db holder works.
-      refused_for tried db holder (event_of e) fault (present (history.sound sound)) (subst (λ (f : StoreFault). Performs Reads state old tried db holder (event_of e) (Err f)) is (attempts sound runs db holder works)))
+      refused_for tried db holder (event_of client e) fault (present (history.sound sound)) (subst (λ (f : StoreFault). Performs Reads state old tried db holder (event_of client e) (Err f)) is (attempts sound runs db holder works)))
+
+  -- an event that was attempted
+  pub attempted_steps : (tried new : Server S X) (e : Event) (attempted : Result Answer StoreFault) (answer : Answer) → answer ≡ answer_to attempted → new ≡ after_attempt attempted tried
+      → ((state tried.store).sound → IsPresent (state tried.store).time) → KeepsHistory (state old.store) (state tried.store) → old.stopped ≡ false
+      → Attempts Reads state old tried (event_of client e) attempted → Steps Reads state client old e answer new
+  attempted_steps tried new e (Ok told) answer same server present history runs attempts = rw (same, server) (answered_steps tried e told present history runs attempts)
+  attempted_steps tried new e (Err fault) answer same server present history runs attempts = rw (same, server) (refused_steps tried e fault fault refl present history runs attempts)
 
 -- ---- once it has stopped
 

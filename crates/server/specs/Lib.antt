@@ -4,3 +4,6 @@ pub mod Standing
 pub mod Runs
 pub mod Decisions
 pub mod Executed
+pub mod LockedOut
+pub mod Clients
+pub mod Attempts

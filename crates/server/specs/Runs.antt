@@ -12,16 +12,16 @@ use Rattle.server.specs.Standing.{event_of, events_of, stops_of, Represents}
 abbrev pub KeepsPast : Timeline (Option Contents) → Timeline (Option Contents) → Type 0
 KeepsPast old new = (a b : ℕ) (x : Option Contents) → b ≤ old.moment → new.stops a b x → old.stops a b x
 
--- wherever the server stood, it stands where the event leads
-abbrev pub Steps : {S X : Type 0} → ReadingRelation → (S → StoreState) → Server S X → Event → Answer → Server S X → Type 0
-Steps Reads state old e answer new = (state old.store).sound → (w : At) → Represents state old w →
+-- wherever the server stood, it stands where the event of this client leads
+abbrev pub Steps : {S X : Type 0} → ReadingRelation → (S → StoreState) → ℕ → Server S X → Event → Answer → Server S X → Type 0
+Steps Reads state client old e answer new = (state old.store).sound → (w : At) → Represents state old w →
     (next : At) × Represents state new next
-    × Happens Reads (stops_of (state new.store).time) w (event_of e) answer next
+    × Happens Reads (stops_of (state new.store).time) w (event_of client e) answer next
     × KeepsPast (state old.store).time (state new.store).time
 
--- and where events lead, one after the other
-abbrev pub Runs : {S X : Type 0} → ReadingRelation → (S → StoreState) → Server S X → List Event → List Answer → Server S X → Type 0
-Runs Reads state old es answers new = (state old.store).sound → (w : At) → Represents state old w →
+-- and where events of a client lead, one after the other
+abbrev pub Runs : {S X : Type 0} → ReadingRelation → (S → StoreState) → ℕ → Server S X → List Event → List Answer → Server S X → Type 0
+Runs Reads state client old es answers new = (state old.store).sound → (w : At) → Represents state old w →
     (end : At) × Represents state new end
-    × RanBy (Happens Reads (stops_of (state new.store).time)) w (events_of es) answers end
+    × RanBy (Happens Reads (stops_of (state new.store).time)) w (events_of client es) answers end
     × KeepsPast (state old.store).time (state new.store).time

@@ -4,6 +4,8 @@ use Rattle.abstract_database.specs.Lists.{TheName}
 use Rattle.abstract_database.specs.Machine.{Block as MachineBlock, Outside, Inside, Failed, Session, session_of, with_session, in_block, as_role}
 use Rattle.server.specs.declared.session.Block.{Block}
 use Rattle.server.specs.declared.session.Block.TheVariants as block
+use Rattle.server.specs.declared.session.BlockState.{BlockState}
+use Rattle.server.specs.declared.session.BlockState.TheVariants as state
 use Rattle.server.specs.declared.session.BlockChange.{BlockChange}
 use Rattle.server.specs.declared.session.BlockChange.TheVariants.{Fail, Leave, RollBack}
 
@@ -11,6 +13,12 @@ abbrev pub block_of : Block → MachineBlock
 block_of block.Outside = Outside
 block_of (block.Inside role) = Inside role
 block_of (block.Failed role) = Failed role
+
+-- a block without the role that was set at its BEGIN
+abbrev pub block_state : MachineBlock → BlockState
+block_state Outside = state.Outside
+block_state (Inside role) = state.Inside
+block_state (Failed role) = state.Failed
 
 -- a session in a block of which this was the set role at its BEGIN, after a change of the block
 abbrev pub changed_with : BlockChange → Session → TheName → Session

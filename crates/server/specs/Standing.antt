@@ -7,7 +7,7 @@ use Rattle.sql_types.specs.declared.event.Event.TheVariants as event
 use Rattle.store.specs.Records.{Records}
 use Rattle.store.specs.Store.{StoreState, Contents}
 use Rattle.abstract_database.specs.Database.{Database}
-use Rattle.abstract_database.specs.Machine.{Event as MachineEvent, opens, executes, closes, Holder, Session, Outside, machine_over, session_of}
+use Rattle.abstract_database.specs.Machine.{Event as MachineEvent, opens, executes, closes, Holder, Session, Outside, number_in, machine_over, session_of}
 use Rattle.abstract_database.specs.Runs.{TheText, Counts, IsFoundAt, Stops, At}
 use Rattle.stored_database.specs.Definitions.{Definitions}
 use Rattle.stored_database.specs.Records.{Shows}
@@ -20,14 +20,14 @@ use Rattle.server.specs.Writers.{definitions_or}
 -- ---- events
 
 -- an event of a client as an event of the machine
-abbrev pub event_of : Event → MachineEvent TheText
-event_of (event.Open number login) = opens number login
-event_of (event.Statement number text) = executes number text
-event_of (event.Close number) = closes number
+abbrev pub event_of : ℕ → Event → MachineEvent TheText
+event_of client (event.Open session login) = opens (number_in client session) login
+event_of client (event.Statement session text) = executes (number_in client session) text
+event_of client (event.Close session) = closes (number_in client session)
 
-abbrev pub events_of : List Event → List (MachineEvent TheText)
-events_of [] = []
-events_of (e ∷ es) = event_of e ∷ events_of es
+abbrev pub events_of : ℕ → List Event → List (MachineEvent TheText)
+events_of client [] = []
+events_of client (e ∷ es) = event_of client e ∷ events_of client es
 
 -- ---- what a stop leaves
 

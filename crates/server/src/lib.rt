@@ -5,6 +5,9 @@
 pub mod decide;
 pub mod decision;
 pub mod execute;
+pub mod numbers;
+mod questions;
+mod reads;
 pub mod server;
 pub mod session;
 pub mod writer;

@@ -5,6 +5,7 @@ ghost use Rattle.std.specs.Option.{option_map};
 ghost use Rattle.sql_types.specs.declared.answer.Answer.{Answer as TheAnswer};
 ghost use Rattle.storage_sizes.specs.declared.record_format.RecordFormat.TheVariants.{V2};
 ghost use Rattle.store.specs.Store.{KeepsHistory};
+ghost use Rattle.abstract_database.specs.Machine.{own_number, own_sessions};
 ghost use Rattle.server.specs.Session.{with_block_changed};
 ghost use Rattle.server.specs.Writers.{definitions_under};
 ghost use Rattle.abstract_database.specs.Database.{Database};
@@ -13,12 +14,14 @@ ghost use Rattle.stored_database.specs.Records.{Shows};
 ghost use Rattle.server.specs.Standing.{event_of, Represents, at_start};
 ghost use Rattle.server.specs.Runs.{Steps, Runs};
 ghost use Rattle.server.specs.Decisions.{Attempts, Carries, CommitsLists, Concerns, after_change, store_fault_of};
+ghost use Rattle.server.specs.Attempts.{answer_to, after_attempt};
 ghost use Rattle.server.specs.declared.decision.SessionChange.{SessionChange as TheChange};
 ghost use Rattle.server.specs.declared.writer.Writer.{Writer as TheWriter};
 ghost use Rattle.server.specs.declared.decision.Decision.TheVariants as decisions;
 
 use crate::decide::{Context, EventHandler};
 use crate::decision::{Decision, SessionChange};
+use crate::numbers::own_at;
 use crate::session::{BlockChange, Session};
 use crate::writer::Writer;
 use catalogue::change::SchemaChange;
@@ -34,17 +37,20 @@ use std::mem;
 use store::{Batch, Fault, Store, StoreFault};
 use transactions::joined_changes;
 
+/// The client of scripts, and of connections that are served one after the other.
+pub const ONLY_CLIENT: u32 = 0;
+
 /// A server over a store, whose events are decided by `X`: the definitions of the committed
 /// database, the writer lock where a session holds it, and the sessions in the order of their
 /// opening.
 pub struct Server<S, X> {
-    alloc: Global,
-    store: S,
-    handler: X,
-    catalogue: Catalogue,
-    writer: Option<Writer>,
-    sessions: IndexMap<u32, Session>,
-    stopped: bool,
+    pub(crate) alloc: Global,
+    pub(crate) store: S,
+    pub(crate) handler: X,
+    pub(crate) catalogue: Catalogue,
+    pub(crate) writer: Option<Writer>,
+    pub(crate) sessions: IndexMap<u64, Session>,
+    pub(crate) stopped: bool,
 }
 
 // Written and not derived: where a value is dropped this is one call, and not its parts one by one.
@@ -119,32 +125,42 @@ impl<S: Store, X: EventHandler> Server<S, X> {
         self.stopped
     }
 
-    /// The number of an open session, by its index in the order of opening, or `None` past the last.
-    pub fn session_at(&self, index: usize) -> Option<u32>
+    /// The own number of an open session of a client, by its index among those in the order of opening,
+    /// or `None` past the last. It looks at every open session before that one.
+    pub fn session_at(&self, client: u32, index: usize) -> Option<u32>
         ensures { (w : At) → Represents S.state self.now w
-            → result ≡ option_map (λ e. e.0) (slice_get w.standing.machine.sessions index) }
+            → result ≡ option_map (λ e. own_number e.0) (slice_get (own_sessions client w.standing.machine.sessions) index) }
     {
-        match self.sessions.get_index(index) {
-            Some((number, _)) => Some(*number),
-            None => None,
-        }
+        own_at(&self.sessions, client, index)
     }
 
-    /// Makes one transition of the session machine and answers what it answers, or refuses the event
+    /// Makes one transition of the session machine, for an event of this client, and answers what it answers, or refuses the event
     /// in its place: `OutOfMemory` where an allocation failed, `DiskFull` and `ProgramLimitExceeded`
     /// where the store has no room or no commit number, which leave the machine as it was, and
     /// `IoError` where the device failed, after which it answers nothing else.
-    pub fn step(&mut self, event: &Event) -> Answer
+    pub fn step(&mut self, client: u32, event: &Event) -> Answer
         ensures history { KeepsHistory (S.state self.old.store) (S.state self.new.store) }
         ensures stopped { self.old.stopped ≡ true
             → (result ≡ Answer.Refused SqlState.IoError) × (self.new ≡ self.old) }
         ensures running { self.new.stopped ≡ true → result ≡ Answer.Refused SqlState.IoError }
-        ensures steps { Steps X.Reads S.state self.old event.now result self.new }
+        ensures steps { Steps X.Reads S.state client self.old event.now result self.new }
     {
         if self.stopped {
             return Answer::Refused(SqlState::IoError);
         }
-        match self.attempt(event) {
+        let attempted = self.attempt(client, event);
+        self.answer_of(attempted)
+    }
+
+    // The answer to an event that was attempted, or its refusal for a fault, which stops the server
+    // where the device failed.
+    pub(crate) fn answer_of(&mut self, attempted: Result<Answer, StoreFault>) -> Answer
+        ensures answer { result ≡ answer_to attempted }
+        ensures server { self.new ≡ after_attempt attempted self.old }
+        ensures running { self.old.stopped ≡ false → self.new.stopped ≡ true
+            → result ≡ Answer.Refused SqlState.IoError }
+    {
+        match attempted {
             Ok(answer) => answer,
             Err(StoreFault::Memory) => Answer::Refused(SqlState::OutOfMemory),
             Err(StoreFault::Full) => Answer::Refused(SqlState::DiskFull),
@@ -156,13 +172,18 @@ impl<S: Store, X: EventHandler> Server<S, X> {
         }
     }
 
-    /// Answers events in their order, and adds the answers to those that are there. The memory for
+    /// Answers events of one client in their order, and adds the answers to those that are there. The memory for
     /// the answers is taken first: where that fails, nothing changes.
-    pub fn run(&mut self, events: &[Event], answers: &mut Vec<Answer>) -> Result<(), AllocError>
+    pub fn run(
+        &mut self,
+        client: u32,
+        events: &[Event],
+        answers: &mut Vec<Answer>,
+    ) -> Result<(), AllocError>
         ensures history { KeepsHistory (S.state self.old.store) (S.state self.new.store) }
         ensures ok { OnOk result ((told : List TheAnswer)
             × (answers.new.items ≡ answers.old.items ++ told)
-            × Runs X.Reads S.state self.old events.now told self.new) }
+            × Runs X.Reads S.state client self.old events.now told self.new) }
         ensures one_each { OnOk result (length answers.new.items
             ≡ length answers.old.items + length events.now) }
         ensures err { OnErr result ((self.new ≡ self.old)
@@ -170,7 +191,7 @@ impl<S: Store, X: EventHandler> Server<S, X> {
     {
         answers.reserve(events.len())?;
         for event in events {
-            let answer = self.step(event);
+            let answer = self.step(client, event);
             match answers.push(answer) {
                 Ok(()) => {}
                 Err(_) => unreachable!(),
@@ -180,10 +201,10 @@ impl<S: Store, X: EventHandler> Server<S, X> {
     }
 
     // Decides an event and does what was decided.
-    fn attempt(&mut self, event: &Event) -> Result<Answer, StoreFault>
+    fn attempt(&mut self, client: u32, event: &Event) -> Result<Answer, StoreFault>
         ensures history { KeepsHistory (S.state self.old.store) (S.state self.new.store) }
         ensures running { self.new.stopped ≡ self.old.stopped }
-        ensures attempts { Attempts X.Reads S.state self.old self.new (event_of event.now) result }
+        ensures attempts { Attempts X.Reads S.state self.old self.new (event_of client event.now) result }
     {
         let context = Context {
             catalogue: &self.catalogue,
@@ -192,7 +213,7 @@ impl<S: Store, X: EventHandler> Server<S, X> {
         };
         let decided = self
             .handler
-            .decide(self.alloc, &mut self.store, context, event);
+            .decide(self.alloc, &mut self.store, context, client, event);
         match decided {
             Ok(decision) => self.apply(decision),
             Err(fault) => Err(store_fault(fault)),
@@ -200,7 +221,7 @@ impl<S: Store, X: EventHandler> Server<S, X> {
     }
 
     // Does what was decided. The store is called once at most.
-    fn apply(&mut self, decision: Decision) -> Result<Answer, StoreFault>
+    pub(crate) fn apply(&mut self, decision: Decision) -> Result<Answer, StoreFault>
         ensures history { KeepsHistory (S.state self.old.store) (S.state self.new.store) }
         ensures running { self.new.stopped ≡ self.old.stopped }
         ensures carries { Carries X.Reads S.state self.old self.new decision result }
@@ -226,7 +247,7 @@ impl<S: Store, X: EventHandler> Server<S, X> {
     fn open_session(
         &mut self,
         answer: Answer,
-        number: u32,
+        number: u64,
         session: Session,
     ) -> Result<Answer, StoreFault>
         ensures history { KeepsHistory (S.state self.old.store) (S.state self.new.store) }
@@ -320,7 +341,7 @@ impl<S: Store, X: EventHandler> Server<S, X> {
     }
 
     // Adds the changes of a statement to the writer lock.
-    fn hold(&mut self, session: u32, effect: Effect) -> Result<Answer, StoreFault>
+    fn hold(&mut self, session: u64, effect: Effect) -> Result<Answer, StoreFault>
         ensures store { self.new.store ≡ self.old.store }
         ensures running { self.new.stopped ≡ self.old.stopped }
         ensures carries { Carries X.Reads S.state self.old self.new (decisions.Hold session effect) result }
@@ -332,7 +353,7 @@ impl<S: Store, X: EventHandler> Server<S, X> {
     }
 
     // Takes the writer lock with the changes of a statement.
-    fn hold_first(&mut self, session: u32, effect: Effect) -> Result<Answer, StoreFault>
+    fn hold_first(&mut self, session: u64, effect: Effect) -> Result<Answer, StoreFault>
         ensures store { self.new.store ≡ self.old.store }
         ensures running { self.new.stopped ≡ self.old.stopped }
         ensures carries { self.old.writer ≡ None
@@ -356,7 +377,7 @@ impl<S: Store, X: EventHandler> Server<S, X> {
     // Puts this writer lock back with the changes of one more statement.
     fn hold_more(
         &mut self,
-        session: u32,
+        session: u64,
         effect: Effect,
         mut writer: Writer,
     ) -> Result<Answer, StoreFault>
@@ -435,7 +456,7 @@ impl<S: Store, X: EventHandler> Server<S, X> {
 }
 
 // The fault of an event that was not decided. A damaged record is told as a device that failed.
-fn store_fault(fault: Fault) -> StoreFault
+pub(crate) fn store_fault(fault: Fault) -> StoreFault
     ensures { result ≡ store_fault_of fault }
 {
     match fault {
@@ -445,7 +466,7 @@ fn store_fault(fault: Fault) -> StoreFault
 }
 
 // Changes one session, which takes no memory.
-fn change_sessions(sessions: &mut IndexMap<u32, Session>, change: SessionChange)
+fn change_sessions(sessions: &mut IndexMap<u64, Session>, change: SessionChange)
     ensures { Concerns change sessions.old.entries
         → sessions.new.entries ≡ after_change change sessions.old.entries }
 {
@@ -463,7 +484,7 @@ fn change_sessions(sessions: &mut IndexMap<u32, Session>, change: SessionChange)
 }
 
 // Changes the block of a session, if it is open.
-fn change_block(sessions: &mut IndexMap<u32, Session>, number: u32, change: BlockChange)
+fn change_block(sessions: &mut IndexMap<u64, Session>, number: u64, change: BlockChange)
     ensures { sessions.new.entries ≡ with_block_changed change number sessions.old.entries }
 {
     let Some(index) = sessions.get_index_of(&number) else {

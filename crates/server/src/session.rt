@@ -2,7 +2,7 @@
 
 ghost use Rattle.std.specs.Prelude.{◌≡◌};
 ghost use Rattle.abstract_database.specs.Machine.{Outside};
-ghost use Rattle.server.specs.Session.{after_block_change};
+ghost use Rattle.server.specs.Session.{after_block_change, block_state};
 
 use sql_types::name::Name;
 use std::marker::Model;
@@ -16,6 +16,15 @@ pub enum Block {
     Inside(Name),
     /// A statement of the block was refused: only COMMIT and ROLLBACK are answered.
     Failed(Name),
+}
+
+/// Whether an open session is in a block, and whether that has failed.
+#[derive(Clone, Copy, PartialEq, Eq)]
+pub enum BlockState {
+    Outside,
+    Inside,
+    /// A statement of the block was refused: only COMMIT and ROLLBACK are answered.
+    Failed,
 }
 
 /// An open session: the role that it was opened for, the role that it has set, and its block.
@@ -81,6 +90,17 @@ impl Session {
         ensures { result.now ≡ self.now.login }
     {
         self.login.as_str()
+    }
+
+    /// Whether the session is in a block, and whether that has failed.
+    pub fn block_state(&self) -> BlockState
+        ensures { result ≡ block_state self.now.block }
+    {
+        match &self.block {
+            Block::Outside => BlockState::Outside,
+            Block::Inside(_) => BlockState::Inside,
+            Block::Failed(_) => BlockState::Failed,
+        }
     }
 
     /// Changes the block, if the session is in one.

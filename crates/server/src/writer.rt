@@ -17,7 +17,7 @@ use transactions::ChangeLists;
 /// The changes of the session that holds the writer lock, and the definitions under them, or `None`
 /// where no statement changed the definitions.
 pub struct Writer {
-    pub session: u32,
+    pub session: u64,
     pub lists: ChangeLists,
     pub catalogue: Option<Catalogue>,
 }
@@ -35,7 +35,7 @@ impl Drop for Writer {
 
 impl Writer {
     // The writer lock of a session that has changed nothing yet.
-    pub(crate) fn new(alloc: Global, session: u32) -> Writer
+    pub(crate) fn new(alloc: Global, session: u64) -> Writer
         ensures { result ≡ record { session = session; lists = []; catalogue = None } }
     {
         Writer {

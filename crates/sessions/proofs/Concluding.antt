@@ -1,19 +1,15 @@
 -- What the decisions of carried out and of refused statements make of the machine.
-use Rattle.std.proofs.Common.{◌≡◌, ◌≢◌, ℕ, nat_eq, true, false, Option, Some, None, Ok, Err, refl, sym, ◌∙◌, ap, subst}
+use Rattle.std.proofs.Common.{◌≡◌, ◌≢◌, ℕ, nat_eq, true, false, Option, Some, None, Ok, refl, sym, ◌∙◌, ap, subst}
 use Rattle.std.proofs.lemmas.Bool.{eqb-true}
-use Rattle.sql_types.specs.declared.state.SqlState.{SqlState}
 use Rattle.sql_ast.specs.declared.statement.Statement.TheVariants as statement
 use Rattle.sql_ast.specs.declared.statement.DatabaseStatement.{DatabaseStatement}
 use Rattle.store.specs.Records.{Records}
-use Rattle.store.specs.declared.stop.StatementError.TheVariants.{Refused}
 use Rattle.abstract_database.specs.Lists.{TheName}
-use Rattle.abstract_database.specs.Database.{Database}
-use Rattle.abstract_database.specs.Machine.{Holder, Block, Outside, Inside, Session, Transition, transition_to, session_of, refused, changes_database, is_held_by_other, with_changes, execute_in}
+use Rattle.abstract_database.specs.Machine.{Holder, Block, Outside, Inside, Session, transition_to, session_of, changes_database, is_held_by_other, with_changes}
 use Rattle.abstract_database.specs.Runs.{CommitsAt}
 use Rattle.stored_database.specs.Definitions.{Definitions}
 use Rattle.catalogue.specs.declared.effect.Effect.{Effect}
 use Rattle.catalogue.specs.Changes.{definitions_after}
-use Rattle.server.specs.declared.decision.Decision.{Decision}
 use Rattle.server.specs.declared.decision.Decision.TheVariants as decision
 use Rattle.server.specs.declared.writer.Writer.{Writer}
 use Rattle.server.specs.Writers.{definitions_under}
@@ -21,11 +17,10 @@ use Rattle.server.specs.Standing.{HolderShows, HoldsInBlock}
 use Rattle.catalogue.specs.Executed.{Leads}
 use Rattle.server.specs.Decisions.{Entries, machine_at}
 use Rattle.sessions.specs.Writers.{definitions_seen}
-use Rattle.sessions.specs.Decisions.{Makes, Serves, Always, Never}
 use Rattle.sessions.specs.Visible.{records_seen}
 use Rattle.sessions.specs.Concluded.{Concludes}
 use Rattle.sessions.proofs.SeenRecords.{not_false, seen_under}
-use Rattle.sessions.proofs.Meant.{refused_as, carried_as, is_free}
+use Rattle.sessions.proofs.Meant.{carried_as, is_free}
 
 -- ---- the holder of the writer lock
 

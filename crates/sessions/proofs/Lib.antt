@@ -9,6 +9,8 @@ pub mod Meant
 pub mod Concluding
 pub mod Deciding
 pub mod SeenDefinitions
+pub mod WriterLock
+pub mod LockedOut
 pub mod Serving
 pub mod Executing
 pub mod TwoServers

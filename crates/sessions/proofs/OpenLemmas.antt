@@ -8,7 +8,7 @@ use Rattle.sql_types.specs.declared.tag.Tag.TheVariants as tag
 use Rattle.abstract_database.specs.Lists.{TheName}
 use Rattle.abstract_database.specs.Database.{Database}
 use Rattle.abstract_database.specs.Roles.{may_log_in}
-use Rattle.abstract_database.specs.Machine.{opens, Holder, Outside, Session, session_of}
+use Rattle.abstract_database.specs.Machine.{client_of, own_sessions, opens, Holder, Outside, Session, session_of}
 use Rattle.abstract_database.specs.Runs.{ReadingRelation}
 use Rattle.store.specs.Records.{Records}
 use Rattle.stored_database.specs.Definitions.{Definitions}
@@ -29,10 +29,10 @@ module _ (db : Database) (holder : Option Holder) (sessions : Entries) (number :
       → what ≡ decision.Answer (answer.Refused ConnectionNameInUse) change.Keep → Opens db holder sessions number login what
   in_use what used is = rw (is, used) refl
 
-  pub no_place : (what : Decision) → is_some (session_of number sessions) ≡ false → 256 ≤ length sessions
+  pub no_place : (what : Decision) → is_some (session_of number sessions) ≡ false → 256 ≤ length (own_sessions (client_of number) sessions)
       → what ≡ decision.Answer (answer.Refused TooManyConnections) change.Keep → Opens db holder sessions number login what
   no_place what unused full is =
-      let many : nat_le 256 (length sessions) ≡ true = grind (arith, nat_tests) in
+      let many : nat_le 256 (length (own_sessions (client_of number) sessions)) ≡ true = grind (arith, nat_tests) in
       rw (is, unused, many) refl
 
   few : (n : ℕ) → n < 256 → nat_le 256 n ≡ false
@@ -50,10 +50,10 @@ module _ (db : Database) (holder : Option Holder) (sessions : Entries) (number :
     some_is : ◌≡◌ {A = Option TheName} (Some name) None → ⊥
     some_is e = cc
 
-  pub no_login : (what : Decision) → is_some (session_of number sessions) ≡ false → length sessions < 256 → ◌≡◌ {A = Option TheName} None (cond (may_log_in db login) (Some login) None)
+  pub no_login : (what : Decision) → is_some (session_of number sessions) ≡ false → length (own_sessions (client_of number) sessions) < 256 → ◌≡◌ {A = Option TheName} None (cond (may_log_in db login) (Some login) None)
       → what ≡ decision.Answer (answer.Refused InvalidAuthorization) change.Keep → Opens db holder sessions number login what
   no_login what unused free unknown is =
-      let fits : nat_le 256 (length sessions) ≡ false = few (length sessions) free in
+      let fits : nat_le 256 (length (own_sessions (client_of number) sessions)) ≡ false = few (length (own_sessions (client_of number) sessions)) free in
       let no : may_log_in db login ≡ false = may_not (may_log_in db login) unknown in
       rw (is, unused, fits, no) refl
 
@@ -61,12 +61,12 @@ module _ (db : Database) (holder : Option Holder) (sessions : Entries) (number :
   is_none_of None e = refl
   is_none_of (Some s) e = cc
 
-  pub opened : (name role : TheName) (s : Session) (a : Answer) → is_some (session_of number sessions) ≡ false → length sessions < 256
+  pub opened : (name role : TheName) (s : Session) (a : Answer) → is_some (session_of number sessions) ≡ false → length (own_sessions (client_of number) sessions) < 256
       → ◌≡◌ {A = Option TheName} (Some name) (cond (may_log_in db login) (Some login) None) → role ≡ name
       → s ≡ record { login = name; role = role; block = Outside } → a ≡ answer.Done tag.Open None None → HoldsInBlock holder sessions
       → Opens db holder sessions number login (decision.Open a number s)
   opened name role s a unused free known same is done held =
-      let fits : nat_le 256 (length sessions) ≡ false = few (length sessions) free in
+      let fits : nat_le 256 (length (own_sessions (client_of number) sessions)) ≡ false = few (length (own_sessions (client_of number) sessions)) free in
       let yes = may name (may_log_in db login) known in
       let session : s ≡ session_for login = is ∙ ap (λ (r : TheName). record { login = name; role = r; block = Outside }) same ∙ ap session_for yes.1 in
       ((refl, is_none_of (session_of number sessions) unused, free), opened_in_block holder number sessions s (is_none_of (session_of number sessions) unused) held, rw (done, session, unused, fits, yes.0) refl)

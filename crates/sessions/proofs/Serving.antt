@@ -1,5 +1,5 @@
 -- The statements of an open session, kind by kind.
-use Rattle.std.proofs.Common.{◌≡◌, ◌⊎◌, ◌∙◌, ℕ, Bool, Option, Some, None, Result, Ok, Err, refl, sym, ap, subst, inl, inr}
+use Rattle.std.proofs.Common.{◌≡◌, ◌∙◌, ℕ, Bool, Option, Result, Ok, Err, refl, sym, ap, subst, inl, inr}
 use Rattle.sql_types.specs.declared.state.SqlState.{SqlState}
 use Rattle.sql_types.specs.declared.tag.Tag.TheVariants as tag
 use Rattle.sql_ast.specs.declared.statement.SetRole.{SetRole}

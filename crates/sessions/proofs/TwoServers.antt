@@ -43,7 +43,7 @@ module _ (once : ReadsOnce ReadsText) (whole : (records : Records) (db : Databas
   told state other_state a w v events others answers answers_there before after other_before other_after alike same here unseen there unseen_there =
       let one = here.ran here.sound w here.stood in
       let two = there.ran there.sound v there.stood in
-      told_by_stores ReadsText (stops_of (state after.store).time) (stops_of (other_state other_after.store).time) once a w v one.0 two.0 (events_of events) (events_of others) answers answers_there
+      told_by_stores ReadsText (stops_of (state after.store).time) (stops_of (other_state other_after.store).time) once a w v one.0 two.0 (events_of 0 events) (events_of 0 others) answers answers_there
       alike (machine_sound state before w here.stood here.works) (machine_sound other_state other_before v there.stood there.works)
       one.2 two.2 unseen unseen_there same
 
@@ -56,7 +56,7 @@ module _ (once : ReadsOnce ReadsText) (whole : (records : Records) (db : Databas
         there = two.0;
         stands_here = one.1;
         stands_there = two.1;
-        goes = goes_alike ReadsText (stops_of (state after.store).time) (stops_of (other_state other_after.store).time) once a s.here s.there one.0 two.0 (event_of e) x y
+        goes = goes_alike ReadsText (stops_of (state after.store).time) (stops_of (other_state other_after.store).time) once a s.here s.there one.0 two.0 (event_of 0 e) x y
             s.alike (machine_sound state before s.here s.stands_here s.works) (machine_sound other_state other_before s.there s.stands_there (sym s.alike.stopped ∙ s.works)) own opens_so one.2 two.2;
       }
 
@@ -66,7 +66,7 @@ module _ (once : ReadsOnce ReadsText) (whole : (records : Records) (db : Databas
         one.0,
         one.1,
         λ hides.
-            goes_unseen ReadsText (stops_of (state after.store).time) once a s.here s.there one.0 (event_of e) x s.alike (machine_sound state before s.here s.stands_here s.works) foreign hides one.2,
+            goes_unseen ReadsText (stops_of (state after.store).time) once a s.here s.there one.0 (event_of 0 e) x s.alike (machine_sound state before s.here s.stands_here s.works) foreign hides one.2,
       )
 
   opened : (a : Tenant) (d e : Database) → SameApparentRowsForPairs a.pairs d e → IsAlikeTo a (machine_over d) (machine_over e)

@@ -7,4 +7,5 @@ pub mod Opening
 pub mod Visible
 pub mod Concluded
 pub mod Serving
+pub mod LockedOut
 pub mod TwoServers

@@ -35,7 +35,7 @@ pub(crate) fn warned(tag: Tag, warning: Warning) -> Answer
 }
 
 /// A statement of a session is refused by a code, which makes an open block failed.
-pub fn refuse(number: u32, session: &Session, state: SqlState) -> Decision
+pub fn refuse(number: u64, session: &Session, state: SqlState) -> Decision
     ensures { (writer : Option TheWriter) → Serves writer number session.now Always Never
         (λ m. refused m number session.now state) result }
 {

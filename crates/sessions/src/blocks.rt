@@ -30,7 +30,7 @@ use std::alloc::{AllocError, Global};
 
 /// BEGIN of a session that may execute it: the session is in a block from now on; in a block it is
 /// only warned.
-pub fn begin(alloc: Global, number: u32, session: &Session) -> Result<Decision, AllocError>
+pub fn begin(alloc: Global, number: u64, session: &Session) -> Result<Decision, AllocError>
     ensures { IfOk result (λ decision. (writer : Option TheWriter) → Serves writer number session.now Always Never
         (λ m. begin_of m number session.now session.now.block) decision) }
 {
@@ -59,7 +59,7 @@ pub fn begin(alloc: Global, number: u32, session: &Session) -> Result<Decision, 
 
 /// COMMIT of a session: what it changed in its block is committed, and the block ends. A failed
 /// block is rolled back, and outside a block it is only warned.
-pub fn commit(writer: &Option<Writer>, number: u32, session: &Session) -> Decision
+pub fn commit(writer: &Option<Writer>, number: u64, session: &Session) -> Decision
     ensures { Serves writer.now number session.now Always
         (λ m. CommitsAt m number session.now.block
         (TheStatement.OfSession TheSessionStatement.Commit))
@@ -84,7 +84,7 @@ pub fn commit(writer: &Option<Writer>, number: u32, session: &Session) -> Decisi
 
 /// ROLLBACK of a session: what it changed in its block is given up, and the block ends with the role
 /// that was set at its BEGIN. Outside a block it is only warned.
-pub fn roll_back(writer: &Option<Writer>, number: u32, session: &Session) -> Decision
+pub fn roll_back(writer: &Option<Writer>, number: u64, session: &Session) -> Decision
     ensures { Serves writer.now number session.now Always Never
         (λ m. rollback_of m number session.now session.now.block) result }
 {
@@ -98,7 +98,7 @@ pub fn roll_back(writer: &Option<Writer>, number: u32, session: &Session) -> Dec
 }
 
 // The block of a session ends, and what it changed is given up.
-fn end_rolled_back(writer: &Option<Writer>, number: u32) -> Decision
+fn end_rolled_back(writer: &Option<Writer>, number: u64) -> Decision
     ensures { (s : TheSession) (role : TheName) → IsBlockOf role s.block
         → Serves writer.now number s Always Never
         (λ m. succeeds tag.Rollback (with_block_ended m number s m.committed role)) result }
@@ -112,7 +112,7 @@ fn end_rolled_back(writer: &Option<Writer>, number: u32) -> Decision
 }
 
 /// The end of a session: an open block is rolled back. It takes no memory.
-pub fn close(writer: &Option<Writer>, sessions: &IndexMap<u32, Session>, number: u32) -> Decision
+pub fn close(writer: &Option<Writer>, sessions: &IndexMap<u64, Session>, number: u64) -> Decision
     ensures { (records : Records) (d : Definitions) (db : Database) (holder : Option Holder)
         → HolderShows records d writer.now holder
         → HoldsInBlock holder sessions.now.entries

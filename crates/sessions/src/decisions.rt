@@ -15,7 +15,7 @@ use sql_types::answer::Answer;
 /// block, and inside it is added to what the session changed before; a statement that changes nothing
 /// is only answered.
 pub fn decision_for(
-    number: u32,
+    number: u64,
     session: &Session,
     statement: &DatabaseStatement,
     effect: Effect,

@@ -4,12 +4,14 @@ ghost use Rattle.std.specs.Prelude.{◌≡◌};
 
 use crate::blocks::close;
 use crate::opening::open;
-use crate::texts::decide_text;
+use crate::texts::{decide_read, decide_text, is_locked_out};
 use server::decide::{Context, EventHandler};
 use server::decision::Decision;
 use server::execute::Execute;
+use server::numbers::number_in;
+use sql_ast::statement::Statement;
 use sql_types::event::Event;
-use std::alloc::Global;
+use std::alloc::{AllocError, Global};
 use store::{Fault, Map};
 
 /// What decides every event over any map. A statement is what its text is read as; one over the
@@ -38,15 +40,17 @@ impl<X: Execute> EventHandler for SessionHandler<X> {
         alloc: Global,
         map: &mut M,
         context: Context<'_>,
+        client: u32,
         event: &Event,
     ) -> Result<Decision, Fault> {
         match event {
             Event::Open { session, login } => {
+                let number = number_in(client, *session);
                 match open(
                     alloc,
                     context.catalogue,
                     context.sessions,
-                    *session,
+                    number,
                     login.as_str(),
                 ) {
                     Ok(decision) => Ok(decision),
@@ -54,9 +58,42 @@ impl<X: Execute> EventHandler for SessionHandler<X> {
                 }
             }
             Event::Statement { session, text } => {
-                decide_text(&self.executor, alloc, map, context, *session, text.as_str())
+                let number = number_in(client, *session);
+                decide_text(&self.executor, alloc, map, context, number, text.as_str())
             }
-            Event::Close { session } => Ok(close(context.writer, context.sessions, *session)),
+            Event::Close { session } => {
+                let number = number_in(client, *session);
+                Ok(close(context.writer, context.sessions, number))
+            }
+        }
+    }
+
+    fn decide_read<M: Map>(
+        &self,
+        alloc: Global,
+        map: &mut M,
+        context: Context<'_>,
+        client: u32,
+        session: u32,
+        statement: &Statement,
+    ) -> Result<Decision, Fault> {
+        let number = number_in(client, session);
+        decide_read(&self.executor, alloc, map, context, number, statement)
+    }
+
+    fn is_locked_out(
+        &self,
+        alloc: Global,
+        context: Context<'_>,
+        client: u32,
+        event: &Event,
+    ) -> Result<bool, AllocError> {
+        match event {
+            Event::Statement { session, text } => {
+                let number = number_in(client, *session);
+                is_locked_out(alloc, context, number, text.as_str())
+            }
+            Event::Open { .. } | Event::Close { .. } => Ok(false),
         }
     }
 }

@@ -1,6 +1,7 @@
-//! A law of reading, the contract of a function with no result.
+//! Laws of texts, the contracts of functions with no result.
 
 ghost use Rattle.database_laws.specs.Runs.{ReadsOnce};
+ghost use Rattle.server.specs.LockedOut.{RefusesLockedOut};
 ghost use Rattle.sessions.specs.Readings.{ReadsText};
 
 use sql_parser::laws::one_answer;
@@ -12,3 +13,9 @@ pub fn one_reading()
     // For the proof: a text has one reading.
     one_answer();
 }
+
+/// The machine refuses each event that is locked out with `LockNotAvailable`. So whoever holds such an
+/// event back, until the writer lock is free, holds back that refusal and no other answer.
+pub fn locked_out_events_are_refused()
+    ensures { RefusesLockedOut ReadsText }
+{}

@@ -17,5 +17,5 @@ mod texts;
 mod two_servers;
 
 pub use handler::SessionHandler;
-pub use laws::one_reading;
+pub use laws::{locked_out_events_are_refused, one_reading};
 pub use two_servers::servers_tell_tenants_what_they_see;

@@ -17,6 +17,7 @@ use crate::roles::find_login;
 use catalogue::definitions::Catalogue;
 use indexmap::IndexMap;
 use server::decision::{Decision, SessionChange};
+use server::numbers::count_own;
 use server::session::Session;
 use sql_types::answer::Answer;
 use sql_types::state::SqlState;
@@ -24,18 +25,18 @@ use sql_types::tag::Tag;
 use sql_types::try_copy::TryCopy;
 use std::alloc::{AllocError, Global};
 
-/// The most sessions that may be open at once.
+/// The most sessions that a client may have open at once.
 pub const MAX_SESSIONS: usize = 256;
 
 /// The opening of a session for a role, over the committed definitions. It is refused with
-/// `ConnectionNameInUse` where a session of this number is open, with `TooManyConnections` where 256
-/// are, and with `InvalidAuthorization` where no role of this name may log in. The only error is
+/// `ConnectionNameInUse` where a session of this number is open, with `TooManyConnections` where 256 of
+/// its client are, and with `InvalidAuthorization` where no role of this name may log in. The only error is
 /// that an allocation failed, and it comes only where the opening is not refused by the first two.
 pub fn open(
     alloc: Global,
     catalogue: &Catalogue,
-    sessions: &IndexMap<u32, Session>,
-    number: u32,
+    sessions: &IndexMap<u64, Session>,
+    number: u64,
     login: &str,
 ) -> Result<Decision, AllocError>
     ensures opens { (db : Database) (holder : Option Holder) → HasRolesOf catalogue.now db
@@ -47,7 +48,7 @@ pub fn open(
     if sessions.contains_key(&number) {
         return Ok(refused(SqlState::ConnectionNameInUse));
     }
-    if sessions.len() >= MAX_SESSIONS {
+    if count_own(sessions, number) >= MAX_SESSIONS {
         return Ok(refused(SqlState::TooManyConnections));
     }
     let Some(login) = find_login(alloc, catalogue, login)? else {

@@ -47,7 +47,7 @@ pub fn may_set_role(
 pub fn set_role(
     alloc: Global,
     catalogue: &Catalogue,
-    number: u32,
+    number: u64,
     session: &Session,
     statement: &SetRole,
 ) -> Result<Decision, AllocError>
@@ -68,7 +68,7 @@ pub fn set_role(
 }
 
 /// RESET ROLE of a session that may execute it: its login role is set from now on.
-pub fn reset_role(alloc: Global, number: u32, session: &Session) -> Result<Decision, AllocError>
+pub fn reset_role(alloc: Global, number: u64, session: &Session) -> Result<Decision, AllocError>
     ensures { IfOk result (λ decision. (writer : Option TheWriter)
         → Serves writer number session.now Always Never
         (λ m. succeeds tag.Reset (with_session_changed m number
@@ -81,7 +81,7 @@ pub fn reset_role(alloc: Global, number: u32, session: &Session) -> Result<Decis
 fn put_role(
     alloc: Global,
     tag: Tag,
-    number: u32,
+    number: u64,
     session: &Session,
     role: &Name,
 ) -> Result<Decision, AllocError>

@@ -10,7 +10,7 @@ use server::writer::Writer;
 use store::Batch;
 
 /// Whether the session of this number holds the writer lock.
-pub fn holds_slot(writer: &Option<Writer>, number: u32) -> bool
+pub fn holds_slot(writer: &Option<Writer>, number: u64) -> bool
     ensures { result ≡ is_slot_of number writer.now }
 {
     match writer {
@@ -20,7 +20,7 @@ pub fn holds_slot(writer: &Option<Writer>, number: u32) -> bool
 }
 
 /// Whether a session of another number holds it.
-pub fn other_holds_slot(writer: &Option<Writer>, number: u32) -> bool
+pub fn other_holds_slot(writer: &Option<Writer>, number: u64) -> bool
     ensures { result ≡ is_slot_of_other number writer.now }
 {
     match writer {
@@ -34,7 +34,7 @@ pub fn other_holds_slot(writer: &Option<Writer>, number: u32) -> bool
 pub fn seen_catalogue<'a>(
     writer: &'a Option<Writer>,
     committed: &'a Catalogue,
-    number: u32,
+    number: u64,
 ) -> &'a Catalogue
     ensures { result.now ≡ definitions_seen number writer.now committed.now }
 {
@@ -49,7 +49,7 @@ pub fn seen_catalogue<'a>(
 
 /// The changes under which a session sees the records, lent, or `None` where it sees the committed
 /// ones.
-pub fn lists_seen<'a>(writer: &'a Option<Writer>, number: u32) -> Option<&'a [Batch]>
+pub fn lists_seen<'a>(writer: &'a Option<Writer>, number: u64) -> Option<&'a [Batch]>
     ensures { option_copied result ≡ lists_seen number writer.now }
 {
     match writer {

@@ -1,6 +1,6 @@
 //! A statement of an open session.
 
-ghost use Rattle.std.specs.Prelude.{IsOk, IfErr, Option};
+ghost use Rattle.std.specs.Prelude.{IsOk, IfOk, IfErr, Option, Err};
 ghost use Rattle.sql_ast.specs.Statements.{IsRead};
 ghost use Rattle.sql_parser.specs.Policies.{HasConditionsAsWritten};
 ghost use Rattle.store.specs.Records.{Records};
@@ -18,6 +18,7 @@ ghost use Rattle.sessions.specs.Decisions.{Always};
 ghost use Rattle.sessions.specs.Writers.{definitions_seen};
 ghost use Rattle.sessions.specs.Visible.{records_seen};
 ghost use Rattle.sessions.specs.Serving.{EndsBlock, IsAdmission, CarriesOut, ServesOver};
+ghost use Rattle.sessions.specs.LockedOut.{IsForLock, TellsRefusal};
 
 use crate::admission::admit;
 use crate::answers::refuse;
@@ -32,7 +33,8 @@ use server::execute::Execute;
 use server::session::Session;
 use server::writer::Writer;
 use sql_ast::statement::{DatabaseStatement, SessionStatement, Statement};
-use std::alloc::Global;
+use sql_types::state::SqlState;
+use std::alloc::{AllocError, Global};
 use store::{Batch, Fault, Map, StatementError};
 use transactions::View;
 
@@ -40,7 +42,7 @@ use transactions::View;
 /// lock.
 #[derive(Clone, Copy)]
 pub(crate) struct OpenSession<'a> {
-    pub(crate) number: u32,
+    pub(crate) number: u64,
     pub(crate) session: &'a Session,
     pub(crate) catalogue: &'a Catalogue,
     pub(crate) writer: &'a Option<Writer>,
@@ -129,6 +131,22 @@ impl<'a> OpenSession<'a> {
         }
     }
 
+    /// Whether the session may not execute a statement since another session holds the writer lock. The
+    /// only error is that an allocation failed.
+    pub(crate) fn is_locked_out(
+        &self,
+        alloc: Global,
+        statement: &Statement,
+    ) -> Result<bool, AllocError>
+        ensures { IfOk result (TellsRefusal self.now statement.now) }
+    {
+        match self.admit(alloc, statement) {
+            Ok(()) => Ok(false),
+            Err(StatementError::Refused(code)) => Ok(is_for_lock(code)),
+            Err(StatementError::Failed(_)) => Err(AllocError),
+        }
+    }
+
     // A statement over the database, carried out over what the session sees: the holder of the writer
     // lock sees the records and the definitions under its own changes, each other session the
     // committed ones.
@@ -180,5 +198,15 @@ impl<'a> OpenSession<'a> {
         let result = executor.execute(alloc, &mut view, seen, self.session, statement);
         view.into_map();
         result
+    }
+}
+
+// Whether a refusal is for the writer lock.
+fn is_for_lock(code: SqlState) -> bool
+    ensures { IsForLock result (Err code) }
+{
+    match code {
+        SqlState::LockNotAvailable => true,
+        _ => false,
     }
 }

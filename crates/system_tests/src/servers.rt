@@ -3,7 +3,7 @@
 
 use crate::answers::text_of_answers;
 use recovery::{OpeningFault, Refused, open};
-use server::server::Server;
+use server::server::{ONLY_CLIENT, Server};
 use sessions::SessionHandler;
 use sql_types::event::Event;
 use statements::Statements;
@@ -42,7 +42,7 @@ pub fn answered_by<S: Store>(
     events: &[Event],
 ) -> io::Result<String> {
     let mut answers = Vec::new(alloc);
-    server.run(events, &mut answers)?;
+    server.run(ONLY_CLIENT, events, &mut answers)?;
     text_of_answers(alloc, answers.as_slice())
 }
 

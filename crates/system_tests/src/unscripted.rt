@@ -7,6 +7,7 @@ use crate::long_scripts::expanded;
 use crate::reports::report;
 use crate::servers::{ServerOver, answered_by, open_server};
 use crate::stores::{ADMIN, new_in_memory};
+use server::server::ONLY_CLIENT;
 use sql_types::answer::Answer;
 use sql_types::event::Event;
 use sql_types::tag::Tag;
@@ -69,7 +70,8 @@ fn given_to_listed(alloc: Global) -> io::Result<String> {
 
 /// Tells the sessions of a server, and whether it has stopped.
 fn tell_sessions<S: Store>(server: &ServerOver<S>, text: &mut String) -> Result<(), AllocError> {
-    let (first, second) = (server.session_at(0), server.session_at(1));
+    let first = server.session_at(ONLY_CLIENT, 0);
+    let second = server.session_at(ONLY_CLIENT, 1);
     let stopped = server.has_stopped();
     writeln!(text, "sessions: {first:?}, {second:?}\nstopped: {stopped}")
 }

@@ -57,7 +57,7 @@ events_split events at e inside is =
 module _ {S X K : Type 0} (Reads : ReadingRelation) (state : S → StoreState) (k : Ghosts K) where
   pub none_answered : (server : Server S X) (sink : K) → AnswersAll Reads state k server [] sink server sink
   none_answered server sink =
-      record { answers = []; one_each = refl; ran = runs_none Reads state server; tells = each_none Reads state k server sink; written = Appends-nil (k.held sink) }
+      record { answers = []; one_each = refl; ran = runs_none Reads state 0 server; tells = each_none Reads state k server sink; written = Appends-nil (k.held sink) }
 
   pub all_of_none : (server : Server S X) (events : List Event) (sink : K) → (1 ≤ length events → ⊥) → AnswersAll Reads state k server events sink server sink
   all_of_none server [] sink none = none_answered server sink
@@ -69,7 +69,7 @@ module _ {S X K : Type 0} (Reads : ReadingRelation) (state : S → StoreState) (
   one_answered old new e t before after one written = record {
     answers = t.answer ∷ [];
     one_each = refl;
-    ran = runs_more Reads state old old new [] [] e t.answer (λ is. is) (runs_none Reads state old) one.step;
+    ran = runs_more Reads state 0 old old new [] [] e t.answer (λ is. is) (runs_none Reads state 0 old) one.step;
     tells = each_one Reads state k old new before after e t one;
     written = rw (append-nil (frames_of e t.answer)) written;
   }
@@ -82,7 +82,7 @@ module _ {S X K : Type 0} (Reads : ReadingRelation) (state : S → StoreState) (
       record {
         answers = past.answers ++ more.answers;
         one_each = length-append past.answers more.answers ∙ sym (length-append es fs ∙ sym (ap (λ n. n + length more.answers) these ∙ ap (λ n. length es + n) those));
-        ran = runs_joined Reads state first mid new es fs past.answers more.answers lasts past.ran more.ran;
+        ran = runs_joined Reads state 0 first mid new es fs past.answers more.answers lasts past.ran more.ran;
         tells = each_joined Reads state k first mid new before between after es fs past.answers more.answers past.tells more.tells;
         written = subst (λ (bytes : List ℕ). Appends (k.held before) (k.held after) bytes) (sym (frames_joined es fs past.answers more.answers these))
             (Appends-trans (k.held before) (k.held between) (k.held after) (all_frames es past.answers) (all_frames fs more.answers) past.written more.written);
@@ -100,7 +100,7 @@ module _ {S X K : Type 0} (Reads : ReadingRelation) (state : S → StoreState) (
       → at < length events → e ≡ get_or events at e → AnswersAll Reads state k first (take at events) before mid between → Breaks Reads state k mid between e answer new after
       → AnswersSome Reads state k first events before new after
   begun_with first mid new events at e answer before between after lasts inside is past breaks =
-      let ran = runs_more Reads state first mid new (take at events) past.answers e answer lasts past.ran breaks.step in
+      let ran = runs_more Reads state 0 first mid new (take at events) past.answers e answer lasts past.ran breaks.step in
       let whole : AnswersSome Reads state k first (take at events ++ e ∷ drop (at + 1) events) before new after = record {
         some = record {
           done = take at events;
@@ -114,7 +114,7 @@ module _ {S X K : Type 0} (Reads : ReadingRelation) (state : S → StoreState) (
           answer = answer;
           breaks = breaks;
         };
-        ran = subst (λ (told : List Answer). Runs Reads state first (take at events ++ e ∷ []) (told ++ answer ∷ []) new) past.tells.answers_are ran;
+        ran = subst (λ (told : List Answer). Runs Reads state 0 first (take at events ++ e ∷ []) (told ++ answer ∷ []) new) past.tells.answers_are ran;
       } in
       subst (λ (es : List Event). AnswersSome Reads state k first es before new after) (sym (events_split events at e inside is)) whole
 

@@ -15,10 +15,10 @@ use Rattle.wire.proofs.Serving.{ran_to}
 module _ {S X : Type 0} (Reads : ReadingRelation) (state : S → StoreState) where
   -- nothing was done
   pub run_none : (server : Server S X) → HasRun Reads state server server
-  run_none server = ([], [], runs_none Reads state server)
+  run_none server = ([], [], runs_none Reads state 0 server)
 
   run_joined : (first mid new : Server S X) → ((state first.store).sound → (state mid.store).sound) → HasRun Reads state first mid → HasRun Reads state mid new → HasRun Reads state first new
-  run_joined first mid new lasts ran more = (ran.0 ++ more.0, ran.1 ++ more.1, runs_joined Reads state first mid new ran.0 more.0 ran.1 more.1 lasts ran.2 more.2)
+  run_joined first mid new lasts ran more = (ran.0 ++ more.0, ran.1 ++ more.1, runs_joined Reads state 0 first mid new ran.0 more.0 ran.1 more.1 lasts ran.2 more.2)
 
   within_after : (old new : Server S X) → ((state old.store).sound → (state new.store).sound) → HasRun Reads state old new → StandsWithinLimit state old → StandsWithinLimit state new
   within_after old new lasts ran within = within_then Reads state old new ran.0 ran.1 lasts ran.2 within
@@ -40,8 +40,8 @@ module _ {S X : Type 0} (Reads : ReadingRelation) (state : S → StoreState) whe
   -- with no session open a server is within the limit
   none_within : (server : Server S X) → (state server.store).sound → LeavesNoSession state server → server.stopped ≡ false → StandsWithinLimit state server
   none_within server sound left works =
-      let none : length left.0.standing.machine.sessions ≡ 0 = ap (λ (m : Machine). length m.sessions) (left.2 works) in
-      (sound, (left.0, left.1, omega (arith, none)))
+      let none : left.0.standing.machine.sessions ≡ [] = ap (λ (m : Machine). m.sessions) (left.2 works) in
+      (sound, (left.0, left.1, rw none tt, rw none (omega arith)))
 
   -- one connection more
   pub runs_on : (first mid new : Server S X) → ((state first.store).sound → (state mid.store).sound) → (StandsWithinLimit state first → HasRun Reads state first mid)

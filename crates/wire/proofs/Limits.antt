@@ -1,7 +1,11 @@
 -- A machine opens no session beyond the limit.
-use Rattle.std.proofs.Common.{◌≡◌, ◌≤◌, ◌+◌, ℕ, suc, Bool, true, false, cond, List, [], ◌∷◌, length, Option, Some, None, Result, Ok, Err, if◌then◌else◌, refl, sym, ap, subst, leb-false, arith}
+use Rattle.std.proofs.Common.{◌≡◌, ◌≤◌, ◌<◌, ◌+◌, ◌%◌, ◌∙◌, ℕ, suc, Bool, true, false, cond, List, [], ◌∷◌, length, Option, Some, None, Result, Ok, Err, if◌then◌else◌, refl, sym, ap, subst, leb-false, arith}
 use Rattle.std.specs.Prelude.{nat_eq, nat_le, is_some}
+use Rattle.std.proofs.lemmas.Nat.{div-mul-add}
+use Rattle.std.proofs.Math.Nat.{mod-lt}
 use Rattle.sql_types.specs.declared.answer.Answer.{Answer}
+use Rattle.sql_types.specs.declared.event.Event.{Event}
+use Rattle.sql_types.specs.declared.event.Event.TheVariants as event
 use Rattle.sql_types.specs.declared.state.SqlState.{SqlState}
 use Rattle.sql_types.specs.declared.state.SqlState.TheVariants.{InvalidAuthorization, TooManyConnections, ConnectionNameInUse, IoError}
 use Rattle.sql_types.specs.declared.tag.Tag.TheVariants as tag
@@ -13,13 +17,14 @@ use Rattle.abstract_database.specs.Lists.{TheName}
 use Rattle.abstract_database.specs.Database.{Database}
 use Rattle.abstract_database.specs.Roles.{may_log_in}
 use Rattle.abstract_database.specs.Statements.{Effect, exec}
-use Rattle.abstract_database.specs.Machine.{Block, Outside, Inside, Failed, Session, Event as MachineEvent, opens, executes, closes, Reading, Machine, Transition, refuses, succeeds, session_of, with_session, without_session, users_of, with_session_changed, as_role, in_block, seen, close_session, after_refusal, transition_or_refusal, may_execute, begin, with_role_set, commit, rollback, with_changes, applied, changes_database, execute_of_session, execute_in, execute, running_transition}
-use Rattle.abstract_database.specs.Runs.{ReadingRelation, TheText, Counts, IsStep, by_transition, for_memory, for_space, for_number, for_device, RanBy, Stops, At, Happens}
-use Rattle.wire.specs.Closing.{Sessions}
+use Rattle.abstract_database.specs.Machine.{Block, Outside, Inside, Failed, Session, Event as MachineEvent, opens, executes, closes, Reading, client_of, number_in, own_sessions, Machine, Transition, refuses, succeeds, session_of, with_session, without_session, users_of, with_session_changed, as_role, in_block, seen, close_session, after_refusal, transition_or_refusal, may_execute, begin, with_role_set, commit, rollback, with_changes, applied, changes_database, execute_of_session, execute_in, execute, running_transition}
+use Rattle.abstract_database.specs.Runs.{ReadingRelation, TheText, IsReadAs, Counts, IsStep, by_transition, for_memory, for_space, for_number, for_device, RanBy, Stops, At, Happens}
+use Rattle.server.specs.Standing.{event_of, events_of}
+use Rattle.wire.specs.Closing.{Sessions, AreOfOne}
 
--- no more sessions are open than a machine opens
+-- the open sessions are of the one client, and no more than a machine opens
 abbrev pub IsWithinLimit : Machine → Type 0
-IsWithinLimit m = length m.sessions ≤ 256
+IsWithinLimit m = AreOfOne m.sessions × (length m.sessions ≤ 256)
 
 -- ---- lists of sessions
 
@@ -29,6 +34,26 @@ with_one_more (e ∷ es) number s = by_number (nat_eq number e.0) (with_one_more
   by_number : (b : Bool) → length (with_session es number s) ≤ length es + 1 → length (if b then (e.0, s) ∷ es else e ∷ with_session es number s) ≤ length (e ∷ es) + 1
   by_number true rest = omega arith
   by_number false rest = omega (arith, rest)
+
+-- one more of the one client
+of_one_more : (sessions : Sessions) (number : ℕ) (s : Session) → client_of number ≡ 0 → AreOfOne sessions → AreOfOne (with_session sessions number s)
+of_one_more [] number s own are = (own, tt)
+of_one_more (e ∷ es) number s own are = by_number (nat_eq number e.0) (of_one_more es number s own are.1) where
+  by_number : (b : Bool) → AreOfOne (with_session es number s) → AreOfOne (if b then (e.0, s) ∷ es else e ∷ with_session es number s)
+  by_number true rest = are
+  by_number false rest = (are.0, rest)
+
+of_one_less : (sessions : Sessions) (number : ℕ) → AreOfOne sessions → AreOfOne (without_session number sessions)
+of_one_less [] number are = tt
+of_one_less (e ∷ es) number are = by_number (nat_eq number e.0) (of_one_less es number are.1) where
+  by_number : (b : Bool) → AreOfOne (without_session number es) → AreOfOne (cond b es (e ∷ without_session number es))
+  by_number true rest = are.1
+  by_number false rest = (are.0, rest)
+
+-- the own sessions of the one client are all
+pub all_own : (sessions : Sessions) → AreOfOne sessions → own_sessions 0 sessions ≡ sessions
+all_own [] are = refl
+all_own (e ∷ es) are = ap (λ (n : ℕ). cond (nat_eq 0 n) (e ∷ own_sessions 0 es) (own_sessions 0 es)) are.0 ∙ ap (λ (l : Sessions). e ∷ l) (all_own es are.1)
 
 -- an open session is changed in its place
 in_its_place : (sessions : Sessions) (number : ℕ) (s x : Session) → session_of number sessions ≡ Some s → length (with_session sessions number x) ≡ length sessions
@@ -56,9 +81,9 @@ abbrev AreFew : Result Transition SqlState → Type 0
 AreFew (Ok t) = IsFew t
 AreFew (Err code) = Unit {0}
 
-module _ (m : Machine) (number : ℕ) (s : Session) (there : session_of number m.sessions ≡ Some s) (few : IsWithinLimit m) where
-  changed : (x : Session) → length (with_session m.sessions number x) ≤ 256
-  changed x = let same = in_its_place m.sessions number s x there in omega (arith, same, few)
+module _ (m : Machine) (number : ℕ) (own : client_of number ≡ 0) (s : Session) (there : session_of number m.sessions ≡ Some s) (few : IsWithinLimit m) where
+  changed : (x : Session) → AreOfOne (with_session m.sessions number x) × (length (with_session m.sessions number x) ≤ 256)
+  changed x = let same = in_its_place m.sessions number s x there in let before = few.1 in (of_one_more m.sessions number x own few.0, omega (arith, same, before))
 
   refused_few : (code : SqlState) (b : Block) → IsFew (refuses (after_refusal m number s b) code)
   refused_few code Outside = few
@@ -115,48 +140,74 @@ module _ (m : Machine) (number : ℕ) (s : Session) (there : session_of number m
 
 -- ---- any event
 
+-- the event is of the one client
+abbrev IsOfOne : {T : Type 0} → MachineEvent T → Type 0
+IsOfOne (opens number login) = client_of number ≡ 0
+IsOfOne (executes number text) = client_of number ≡ 0
+IsOfOne (closes number) = client_of number ≡ 0
+
 module _ (m : Machine) (few : IsWithinLimit m) where
-  open_few : (number : ℕ) (login : TheName) (a b c : Bool) → nat_le 256 (length m.sessions) ≡ b
+  open_few : (number : ℕ) (login : TheName) (a b c : Bool) → client_of number ≡ 0 → nat_le 256 (length (own_sessions (client_of number) m.sessions)) ≡ b
       → IsFew (cond a (refuses m ConnectionNameInUse) (cond b (refuses m TooManyConnections) (cond c (succeeds tag.Open (with_session_changed m number (record { login = login; role = login; block = Outside }))) (refuses m InvalidAuthorization))))
-  open_few number login true b c is = few
-  open_few number login false true c is = few
-  open_few number login false false true is =
-      let less = leb-false 256 (length m.sessions) is in
-      let more = with_one_more m.sessions number (record { login = login; role = login; block = Outside }) in
-      omega (arith, less, more)
-  open_few number login false false false is = few
+  open_few number login true b c own is = few
+  open_few number login false true c own is = few
+  open_few number login false false true own is =
+      let s : Session = record { login = login; role = login; block = Outside } in
+      let all : own_sessions (client_of number) m.sessions ≡ m.sessions = ap (λ (n : ℕ). own_sessions n m.sessions) own ∙ all_own m.sessions few.0 in
+      let less = leb-false 256 (length m.sessions) (sym (ap (λ (l : Sessions). nat_le 256 (length l)) all) ∙ is) in
+      let more = with_one_more m.sessions number s in
+      (of_one_more m.sessions number s own few.0, omega (arith, less, more))
+  open_few number login false false false own is = few
 
   close_few : (number : ℕ) (s : Option Session) → IsFew (close_session m number s)
   close_few number None = few
-  close_few number (Some s) = let less = no_more m.sessions number in omega (arith, less, few)
+  close_few number (Some s) = let less = no_more m.sessions number in let before = few.1 in (of_one_less m.sessions number few.0, omega (arith, less, before))
 
-  statement_few : (number : ℕ) (reading : Reading) (s : Option Session) → session_of number m.sessions ≡ s → IsFew (execute m number reading s)
-  statement_few number reading None is = few
-  statement_few number reading (Some s) is = execute_few m number s is few reading
+  statement_few : (number : ℕ) (reading : Reading) (s : Option Session) → client_of number ≡ 0 → session_of number m.sessions ≡ s → IsFew (execute m number reading s)
+  statement_few number reading None own is = few
+  statement_few number reading (Some s) own is = execute_few m number own s is few reading
 
-  running_few : (event : MachineEvent Reading) → IsFew (running_transition m event)
-  running_few (opens number login) = open_few number login (is_some (session_of number m.sessions)) (nat_le 256 (length m.sessions)) (may_log_in m.committed login) refl
-  running_few (executes number reading) = statement_few number reading (session_of number m.sessions) refl
-  running_few (closes number) = close_few number (session_of number m.sessions)
+  running_few : (event : MachineEvent Reading) → IsOfOne event → IsFew (running_transition m event)
+  running_few (opens number login) own =
+      open_few number login (is_some (session_of number m.sessions)) (nat_le 256 (length (own_sessions (client_of number) m.sessions))) (may_log_in m.committed login) own refl
+  running_few (executes number reading) own = statement_few number reading (session_of number m.sessions) own refl
+  running_few (closes number) own = close_few number (session_of number m.sessions)
 
-  transition_few : (event : MachineEvent Reading) (stopped : Bool) → IsFew (cond stopped (refuses m IoError) (running_transition m event))
-  transition_few event true = few
-  transition_few event false = running_few event
+  transition_few : (event : MachineEvent Reading) (stopped : Bool) → IsOfOne event → IsFew (cond stopped (refuses m IoError) (running_transition m event))
+  transition_few event true own = few
+  transition_few event false own = running_few event own
 
 -- ---- any run
 
-module _ (Reads : ReadingRelation) where
-  step_few : (old new : Counts) (m : Machine) (event : MachineEvent TheText) (answer : Answer) (after : Machine) → IsWithinLimit m → IsStep Reads old new m event answer after → IsWithinLimit after
-  step_few old new m event answer after few (by_transition t) = subst IsWithinLimit (sym (ap (λ x. x.machine) t.is)) (transition_few m few t.as_read m.stopped)
-  step_few old new m event answer after few (for_memory a is may) = subst IsWithinLimit (sym is) few
-  step_few old new m event answer after few (for_space a is may rises) = subst IsWithinLimit (sym is) few
-  step_few old new m event answer after few (for_number a is may greatest) = subst IsWithinLimit (sym is) few
-  step_few old new m event answer after few (for_device t moves may a is failed) = subst IsWithinLimit (sym is) few
+-- each event of the one client is
+pub below : 0 < 4294967296
+below = omega arith
 
-  pub ran_few : (Leave : Stops) (w end : At) (events : List (MachineEvent TheText)) (answers : List Answer) → IsWithinLimit w.standing.machine → RanBy (Happens Reads Leave) w events answers end
+one_number : (session : ℕ) → client_of (number_in 0 session) ≡ 0
+one_number session = div-mul-add 0 4294967296 (session % 4294967296) (mod-lt session below)
+
+event_of_one : (e : Event) → IsOfOne (event_of 0 e)
+event_of_one (event.Open session login) = one_number session
+event_of_one (event.Statement session text) = one_number session
+event_of_one (event.Close session) = one_number session
+
+read_of_one : (Reads : ReadingRelation) (m : Machine) (e : MachineEvent TheText) (x : MachineEvent Reading) → IsReadAs Reads m e x → IsOfOne e → IsOfOne x
+read_of_one Reads m (opens number login) x read own = subst IsOfOne (sym read) own
+read_of_one Reads m (executes number text) x read own = subst IsOfOne (sym read.1) own
+read_of_one Reads m (closes number) x read own = subst IsOfOne (sym read) own
+
+module _ (Reads : ReadingRelation) where
+  step_few : (old new : Counts) (m : Machine) (event : MachineEvent TheText) (answer : Answer) (after : Machine) → IsOfOne event → IsWithinLimit m → IsStep Reads old new m event answer after → IsWithinLimit after
+  step_few old new m event answer after own few (by_transition t) = subst IsWithinLimit (sym (ap (λ x. x.machine) t.is)) (transition_few m few t.as_read m.stopped (read_of_one Reads m event t.as_read t.read own))
+  step_few old new m event answer after own few (for_memory a is may) = subst IsWithinLimit (sym is) few
+  step_few old new m event answer after own few (for_space a is may rises) = subst IsWithinLimit (sym is) few
+  step_few old new m event answer after own few (for_number a is may greatest) = subst IsWithinLimit (sym is) few
+  step_few old new m event answer after own few (for_device t moves may a is failed) = subst IsWithinLimit (sym is) few
+
+  pub ran_few : (Leave : Stops) (w end : At) (events : List Event) (answers : List Answer) → IsWithinLimit w.standing.machine → RanBy (Happens Reads Leave) w (events_of 0 events) answers end
       → IsWithinLimit end.standing.machine
   ran_few Leave w end [] [] few ran = subst (λ (z : At). IsWithinLimit z.standing.machine) (sym ran) few
   ran_few Leave w end (e ∷ events) (a ∷ answers) few ran =
-      ran_few Leave ran.0 end events answers (step_few w.counts ran.0.counts w.standing.machine e a ran.0.standing.machine few ran.1.step) ran.2
+      ran_few Leave ran.0 end events answers (step_few w.counts ran.0.counts w.standing.machine (event_of 0 e) a ran.0.standing.machine (event_of_one e) few ran.1.step) ran.2
   ran_few Leave w end [] (a ∷ answers) few ran = absurd ran
   ran_few Leave w end (e ∷ events) [] few ran = absurd ran

@@ -76,7 +76,7 @@ pub record SoFar {S X K : Type 0} (Reads : ReadingRelation) (state : S → Store
   pub events : List Event
   pub answers : List Answer
   pub requested : Requests [] lines events now.names
-  pub ran : Runs Reads state old events answers now.server
+  pub ran : Runs Reads state 0 old events answers now.server
   pub tells : TellsEach Reads state k old before events answers now.server now.sink
   pub written : Appends (k.held before) (k.held now.sink) (answers_text answers)
   pub works : WorksAfter events now.server
@@ -84,7 +84,7 @@ pub record SoFar {S X K : Type 0} (Reads : ReadingRelation) (state : S → Store
 -- the run with what a line requested, answered and told
 record More {S X K : Type 0} (Reads : ReadingRelation) (state : S → StoreState) (k : Ghosts K) (old : Server S X) (events : List Event) (before : K) (new : Progress S X K) : Type 0 where
   answers : List Answer
-  ran : Runs Reads state old events answers new.server
+  ran : Runs Reads state 0 old events answers new.server
   tells : TellsEach Reads state k old before events answers new.server new.sink
   written : Appends (k.held before) (k.held new.sink) (answers_text answers)
   works : WorksAfter events new.server
@@ -97,7 +97,7 @@ module _ {S X K : Type 0} (Reads : ReadingRelation) (state : S → StoreState) (
       → More Reads state k old (far.events ++ e ∷ []) before new
   event_more old now new lines before e history far it = record {
     answers = far.answers ++ it.0.0.answer ∷ [];
-    ran = runs_more Reads state old now.server new.server far.events far.answers e it.0.0.answer history.sound far.ran it.0.1.step;
+    ran = runs_more Reads state 0 old now.server new.server far.events far.answers e it.0.0.answer history.sound far.ran it.0.1.step;
     tells = each_more Reads state k old now.server new.server before now.sink new.sink far.events far.answers e it.0.0 far.tells it.0.1;
     written = answered_more (k.held before) (k.held now.sink) (k.held new.sink) far.answers it.0.0.answer far.written it.0.2;
     works = works_after (far.events ++ e ∷ []) new.server it.1;
@@ -135,7 +135,7 @@ module _ {S X K : Type 0} (Reads : ReadingRelation) (state : S → StoreState) (
   -- the script ends with an event that was answered, and whose answer was told or not
   ends_answered : (old : Server S X) (now new : Progress S X K) (lines : List (List ℕ)) (line : List ℕ) (n : ℕ) (before : K) (e : ScriptEnd) (r : Request) (x : Event) (answer : Answer)
       → KeepsHistory (state old.store) (state now.server.store)
-      → (far : SoFar Reads state k old (take n lines) before now) → IsLineAt lines n line → Spells line r → event_for now.names r ≡ Some x → Steps Reads state now.server x answer new.server
+      → (far : SoFar Reads state k old (take n lines) before now) → IsLineAt lines n line → Spells line r → event_for now.names r ≡ Some x → Steps Reads state 0 now.server x answer new.server
       → TellsTo Reads state k e old before (far.events ++ x ∷ []) (far.answers ++ answer ∷ []) new.server new.sink
       → Writes e (k.held before) (far.answers ++ answer ∷ []) (k.held new.sink) → EndsAfter lines (n + 1) e
       → ((events : List Event) (answers : List Answer) → EndsWithEvent Reads state old events answers new.server → EndsAt Reads state e old events answers new.server)
@@ -146,7 +146,7 @@ module _ {S X K : Type 0} (Reads : ReadingRelation) (state : S → StoreState) (
     answers = far.answers ++ answer ∷ [];
     names = names_after now.names r;
     requested = rw at.more (subst (λ o. Requests [] (take n lines ++ line ∷ []) (far.events ++ option_to_list o) (names_after now.names r)) is (requests_more [] (take n lines) far.events now.names line r far.requested spelled));
-    ran = runs_more Reads state old now.server new.server far.events far.answers x answer history.sound far.ran step;
+    ran = runs_more Reads state 0 old now.server new.server far.events far.answers x answer history.sound far.ran step;
     tells = tells;
     written = written;
     ends = ends;
@@ -243,7 +243,7 @@ module _ {S X K : Type 0} (Reads : ReadingRelation) (state : S → StoreState) (
     events = [];
     answers = [];
     requested = (refl, refl);
-    ran = runs_none Reads state server;
+    ran = runs_none Reads state 0 server;
     tells = each_none Reads state k server sink;
     written = writes_none (k.held sink);
     works = tt;
@@ -257,7 +257,7 @@ module _ {S X K : Type 0} (Reads : ReadingRelation) (state : S → StoreState) (
     answers = [];
     names = [];
     requested = (refl, refl);
-    ran = runs_none Reads state server;
+    ran = runs_none Reads state 0 server;
     tells = each_none Reads state k server sink;
     written = writes_none (k.held sink);
     ends = some;

@@ -112,14 +112,14 @@ module _ {S X K : Type 0} (Reads : ReadingRelation) (state : S → StoreState) (
   ends_here end.ReadLimit held piece rest server new unread left told after far read short it = absurd it
 
   -- a run, and then events of which not all answers were told
-  run_untaken : (server new : Server S X) (es : List Event) (answers : List Answer) (fs : List Event) (is_bad : Bool) (told after : K) → ((state old.store).sound → (state server.store).sound) → Runs Reads state old es answers server
+  run_untaken : (server new : Server S X) (es : List Event) (answers : List Answer) (fs : List Event) (is_bad : Bool) (told after : K) → ((state old.store).sound → (state server.store).sound) → Runs Reads state 0 old es answers server
       → AnswersUntaken Reads state k server fs is_bad told new after → HasRun Reads state old new
   run_untaken server new es answers fs is_bad told after lasts ran (inl it) =
       let run = it.some.done ++ it.some.last ∷ [] in
       let given = answers_of it.some.told ++ it.some.answer ∷ [] in
-      (es ++ run, answers ++ given, runs_joined Reads state old server new es run answers given lasts ran it.ran)
+      (es ++ run, answers ++ given, runs_joined Reads state 0 old server new es run answers given lasts ran it.ran)
   run_untaken server new es answers fs is_bad told after lasts ran (inr all) =
-      (es ++ fs, answers ++ all.1.1.answers, runs_joined Reads state old server new es fs answers all.1.1.answers lasts ran all.1.1.ran)
+      (es ++ fs, answers ++ all.1.1.answers, runs_joined Reads state 0 old server new es fs answers all.1.1.answers lasts ran all.1.1.ran)
 
   -- however it ends, what was done is a run
   pub ran_to : (e : End) (new : Server S X) (left : InputState) (after : K) → IsServed Reads state k old input before e new left after → HasRun Reads state old new

@@ -17,7 +17,7 @@ answers_joined (t ∷ told) more = ap (λ (answers : List Answer). t.answer ∷ 
 
 module _ {S X K : Type 0} (Reads : ReadingRelation) (state : S → StoreState) (k : Ghosts K) where
   -- an event was carried out, and then its answer told
-  module _ (old new : Server S X) (before after : K) (e : Event) (answer : Answer) (store : S) (session : ℕ) (step : Steps Reads state old e answer new) (history : KeepsHistory (state old.store) (state new.store))
+  module _ (old new : Server S X) (before after : K) (e : Event) (answer : Answer) (store : S) (session : ℕ) (step : Steps Reads state 0 old e answer new) (history : KeepsHistory (state old.store) (state new.store))
       (is_store : store ≡ new.store) (is_session : session ≡ session_of e) where
     pub told_then : {T E : Type 0} (result : Result T E) → OnOk result (k.tells before (state store) session answer after) → OnOk result (Appends (k.held before) (k.held after) (k.spelled session answer))
         → OnOk result ((t : Told) × Tells Reads state k old before e t new after)

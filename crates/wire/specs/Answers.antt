@@ -30,11 +30,11 @@ all_frames (e ∷ events) (answer ∷ answers) = frames_of e answer ++ all_frame
 pub record AnswersAll {S X K : Type 0} (Reads : ReadingRelation) (state : S → StoreState) (k : Ghosts K) (old : Server S X) (events : List Event) (before : K) (new : Server S X) (after : K) : Type 0 where
   pub answers : List Answer
   pub one_each : length answers ≡ length events
-  pub ran : Runs Reads state old events answers new
+  pub ran : Runs Reads state 0 old events answers new
   pub tells : TellsEach Reads state k old before events answers new after
   pub written : Appends (k.held before) (k.held after) (all_frames events answers)
 
 -- the first events were run, at least one, and all answers but the last were told; the telling of that one failed
 pub record AnswersSome {S X K : Type 0} (Reads : ReadingRelation) (state : S → StoreState) (k : Ghosts K) (old : Server S X) (events : List Event) (before : K) (new : Server S X) (after : K) : Type 0 where
   pub some : TellsSome Reads state k old before events new after
-  pub ran : Runs Reads state old (some.done ++ some.last ∷ []) (answers_of some.told ++ some.answer ∷ []) new
+  pub ran : Runs Reads state 0 old (some.done ++ some.last ∷ []) (answers_of some.told ++ some.answer ∷ []) new

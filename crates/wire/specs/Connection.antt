@@ -34,7 +34,7 @@ pub record BreaksBadFrame {S X K : Type 0} (state : S → StoreState) (k : Ghost
 
 -- nothing was done to the server but what events do, one after the other
 abbrev pub HasRun : {S X : Type 0} → ReadingRelation → (S → StoreState) → Server S X → Server S X → Type 0
-HasRun Reads state old new = (events : List Event) × (answers : List Answer) × Runs Reads state old events answers new
+HasRun Reads state old new = (events : List Event) × (answers : List Answer) × Runs Reads state 0 old events answers new
 
 -- ---- how far a connection has come
 

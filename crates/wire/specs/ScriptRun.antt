@@ -69,9 +69,9 @@ pub record EndsWithEvent {S X : Type 0} (Reads : ReadingRelation) (state : S →
   pub answer : Answer
   pub events_are : events ≡ before ++ last ∷ []
   pub answers_are : answers ≡ told ++ answer ∷ []
-  pub ran : Runs Reads state old before told server
+  pub ran : Runs Reads state 0 old before told server
   pub works : WorksAfter before server
-  pub step : Steps Reads state server last answer new
+  pub step : Steps Reads state 0 server last answer new
 
 -- the script ends with the event at which the server stops, or whose answer the sink did not take, and else the server works
 abbrev pub EndsAt : {S X : Type 0} → ReadingRelation → (S → StoreState) → ScriptEnd → Server S X → List Event → List Answer → Server S X → Type 0
@@ -143,7 +143,7 @@ pub record RunsLines {S X K : Type 0} (Reads : ReadingRelation) (state : S → S
   pub answers : List Answer
   pub names : Names
   pub requested : Requests [] (take count lines) events names
-  pub ran : Runs Reads state old events answers new
+  pub ran : Runs Reads state 0 old events answers new
   pub tells : TellsTo Reads state k e old before events answers new after
   pub written : Writes e (k.held before) answers (k.held after)
   pub ends : EndsAfter lines count e

@@ -30,7 +30,7 @@ answers_of (t ∷ told) = t.answer ∷ answers_of told
 
 -- the event was carried out, and then its answer was told, before anything else was done
 pub record Tells {S X K : Type 0} (Reads : ReadingRelation) (state : S → StoreState) (k : Ghosts K) (old : Server S X) (before : K) (e : Event) (t : Told) (new : Server S X) (after : K) : Type 0 where
-  pub step : Steps Reads state old e t.answer new
+  pub step : Steps Reads state 0 old e t.answer new
   pub history : KeepsHistory (state old.store) (state new.store)
   pub moment : t.moment ≡ (state new.store).time.moment
   pub told : k.tells before (state new.store) (session_of e) t.answer after
@@ -38,7 +38,7 @@ pub record Tells {S X K : Type 0} (Reads : ReadingRelation) (state : S → Store
 
 -- the event was carried out, and then the telling of its answer failed, before anything else was done
 pub record Breaks {S X K : Type 0} (Reads : ReadingRelation) (state : S → StoreState) (k : Ghosts K) (old : Server S X) (before : K) (e : Event) (answer : Answer) (new : Server S X) (after : K) : Type 0 where
-  pub step : Steps Reads state old e answer new
+  pub step : Steps Reads state 0 old e answer new
   pub history : KeepsHistory (state old.store) (state new.store)
   pub broken : k.breaks before (state new.store) (session_of e) answer after
   pub cause : Rose (k.failures before) (k.failures after)

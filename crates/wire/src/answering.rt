@@ -8,7 +8,7 @@ ghost use Rattle.wire.specs.Connection.{AnswersBadFrame, BreaksBadFrame};
 use crate::frame_sink::TakesFrames;
 use crate::telling::{answer_event, session_of};
 use server::decide::EventHandler;
-use server::server::Server;
+use server::server::{ONLY_CLIENT, Server};
 use sql_types::answer::Answer;
 use sql_types::event::Event;
 use sql_types::state::SqlState;
@@ -38,7 +38,7 @@ pub fn answer_events<S: Store, X: EventHandler, K: TakesFrames>(
         answer_event(server, &events[index], sink)?;
     }
     let event = &events[last];
-    let answer = server.step(event);
+    let answer = server.step(ONLY_CLIENT, event);
     sink.tell_last(server.store(), session_of(event), &answer)
 }
 

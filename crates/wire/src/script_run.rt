@@ -14,12 +14,12 @@ use crate::session_numbers::{SessionNumbers, event_of};
 use crate::telling::answer_event;
 use crate::text_sink::TakesText;
 use server::decide::EventHandler;
-use server::server::Server;
+use server::server::{ONLY_CLIENT, Server};
 use sql_types::event::Event;
 use std::alloc::Global;
 use store::Store;
 
-/// How many sessions are open at most: the session machine refuses to open one more.
+/// How many sessions of a client are open at most: the session machine refuses to open one more.
 const MAX_SESSIONS: usize = 256;
 
 /// How a script ended. The lines before that at which it ended were run, and whichever way it
@@ -152,7 +152,8 @@ fn run_event<S: Store, X: EventHandler, K: TakesText>(
     None
 }
 
-/// Closes the sessions that are open, the first opened first. A server that has stopped keeps them.
+/// Closes the open sessions of the one client, the first opened first. A server that has stopped keeps
+/// them.
 pub fn close_sessions<S: Store, X: EventHandler>(server: &mut Server<S, X>)
     ensures history { KeepsHistory (S.state server.old.store) (S.state server.new.store) }
     ensures closes { StandsWithinLimit S.state server.old
@@ -162,7 +163,7 @@ pub fn close_sessions<S: Store, X: EventHandler>(server: &mut Server<S, X>)
         return;
     }
     for _ in 0..MAX_SESSIONS {
-        let Some(session) = server.session_at(0) else {
+        let Some(session) = server.session_at(ONLY_CLIENT, 0) else {
             return;
         };
         close_session(server, session);
@@ -173,7 +174,7 @@ pub fn close_sessions<S: Store, X: EventHandler>(server: &mut Server<S, X>)
 fn close_session<S: Store, X: EventHandler>(server: &mut Server<S, X>, session: u32)
     ensures history { KeepsHistory (S.state server.old.store) (S.state server.new.store) }
     ensures steps { (answer : Answer)
-        × Steps X.Reads S.state server.old (Event.Close session) answer server.new }
+        × Steps X.Reads S.state 0 server.old (Event.Close session) answer server.new }
 {
-    let _answer = server.step(&Event::Close { session });
+    let _answer = server.step(ONLY_CLIENT, &Event::Close { session });
 }

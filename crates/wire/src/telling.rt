@@ -7,7 +7,7 @@ ghost use Rattle.wire.specs.Telling.{session_of, Told, Tells, Breaks};
 
 use crate::sink::Sink;
 use server::decide::EventHandler;
-use server::server::Server;
+use server::server::{ONLY_CLIENT, Server};
 use sql_types::event::Event;
 use std::io;
 use store::Store;
@@ -25,7 +25,7 @@ pub fn answer_event<S: Store, X: EventHandler, K: Sink>(
     ensures broken { OnErr result ((answer : TheAnswer) × Breaks X.Reads S.state K.Sink server.old
         sink.old event.now answer server.new sink.new) }
 {
-    let answer = server.step(event);
+    let answer = server.step(ONLY_CLIENT, event);
     sink.tell(server.store(), session_of(event), &answer)
 }
 

@@ -5,7 +5,7 @@ use crate::stops::fault::TestFault;
 use crate::stops::servers::{
     CACHE_PAGES, DeviceServer, find_and_commit, find_on, open_device, records_of,
 };
-use crate::stops::talks::Talk;
+use crate::stops::talks::AnsweredEvents;
 use crate::stores::new_in_memory;
 use sector_device::MemDevice;
 use std::alloc::Global;
@@ -31,8 +31,8 @@ impl Drop for Moment {
 
 /// The events of a script and their answers, one more commit, and the moments before the first event and after each.
 pub struct Script {
-    pub talk: Talk,
-    pub commit: Talk,
+    pub talk: AnsweredEvents,
+    pub commit: AnsweredEvents,
     moments: Vec<Moment>,
 }
 
@@ -50,9 +50,9 @@ impl Drop for Script {
 /// The moment after so many events, in memory.
 fn moment_after(
     alloc: Global,
-    talk: &Talk,
+    talk: &AnsweredEvents,
     count: usize,
-    commit: &Talk,
+    commit: &AnsweredEvents,
 ) -> Result<Moment, TestFault> {
     let mut server = open_server(alloc, new_in_memory(alloc)?)?;
     talk.give_first(alloc, count, &mut server)?;
@@ -62,7 +62,11 @@ fn moment_after(
 }
 
 /// The moments before the first event and after each, in memory.
-fn moments_of(alloc: Global, talk: &Talk, commit: &Talk) -> Result<Vec<Moment>, TestFault> {
+fn moments_of(
+    alloc: Global,
+    talk: &AnsweredEvents,
+    commit: &AnsweredEvents,
+) -> Result<Vec<Moment>, TestFault> {
     let mut moments = Vec::new(alloc);
     for count in 0..=talk.events.len() {
         moments.push(moment_after(alloc, talk, count, commit)?)?;
@@ -73,8 +77,8 @@ fn moments_of(alloc: Global, talk: &Talk, commit: &Talk) -> Result<Vec<Moment>, 
 impl Script {
     /// Runs a script of this text in memory.
     pub fn from_text(alloc: Global, text: &str) -> Result<Script, TestFault> {
-        let talk = Talk::of_script(alloc, text)?;
-        let commit = Talk::of_script(alloc, COMMIT)?;
+        let talk = AnsweredEvents::of_script(alloc, text)?;
+        let commit = AnsweredEvents::of_script(alloc, COMMIT)?;
         let moments = moments_of(alloc, &talk, &commit)?;
         Ok(Script {
             talk,

@@ -4,11 +4,12 @@
 use crate::servers::{ServerOver, open_server, try_server};
 use crate::stops::fault::TestFault;
 use crate::stops::kinds::Kind;
-use crate::stops::talks::Talk;
+use crate::stops::talks::AnsweredEvents;
 use crate::stops::work::Attempt;
 use crate::stores::{SMALL_PAGES, new_device};
 use journal_store::{DeviceStore, MAX_CACHE_PAGES};
 use sector_device::{MemDevice, WriteProtected};
+use server::server::ONLY_CLIENT;
 use sql_types::answer::Answer;
 use sql_types::event::Event;
 use std::alloc::{AllocError, Global};
@@ -31,7 +32,7 @@ pub trait Answering {
 
 impl<S: Store> Answering for ServerOver<S> {
     fn answer_to(&mut self, event: &Event) -> Answer {
-        self.step(event)
+        self.step(ONLY_CLIENT, event)
     }
 }
 
@@ -180,7 +181,7 @@ fn format_of(store: &StoreOnDevice) -> u32 {
 pub fn find_and_commit<S: Store + Drop>(
     alloc: Global,
     server: ServerOver<S>,
-    commit: &Talk,
+    commit: &AnsweredEvents,
 ) -> Result<(Vec<u8>, ServerOver<S>), TestFault> {
     let mut store = server.into_store();
     let records = scan(alloc, &mut store)?;

@@ -17,15 +17,15 @@ use std::slice::from_ref;
 const DEVICE_FAILED: &str = "refused 58030\n";
 
 /// Events, and the texts of the answers to them.
-pub struct Talk {
+pub struct AnsweredEvents {
     pub events: Vec<Event>,
     answers: Vec<String>,
 }
 
 // Written and not derived: where a value is dropped this is one call, and not its parts one by one.
-impl Drop for Talk {
+impl Drop for AnsweredEvents {
     fn drop(self) {
-        let Talk {
+        let AnsweredEvents {
             events: _,
             answers: _,
         } = self;
@@ -42,16 +42,16 @@ pub fn text_answered<S: Answering>(
     text_of_answers(alloc, from_ref(&answer))
 }
 
-impl Talk {
+impl AnsweredEvents {
     /// The events of a script, and the answers of a server in memory.
-    pub fn of_script(alloc: Global, script: &str) -> Result<Talk, TestFault> {
+    pub fn of_script(alloc: Global, script: &str) -> Result<AnsweredEvents, TestFault> {
         let events = events_of(alloc, script)?;
         let mut server = open_server(alloc, new_in_memory(alloc)?)?;
         let mut answers = Vec::new(alloc);
         for event in &events {
             answers.push(text_answered(alloc, &mut server, event)?)?;
         }
-        Ok(Talk { events, answers })
+        Ok(AnsweredEvents { events, answers })
     }
 
     /// Gives a server the event at an index, and tells whether it was answered, which it was where the answer is not 58030. It

@@ -22,10 +22,10 @@ returns-then-has_stopped-clause-closes g c within = stopped_closes g.X.EventHand
 
 pub returns-in_default-clause-closes : goal.returns-in_default-clause-closes
 returns-in_default-clause-closes g c within =
-    closes_all g.X.EventHandler.Reads g.S.Map.state c.args.server.now c.loop.server c.loop.counter (sym c.if-has_stopped.ensures.stopped) within.0 c.loop.invariant.closed
-    (none_left g.X.EventHandler.Reads g.S.Map.state c.args.server.now c.loop.server c.loop.counter c.in_default.ensures)
+    closes_all g.X.EventHandler.Reads g.S.Map.state c.args.server.now c.loop.server c.loop.counter (sym c.if-has_stopped.ensures.stopped) within c.loop.invariant.closed
+    (none_left g.X.EventHandler.Reads g.S.Map.state c.args.server.now c.loop.server c.loop.counter within c.in_default.ensures)
 
 pub returns-clause-closes : goal.returns-clause-closes
 returns-clause-closes g c within =
-    closes_all g.X.EventHandler.Reads g.S.Map.state c.args.server.now c.loop.server c.loop.counter (sym c.if-has_stopped.ensures.stopped) within.0 c.loop.invariant.closed
+    closes_all g.X.EventHandler.Reads g.S.Map.state c.args.server.now c.loop.server c.loop.counter (sym c.if-has_stopped.ensures.stopped) within c.loop.invariant.closed
     (limit_reached g.X.EventHandler.Reads g.S.Map.state c.args.server.now c.loop.server c.loop.counter (omega arith) within)

@@ -11,7 +11,7 @@ pub returns-in-Ok-clause-attempts : goal.returns-in-Ok-clause-attempts
 returns-in-Ok-clause-attempts g c sound runs db holder w =
     let old = c.args.self.now in
     let state = g.S.Map.state in
-    let e = event_of c.args.event.now in
+    let e = event_of c.args.client c.args.event.now in
     let read = c.in-Ok.ensures.read in
     let reads = read.only_reads in
     let same = (reads.unchanged sound).map in
@@ -31,7 +31,7 @@ pub returns-in-Err-clause-attempts : goal.returns-in-Err-clause-attempts
 returns-in-Err-clause-attempts g c sound runs db holder w =
     let old = c.args.self.now in
     let state = g.S.Map.state in
-    let e = event_of c.args.event.now in
+    let e = event_of c.args.client c.args.event.now in
     subst (λ (f : StoreFault). Performs g.X.EventHandler.Reads state old (after_reads old c.decide-decided.new.map) db holder e (Err f)) (sym c.store_fault.ensures)
     (decide_err g.X.EventHandler.Reads state old c.decide-decided.new.map db holder e c.in-Err.fault sound (λ x left. g.met.S.Store.settled old.store x sound w.unfailed left) w runs
     c.in-Err.ensures.read (c.in-Err.ensures.decides sound db holder w.committed w.held w.in_block))

@@ -21,7 +21,7 @@ loop-event-preserved g c =
       told = (
         told.0 ++ c.step-answer.result ∷ [],
         c.in-Ok.ensures.items ∙ ap (λ items. items ++ c.step-answer.result ∷ []) told.1 ∙ append_assoc c.args.answers.now.items told.0 (c.step-answer.result ∷ []),
-        rw at (runs_more g.X.EventHandler.Reads state first mid new (take c.loop-event.event-index c.args.events.now) told.0 event c.step-answer.result c.loop-event.invariant.history.sound
+        rw at (runs_more g.X.EventHandler.Reads state c.args.client first mid new (take c.loop-event.event-index c.args.events.now) told.0 event c.step-answer.result c.loop-event.invariant.history.sound
             told.2 c.step-answer.ensures.steps),
       );
     }

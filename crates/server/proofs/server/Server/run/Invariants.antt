@@ -11,5 +11,5 @@ invariant-loop-event g l =
       room : vec_len l.answers + length l.events ≤ vec_capacity l.answers + l.event-index;
       count : length l.answers.items ≡ length l.fn.answers.items + l.event-index;
       history : KeepsHistory (state l.fn.self.store) (state l.self.store);
-      told : (told : List Answer) × (l.answers.items ≡ l.fn.answers.items ++ told) × Runs g.X.EventHandler.Reads state l.fn.self (take l.event-index l.events) told l.self;
+      told : (told : List Answer) × (l.answers.items ≡ l.fn.answers.items ++ told) × Runs g.X.EventHandler.Reads state l.fn.client l.fn.self (take l.event-index l.events) told l.self;
     }

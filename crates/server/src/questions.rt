@@ -1,0 +1,87 @@
+//! What a server tells of itself, and the end of a client's sessions.
+
+ghost use Rattle.std.specs.Prelude.{◌≡◌, Option, None, Ok, true, false};
+ghost use Rattle.std.specs.Option.{option_map};
+ghost use Rattle.store.specs.Store.{KeepsHistory};
+ghost use Rattle.abstract_database.specs.Machine.{number_in, session_of};
+ghost use Rattle.abstract_database.specs.Runs.{At};
+ghost use Rattle.server.specs.Clients.{client_session, HasNoneOpen, ClosesNext};
+ghost use Rattle.server.specs.LockedOut.{TellsLockedOut};
+ghost use Rattle.server.specs.Session.{block_state};
+ghost use Rattle.server.specs.Standing.{Represents, event_of};
+
+use crate::decide::{Context, EventHandler};
+use crate::numbers::{ClientSession, client_session, number_in};
+use crate::server::Server;
+use crate::session::BlockState;
+use sql_types::event::Event;
+use std::alloc::AllocError;
+use store::Store;
+
+impl<S: Store, X: EventHandler> Server<S, X> {
+    /// Whether a client's session is in a block, or `None` where it is not open.
+    pub fn block_state(&self, client: u32, session: u32) -> Option<BlockState>
+        ensures { (w : At) → Represents S.state self.now w
+            → result ≡ option_map (λ s. block_state s.block)
+            (session_of (number_in client session) w.standing.machine.sessions) }
+    {
+        let session = self.sessions.get(&number_in(client, session))?;
+        Some(session.block_state())
+    }
+
+    /// The session that holds the writer lock, or `None` where none does or the server has stopped.
+    pub fn holder(&self) -> Option<ClientSession>
+        ensures stopped { self.now.stopped ≡ true → result ≡ None }
+        ensures running { self.now.stopped ≡ false → (w : At) → Represents S.state self.now w
+            → result ≡ option_map (λ h. client_session h.session) w.standing.machine.holder }
+    {
+        if self.stopped {
+            return None;
+        }
+        match &self.writer {
+            Some(writer) => Some(client_session(writer.session)),
+            None => None,
+        }
+    }
+
+    /// Whether an event of this client is a statement that `step` would refuse with
+    /// `LockNotAvailable` since another session holds the writer lock: it would if it finds memory
+    /// and its store's device does not fail. The only error is that an allocation failed. It comes
+    /// only for a statement in an open session while another session holds the writer lock.
+    pub fn is_locked_out(&self, client: u32, event: &Event) -> Result<bool, AllocError>
+        ensures stopped { self.now.stopped ≡ true → result ≡ Ok false }
+        ensures tells { (w : At) → Represents S.state self.now w
+            → TellsLockedOut X.Reads w.standing.machine (event_of client event.now) result }
+    {
+        if self.stopped {
+            return Ok(false);
+        }
+        let context = Context {
+            catalogue: &self.catalogue,
+            writer: &self.writer,
+            sessions: &self.sessions,
+        };
+        self.handler
+            .is_locked_out(self.alloc, context, client, event)
+    }
+
+    /// Closes the first session that this client has open, in the order of opening, and tells whether
+    /// it did. `false` only where the client has none open, or the server has stopped, which closes
+    /// none.
+    pub fn close_next(&mut self, client: u32) -> bool
+        ensures history { KeepsHistory (S.state self.old.store) (S.state self.new.store) }
+        ensures closed { result ≡ true → ClosesNext X.Reads S.state client self.old self.new }
+        ensures kept { result ≡ false → self.new ≡ self.old }
+        ensures none { result ≡ false → self.old.stopped ≡ false
+            → HasNoneOpen S.state client self.old }
+    {
+        if self.stopped {
+            return false;
+        }
+        let Some(session) = self.session_at(client, 0) else {
+            return false;
+        };
+        let _answer = self.step(client, &Event::Close { session });
+        true
+    }
+}
