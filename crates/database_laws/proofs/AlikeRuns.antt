@@ -170,7 +170,7 @@ module _ (number : ℕ) (pairs : UserPair → Bool) where
     refused_at code (Inside role) kept = record { answers = refl; move = change (in_block (Failed role) s) (record { now = own.now; reset = own.reset; rolled_back = kept }) }
     refused_at code (Failed role) kept = record { answers = refl; move = stay }
 
-    refused_both : (code : SqlState) → Both (refused m number s code) (refused k number s code)
+    pub refused_both : (code : SqlState) → Both (refused m number s code) (refused k number s code)
     refused_both code = refused_at code s.block own.rolled_back
 
     settled : (r q : Result Transition SqlState) → DoAlike r q → Both (transition_or_refusal m number s r) (transition_or_refusal k number s q)
@@ -316,7 +316,7 @@ module _ (number : ℕ) (pairs : UserPair → Bool) where
     StepIn reading = IsException number m k (executes number reading) ⊎ Both (execute_in m number s reading) (execute_in k number s reading)
 
     module _ (there : session_of number m.sessions ≡ Some s) (on : m.stopped ≡ false) where
-      answer_of : (n : Machine) → session_of number n.sessions ≡ Some s → n.stopped ≡ false → (reading : Reading) → answer_to n (executes number reading) ≡ (execute_in n number s reading).answer
+      pub answer_of : (n : Machine) → session_of number n.sessions ≡ Some s → n.stopped ≡ false → (reading : Reading) → answer_to n (executes number reading) ≡ (execute_in n number s reading).answer
       answer_of n at running reading =
           ap (λ (b : Bool). (cond b (refuses n IoError) (running_transition n (executes number reading))).answer) running
           ∙ ap (λ (o : Option Session). (execute n number reading o).answer) at
@@ -349,7 +349,7 @@ module _ (number : ℕ) (pairs : UserPair → Bool) where
       same_code c i e = cc
 
       -- one that is not refused so is not answered so
-      not_told : (n : Machine) (x : DatabaseStatement) (v : Unit {0}) (code : SqlState) → session_of number n.sessions ≡ Some s → n.stopped ≡ false → may_execute n number s (statement.OnDatabase x) ≡ Ok v →
+      pub not_told : (n : Machine) (x : DatabaseStatement) (v : Unit {0}) (code : SqlState) → session_of number n.sessions ≡ Some s → n.stopped ≡ false → may_execute n number s (statement.OnDatabase x) ≡ Ok v →
           (r : Result Effect SqlState) → exec (seen n number) pair x ≡ r → (r ≡ Err code → ⊥) → answer_to n (shown x) ≡ answer.Refused code → ⊥
       not_told n x v code at running free (Ok p) is other e = exec_answers (seen n number) pair x p is code (sym (answer_of n at running (Ok (statement.OnDatabase x)) ∙ carried_with n x v p free is) ∙ e)
       not_told n x v code at running free (Err c) is other e = other (ap (λ (i : SqlState). Err i) (same_code c code (sym (answer_of n at running (Ok (statement.OnDatabase x)) ∙ refused_with n x v c free is) ∙ e)))

@@ -14,7 +14,7 @@ use Rattle.abstract_database.specs.Lists.{TheName}
 use Rattle.abstract_database.specs.Database.{Database}
 use Rattle.abstract_database.specs.Roles.{may_log_in}
 use Rattle.abstract_database.specs.Statements.{Effect, exec}
-use Rattle.abstract_database.specs.Machine.{Block, Outside, Inside, Failed, Session, Event, opens, executes, closes, Reading, Machine, Holder, Transition, refuses, succeeds, session_of, with_session, users_of, as_role, in_block, with_block_ended, with_session_changed, released, seen, close_session, after_refusal, refused, changes_database, has_failed, may_execute, begin, commit, rollback, with_changes, applied, execute_in, execute, running_transition, transition}
+use Rattle.abstract_database.specs.Machine.{client_of, own_sessions, Block, Outside, Inside, Failed, Session, Event, opens, executes, closes, Reading, Machine, Holder, Transition, refuses, succeeds, session_of, with_session, users_of, as_role, in_block, with_block_ended, with_session_changed, released, seen, close_session, after_refusal, refused, changes_database, has_failed, may_execute, begin, commit, rollback, with_changes, applied, execute_in, execute, running_transition, transition}
 use Rattle.abstract_database.specs.Runs.{IsHeldBy}
 use Rattle.abstract_database.proofs.ResultLemmas.{bind_ok, ok_inside, require_ok}
 use Rattle.database_laws.specs.Blocks.{IsOpen, executed, IsRefused, IsCommittedBy, by_commit, by_statement, IsCommittedAt, IsWritten, HasEnded, writes_take_effect}
@@ -104,7 +104,7 @@ open_stays m number login false false true = refl
 open_stays m number login false false false = refl
 
 running_makes : (m : Machine) (event : Event Reading) → m.stopped ≡ false → ((running_transition m event).machine.committed ≡ m.committed) ⊎ IsCommittedAt m event (running_transition m event).machine.committed
-running_makes m (opens number login) k = inl (open_stays m number login (is_some (session_of number m.sessions)) (nat_le 256 (length m.sessions)) (may_log_in m.committed login))
+running_makes m (opens number login) k = inl (open_stays m number login (is_some (session_of number m.sessions)) (nat_le 256 (length (own_sessions (client_of number) m.sessions))) (may_log_in m.committed login))
 running_makes m (executes number reading) k = execute_makes m number reading k (session_of number m.sessions) refl
 running_makes m (closes number) k = inl (close_stays m number (session_of number m.sessions))
 

@@ -51,6 +51,10 @@ pub mod AllAlikeRows
 pub mod AllAlikeDefinitions
 pub mod AlikeRuns
 pub mod RunsAlike
+pub mod CodeLemmas
+pub mod StatementCodes
+pub mod CrowdLemmas
+pub mod RefusedAlike
 pub mod OthersLeftOut
 pub mod ClosedLemmas
 pub mod ToldApart

@@ -4,7 +4,7 @@ use Rattle.sql_types.specs.declared.state.SqlState.TheVariants.{InvalidAuthoriza
 use Rattle.sql_types.specs.declared.tag.Tag.TheVariants as tag
 use Rattle.abstract_database.specs.Lists.{TheName}
 use Rattle.abstract_database.specs.Roles.{may_log_in}
-use Rattle.abstract_database.specs.Machine.{Outside, Session, Machine, refuses, succeeds, session_of, with_session_changed, open_session}
+use Rattle.abstract_database.specs.Machine.{client_of, own_sessions, Outside, Session, Machine, refuses, succeeds, session_of, with_session_changed, open_session}
 
 -- the committed database, the slot, and whether the machine has stopped, are as before
 pub record Same (m after : Machine) : Type 0 where
@@ -26,4 +26,4 @@ open_same m number login false false true = session_only m number (record { logi
 open_same m number login false false false = itself m
 
 pub opened_same : (m : Machine) (number : ℕ) (login : TheName) → Same m (open_session m number login).machine
-opened_same m number login = open_same m number login (is_some (session_of number m.sessions)) (nat_le 256 (length m.sessions)) (may_log_in m.committed login)
+opened_same m number login = open_same m number login (is_some (session_of number m.sessions)) (nat_le 256 (length (own_sessions (client_of number) m.sessions))) (may_log_in m.committed login)

@@ -8,7 +8,7 @@ use Rattle.sql_ast.specs.declared.role.Role.{Role}
 use Rattle.abstract_database.specs.Lists.{TheName}
 use Rattle.abstract_database.specs.Database.{is_role_named}
 use Rattle.abstract_database.specs.Roles.{may_log_in}
-use Rattle.abstract_database.specs.Machine.{Outside, opens, Machine, Transition, refuses, succeeds, session_of, with_session_changed, transition}
+use Rattle.abstract_database.specs.Machine.{client_of, own_sessions, Outside, opens, Machine, Transition, refuses, succeeds, session_of, with_session_changed, transition}
 use Rattle.abstract_database.proofs.ElementLemmas.{any_found, any_holds}
 use Rattle.abstract_database.proofs.ListLemmas.{bytes_same, same_bytes}
 use Rattle.database_laws.specs.Blocks.{IsRefused}
@@ -41,7 +41,7 @@ module _ (m : Machine) (number : ℕ) (login : TheName) where
   opened_for false false false false h = absurd (h (InvalidAuthorization, refl))
 
   pub opens_for_login : (IsRefused (transition m (opens number login)) → ⊥) → HasLogin m.committed login
-  opens_for_login h = a_login (opened_for m.stopped (is_some (session_of number m.sessions)) (nat_le 256 (length m.sessions)) (may_log_in m.committed login) h)
+  opens_for_login h = a_login (opened_for m.stopped (is_some (session_of number m.sessions)) (nat_le 256 (length (own_sessions (client_of number) m.sessions))) (may_log_in m.committed login) h)
 
   authorized_at : (stopped in_use many may : Bool) → may ≡ true → (opened stopped in_use many may).answer ≡ answer.Refused InvalidAuthorization → ⊥
   authorized_at true in_use many may is e = cc
@@ -51,4 +51,4 @@ module _ (m : Machine) (number : ℕ) (login : TheName) where
   authorized_at false false false false is e = cc
 
   pub authorized : HasLogin m.committed login → (transition m (opens number login)).answer ≡ answer.Refused InvalidAuthorization → ⊥
-  authorized l e = authorized_at m.stopped (is_some (session_of number m.sessions)) (nat_le 256 (length m.sessions)) (may_log_in m.committed login) (login_told l) e
+  authorized l e = authorized_at m.stopped (is_some (session_of number m.sessions)) (nat_le 256 (length (own_sessions (client_of number) m.sessions))) (may_log_in m.committed login) (login_told l) e

@@ -10,7 +10,7 @@ use Rattle.expressions.specs.Stages.{◌>>=◌, require}
 use Rattle.abstract_database.specs.Lists.{TheName}
 use Rattle.abstract_database.specs.Roles.{may_log_in}
 use Rattle.abstract_database.specs.Statements.{Effect}
-use Rattle.abstract_database.specs.Machine.{Block, Outside, Inside, Failed, Session, Event, opens, executes, closes, Reading, Machine, Transition, refuses, succeeds, session_of, users_of, in_block, with_session_changed, seen, close_session, after_refusal, refused, transition_or_refusal, changes_database, has_failed, begin, commit, rollback, applied, execute_in, execute, running_transition, transition}
+use Rattle.abstract_database.specs.Machine.{client_of, own_sessions, Block, Outside, Inside, Failed, Session, Event, opens, executes, closes, Reading, Machine, Transition, refuses, succeeds, session_of, users_of, in_block, with_session_changed, seen, close_session, after_refusal, refused, transition_or_refusal, changes_database, has_failed, begin, commit, rollback, applied, execute_in, execute, running_transition, transition}
 use Rattle.database_laws.specs.Blocks.{IsOpen, executed, IsRefused, IsInBlock}
 use Rattle.database_laws.proofs.EffectLemmas.{Answers}
 use Rattle.database_laws.proofs.StatementLemmas.{exec_answers}
@@ -95,7 +95,7 @@ open_left m number login false false true = λ (code, r). cc
 open_left m number login false false false = λ r. refl
 
 running_left : (m : Machine) (event : Event Reading) → m.stopped ≡ false → (IsInBlock m event → ⊥) → IsRefused (running_transition m event) → (running_transition m event).machine ≡ m
-running_left m (opens number login) k h r = open_left m number login (is_some (session_of number m.sessions)) (nat_le 256 (length m.sessions)) (may_log_in m.committed login) r
+running_left m (opens number login) k h r = open_left m number login (is_some (session_of number m.sessions)) (nat_le 256 (length (own_sessions (client_of number) m.sessions))) (may_log_in m.committed login) r
 running_left m (executes number reading) k h r = execute_left m number reading (session_of number m.sessions) (λ s at role b. h (s, record { running = k; session = at }, (role, b))) r
 running_left m (closes number) k h r = close_left m number (session_of number m.sessions) r
 

@@ -6,7 +6,7 @@ use Rattle.sql_ast.specs.declared.statement.Statement.{Statement}
 use Rattle.abstract_database.specs.Lists.{TheName}
 use Rattle.abstract_database.specs.Database.{Database}
 use Rattle.abstract_database.specs.Roles.{may_log_in}
-use Rattle.abstract_database.specs.Machine.{Outside, Session, Event, opens, executes, closes, Reading, Machine, Transition, refuses, succeeds, session_of, with_session_changed, is_held_by_other, open_session, close_session, is_writing, execute, execute_in, running_transition, transition}
+use Rattle.abstract_database.specs.Machine.{client_of, own_sessions, Outside, Session, Event, opens, executes, closes, Reading, Machine, Transition, refuses, succeeds, session_of, with_session_changed, is_held_by_other, open_session, close_session, is_writing, execute, execute_in, running_transition, transition}
 use Rattle.database_laws.specs.Invariants.{IsSound}
 use Rattle.database_laws.specs.HiddenRuns.{as_itself, MachinesAlikeForSession, AreSound, answer_to, after, IsException}
 use Rattle.database_laws.proofs.LastingLemmas.{transition_holds}
@@ -23,13 +23,13 @@ module _ (number : ℕ) (pairs : UserPair → Bool) where
   Step m k event = IsException number m k event ⊎ Alike number pairs m k (transition m event) (transition k event)
 
   module _ (m k : Machine) (st : MachinesAlikeForSession number pairs m k) (on_m : AreSound m) (on_k : AreSound k) where
-    stopped_both : (event : Event Reading) → m.stopped ≡ true → Alike number pairs m k (transition m event) (transition k event)
+    pub stopped_both : (event : Event Reading) → m.stopped ≡ true → Alike number pairs m k (transition m event) (transition k event)
     stopped_both event on =
         subst (λ (t : Transition). Alike number pairs m k t (transition k event)) (sym (ap (λ (b : Bool). cond b (refuses m IoError) (running_transition m event)) on))
         (subst (λ (u : Transition). Alike number pairs m k (refuses m IoError) u) (sym (ap (λ (b : Bool). cond b (refuses k IoError) (running_transition k event)) (sym st.stopped ∙ on)))
         (record { answers = refl; move = stay }))
 
-    running_both : (event : Event Reading) (t u : Transition) → m.stopped ≡ false → running_transition m event ≡ t → running_transition k event ≡ u → Alike number pairs m k t u → Alike number pairs m k (transition m event) (transition k event)
+    pub running_both : (event : Event Reading) (t u : Transition) → m.stopped ≡ false → running_transition m event ≡ t → running_transition k event ≡ u → Alike number pairs m k t u → Alike number pairs m k (transition m event) (transition k event)
     running_both event t u on is is_k both =
         subst (λ (x : Transition). Alike number pairs m k x (transition k event)) (sym (ap (λ (b : Bool). cond b (refuses m IoError) (running_transition m event)) on ∙ is))
         (subst (λ (x : Transition). Alike number pairs m k t x) (sym (ap (λ (b : Bool). cond b (refuses k IoError) (running_transition k event)) (sym st.stopped ∙ on) ∙ is_k)) both)
@@ -68,15 +68,15 @@ module _ (number : ℕ) (pairs : UserPair → Bool) where
     opened_as l false false true own = record { answers = refl; move = change (record { login = l; role = l; block = Outside }) (record { now = own refl; reset = own refl; rolled_back = tt }) }
     opened_as l false false false own = record { answers = refl; move = stay }
 
-    abbrev opening : TheName → Machine → Bool → Bool → Bool → Transition
+    abbrev pub opening : TheName → Machine → Bool → Bool → Bool → Transition
     opening l n a b c = cond a (refuses n ConnectionNameInUse) (cond b (refuses n TooManyConnections) (cond c (succeeds tag.Open (with_session_changed n number (record { login = l; role = l; block = Outside }))) (refuses n InvalidAuthorization)))
 
-    pub opened : (l : TheName) → (may_log_in m.committed l ≡ true → pairs (as_itself l) ≡ true) → nat_le 256 (length m.sessions) ≡ nat_le 256 (length k.sessions) → Step m k (opens number l)
+    pub opened : (l : TheName) → (may_log_in m.committed l ≡ true → pairs (as_itself l) ≡ true) → nat_le 256 (length (own_sessions (client_of number) m.sessions)) ≡ nat_le 256 (length (own_sessions (client_of number) k.sessions)) → Step m k (opens number l)
     opened l own room = by_stop (opens number l) (λ on. inr (running_both (opens number l) (open_session m number l) (open_session k number l) on refl refl
-        (subst (λ (a : Bool). Alike number pairs m k (open_session m number l) (opening l k a (nat_le 256 (length k.sessions)) (may_log_in k.committed l))) (ap (λ (o : Option Session). is_some o) st.session)
+        (subst (λ (a : Bool). Alike number pairs m k (open_session m number l) (opening l k a (nat_le 256 (length (own_sessions (client_of number) k.sessions))) (may_log_in k.committed l))) (ap (λ (o : Option Session). is_some o) st.session)
         (subst (λ (b : Bool). Alike number pairs m k (open_session m number l) (opening l k (is_some (session_of number m.sessions)) b (may_log_in k.committed l))) room
-        (subst (λ (c : Bool). Alike number pairs m k (open_session m number l) (opening l k (is_some (session_of number m.sessions)) (nat_le 256 (length m.sessions)) c)) (ap (λ (db : Database). may_log_in db l) st.committed.definitions)
-        (opened_as l (is_some (session_of number m.sessions)) (nat_le 256 (length m.sessions)) (may_log_in m.committed l) own)))))) m.stopped refl
+        (subst (λ (c : Bool). Alike number pairs m k (open_session m number l) (opening l k (is_some (session_of number m.sessions)) (nat_le 256 (length (own_sessions (client_of number) m.sessions))) c)) (ap (λ (db : Database). may_log_in db l) st.committed.definitions)
+        (opened_as l (is_some (session_of number m.sessions)) (nat_le 256 (length (own_sessions (client_of number) m.sessions))) (may_log_in m.committed l) own)))))) m.stopped refl
 
     closed_at : (o : Option Session) → (close_session m number o).answer ≡ (close_session k number o).answer
     closed_at None = refl

@@ -10,7 +10,7 @@ use Rattle.abstract_database.specs.Lists.{TheName}
 use Rattle.abstract_database.specs.Database.{Database, has_role}
 use Rattle.abstract_database.specs.Roles.{may_log_in, may_set_role}
 use Rattle.abstract_database.specs.Statements.{Effect}
-use Rattle.abstract_database.specs.Machine.{Block, Outside, Inside, Failed, Session, Event, opens, executes, closes, Reading, Machine, Transition, refuses, succeeds, session_of, with_session, without_session, in_block, as_role, with_session_changed, seen, close_session, after_refusal, changes_database, begin, with_role_set, commit, rollback, with_changes, applied, execute_in, execute, running_transition}
+use Rattle.abstract_database.specs.Machine.{client_of, own_sessions, Block, Outside, Inside, Failed, Session, Event, opens, executes, closes, Reading, Machine, Transition, refuses, succeeds, session_of, with_session, without_session, in_block, as_role, with_session_changed, seen, close_session, after_refusal, changes_database, begin, with_role_set, commit, rollback, with_changes, applied, execute_in, execute, running_transition}
 use Rattle.abstract_database.proofs.ResultLemmas.{ok_inside, bind_ok}
 use Rattle.database_laws.specs.Sessions.{number_of, IsFollowedBy, other_sessions_stay, blocks_keep_their_role}
 use Rattle.database_laws.proofs.BlockLemmas.{executed_in, Sort, commits, rolls_back, is_ordinary, sort_of, ordinary, Outcome, is_refused, is_performed, outcome, Performed, has_committed, has_rolled_back, has_begun, has_set, has_reset, has_worked, performed_as}
@@ -171,7 +171,7 @@ module _ (m : Machine) (other : ℕ) where
   execute_stays number apart reading (Some s) = other_after m number s (execute_in m number s reading) other apart (after_reading m number s reading)
 
   running_stays : (event : Event Reading) → nat_eq other (number_of event) ≡ false → Stays (running_transition m event)
-  running_stays (opens number login) apart = open_stays number apart login (is_some (session_of number m.sessions)) (nat_le 256 (length m.sessions)) (may_log_in m.committed login)
+  running_stays (opens number login) apart = open_stays number apart login (is_some (session_of number m.sessions)) (nat_le 256 (length (own_sessions (client_of number) m.sessions))) (may_log_in m.committed login)
   running_stays (executes number reading) apart = execute_stays number apart reading (session_of number m.sessions)
   running_stays (closes number) apart = close_stays number apart (session_of number m.sessions)
 

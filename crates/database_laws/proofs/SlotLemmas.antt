@@ -15,7 +15,7 @@ use Rattle.expressions.specs.Stages.{◌>>=◌, require}
 use Rattle.abstract_database.specs.Database.{Database, has_role}
 use Rattle.abstract_database.specs.Roles.{may_log_in}
 use Rattle.abstract_database.specs.Statements.{Effect, exec}
-use Rattle.abstract_database.specs.Machine.{Block, Outside, Inside, Failed, Session, Event, opens, executes, closes, Reading, Machine, Holder, Transition, refuses, succeeds, session_of, users_of, as_role, with_session_changed, is_held_by_other, released, seen_by, seen, open_session, close_session, after_refusal, transition_or_refusal, is_writing, sets_role, has_failed, keeps_role, may_execute, begin, with_role_set, commit, rollback, applied, where_admitted, changes_database, execute_of_session, execute_in, execute, running_transition, transition}
+use Rattle.abstract_database.specs.Machine.{client_of, own_sessions, Block, Outside, Inside, Failed, Session, Event, opens, executes, closes, Reading, Machine, Holder, Transition, refuses, succeeds, session_of, users_of, as_role, with_session_changed, is_held_by_other, released, seen_by, seen, open_session, close_session, after_refusal, transition_or_refusal, is_writing, sets_role, has_failed, keeps_role, may_execute, begin, with_role_set, commit, rollback, applied, where_admitted, changes_database, execute_of_session, execute_in, execute, running_transition, transition}
 use Rattle.database_laws.specs.Sessions.{number_of}
 use Rattle.abstract_database.proofs.ResultLemmas.{require_ok, Every, every_bind, every_ok}
 use Rattle.database_laws.proofs.MachineLemmas.{Same, opened_same}
@@ -256,7 +256,7 @@ not_mine false mine theirs e = refl
 running_unseen : (m : Machine) (h : Holder) (mine yours : Database) (event : Event Reading) → (h.session == number_of event) ≡ false →
     (running_transition (holding m h mine) event).answer ≡ (running_transition (holding m h yours) event).answer
 running_unseen m h mine yours (opens number login) e =
-    open_answers (holding m h mine) (holding m h yours) number login (is_some (session_of number m.sessions)) (nat_le 256 (length m.sessions)) (may_log_in m.committed login)
+    open_answers (holding m h mine) (holding m h yours) number login (is_some (session_of number m.sessions)) (nat_le 256 (length (own_sessions (client_of number) m.sessions))) (may_log_in m.committed login)
 running_unseen m h mine yours (executes number reading) e =
     execute_same (holding m h mine) (holding m h yours) number (not_mine (h.session == number) mine m.committed e ∙ sym (not_mine (h.session == number) yours m.committed e)) refl reading (session_of number m.sessions)
 running_unseen m h mine yours (closes number) e =

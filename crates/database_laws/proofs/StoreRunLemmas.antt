@@ -3,7 +3,7 @@ use Rattle.std.proofs.Common.{◌≤◌, ◌<◌, ℕ, List, [], ◌∷◌, leng
 use Rattle.std.proofs.Math.Nat.{le_trans, le_refl}
 use Rattle.sql_types.specs.declared.answer.Answer.{Answer}
 use Rattle.abstract_database.specs.Lists.{TheName}
-use Rattle.abstract_database.specs.Machine.{Session, Event, opens, executes, closes, Machine, session_of}
+use Rattle.abstract_database.specs.Machine.{client_of, own_sessions, Session, Event, opens, executes, closes, Machine, session_of}
 use Rattle.abstract_database.specs.Runs.{TheText, ReadingRelation, Counts, Commits, IsStep, by_transition, for_memory, for_space, for_number, for_device, RanBy, Stops, IsFoundAt, At, Happens}
 use Rattle.database_laws.specs.Runs.{Next}
 use Rattle.database_laws.specs.StoreRuns.{ReadsNoLongText}
@@ -22,7 +22,7 @@ module _ (Reads : ReadingRelation) (old new : Counts) (m after : Machine) (answe
   long_is_own bound number text long (for_number a b may greatest) = absurd (no_commit bound number text long (session_of number m.sessions) may.1)
   long_is_own bound number text long (for_device t is may a b failed) = absurd (long may.1)
 
-  pub full_is_own : (number : ℕ) (login : TheName) → (length m.sessions < 256 → ⊥) → IsStep Reads old new m (opens number login) answer after → Next Reads m (opens number login) answer after
+  pub full_is_own : (number : ℕ) (login : TheName) → (length (own_sessions (client_of number) m.sessions) < 256 → ⊥) → IsStep Reads old new m (opens number login) answer after → Next Reads m (opens number login) answer after
   full_is_own number login full (by_transition is) = is
   full_is_own number login full (for_memory a b may) = absurd (full may.2)
   full_is_own number login full (for_space a b may rises) = absurd may

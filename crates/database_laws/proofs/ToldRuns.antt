@@ -6,21 +6,24 @@ use Rattle.sql_types.specs.declared.state.SqlState.TheVariants.{ConnectionNameIn
 use Rattle.sql_types.specs.declared.tag.Tag.TheVariants as tag
 use Rattle.sql_ast.specs.declared.statement.Statement.{Statement}
 use Rattle.sql_ast.specs.declared.statement.Statement.TheVariants as statement
+use Rattle.sql_ast.specs.declared.statement.DatabaseStatement.{DatabaseStatement}
 use Rattle.sql_ast.specs.declared.statement.SetRole.{SetRole}
 use Rattle.sql_ast.specs.declared.statement.SessionStatement.TheVariants as of_session
 use Rattle.abstract_database.specs.Lists.{TheName}
 use Rattle.abstract_database.specs.Database.{Database}
 use Rattle.abstract_database.specs.Roles.{may_log_in}
 use Rattle.abstract_database.specs.Statements.{UserPair}
-use Rattle.abstract_database.specs.Machine.{Outside, Session, Event, opens, executes, closes, Reading, Machine, Holder, Transition, refuses, succeeds, machine_over, session_of, without_session, with_session_changed, users_of, may_execute, with_role_set, is_held_by_other, released, seen_by, seen, close_session, is_writing, execute, execute_in, running_transition, transition}
+use Rattle.abstract_database.specs.Machine.{client_of, own_sessions, Outside, Session, Event, opens, executes, closes, Reading, Machine, Holder, Transition, refuses, succeeds, machine_over, session_of, without_session, with_session_changed, users_of, may_execute, with_role_set, is_held_by_other, released, seen_by, seen, close_session, changes_database, is_writing, execute, execute_in, running_transition, transition}
 use Rattle.abstract_database.proofs.ResultLemmas.{Every}
 use Rattle.database_laws.specs.Sessions.{number_of}
-use Rattle.database_laws.specs.HiddenRuns.{SameApparentRowsForPairs, holds_slot, MachinesAlikeForSession, AreSound, after, IsException}
-use Rattle.database_laws.specs.Told.{Tenant, entries_of, AllFor, IsAlikeTo, Act, happens, declares, restarts, follows, is_of, OpensItsOwn, OthersKeepOutOfSight, noticed, by_slot, by_number, by_role, IsExceptionFor, IsAnsweredAlike, IsToldAlike, all_told, told_apart, told_alike, declared, untold_here, untold_there, what_a_tenant_is_told}
+use Rattle.database_laws.specs.HiddenRuns.{SameApparentRowsForPairs, holds_slot, MachinesAlikeForSession, AreSound, answer_to, after, IsException}
+use Rattle.database_laws.specs.Told.{Tenant, entries_of, AllFor, IsAlikeTo, Act, happens, declares, restarts, follows, is_of, OpensItsOwn, OthersKeepOutOfSight, noticed, by_slot, by_number, by_role, IsExceptionFor, IsRefusedAlike, IsAnsweredAlike, IsToldAlike, all_told, told_apart, told_alike, declared, untold_here, untold_there, what_a_tenant_is_told}
 use Rattle.database_laws.proofs.TenantSessions.{looked, with_other, without_other, with_both, without_both, all_found, after_with, after_without}
 use Rattle.database_laws.proofs.SessionLemmas.{SessionsAfter, all_stay, one_changes, after_reading}
 use Rattle.database_laws.proofs.AlikeRuns.{MoveAlike, stay, change, end, commit_at_once, hold, moved, ReadsWithin, SetsWithin, seen_where}
 use Rattle.database_laws.proofs.RunsAlike.{Step, sound_after, executed, opened, closes_alike}
+use Rattle.database_laws.proofs.CrowdLemmas.{locked_out, crowded_out}
+use Rattle.database_laws.proofs.RefusedAlike.{one_refusal_or_not, refused_moves}
 use Rattle.database_laws.proofs.OthersLeftOut.{turns, all_back, alike_after_others}
 use Rattle.database_laws.proofs.UnseenEvents.{all_turned}
 
@@ -50,7 +53,7 @@ module _ (m : Machine) (i : ℕ) where
   leaves_execute number apart reading (Some s) = leaves_after number apart s (execute_in m number s reading) (after_reading m number s reading)
 
   leaves_running : (event : Event Reading) → nat_eq i (number_of event) ≡ false → Leaves (running_transition m event)
-  leaves_running (opens number login) apart = leaves_open number apart login (is_some (session_of number m.sessions)) (nat_le 256 (length m.sessions)) (may_log_in m.committed login)
+  leaves_running (opens number login) apart = leaves_open number apart login (is_some (session_of number m.sessions)) (nat_le 256 (length (own_sessions (client_of number) m.sessions))) (may_log_in m.committed login)
   leaves_running (executes number reading) apart = leaves_execute number apart reading (session_of number m.sessions)
   leaves_running (closes number) apart = leaves_close number apart (session_of number m.sessions)
 
@@ -179,7 +182,7 @@ module _ (a : Tenant) where
       by true = are
       by false = st.committed
 
-    all_moved : (n j : Machine) → MoveAlike number a.pairs m k n j → IsAlikeTo a n j
+    pub all_moved : (n j : Machine) → MoveAlike number a.pairs m k n j → IsAlikeTo a n j
     all_moved n j move =
         let one = moved number a.pairs m k (for_one m k st number own) n j move in
         record {
@@ -234,7 +237,7 @@ module _ (a : Tenant) where
   -- ---- what comes of it
 
   module _ (m k : Machine) (st : IsAlikeTo a m k) (on_m : AreSound m) (on_k : AreSound k) where
-    pub data Told (x : Act) : Type 0 where
+    data Told (x : Act) : Type 0 where
       differs : IsExceptionFor a m k x → Told x
       same : IsAnsweredAlike m k x → IsAlikeTo a (follows m x) (follows k x) → Told x
       waits : (event : Event Reading) → declares event ≡ x → Told x
@@ -296,32 +299,62 @@ module _ (a : Tenant) where
       told_set None there = goes_on (λ s is. let contrary : ◌≡◌ {A = Option Session} None (Some s) = sym there ∙ is in cc)
       told_set (Some s) there = admitted_to s there (may_execute m number s sets) refl
 
-    told_statement : (number : ℕ) → a.sessions number ≡ true → (x : Statement) → Stays number (Ok x) → (w : Bool) → is_writing x ≡ w → Told (happens (executes number (Ok x)))
-    told_statement number own x stays false reads = runs_with number own x stays (ap (λ (b : Bool). b && is_held_by_other number m.holder) reads ∙ sym (ap (λ (b : Bool). b && is_held_by_other number k.holder) reads))
-    told_statement number own x stays true writes = elim (same_or_not (is_held_by_other number m.holder) (is_held_by_other number k.holder)) [
-      | inl held ↦ runs_with number own x stays (ap (λ (b : Bool). is_writing x && b) held)
-      | inr other ↦ differs (inr (inl (by_slot x writes other)))
+    told_statement : (number : ℕ) → a.sessions number ≡ true → (x : Statement) → Stays number (Ok x) → is_writing x ≡ false → Told (happens (executes number (Ok x)))
+    told_statement number own x stays reads = runs_with number own x stays (ap (λ (b : Bool). b && is_held_by_other number m.holder) reads ∙ sym (ap (λ (b : Bool). b && is_held_by_other number k.holder) reads))
+
+    told_database : (number : ℕ) → a.sessions number ≡ true → (x : DatabaseStatement) → (w : Bool) → changes_database x ≡ w → Told (happens (executes number (Ok (statement.OnDatabase x))))
+    told_database number own x false reads = told_statement number own (statement.OnDatabase x) (λ s is. tt) reads
+    told_database number own x true writes = elim (same_or_not (is_held_by_other number m.holder) (is_held_by_other number k.holder)) [
+      | inl held ↦ runs_with number own (statement.OnDatabase x) (λ s is. tt) (ap (λ (b : Bool). changes_database x && b) held)
+      | inr other ↦ elim (locked_out number a.pairs m k (for_one m k st number own) on_m on_k x writes other) [
+        | inl tells ↦ differs (inr (inl (by_slot (statement.OnDatabase x) writes other tells)))
+        | inr both ↦ of_step number own (executes number (Ok (statement.OnDatabase x))) refl (inr both)
+      ]
     ]
 
     told_reading : (number : ℕ) → a.sessions number ≡ true → (reading : Reading) → Told (happens (executes number reading))
     told_reading number own (Err code) =
         of_step number own (executes number (Err code)) refl (executed number a.pairs m k (for_one m k st number own) on_m on_k (Err code) (λ x is. let contrary : ◌≡◌ {A = Reading} (Err code) (Ok x) = is in cc) (λ s is. tt))
     told_reading number own (Ok (statement.OfSession (of_session.SetRole x))) = told_set number own x (session_of number m.sessions) refl
-    told_reading number own (Ok (statement.OfSession of_session.ResetRole)) = told_statement number own (statement.OfSession of_session.ResetRole) (λ s is. tt) false refl
-    told_reading number own (Ok (statement.OfSession of_session.Begin)) = told_statement number own (statement.OfSession of_session.Begin) (λ s is. tt) false refl
-    told_reading number own (Ok (statement.OfSession of_session.Commit)) = told_statement number own (statement.OfSession of_session.Commit) (λ s is. tt) false refl
-    told_reading number own (Ok (statement.OfSession of_session.Rollback)) = told_statement number own (statement.OfSession of_session.Rollback) (λ s is. tt) false refl
-    told_reading number own (Ok (statement.OnDatabase x)) = told_statement number own (statement.OnDatabase x) (λ s is. tt) (is_writing (statement.OnDatabase x)) refl
+    told_reading number own (Ok (statement.OfSession of_session.ResetRole)) = told_statement number own (statement.OfSession of_session.ResetRole) (λ s is. tt) refl
+    told_reading number own (Ok (statement.OfSession of_session.Begin)) = told_statement number own (statement.OfSession of_session.Begin) (λ s is. tt) refl
+    told_reading number own (Ok (statement.OfSession of_session.Commit)) = told_statement number own (statement.OfSession of_session.Commit) (λ s is. tt) refl
+    told_reading number own (Ok (statement.OfSession of_session.Rollback)) = told_statement number own (statement.OfSession of_session.Rollback) (λ s is. tt) refl
+    told_reading number own (Ok (statement.OnDatabase x)) = told_database number own x (changes_database x) refl
 
-    pub told_act : (x : Act) → is_of a x ≡ true → OpensItsOwn a m x → Told x
-    told_act (happens (opens number login)) own opens_own = elim (same_or_not (nat_le 256 (length m.sessions)) (nat_le 256 (length k.sessions))) [
+    told_act : (x : Act) → is_of a x ≡ true → OpensItsOwn a m x → Told x
+    told_act (happens (opens number login)) own opens_own = elim (same_or_not (nat_le 256 (length (own_sessions (client_of number) m.sessions))) (nat_le 256 (length (own_sessions (client_of number) k.sessions)))) [
       | inl room ↦ of_step number own (opens number login) refl (opened number a.pairs m k (for_one m k st number own) on_m on_k login opens_own room)
-      | inr other ↦ differs (inr (inl (by_number login other)))
+      | inr other ↦ elim (crowded_out number a.pairs m k (for_one m k st number own) on_m on_k login other) [
+        | inl tells ↦ differs (inr (inl (by_number login other tells)))
+        | inr both ↦ of_step number own (opens number login) refl (inr both)
+      ]
     ]
     told_act (happens (executes number reading)) own opens_own = told_reading number own reading
     told_act (happens (closes number)) own opens_own = same (closes_alike number a.pairs m k (for_one m k st number own) on_m on_k) (closes_so m k st number own)
     told_act (declares event) own opens_own = waits event refl
     told_act restarts own opens_own = same tt (restarted m k st)
+
+    -- ---- what both refuse alike parts nothing
+
+    pub data Came (x : Act) : Type 0 where
+      parts : IsExceptionFor a m k x → (IsRefusedAlike m k x → ⊥) → Came x
+      goes_on_alike : IsAnsweredAlike m k x → IsAlikeTo a (follows m x) (follows k x) → Came x
+      is_declared : (event : Event Reading) → declares event ≡ x → Came x
+
+    came : (x : Act) → is_of a x ≡ true → Told x → Came x
+    came x own (same answers next) = goes_on_alike answers next
+    came x own (waits event is) = is_declared event is
+    came (happens event) own (differs exception) = elim (one_refusal_or_not (answer_to m event) (answer_to k event)) [
+      | inl one ↦ goes_on_alike (one.1 ∙ sym one.2) (all_moved m k st (number_of event) own (after m event) (after k event)
+          (refused_moves a.pairs m k (number_of event) (for_one m k st (number_of event) own) event refl (one.0, one.1) (one.0, one.2)))
+      | inr none ↦ parts exception none
+    ]
+    came (declares event) own (differs exception) = absurd exception
+    came restarts own (differs exception) = absurd exception
+
+    pub comes : (x : Act) → is_of a x ≡ true → OpensItsOwn a m x → Came x
+    comes x own opens_own = came x own (told_act x own opens_own)
 
   -- ---- runs
 
@@ -340,11 +373,11 @@ module _ (a : Tenant) where
 
   told_here : (event : Act) (later others : List Act) (m k : Machine) → IsAlikeTo a m k → AreSound m → AreSound k → is_of a event ≡ true → OpensItsOwn a m event →
       OthersKeepOutOfSight a (follows m event) later → OthersKeepOutOfSight a (follows k event) others → noticed a later ≡ noticed a others → Goes later → IsToldAlike a m k (event ∷ later) (event ∷ others)
-  told_here event later others m k st on_m on_k own opens_own act act_k equal go = at (told_act m k st on_m on_k event own opens_own) where
-    at : Told m k st on_m on_k event → IsToldAlike a m k (event ∷ later) (event ∷ others)
-    at (differs exception) = told_apart own exception
-    at (same answers next) = told_alike own answers (go (follows m event) (follows k event) others next (sound_follows m event on_m) (sound_follows k event on_k) act act_k equal)
-    at (waits e is) =
+  told_here event later others m k st on_m on_k own opens_own act act_k equal go = at (comes m k st on_m on_k event own opens_own) where
+    at : Came m k st on_m on_k event → IsToldAlike a m k (event ∷ later) (event ∷ others)
+    at (parts exception none) = told_apart own exception none
+    at (goes_on_alike answers next) = told_alike own answers (go (follows m event) (follows k event) others next (sound_follows m event on_m) (sound_follows k event on_k) act act_k equal)
+    at (is_declared e is) =
         subst (λ (x : Act). IsToldAlike a m k (x ∷ later) (x ∷ others)) is
         (declared (λ alike. go (after m e) (after k e) others alike (sound_after m e on_m) (sound_after k e on_k)
         (subst (λ (x : Act). OthersKeepOutOfSight a (follows m x) later) (sym is) act) (subst (λ (x : Act). OthersKeepOutOfSight a (follows k x) others) (sym is) act_k) equal))

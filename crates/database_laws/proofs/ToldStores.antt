@@ -1,35 +1,78 @@
 -- Two servers over stores of their own, of which a tenant asks the same.
-use Rattle.std.proofs.Common.{◌≡◌, ◌⊎◌, Bool, true, false, cond, List, [], ◌∷◌, Option, IsSome, refl, sym, ap, ◌∙◌, subst, inl, inr}
+use Rattle.std.proofs.Common.{◌≡◌, ◌⊎◌, ℕ, Bool, true, false, cond, List, [], ◌∷◌, Option, Some, None, IsSome, Ok, Err, refl, sym, ap, ◌∙◌, subst, inl, inr}
 use Rattle.sql_types.specs.declared.answer.Answer.{Answer}
 use Rattle.sql_types.specs.declared.answer.Answer.TheVariants as answer
 use Rattle.sql_types.specs.declared.state.SqlState.{SqlState}
 use Rattle.sql_types.specs.declared.state.SqlState.TheVariants.{OutOfMemory, DiskFull, ProgramLimitExceeded, IoError}
-use Rattle.abstract_database.specs.Machine.{Session, Event, opens, executes, closes, Reading, Machine, Transition, transition_to, transition}
-use Rattle.abstract_database.specs.Runs.{TheText, ReadingRelation, IsReadAs, IsTransition, RanBy, Counts, Stops, At, Happens, IsStep, by_transition, for_device}
+use Rattle.sql_ast.specs.declared.statement.Statement.{Statement}
+use Rattle.sql_ast.specs.declared.statement.Statement.TheVariants as statement
+use Rattle.sql_ast.specs.declared.statement.SessionStatement.TheVariants as of_session
+use Rattle.abstract_database.specs.Machine.{Block, Outside, Inside, Failed, Session, Event, opens, executes, closes, Reading, Machine, Transition, transition_to, session_of, commit, transition}
+use Rattle.abstract_database.specs.Runs.{TheText, ReadingRelation, IsReadAs, IsTransition, RanBy, Counts, Stops, At, Happens, HasFailed, MayRunOutOfMemory, MayCallStore, CommitsAt, Commits, MayCommit, IsStep, by_transition, for_device}
 use Rattle.abstract_database.specs.Runs as step
-use Rattle.database_laws.specs.Runs.{ReadsOnce, for_memory, for_space, for_number}
+use Rattle.database_laws.specs.Runs.{ReadsOnce, CountsAsNotIssued, for_memory, for_space, for_number}
+use Rattle.database_laws.specs.Codes.{is_of_stores, IsReadAsRefused}
 use Rattle.database_laws.specs.Sessions.{number_of}
-use Rattle.database_laws.specs.HiddenRuns.{SameApparentRowsForPairs, AreSound, IsInPlace, not_issued, failed, after}
+use Rattle.database_laws.specs.HiddenRuns.{SameApparentRowsForPairs, AreSound, AreOneRefusal, IsInPlace, not_issued, failed, after}
 use Rattle.database_laws.specs.Told.{Tenant, IsAlikeTo, happens, declares, is_of, OpensItsOwn, IsExceptionFor}
-use Rattle.database_laws.specs.ToldStores.{is_text_of, own_texts, OpensAsOwn, KeepOutOfSight, IsToldAlikeBy, all_told, told_apart, refused_alone, told_alike, untold_here, untold_there, failed_here, failed_there, what_stores_tell_a_tenant, GoesAlike, goes_apart, goes_refused, goes_on, own_events_go_alike, others_go_unseen}
+use Rattle.database_laws.specs.ToldStores.{is_text_of, own_texts, OpensAsOwn, KeepOutOfSight, IsReadAsCode, AreRefusedAlike, IsToldAlikeBy, all_told, told_apart, refused_alone, told_alike, untold_here, untold_there, failed_here, failed_there, what_stores_tell_a_tenant, GoesAlike, goes_apart, goes_refused, goes_on, own_events_go_alike, others_go_unseen}
 use Rattle.database_laws.proofs.RunLemmas.{only_transition}
 use Rattle.database_laws.proofs.RunsAlike.{sound_after}
-use Rattle.database_laws.proofs.ToldRuns.{Told, differs, same, waits, for_one, turned, after_another, told_act}
+use Rattle.database_laws.proofs.BlockLemmas.{executed_in}
+use Rattle.database_laws.proofs.RefusalLemmas.{changes_nothing}
+use Rattle.database_laws.proofs.RefusedAlike.{one_code, one_refusal_or_not, needs_no_store}
+use Rattle.database_laws.proofs.ToldRuns.{Came, parts, goes_on_alike, is_declared, comes, for_one, turned, after_another}
 
 -- ---- what a step over a store is
+
+-- where a store may refuse so in place of the machine
+pub data MayStay (Reads : ReadingRelation) (m : Machine) (event : Event TheText) (code : SqlState) : Type 0 where
+  without_memory : code ≡ OutOfMemory → MayRunOutOfMemory m event → MayStay Reads m event code
+  without_commit : MayCommit Reads m event → MayStay Reads m event code
 
 -- the machine's own transition; a refusal that leaves it; or the end of its work
 pub data Did (Reads : ReadingRelation) (old new : Counts) (m : Machine) (event : Event TheText) (x : Answer) (next : Machine) : Type 0 where
   moves : IsTransition Reads m event (transition_to x next) → Did Reads old new m event x next
-  stays : IsInPlace old new x → next ≡ m → Did Reads old new m event x next
-  fails : IsInPlace old new x → x ≡ answer.Refused IoError → Did Reads old new m event x next
+  stays : (code : SqlState) → x ≡ answer.Refused code → CountsAsNotIssued old new code → MayStay Reads m event code → next ≡ m → Did Reads old new m event x next
+  fails : x ≡ answer.Refused IoError → HasFailed old new → MayCallStore m event → next ≡ record m { stopped = true } → Did Reads old new m event x next
 
 did : (Reads : ReadingRelation) (old new : Counts) (m : Machine) (event : Event TheText) (x : Answer) (next : Machine) → IsStep Reads old new m event x next → Did Reads old new m event x next
 did Reads old new m event x next (by_transition is) = moves is
-did Reads old new m event x next (step.for_memory e kept may) = stays (not_issued OutOfMemory e for_memory) kept
-did Reads old new m event x next (step.for_space e kept may rises) = stays (not_issued DiskFull e (for_space rises)) kept
-did Reads old new m event x next (step.for_number e kept may greatest) = stays (not_issued ProgramLimitExceeded e (for_number greatest)) kept
-did Reads old new m event x next (for_device t is may e kept broke) = fails (failed e broke) e
+did Reads old new m event x next (step.for_memory e kept may) = stays OutOfMemory e for_memory (without_memory refl may) kept
+did Reads old new m event x next (step.for_space e kept may rises) = stays DiskFull e (for_space rises) (without_commit may) kept
+did Reads old new m event x next (step.for_number e kept may greatest) = stays ProgramLimitExceeded e (for_number greatest) (without_commit may) kept
+did Reads old new m event x next (for_device t is may e kept broke) = fails e broke may kept
+
+-- ---- a refusal of the machine itself, where a store might have refused
+
+same_session : (s t : Session) → ◌≡◌ {A = Option Session} (Some s) (Some t) → s ≡ t
+same_session s t e = cc
+
+commit_ends : (m : Machine) (number : ℕ) (s : Session) (b : Block) (code : SqlState) → (commit m number s b).answer ≡ answer.Refused code → ⊥
+commit_ends m number s Outside code e = cc
+commit_ends m number s (Inside role) code e = cc
+commit_ends m number s (Failed role) code e = cc
+
+module _ (Reads : ReadingRelation) (m n : Machine) (event : Event TheText) (x : Answer) (t : IsTransition Reads m event (transition_to x n)) (code : SqlState) (e : x ≡ answer.Refused code) where
+  answers_so : (transition m t.as_read).answer ≡ answer.Refused code
+  answers_so = sym (ap (λ (z : Transition). z.answer) t.is) ∙ e
+
+  -- one for memory, for space or of the device is what its text was read as
+  read_so : m.stopped ≡ false → is_of_stores code ≡ true → IsReadAsCode Reads event code
+  read_so on store = at event t.as_read t.read (needs_no_store m t.as_read code on store answers_so) where
+    number_same : (i j : ℕ) (r q : Reading) → ◌≡◌ {A = Event Reading} (executes i r) (executes j q) → i ≡ j
+    number_same i j r q e = cc
+
+    reading_same : (i j : ℕ) (r q : Reading) → ◌≡◌ {A = Event Reading} (executes i r) (executes j q) → r ≡ q
+    reading_same i j r q e = cc
+
+    at : (event : Event TheText) (read : Event Reading) → IsReadAs Reads m event read → IsReadAsRefused m read code → IsReadAsCode Reads event code
+    at (opens i l) read is h = let contrary : opens i l ≡ executes h.number (Err code) = sym is ∙ h.read in cc
+    at (closes i) read is h = let contrary : closes i ≡ executes h.number (Err code) = sym is ∙ h.read in cc
+    at (executes i text) read (reading, is, reads) h =
+        let same : executes i reading ≡ executes h.number (Err code) = sym is ∙ h.read in
+        subst (λ (r : Reading). Reads text r) (reading_same i h.number reading (Err code) same)
+        (reads (on, subst (λ (j : ℕ). IsSome (session_of j m.sessions)) (sym (number_same i h.number reading (Err code) same)) h.session))
 
 number_read : (Reads : ReadingRelation) (m : Machine) (event : Event TheText) (read : Event Reading) → IsReadAs Reads m event read → number_of read ≡ number_of event
 number_read Reads m (opens n l) read is = ap (λ (e : Event Reading). number_of e) is
@@ -52,6 +95,60 @@ module _ (Reads : ReadingRelation) (Leave LeaveOther : Stops) (once : ReadsOnce 
   own_read : (m : Machine) (event : Event TheText) (read : Event Reading) → IsReadAs Reads m event read → (b : Bool) → is_text_of a event ≡ b → is_of a (happens read) ≡ b
   own_read m event read is b own = ap a.sessions (number_read Reads m event read is) ∙ own
 
+  -- where a commit of the same text might be refused over the other machine, the refusal leaves this one
+  commits_so : (m k : Machine) → IsAlikeTo a m k → (event : Event TheText) → is_text_of a event ≡ true → (n : Machine) (x : Answer) → IsTransition Reads m event (transition_to x n) → (code : SqlState) → x ≡ answer.Refused code →
+      MayCommit Reads k event → n ≡ m
+  commits_so m k st (opens i l) own n x t code e may = absurd may
+  commits_so m k st (closes i) own n x t code e may = absurd may
+  commits_so m k st (executes i text) own n x t code e (on, commits) = at (session_of i k.sessions) refl commits where
+    reading : Reading
+    reading = t.read.0
+
+    here : transition_to x n ≡ transition m (executes i reading)
+    here = t.is ∙ ap (λ (z : Event Reading). transition m z) t.read.1
+
+    refuses_so : (transition m (executes i reading)).answer ≡ answer.Refused code
+    refuses_so = sym (ap (λ (z : Transition). z.answer) here) ∙ e
+
+    running : m.stopped ≡ false
+    running = st.stopped ∙ on
+
+    at : (o : Option Session) → session_of i k.sessions ≡ o → Commits Reads k i text o → n ≡ m
+    at None there c = absurd c
+    at (Some s) there (x, reads, how) = by_block s.block refl how where
+      there_m : session_of i m.sessions ≡ Some s
+      there_m = (for_one a m k st i own).session ∙ there
+
+      reads_m : reading ≡ Ok x
+      reads_m = once text reading (Ok x) (t.read.2 (running, subst (λ (o : Option Session). IsSome o) (sym there_m) refl)) reads
+
+      by_block : (b : Block) → s.block ≡ b → CommitsAt k i b x → n ≡ m
+      by_block Outside out writes =
+          ap (λ (z : Transition). z.machine) here ∙ changes_nothing m (executes i reading) (λ (t, o, (role, inside)).
+          let contrary : Outside ≡ Inside role = sym out ∙ ap (λ (z : Session). z.block) (same_session s t (sym there_m ∙ o.session)) ∙ inside in cc) (code, refuses_so)
+      by_block (Inside role) inside (is, held) =
+          absurd (commit_ends m i s s.block code
+          (ap (λ (z : Transition). z.answer) (sym (executed_in m i s (Ok (statement.OfSession of_session.Commit)) (record { running = running; session = there_m })))
+          ∙ ap (λ (r : Reading). (transition m (executes i r)).answer) (sym (reads_m ∙ ap (λ (z : Statement). Ok z) is)) ∙ refuses_so))
+      by_block (Failed role) b how = absurd how
+
+  runs_still : (k : Machine) (event : Event TheText) → MayRunOutOfMemory k event → k.stopped ≡ false
+  runs_still k (opens i l) may = may.0
+  runs_still k (executes i text) may = may.0.0
+  runs_still k (closes i) may = absurd may
+
+  calls_still : (k : Machine) (event : Event TheText) → MayCallStore k event → k.stopped ≡ false
+  calls_still k (opens i l) may = absurd may
+  calls_still k (executes i text) may = may.0.0
+  calls_still k (closes i) may = absurd may
+
+  left_so : (m k : Machine) → IsAlikeTo a m k → (event : Event TheText) → is_text_of a event ≡ true → (n : Machine) (x : Answer) → IsTransition Reads m event (transition_to x n) → (code : SqlState) → x ≡ answer.Refused code →
+      MayStay Reads k event code → (n ≡ m) ⊎ ((is_of_stores code ≡ true) × IsReadAsCode Reads event code)
+  left_so m k st event own n x t code e (without_memory is may) =
+      let store : is_of_stores code ≡ true = ap is_of_stores is in
+      inr (store, read_so Reads m n event x t code e (st.stopped ∙ runs_still k event may) store)
+  left_so m k st event own n x t code e (without_commit may) = inl (commits_so m k st event own n x t code e may)
+
   -- ---- an event of another
 
   data Passed (m n k : Machine) (x : Answer) : Type 0 where
@@ -66,14 +163,14 @@ module _ (Reads : ReadingRelation) (Leave LeaveOther : Stops) (once : ReadsOnce 
       (subst (λ (z : Machine). IsAlikeTo a z k) (sym here)
       (after_another a m k st is.as_read (own_read m event is.as_read is.read false other) (subst (λ (z : Machine). SameApparentRowsForPairs a.pairs m.committed z.committed) here hides)))
       (subst AreSound (sym here) (sound_after m is.as_read on))
-  passed old new m n k event x st on other hides (stays place kept) = passes (subst (λ (z : Machine). IsAlikeTo a z k) (sym kept) st) (subst AreSound (sym kept) on)
-  passed old new m n k event x st on other hides (fails place e) = ends e
+  passed old new m n k event x st on other hides (stays code e place may kept) = passes (subst (λ (z : Machine). IsAlikeTo a z k) (sym kept) st) (subst AreSound (sym kept) on)
+  passed old new m n k event x st on other hides (fails e broke may kept) = ends e
 
   -- ---- an own event
 
   data Went (w v n j : At) (event : Event TheText) (x y : Answer) : Type 0 where
-    parts : (read : Event Reading) → IsReadAs Reads w.standing.machine event read → IsExceptionFor a w.standing.machine v.standing.machine (happens read) → Went w v n j event x y
-    refused : IsInPlace w.counts n.counts x ⊎ IsInPlace v.counts j.counts y → Went w v n j event x y
+    part : (read : Event Reading) → IsReadAs Reads w.standing.machine event read → IsExceptionFor a w.standing.machine v.standing.machine (happens read) → (AreRefusedAlike Reads event x y → ⊥) → Went w v n j event x y
+    refused : IsInPlace w.counts n.counts x ⊎ IsInPlace v.counts j.counts y → (AreRefusedAlike Reads event x y → ⊥) → Went w v n j event x y
     goes : x ≡ y → IsAlikeTo a n.standing.machine j.standing.machine → AreSound n.standing.machine → AreSound j.standing.machine → Went w v n j event x y
 
   module _ (w v n j : At) (st : IsAlikeTo a w.standing.machine v.standing.machine) (on_w : AreSound w.standing.machine) (on_v : AreSound v.standing.machine) (event : Event TheText) (x y : Answer)
@@ -84,38 +181,97 @@ module _ (Reads : ReadingRelation) (Leave LeaveOther : Stops) (once : ReadsOnce 
     abbrev k : Machine
     k = v.standing.machine
 
-    both_move : (t : IsTransition Reads m event (transition_to x n.standing.machine)) → IsTransition Reads k event (transition_to y j.standing.machine) → Told a m k st on_w on_v (happens t.as_read) → Went w v n j event x y
-    both_move t u (differs exception) = parts t.as_read t.read exception
-    both_move t u (waits e is) = let contrary : declares e ≡ happens t.as_read = is in cc
-    both_move t u (same answers next) =
-        let there : IsTransition Reads k event (transition k t.as_read) = record { as_read = t.as_read; read = read_there m k st event t.as_read own t.read; is = refl } in
-        let is_k : transition_to y j.standing.machine ≡ transition k t.as_read = only_transition Reads once k event (transition_to y j.standing.machine) (transition k t.as_read) u there in
-        let here : n.standing.machine ≡ after m t.as_read = ap (λ (z : Transition). z.machine) t.is in
-        let beyond : j.standing.machine ≡ after k t.as_read = ap (λ (z : Transition). z.machine) is_k in
-        goes (ap (λ (z : Transition). z.answer) t.is ∙ answers ∙ sym (ap (λ (z : Transition). z.answer) is_k))
-        (subst (λ (z : Machine). IsAlikeTo a z j.standing.machine) (sym here) (subst (λ (z : Machine). IsAlikeTo a (after m t.as_read) z) (sym beyond) next))
-        (subst AreSound (sym here) (sound_after m t.as_read on_w)) (subst AreSound (sym beyond) (sound_after k t.as_read on_v))
+    both_move : (t : IsTransition Reads m event (transition_to x n.standing.machine)) → IsTransition Reads k event (transition_to y j.standing.machine) → Came a m k st on_w on_v (happens t.as_read) → Went w v n j event x y
+    both_move t u came = at came where
+      is_k : transition_to y j.standing.machine ≡ transition k t.as_read
+      is_k = only_transition Reads once k event (transition_to y j.standing.machine) (transition k t.as_read) u (record { as_read = t.as_read; read = read_there m k st event t.as_read own t.read; is = refl })
 
-    same_codes : (c d : SqlState) → x ≡ answer.Refused c → y ≡ answer.Refused d → c ≡ d → n.standing.machine ≡ m → j.standing.machine ≡ k → Went w v n j event x y
-    same_codes c d e f is here beyond =
-        goes (e ∙ ap (λ (z : SqlState). answer.Refused z) is ∙ sym f)
+      here : n.standing.machine ≡ after m t.as_read
+      here = ap (λ (z : Transition). z.machine) t.is
+
+      beyond : j.standing.machine ≡ after k t.as_read
+      beyond = ap (λ (z : Transition). z.machine) is_k
+
+      at : Came a m k st on_w on_v (happens t.as_read) → Went w v n j event x y
+      at (parts exception none) = part t.as_read t.read exception (λ (code, e, f, not_read).
+          none (code, sym (ap (λ (z : Transition). z.answer) t.is) ∙ e, sym (ap (λ (z : Transition). z.answer) is_k) ∙ f))
+      at (is_declared e is) = let contrary : declares e ≡ happens t.as_read = is in cc
+      at (goes_on_alike answers next) =
+          goes (ap (λ (z : Transition). z.answer) t.is ∙ answers ∙ sym (ap (λ (z : Transition). z.answer) is_k))
+          (subst (λ (z : Machine). IsAlikeTo a z j.standing.machine) (sym here) (subst (λ (z : Machine). IsAlikeTo a (after m t.as_read) z) (sym beyond) next))
+          (subst AreSound (sym here) (sound_after m t.as_read on_w)) (subst AreSound (sym beyond) (sound_after k t.as_read on_v))
+
+    moved_both : (t : IsTransition Reads m event (transition_to x n.standing.machine)) → IsTransition Reads k event (transition_to y j.standing.machine) → Went w v n j event x y
+    moved_both t u = both_move t u (comes a m k st on_w on_v (happens t.as_read) (own_read m event t.as_read t.read true own) (opens_own m event t.as_read t.read opens_so))
+
+    -- ---- both refuse it alike
+
+    unmoved : AreOneRefusal x y → n.standing.machine ≡ m → j.standing.machine ≡ k → Went w v n j event x y
+    unmoved one here beyond =
+        goes (one.1 ∙ sym one.2)
         (subst (λ (z : Machine). IsAlikeTo a z j.standing.machine) (sym here) (subst (λ (z : Machine). IsAlikeTo a m z) (sym beyond) st))
         (subst AreSound (sym here) on_w) (subst AreSound (sym beyond) on_v)
 
-    both_stay : IsInPlace w.counts n.counts x → IsInPlace v.counts j.counts y → n.standing.machine ≡ m → j.standing.machine ≡ k → Went w v n j event x y
-    both_stay (not_issued OutOfMemory e for_memory) (not_issued OutOfMemory f for_memory) here beyond = same_codes OutOfMemory OutOfMemory e f refl here beyond
-    both_stay (not_issued DiskFull e (for_space r)) (not_issued DiskFull f (for_space s)) here beyond = same_codes DiskFull DiskFull e f refl here beyond
-    both_stay (not_issued ProgramLimitExceeded e (for_number r)) (not_issued ProgramLimitExceeded f (for_number s)) here beyond = same_codes ProgramLimitExceeded ProgramLimitExceeded e f refl here beyond
-    both_stay p q here beyond = refused (inl p)
+    both_stop : AreOneRefusal x y → n.standing.machine ≡ record m { stopped = true } → j.standing.machine ≡ record k { stopped = true } → Went w v n j event x y
+    both_stop one here beyond =
+        goes (one.1 ∙ sym one.2)
+        (subst (λ (z : Machine). IsAlikeTo a z j.standing.machine) (sym here) (subst (λ (z : Machine). IsAlikeTo a (record m { stopped = true }) z) (sym beyond)
+        (record { sessions = st.sessions; opened_for = st.opened_for; stopped = refl; slot = st.slot; committed = st.committed; seen = st.seen })))
+        (subst AreSound (sym here) (record { committed = on_w.committed; holder = on_w.holder })) (subst AreSound (sym beyond) (record { committed = on_v.committed; holder = on_v.holder }))
+
+    -- the codes of one refusal
+    coded : (z : Answer) (c d : SqlState) → z ≡ answer.Refused c → z ≡ answer.Refused d → c ≡ d
+    coded z c d e f = one_code c d (sym e ∙ f)
+
+    apart_codes : (old new : Counts) (code : SqlState) → CountsAsNotIssued old new code → code ≡ IoError → ⊥
+    apart_codes old new OutOfMemory for_memory e = cc
+    apart_codes old new DiskFull (for_space rises) e = cc
+    apart_codes old new ProgramLimitExceeded (for_number greatest) e = cc
+    apart_codes old new IoError p e = elim p [ ]
+    apart_codes old new _ p e = cc
+
+    -- what is read as it is no refusal alike
+    as_read : (z : Answer) (code : SqlState) → ((alike : AreRefusedAlike Reads event x y) → z ≡ answer.Refused alike.0) → z ≡ answer.Refused code → (is_of_stores code ≡ true) × IsReadAsCode Reads event code → AreRefusedAlike Reads event x y → ⊥
+    as_read z code of e read alike =
+        let same : code ≡ alike.0 = coded z code alike.0 e (of alike) in
+        alike.3 (subst (λ (c : SqlState). is_of_stores c ≡ true) same read.0) (subst (λ (c : SqlState). IsReadAsCode Reads event c) same read.1)
+
+    one_went : AreOneRefusal x y → Did Reads w.counts n.counts m event x n.standing.machine → Did Reads v.counts j.counts k event y j.standing.machine → Went w v n j event x y
+    one_went one (moves t) (moves u) = moved_both t u
+    one_went one (stays c e p may here) (stays d f q may_k beyond) = unmoved one here beyond
+    one_went one (fails e p may here) (fails f q may_k beyond) = both_stop one here beyond
+    one_went one (stays c e p may here) (fails f q may_k beyond) = absurd (apart_codes w.counts n.counts c p (coded x c one.0 e one.1 ∙ sym (coded y IoError one.0 f one.2)))
+    one_went one (fails e p may here) (stays d f q may_k beyond) = absurd (apart_codes v.counts j.counts d q (coded y d one.0 f one.2 ∙ sym (coded x IoError one.0 e one.1)))
+    one_went one (moves t) (stays d f q may_k beyond) =
+        let e : x ≡ answer.Refused d = one.1 ∙ ap (λ (c : SqlState). answer.Refused c) (coded y one.0 d one.2 f) in
+        elim (left_so m k st event own n.standing.machine x t d e may_k) [
+          | inl here ↦ unmoved one here beyond
+          | inr read ↦ refused (inr (not_issued d f q)) (as_read x d (λ alike. alike.1) e read)
+        ]
+    one_went one (stays c e p may here) (moves u) =
+        let f : y ≡ answer.Refused c = one.2 ∙ ap (λ (d : SqlState). answer.Refused d) (coded x one.0 c one.1 e) in
+        elim (left_so k m (turned a m k st) event own j.standing.machine y u c f may) [
+          | inl beyond ↦ unmoved one here beyond
+          | inr read ↦ refused (inl (not_issued c e p)) (as_read y c (λ alike. alike.2) f read)
+        ]
+    one_went one (moves t) (fails f q may_k beyond) =
+        let e : x ≡ answer.Refused IoError = one.1 ∙ ap (λ (c : SqlState). answer.Refused c) (coded y one.0 IoError one.2 f) in
+        refused (inr (failed f q)) (as_read x IoError (λ alike. alike.1) e (refl, read_so Reads m n.standing.machine event x t IoError e (st.stopped ∙ calls_still k event may_k) refl))
+    one_went one (fails e p may here) (moves u) =
+        let f : y ≡ answer.Refused IoError = one.2 ∙ ap (λ (d : SqlState). answer.Refused d) (coded x one.0 IoError one.1 e) in
+        refused (inl (failed e p)) (as_read y IoError (λ alike. alike.2) f (refl, read_so Reads k j.standing.machine event y u IoError f (sym st.stopped ∙ calls_still m event may) refl))
+
+    -- ---- they do not
+
+    other_went : (AreOneRefusal x y → ⊥) → Did Reads w.counts n.counts m event x n.standing.machine → Did Reads v.counts j.counts k event y j.standing.machine → Went w v n j event x y
+    other_went none (moves t) (moves u) = moved_both t u
+    other_went none (moves t) (stays d f q may_k beyond) = refused (inr (not_issued d f q)) (λ alike. none (alike.0, alike.1, alike.2))
+    other_went none (moves t) (fails f q may_k beyond) = refused (inr (failed f q)) (λ alike. none (alike.0, alike.1, alike.2))
+    other_went none (stays c e p may here) d = refused (inl (not_issued c e p)) (λ alike. none (alike.0, alike.1, alike.2))
+    other_went none (fails e p may here) d = refused (inl (failed e p)) (λ alike. none (alike.0, alike.1, alike.2))
 
     went : Did Reads w.counts n.counts m event x n.standing.machine → Did Reads v.counts j.counts k event y j.standing.machine → Went w v n j event x y
-    went (moves t) (moves u) = both_move t u (told_act a m k st on_w on_v (happens t.as_read) (own_read m event t.as_read t.read true own) (opens_own m event t.as_read t.read opens_so))
-    went (stays p here) (stays q beyond) = both_stay p q here beyond
-    went (moves t) (stays q beyond) = refused (inr q)
-    went (moves t) (fails q e) = refused (inr q)
-    went (stays p here) (moves u) = refused (inl p)
-    went (stays p here) (fails q e) = refused (inl p)
-    went (fails p e) d = refused (inl p)
+    went d e = elim (one_refusal_or_not x y) [ inl one ↦ one_went one d e | inr none ↦ other_went none d e ]
 
   -- ---- runs
 
@@ -146,8 +302,8 @@ module _ (Reads : ReadingRelation) (Leave LeaveOther : Stops) (once : ReadsOnce 
       (here : Happens Reads Leave w event x n) (ran : RanBy (Happens Reads Leave) n events answers end) (keep : KeepOutOfSight Reads Leave a n end events answers ran) (go : Goes events answers end) where
     meets : (v j other_end : At) (y : Answer) (fs : List (Event TheText)) (told : List Answer) → AreSound v.standing.machine → (ran_there : RanBy (Happens Reads LeaveOther) j fs told other_end) →
         KeepOutOfSight Reads LeaveOther a j other_end fs told ran_there → own_texts a events ≡ own_texts a fs → Happens Reads LeaveOther v event y j → Went w v n j event x y → Tells w v (event ∷ events) (x ∷ answers) (event ∷ fs) (y ∷ told)
-    meets v j other_end y fs told on_v ran_there keeps equal it (parts read is exception) = told_apart own read is exception
-    meets v j other_end y fs told on_v ran_there keeps equal it (refused place) = refused_alone n j own here it place
+    meets v j other_end y fs told on_v ran_there keeps equal it (part read is exception none) = told_apart own read is exception none
+    meets v j other_end y fs told on_v ran_there keeps equal it (refused place none) = refused_alone n j own here it place none
     meets v j other_end y fs told on_v ran_there keeps equal it (goes is next on_n on_j) =
         subst (λ (z : Answer). Tells w v (event ∷ events) (x ∷ answers) (event ∷ fs) (z ∷ told)) is
         (told_alike n j own here (subst (λ (z : Answer). Happens Reads LeaveOther v event z j) (sym is) it) (go n j other_end fs told next on_n on_j ran ran_there keep keeps equal))
@@ -214,8 +370,8 @@ goes_alike Reads Leave LeaveOther once a w v next later event x y st on_w on_v o
     (did Reads w.counts next.counts w.standing.machine event x next.standing.machine here.step) (did Reads v.counts later.counts v.standing.machine event y later.standing.machine there.step))
   where
     at : Went Reads Leave LeaveOther once a w v next later event x y → GoesAlike Reads a w v next later event x y
-    at (parts read is exception) = goes_apart read is exception
-    at (refused place) = goes_refused place
+    at (part read is exception none) = goes_apart read is exception none
+    at (refused place none) = goes_refused place none
     at (goes is alike on_n on_j) = goes_on is alike
 
 pub goes_unseen : (Reads : ReadingRelation) (Leave : Stops) → others_go_unseen Reads Leave

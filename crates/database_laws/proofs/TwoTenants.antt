@@ -270,8 +270,8 @@ no_exception number event is f s (by_count session x c there goes checks) = sele
 no_exception number event is f s (by_definition x unhides refused) = clash (sym is)
 
 no_crowd : (number : ℕ) (event : Event Reading) → is_of_select event ≡ true → IsCrowded number m k event → ⊥
-no_crowd number event is (by_slot x writes other) = select_writes_not x is writes
-no_crowd number event is (by_number login other) = clash (sym is)
+no_crowd number event is (by_slot x writes other tells) = select_writes_not x is writes
+no_crowd number event is (by_number login other tells) = clash (sym is)
 
 stays_hers : (number : ℕ) (event : Event Reading) → is_of_select event ≡ true → LeavesTenant of_ann number m event → ⊥
 stays_hers number event is (by_role s changed x free there may sets foreign) = clash (sym is)

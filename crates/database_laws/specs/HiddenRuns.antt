@@ -114,6 +114,10 @@ may_unhide (defining.DropPolicy s) = true
 may_unhide (defining.Grant s) = false
 may_unhide (defining.Revoke s) = false
 
+-- both answers are one refusal
+abbrev pub AreOneRefusal : Answer → Answer → Type 0
+AreOneRefusal a b = (code : SqlState) × (a ≡ answer.Refused code) × (b ≡ answer.Refused code)
+
 -- one of two answers, and not the other, is the refusal with this code
 abbrev pub TellsAlone : SqlState → Answer → Answer → Type 0
 TellsAlone code a b = ((a ≡ answer.Refused code) × (b ≡ answer.Refused code → ⊥)) ⊎ ((b ≡ answer.Refused code) × (a ≡ answer.Refused code → ⊥))

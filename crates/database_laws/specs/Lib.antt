@@ -4,6 +4,7 @@ pub mod Queries
 pub mod Visible
 pub mod Worlds
 pub mod OnePolicy
+pub mod Codes
 pub mod HiddenRuns
 pub mod OutOfSight
 pub mod Closed

@@ -3,7 +3,7 @@ use Rattle.std.specs.Prelude.{ℕ, ◌≤◌, ◌<◌, List, ◌∷◌, length, 
 use Rattle.sql_types.specs.declared.answer.Answer.{Answer}
 use Rattle.sql_ast.specs.declared.statement.Statement.{Statement}
 use Rattle.abstract_database.specs.Lists.{TheName}
-use Rattle.abstract_database.specs.Machine.{Event, opens, executes, closes, Machine}
+use Rattle.abstract_database.specs.Machine.{client_of, own_sessions, Event, opens, executes, closes, Machine}
 use Rattle.abstract_database.specs.Runs.{TheText, ReadingRelation, Counts, IsStep, RanBy, Stops, IsFoundAt, At, Happens}
 use Rattle.database_laws.specs.Runs.{Next}
 
@@ -18,9 +18,9 @@ abbrev pub long_texts_are_answered_for_their_length : ReadingRelation → Type 0
 long_texts_are_answered_for_their_length Reads = ReadsNoLongText Reads → (old new : Counts) (m after : Machine) (number : ℕ) (text : TheText) (answer : Answer) → (length text ≤ 65536 → ⊥) →
     IsStep Reads old new m (executes number text) answer after → Next Reads m (executes number text) answer after
 
--- and an opening beside 256 sessions for their number
+-- and an opening beside 256 sessions of its client for their number
 abbrev pub full_machines_answer_openings : ReadingRelation → Type 0
-full_machines_answer_openings Reads = (old new : Counts) (m after : Machine) (number : ℕ) (login : TheName) (answer : Answer) → (length m.sessions < 256 → ⊥) →
+full_machines_answer_openings Reads = (old new : Counts) (m after : Machine) (number : ℕ) (login : TheName) (answer : Answer) → (length (own_sessions (client_of number) m.sessions) < 256 → ⊥) →
     IsStep Reads old new m (opens number login) answer after → Next Reads m (opens number login) answer after
 
 -- a close is always answered so

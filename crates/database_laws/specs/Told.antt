@@ -1,15 +1,16 @@
 -- What a tenant is told: the answers to all of its sessions, whatever else is done out of the sight of all that they act as.
 use Rattle.std.specs.Prelude.{◌≡◌, ◌⊎◌, ℕ, nat_eq, nat_le, Bool, true, false, List, [], ◌∷◌, filter, length, Some, Ok}
+use Rattle.sql_types.specs.declared.state.SqlState.TheVariants.{LockNotAvailable, TooManyConnections}
 use Rattle.sql_ast.specs.declared.statement.Statement.{Statement}
 use Rattle.sql_ast.specs.declared.statement.Statement.TheVariants as statement
 use Rattle.sql_ast.specs.declared.statement.SetRole.{SetRole}
 use Rattle.sql_ast.specs.declared.statement.SessionStatement.TheVariants as of_session
 use Rattle.abstract_database.specs.Roles.{may_log_in}
 use Rattle.abstract_database.specs.Statements.{UserPair}
-use Rattle.abstract_database.specs.Machine.{Holder, Session, Event, opens, executes, closes, Reading, Machine, machine_over, session_of, users_of, may_execute, with_role_set, is_writing, is_held_by_other, seen}
+use Rattle.abstract_database.specs.Machine.{client_of, own_sessions, Holder, Session, Event, opens, executes, closes, Reading, Machine, machine_over, session_of, users_of, may_execute, with_role_set, is_writing, is_held_by_other, seen}
 use Rattle.database_laws.specs.Sessions.{number_of}
 use Rattle.database_laws.specs.OutOfSight.{IsUnseen}
-use Rattle.database_laws.specs.HiddenRuns.{SameApparentRowsForPairs, as_itself, ActsWithin, holds_slot, AreSound, answer_to, after, IsException}
+use Rattle.database_laws.specs.HiddenRuns.{SameApparentRowsForPairs, as_itself, ActsWithin, holds_slot, AreSound, answer_to, after, AreOneRefusal, TellsAlone, IsException}
 use Rattle.abstract_database.specs.Lists.{TheName}
 
 -- a tenant: the pairs of users as which it acts, each a login role and a role that its sessions set, and the numbers of its sessions,
@@ -80,12 +81,14 @@ noticed a acts = filter (is_of a) acts
 
 -- ---- exceptions
 
--- an event that is refused over one of two machines, and not over the other, for what others hold or have open
+-- an event that is refused over one of two machines, and not over the other, for what others hold or have open there
 pub data IsCrowded (number : ℕ) (m k : Machine) : Event Reading → Type 0 where
   -- a write, while a session of another holds the slot over one of the machines alone
-  by_slot : (x : Statement) → is_writing x ≡ true → (is_held_by_other number m.holder ≡ is_held_by_other number k.holder → ⊥) → IsCrowded number m k (executes number (Ok x))
-  -- an opening beside 256 sessions over one of the machines alone
-  by_number : (login : TheName) → (nat_le 256 (length m.sessions) ≡ nat_le 256 (length k.sessions) → ⊥) → IsCrowded number m k (opens number login)
+  by_slot : (x : Statement) → is_writing x ≡ true → (is_held_by_other number m.holder ≡ is_held_by_other number k.holder → ⊥) →
+      TellsAlone LockNotAvailable (answer_to m (executes number (Ok x))) (answer_to k (executes number (Ok x))) → IsCrowded number m k (executes number (Ok x))
+  -- an opening beside 256 sessions of its client over one of the machines alone
+  by_number : (login : TheName) → (nat_le 256 (length (own_sessions (client_of number) m.sessions)) ≡ nat_le 256 (length (own_sessions (client_of number) k.sessions)) → ⊥) →
+      TellsAlone TooManyConnections (answer_to m (opens number login)) (answer_to k (opens number login)) → IsCrowded number m k (opens number login)
 
 -- a session sets a role, and it is none that the tenant acts as
 pub data LeavesTenant (a : Tenant) (number : ℕ) (m : Machine) : Event Reading → Type 0 where
@@ -98,6 +101,12 @@ IsExceptionFor a m k (happens event) = IsException (number_of event) m k event �
 IsExceptionFor a m k (declares event) = ⊥
 IsExceptionFor a m k restarts = ⊥
 
+-- one refusal of an event
+abbrev pub IsRefusedAlike : Machine → Machine → Act → Type 0
+IsRefusedAlike m k (happens event) = AreOneRefusal (answer_to m event) (answer_to k event)
+IsRefusedAlike m k (declares event) = ⊥
+IsRefusedAlike m k restarts = ⊥
+
 -- one answer to an event
 abbrev pub IsAnsweredAlike : Machine → Machine → Act → Type 0
 IsAnsweredAlike m k (happens event) = answer_to m event ≡ answer_to k event
@@ -106,10 +115,11 @@ IsAnsweredAlike m k restarts = Unit {0}
 
 -- ---- runs
 
--- the answers to the tenant's own events are the same in two runs, each with events of others, up to the first exception
+-- the answers to the tenant's own events are the same in two runs, each with events of others, up to the first exception, which is no
+-- event that both machines refuse alike
 pub data IsToldAlike (a : Tenant) : Machine → Machine → List Act → List Act → Type 0 where
   all_told : {m k : Machine} → IsToldAlike a m k [] []
-  told_apart : {m k : Machine} {x : Act} {later others : List Act} → is_of a x ≡ true → IsExceptionFor a m k x → IsToldAlike a m k (x ∷ later) (x ∷ others)
+  told_apart : {m k : Machine} {x : Act} {later others : List Act} → is_of a x ≡ true → IsExceptionFor a m k x → (IsRefusedAlike m k x → ⊥) → IsToldAlike a m k (x ∷ later) (x ∷ others)
   told_alike : {m k : Machine} {x : Act} {later others : List Act} → is_of a x ≡ true → IsAnsweredAlike m k x →
       IsToldAlike a (follows m x) (follows k x) later others → IsToldAlike a m k (x ∷ later) (x ∷ others)
   -- as long as the machines are alike after it

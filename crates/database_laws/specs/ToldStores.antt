@@ -1,11 +1,13 @@
 -- What a tenant is told by two servers, each over a store of its own, with whatever others do out of its sight.
-use Rattle.std.specs.Prelude.{◌≡◌, ◌⊎◌, Bool, true, false, List, [], ◌∷◌, filter}
+use Rattle.std.specs.Prelude.{◌≡◌, ◌⊎◌, Bool, true, false, List, [], ◌∷◌, filter, Err}
+use Rattle.sql_types.specs.declared.state.SqlState.{SqlState}
 use Rattle.sql_types.specs.declared.state.SqlState.TheVariants.{IoError}
 use Rattle.sql_types.specs.declared.answer.Answer.{Answer}
 use Rattle.sql_types.specs.declared.answer.Answer.TheVariants as answer
 use Rattle.abstract_database.specs.Roles.{may_log_in}
 use Rattle.abstract_database.specs.Machine.{Event, opens, executes, closes, Reading, Machine}
 use Rattle.abstract_database.specs.Runs.{TheText, ReadingRelation, IsReadAs, RanBy, Stops, At, Happens}
+use Rattle.database_laws.specs.Codes.{is_of_stores}
 use Rattle.database_laws.specs.HiddenRuns.{SameApparentRowsForPairs, as_itself, AreSound, IsInPlace}
 use Rattle.database_laws.specs.Runs.{ReadsOnce}
 use Rattle.database_laws.specs.Sessions.{number_of}
@@ -33,14 +35,24 @@ KeepOutOfSight Reads Leave a w end (event ∷ events) (x ∷ answers) ran =
 KeepOutOfSight Reads Leave a w end [] (x ∷ answers) ran = Unit {0}
 KeepOutOfSight Reads Leave a w end (event ∷ events) [] ran = Unit {0}
 
+-- the text of the event is read as the refusal with this code
+abbrev pub IsReadAsCode : ReadingRelation → Event TheText → SqlState → Type 0
+IsReadAsCode Reads (opens number login) code = ⊥
+IsReadAsCode Reads (executes number text) code = Reads text (Err code)
+IsReadAsCode Reads (closes number) code = ⊥
+
+-- both answers are one refusal; and the text is not read as it, if it is for memory, for space or of the device
+abbrev pub AreRefusedAlike : ReadingRelation → Event TheText → Answer → Answer → Type 0
+AreRefusedAlike Reads event x y = (code : SqlState) × (x ≡ answer.Refused code) × (y ≡ answer.Refused code) × (is_of_stores code ≡ true → IsReadAsCode Reads event code → ⊥)
+
 -- the answers to the tenant's own events are the same, up to the first exception, to the first own event that a store refuses in
--- place of the machine, or to the first failure of a device
+-- place of the machine, or to the first failure of a device under an event of another. What both refuse alike ends nothing
 pub data IsToldAlikeBy (Reads : ReadingRelation) (Leave LeaveOther : Stops) (a : Tenant) : At → At → List (Event TheText) → List Answer → List (Event TheText) → List Answer → Type 0 where
   all_told : {w v : At} → IsAlikeTo a w.standing.machine v.standing.machine → IsToldAlikeBy Reads Leave LeaveOther a w v [] [] [] []
   told_apart : {w v : At} {event : Event TheText} {events others : List (Event TheText)} {x y : Answer} {answers told : List Answer} → is_text_of a event ≡ true → (read : Event Reading) →
-      IsReadAs Reads w.standing.machine event read → IsExceptionFor a w.standing.machine v.standing.machine (happens read) → IsToldAlikeBy Reads Leave LeaveOther a w v (event ∷ events) (x ∷ answers) (event ∷ others) (y ∷ told)
+      IsReadAs Reads w.standing.machine event read → IsExceptionFor a w.standing.machine v.standing.machine (happens read) → (AreRefusedAlike Reads event x y → ⊥) → IsToldAlikeBy Reads Leave LeaveOther a w v (event ∷ events) (x ∷ answers) (event ∷ others) (y ∷ told)
   refused_alone : (next later : At) {w v : At} {event : Event TheText} {events others : List (Event TheText)} {x y : Answer} {answers told : List Answer} → is_text_of a event ≡ true →
-      Happens Reads Leave w event x next → Happens Reads LeaveOther v event y later → IsInPlace w.counts next.counts x ⊎ IsInPlace v.counts later.counts y → IsToldAlikeBy Reads Leave LeaveOther a w v (event ∷ events) (x ∷ answers) (event ∷ others) (y ∷ told)
+      Happens Reads Leave w event x next → Happens Reads LeaveOther v event y later → IsInPlace w.counts next.counts x ⊎ IsInPlace v.counts later.counts y → (AreRefusedAlike Reads event x y → ⊥) → IsToldAlikeBy Reads Leave LeaveOther a w v (event ∷ events) (x ∷ answers) (event ∷ others) (y ∷ told)
   told_alike : (next later : At) {w v : At} {event : Event TheText} {events others : List (Event TheText)} {x : Answer} {answers told : List Answer} → is_text_of a event ≡ true →
       Happens Reads Leave w event x next → Happens Reads LeaveOther v event x later → IsToldAlikeBy Reads Leave LeaveOther a next later events answers others told → IsToldAlikeBy Reads Leave LeaveOther a w v (event ∷ events) (x ∷ answers) (event ∷ others) (x ∷ told)
   untold_here : (next : At) {w v : At} {event : Event TheText} {events others : List (Event TheText)} {x : Answer} {answers told : List Answer} → is_text_of a event ≡ false →
@@ -62,11 +74,11 @@ what_stores_tell_a_tenant Reads Leave LeaveOther = ReadsOnce Reads → (a : Tena
 
 -- ---- one event
 
--- one own event over two stores: an exception; or refused by a store in place of the machine; or answered the same, and such
--- that the machines are alike to the tenant again
+-- one own event over two stores: an exception, or refused by a store in place of the machine, and not refused alike by both; or
+-- answered the same, and such that the machines are alike to the tenant again
 pub data GoesAlike (Reads : ReadingRelation) (a : Tenant) (w v next later : At) (event : Event TheText) (x y : Answer) : Type 0 where
-  goes_apart : (read : Event Reading) → IsReadAs Reads w.standing.machine event read → IsExceptionFor a w.standing.machine v.standing.machine (happens read) → GoesAlike Reads a w v next later event x y
-  goes_refused : IsInPlace w.counts next.counts x ⊎ IsInPlace v.counts later.counts y → GoesAlike Reads a w v next later event x y
+  goes_apart : (read : Event Reading) → IsReadAs Reads w.standing.machine event read → IsExceptionFor a w.standing.machine v.standing.machine (happens read) → (AreRefusedAlike Reads event x y → ⊥) → GoesAlike Reads a w v next later event x y
+  goes_refused : IsInPlace w.counts next.counts x ⊎ IsInPlace v.counts later.counts y → (AreRefusedAlike Reads event x y → ⊥) → GoesAlike Reads a w v next later event x y
   goes_on : x ≡ y → IsAlikeTo a next.standing.machine later.standing.machine → GoesAlike Reads a w v next later event x y
 
 -- so goes each own event

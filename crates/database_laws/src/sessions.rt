@@ -1,8 +1,9 @@
 //! Laws of sessions: of refusals, of what one leaves of the others, and of the writer lock.
 
+ghost use Rattle.database_laws.specs.Codes.{statements_have_codes_of_their_own, machines_need_no_store};
 ghost use Rattle.database_laws.specs.OutOfSight.{unseen_by_others, unseen_by_all, unseen_events, apart_is_out_of_sight, tenants_are_out_of_sight};
 ghost use Rattle.database_laws.specs.Told.{what_a_tenant_is_told, unseen_acts_are_out_of_sight};
-ghost use Rattle.database_laws.specs.ToldApart.{machines_part_at_exceptions, machines_part_behind_others};
+ghost use Rattle.database_laws.specs.ToldApart.{machines_part_at_exceptions, machines_part_behind_others, one_refusal_parts_no_machines};
 ghost use Rattle.database_laws.specs.TwoTenants.{MeetThePremises};
 ghost use Rattle.database_laws.specs.Openings.{only_logins_open, logins_are_authorized};
 ghost use Rattle.database_laws.specs.Sessions.{effects_are_no_refusals, other_sessions_stay, blocks_keep_their_role, only_the_holder_changes, others_see_the_committed, uncommitted_is_not_seen};
@@ -17,6 +18,15 @@ pub fn sessions_are_for_logins()
 /// What a statement answers once it takes effect is no refusal.
 pub fn effects_are_no_refusals()
     ensures { effects_are_no_refusals }
+{}
+
+/// A statement of the database is refused by itself neither for its block, its session, the writer lock
+/// or a connection, nor for memory, space or the device: these codes come of the machine or of a store.
+/// A machine that has not stopped refuses nothing for memory, space or the device, but a text that was
+/// read as such a refusal.
+pub fn statements_have_codes_of_their_own()
+    ensures statements { statements_have_codes_of_their_own }
+    ensures machines { machines_need_no_store }
 {}
 
 /// An event of one session leaves every other one: its roles, and its block. A statement leaves the
@@ -42,9 +52,9 @@ pub fn one_holder()
 /// Then the tenant's own events are answered the same, in blocks, over sessions that are closed and opened
 /// again, and over restarts, up to the first exception: a key stands already over one of the machines; an
 /// UPDATE or DELETE that reads no column passes its checks, and not all policies of its table for the set
-/// role are FOR ALL without WITH CHECK; the tenant changes policies, row security or memberships; it writes
-/// while another session holds the writer lock over one of the machines alone, or opens a session beside 256
-/// over one alone; or it sets a role that is none of its pairs.
+/// role are FOR ALL without WITH CHECK; the tenant changes policies, row security or memberships; it is
+/// refused a write for the writer lock that another session holds, or an opening beside 256 sessions of its
+/// client, over one of the machines and not over the other; or it sets a role that is none of its pairs.
 ///
 /// A statement over rows that the others may write only where they are silent for all of the pairs changes
 /// what is committed out of their sight.
@@ -54,10 +64,12 @@ pub fn tenants_are_told_what_they_see()
 {}
 
 /// What `tenants_are_told_what_they_see` forbids: two different answers to an own event, alone or behind an act
-/// of another, are told alike only at an exception of the machines as this act left them.
+/// of another, are told alike only at an exception of the machines as this act left them. Nor does the law end
+/// where both refuse an own event with one code.
 pub fn tenants_part_at_exceptions()
     ensures own { machines_part_at_exceptions }
     ensures behind { machines_part_behind_others }
+    ensures alike { one_refusal_parts_no_machines }
 {}
 
 /// What others do out of sight looks as before: a statement over rows each of which its users may write

@@ -1,4 +1,4 @@
-use Rattle.database_laws.proofs.ToldApart.{stores_part, stores_part_behind}
+use Rattle.database_laws.proofs.ToldApart.{stores_part, stores_part_behind, stores_go_on}
 use Rattle.database_laws.proofs.runs.stores_part_at_exceptions.Goals as goal
 
 pub returns-clause-own : goal.returns-clause-own
@@ -6,3 +6,6 @@ returns-clause-own g c = stores_part g.R.Reader.Reads g.S.Stopping.Leave g.T.Sto
 
 pub returns-clause-behind : goal.returns-clause-behind
 returns-clause-behind g c = stores_part_behind g.R.Reader.Reads g.S.Stopping.Leave g.T.Stopping.Leave
+
+pub returns-clause-alike : goal.returns-clause-alike
+returns-clause-alike g c = stores_go_on g.R.Reader.Reads g.S.Stopping.Leave g.T.Stopping.Leave
