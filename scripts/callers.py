@@ -40,6 +40,21 @@ LAWS = {
 # What no command calls yet, each with what it is for.
 COMING = {
     'scram::Mock::of_verifier': 'a server that keeps the secret of its mocks in its table of passwords',
+    'talks::serve_clients': 'a server of many clients at once',
+    'server::Server::block_state': 'what a conversation asks between two statements',
+    'server::Session::block_state': 'the same',
+    'server::Server::holder': 'who keeps others waiting',
+    'server::Server::is_locked_out': 'whose statement waits',
+    'server::Server::close_next': 'the end of one client among many',
+    'server::Server::step_read': 'a statement that was described before it runs',
+    'postgres_texts::refusal_text': "PostgreSQL's protocol",
+    'postgres_texts::warning_text': 'the same',
+    'postgres_texts::ends_session': 'the same',
+    'postgres_texts::is_reserved': 'the same',
+    'postgres_texts::SessionSetting::named': 'the same',
+    'postgres_texts::SessionSetting::initial_value': 'the same',
+    'postgres_texts::SessionSetting::is_told': 'the same',
+    'postgres_texts::SessionSetting::value_of': 'the same',
     'sql_parser::error_place': 'commands and clients that explain a syntax error',
 }
 # What tests alone call: a device in memory fails and stops when it is asked to.

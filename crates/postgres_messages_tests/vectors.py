@@ -199,8 +199,51 @@ def fronts():
     yield line('sizes', 3, (sync + b'Q\0\0\0\6x').hex()), 'left'.join(('5 ', ' 6'))
 
 
+def report(severity, code, message, position):
+    fields = b'S' + string(severity) + b'V' + string(severity) + b'C' + string(code) + b'M' + string(message)
+    return fields + (b'P' + string(str(position)) if position else b'') + b'\0'
+
+
+def written():
+    """Messages of a server."""
+    def answer(kind, body):
+        return line('written', (b'!' + packet(kind, body)).hex())
+
+    unfit = line('unfit', b'!'.hex())
+    for vs in ([], [None], [b''], [b'1', b'ann', b't'], [b'3', None, None], [b'\0' * 8], [b'a' * 300]):
+        yield line('row', *map(word, vs)) + (' ' if not vs else ''), answer(b'D', values(vs))
+    for types in ([], [20], [20, 1043, 16], [26]):
+        yield line('types', *types) + (' ' if not types else ''), answer(b't', int32s(types))
+    for name, kind, number, size in (('count', 'int8', 20, 8), ('o', 'text', 25, -1), ('b', 'bool', 16, 1), ('?column?', 'int8', 20, 8)):
+        for code, form in enumerate(('text', 'binary')):
+            column = string(name) + struct.pack('>IHIhiH', 0, 0, number, size, -1, code)
+            yield line('column', digits(name), kind, form), answer(b'T', b'\0\1' + column)
+    yield line('column', b'a\0b'.hex(), 'int8', 'text'), unfit
+    for severity, code, text, position in (('ERROR', '42703', 'column "zz" does not exist', 8), ('FATAL', '08P01', 'bad message', 0),
+                                           ('WARNING', '25P01', 'there is no transaction in progress', 0), ('NOTICE', '00000', 'é', 0),
+                                           ('PANIC', '58030', '', 4294967295), ('ERROR', '42601', 'x', 100)):
+        yield line('report', 'error', severity, code, digits(text), position), answer(b'E', report(severity, code, text, position))
+        yield line('report', 'notice', severity, code, digits(text), position), answer(b'N', report(severity, code, text, position))
+    yield line('report', 'error', 'ERROR', '42601', b'a\0b'.hex(), 0), unfit
+    for name, kind in (('BindComplete', b'2'), ('CloseComplete', b'3'), ('EmptyQueryResponse', b'I'), ('NoData', b'n'), ('ParseComplete', b'1'),
+                       ('PortalSuspended', b's')):
+        yield line('put', name), answer(kind, b'')
+    for status in 'ITE':
+        yield line('put', 'ReadyForQuery', status), answer(b'Z', status.encode())
+    yield line('put', 'AuthenticationOk'), answer(b'R', struct.pack('>I', 0))
+    yield line('put', 'AuthenticationSASL', digits('SCRAM-SHA-256')), answer(b'R', struct.pack('>I', 10) + b'SCRAM-SHA-256\0\0')
+    yield line('put', 'AuthenticationSASLContinue', digits('r=abc')), answer(b'R', struct.pack('>I', 11) + b'r=abc')
+    yield line('put', 'AuthenticationSASLFinal', digits('v=abc')), answer(b'R', struct.pack('>I', 12) + b'v=abc')
+    yield line('put', 'BackendKeyData', 5250, 4294967295), answer(b'K', struct.pack('>II', 5250, 4294967295))
+    yield line('put', 'ParameterStatus', digits('client_encoding'), digits('UTF8')), answer(b'S', b'client_encoding\0UTF8\0')
+    yield line('put', 'ParameterStatus', b'a\0'.hex(), digits('UTF8')), unfit
+    for tag in ('SELECT 3', 'INSERT 0 1', 'BEGIN', ''):
+        yield line('put', 'CommandComplete', digits(tag)), answer(b'C', string(tag))
+    yield line('put', 'CommandComplete', b'\0'.hex()), unfit
+
+
 def main():
-    pairs = [pair for part in (recorded, read_well, read_badly, fronts) for pair in part()]
+    pairs = [pair for part in (recorded, read_well, read_badly, fronts, written) for pair in part()]
     with open(os.path.join(HERE, 'stdin'), 'w', encoding='utf-8') as requests, open(os.path.join(HERE, 'stdout'), 'w', encoding='utf-8') as answers:
         for request, answer in pairs:
             requests.write(request + '\n')

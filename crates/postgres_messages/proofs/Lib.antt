@@ -4,3 +4,4 @@ pub mod BodyLaws
 pub mod Whole
 pub mod Starts
 pub mod Fronts
+pub mod Forms

@@ -8,3 +8,5 @@ pub mod Messages
 pub mod Start
 pub mod StartReading
 pub mod Sasl
+pub mod Backend
+pub mod BackendViews

@@ -1,0 +1,4 @@
+pub mod Courses
+pub mod Passing
+pub mod Sessions
+pub mod Turning

@@ -1,0 +1,5 @@
+pub mod Wants
+pub mod Conversations
+pub mod Clients
+pub mod Turns
+pub mod Serving

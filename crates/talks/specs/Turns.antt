@@ -1,0 +1,179 @@
+-- What was done for clients: one thing after the other.
+use Rattle.std.specs.Prelude.{◌≡◌, ◌⊎◌, ℕ, true, false, List, [], ◌∷◌, ◌++◌, Some}
+use Rattle.talks.specs.declared.want.Want.{Want}
+use Rattle.talks.specs.declared.want.Reply.{Reply}
+use Rattle.talks.specs.declared.talk.Talk.{Ghosts as TalkGhosts}
+use Rattle.talks.specs.declared.machine.Machine.{Ghosts as MachineGhosts}
+use Rattle.talks.specs.declared.clients.ServedClients.{Ghosts as ClientsGhosts}
+use Rattle.talks.specs.declared.clients.Why.{Why}
+use Rattle.talks.specs.declared.clients.Why.TheVariants as why
+use Rattle.talks.specs.Wants.{Learnt, learnt, own, WantsStep, WantsQuestion, OpensSession}
+use Rattle.talks.specs.Conversations.{IsGone, wanted, ending, Passes}
+use Rattle.talks.specs.Clients.{without, is_behind, IsPutLast, IsLeaving, Moved}
+
+-- what a client wanted of the machine, and what it was told of that
+pub record Deed : Type 0 where
+  pub client : ℕ
+  pub want : Want
+  pub reply : Reply
+
+pub data Turn : Type 0 where
+  -- steps were made, one at least, and then each was told
+  steps : Deed → List Deed → Turn
+  -- a question was answered
+  asks : Deed → Turn
+  -- an event was not taken yet
+  waits : ℕ → Want → Turn
+  -- a session was closed that a client has left open
+  leaves : ℕ → Turn
+  -- a client was let go whose connection had ended
+  ends : ℕ → Why → Turn
+
+-- what client c learns of a deed
+abbrev pub learnt_of : ℕ → Deed → List Learnt
+learnt_of c d = own d.client c (learnt d.want d.reply)
+
+abbrev pub learnt_of_all : ℕ → List Deed → List Learnt
+learnt_of_all c [] = []
+learnt_of_all c (d ∷ ds) = learnt_of c d ++ learnt_of_all c ds
+
+-- and in a turn
+abbrev pub learnt_in : ℕ → Turn → List Learnt
+learnt_in c (steps d ds) = learnt_of_all c (d ∷ ds)
+learnt_in c (asks d) = learnt_of c d
+learnt_in c (waits client w) = []
+learnt_in c (leaves client) = []
+learnt_in c (ends client w) = []
+
+-- and in all
+abbrev pub own_learnt : ℕ → List Turn → List Learnt
+own_learnt c [] = []
+own_learnt c (t ∷ turns) = learnt_in c t ++ own_learnt c turns
+
+-- a turn lets this client go
+abbrev pub LetsGo : ℕ → Turn → Type 0
+LetsGo c (steps d ds) = ⊥
+LetsGo c (asks d) = ⊥
+LetsGo c (waits client w) = ⊥
+LetsGo c (leaves client) = ⊥
+LetsGo c (ends client w) = client ≡ c
+
+-- one of these turns did
+abbrev pub WasLetGo : ℕ → List Turn → Type 0
+WasLetGo c [] = ⊥
+WasLetGo c (t ∷ turns) = LetsGo c t ⊎ WasLetGo c turns
+
+-- ---- the course of a client
+
+abbrev pub IsAmong : ℕ → List Deed → Type 0
+IsAmong c [] = ⊥
+IsAmong c (d ∷ ds) = (d.client ≡ c) ⊎ IsAmong c ds
+
+-- a turn serves this client
+abbrev pub IsTurnOf : ℕ → Turn → Type 0
+IsTurnOf c (steps d ds) = IsAmong c (d ∷ ds)
+IsTurnOf c (asks d) = d.client ≡ c
+IsTurnOf c (waits client w) = client ≡ c
+IsTurnOf c (leaves client) = ⊥
+IsTurnOf c (ends client w) = ⊥
+
+-- a turn closes a session that this client has left open
+abbrev pub ClosesLeft : ℕ → Turn → Type 0
+ClosesLeft c (steps d ds) = ⊥
+ClosesLeft c (asks d) = ⊥
+ClosesLeft c (waits client w) = ⊥
+ClosesLeft c (leaves client) = client ≡ c
+ClosesLeft c (ends client w) = ⊥
+
+abbrev pub NoneIs : (Turn → Type 0) → List Turn → Type 0
+NoneIs P [] = Unit {0}
+NoneIs P (t ∷ turns) = (P t → ⊥) × NoneIs P turns
+
+-- a client is served, then what it has left open is closed, then it is let go, and then no turn is its
+abbrev pub IsCourse : ℕ → List Turn → Type 0
+IsCourse c [] = Unit {0}
+IsCourse c (t ∷ turns) = (ClosesLeft c t → NoneIs (IsTurnOf c) turns) × (LetsGo c t → NoneIs (λ u. IsTurnOf c u ⊎ ClosesLeft c u ⊎ LetsGo c u) turns) × IsCourse c turns
+
+module _ {M T C : Type 0} (m : MachineGhosts M) (t : TalkGhosts T) (k : ClientsGhosts C T) where
+  -- a client wants this
+  abbrev pub Wants : C → ℕ → Want → Type 0
+  Wants clients c w = wanted t (k.at clients c) ≡ Some w
+
+  -- a step may be made: it was looked up that no other client's session holds the lock for it, and if it asks for the lock nobody waits before
+  -- its client; or its client has waited as long as it may
+  abbrev pub MayGo : M → C → ℕ → Want → Type 0
+  MayGo machine clients c w = (m.IsFree machine c w × (m.asks_lock machine c w ≡ true → is_behind c (k.waiting clients) ≡ false)) ⊎ k.has_waited clients c
+
+  -- and it may be held back
+  abbrev pub MustWait : M → C → ℕ → Want → Type 0
+  MustWait machine clients c w = m.IsLockedOut machine c w ⊎ ((m.asks_lock machine c w ≡ true) × (is_behind c (k.waiting clients) ≡ true))
+
+  -- the machine made these steps, in this order, each of which its client wants and may have
+  abbrev pub Steps : C → M → List Deed → M → Type 0
+  Steps clients old [] new = new ≡ old
+  Steps clients old (d ∷ ds) new = (mid : M) × Wants clients d.client d.want × WantsStep d.want × MayGo old clients d.client d.want
+      × m.Steps old d.client d.want d.reply mid × Steps clients mid ds new
+
+  -- each conversation learnt its own, at this moment of the machine
+  abbrev pub Learn : ℕ → C → List Deed → C → Type 0
+  Learn moment before [] after = after ≡ before
+  Learn moment before (d ∷ ds) after = (mid : C) × k.learns before moment d.client d.reply mid × Learn moment mid ds after
+
+  -- those that took their turn wait no more
+  abbrev pub waiting_after : List Deed → List ℕ → List ℕ
+  waiting_after [] waiting = waiting
+  waiting_after (d ∷ ds) waiting = waiting_after ds (without d.client waiting)
+
+  -- no session of a client is open, or the machine has stopped
+  abbrev pub HasNone : M → ℕ → Type 0
+  HasNone machine c = (m.stopped machine ≡ true) ⊎ ((n : ℕ) (login : List ℕ) → m.Has machine c n login → ⊥)
+
+  -- each conversation learnt while the machine stood where its step has led
+  abbrev pub TakesTurn : M → C → Turn → M → C → Type 0
+  TakesTurn old before (steps d ds) new after = Steps before old (d ∷ ds) new × Learn (m.moment new) before (d ∷ ds) after × (k.waiting after ≡ waiting_after (d ∷ ds) (k.waiting before))
+  TakesTurn old before (asks d) new after = Wants before d.client d.want × WantsQuestion d.want × m.Tells old d.client d.want d.reply new × k.learns before (m.moment new) d.client d.reply after × (k.waiting after ≡ without d.client (k.waiting before))
+  TakesTurn old before (waits c w) new after = Wants before c w × MustWait old before c w × (new ≡ old) × IsPutLast t (k.at after) c (k.waiting before) (k.waiting after)
+  TakesTurn old before (leaves c) new after = IsLeaving t (k.at before c) × m.Closes old c new × (after ≡ before)
+  TakesTurn old before (ends c w) new after = (ending (k.at before c) ≡ Some w) × IsLeaving t (k.at before c) × (w ≡ why.Stopped → m.stopped old ≡ true)
+      × HasNone old c × (new ≡ old) × IsGone (k.at after c) × (k.waiting after ≡ without c (k.waiting before))
+
+  -- what clients do between turns: they come, are heard and sent to
+  pub record Goes (before after : C) : Type 0 where
+    pub moved : Moved t (k.at before) (k.at after)
+    pub waiting : k.waiting after ≡ k.waiting before
+    pub expected : k.expected after ≡ k.expected before
+
+  -- in a turn each client learnt its own, and nobody went who was not let go
+  pub record Moves (turn : Turn) (before after : C) : Type 0 where
+    pub passed : (c : ℕ) → Passes t (k.at before c) (learnt_in c turn) (k.at after c)
+    pub alone : (c : ℕ) → IsGone (k.at after c) → IsGone (k.at before c) ⊎ LetsGo c turn
+    pub expected : k.expected after ≡ k.expected before
+
+  -- one turn after the other, and what clients did before each and at last
+  abbrev pub TakesTurns : M → C → List Turn → M → C → Type 0
+  TakesTurns old before [] new after = (new ≡ old) × Goes before after
+  TakesTurns old before (turn ∷ turns) new after = (mid : C) × (machine : M) × (told : C)
+      × Goes before mid × TakesTurn old mid turn machine told × Moves turn mid told × TakesTurns machine told turns new after
+
+  -- ---- which of them opened a session
+
+  -- a step on what a client wanted, which opens this session of it for this role, from where the machine stood
+  abbrev pub Opens : M → Deed → M → ℕ → ℕ → List ℕ → Type 0
+  Opens old d new c n login = (d.client ≡ c) × OpensSession d.want n login × m.Steps old d.client d.want d.reply new
+
+  -- one of these steps did
+  abbrev pub OpenedBySteps : (clients : C) (old : M) (ds : List Deed) (new : M) → Steps clients old ds new → ℕ → ℕ → List ℕ → Type 0
+  OpenedBySteps clients old [] new made c n login = ⊥
+  OpenedBySteps clients old (d ∷ ds) new made c n login = Opens old d made.0 c n login ⊎ OpenedBySteps clients made.0 ds new made.5 c n login
+
+  abbrev pub OpenedHere : (old : M) (before : C) (turn : Turn) (new : M) (after : C) → TakesTurn old before turn new after → ℕ → ℕ → List ℕ → Type 0
+  OpenedHere old before (steps d ds) new after took c n login = OpenedBySteps before old (d ∷ ds) new took.0 c n login
+  OpenedHere old before (asks d) new after took c n login = ⊥
+  OpenedHere old before (waits client w) new after took c n login = ⊥
+  OpenedHere old before (leaves client) new after took c n login = ⊥
+  OpenedHere old before (ends client w) new after took c n login = ⊥
+
+  -- one of these turns did
+  abbrev pub OpenedIn : (old : M) (before : C) (turns : List Turn) (new : M) (after : C) → TakesTurns old before turns new after → ℕ → ℕ → List ℕ → Type 0
+  OpenedIn old before [] new after took c n login = ⊥
+  OpenedIn old before (turn ∷ turns) new after took c n login = OpenedHere old took.0 turn took.1 took.2 took.4 c n login ⊎ OpenedIn took.1 took.2 turns new after took.6 c n login

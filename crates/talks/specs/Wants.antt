@@ -1,0 +1,49 @@
+-- What a conversation wants, and what it learns.
+use Rattle.std.specs.Prelude.{◌≡◌, ◌==◌, ℕ, List, [], ◌∷◌, if◌then◌else◌}
+use Rattle.sql_types.specs.declared.event.Event.TheVariants as event
+use Rattle.talks.specs.declared.want.Want.{Want}
+use Rattle.talks.specs.declared.want.Want.TheVariants as want
+use Rattle.talks.specs.declared.want.Reply.{Reply}
+use Rattle.talks.specs.declared.want.Reply.TheVariants as reply
+
+-- it wants a step of the machine: an event that opens no session, or a session
+abbrev pub WantsStep : Want → Type 0
+WantsStep (want.Event (event.Open session login)) = ⊥
+WantsStep (want.Event (event.Statement session text)) = Unit {0}
+WantsStep (want.Event (event.Close session)) = Unit {0}
+WantsStep (want.Open session login entry) = Unit {0}
+WantsStep _ = ⊥
+
+-- it wants to be told something, which changes nothing
+abbrev pub WantsQuestion : Want → Type 0
+WantsQuestion (want.Standing session) = Unit {0}
+WantsQuestion _ = ⊥
+
+-- it wants no more than the end of its connection
+abbrev pub WantsEnd : Want → Type 0
+WantsEnd (want.End late) = Unit {0}
+WantsEnd _ = ⊥
+
+-- a reply is of the kind that was wanted
+abbrev pub FitsWant : Want → Reply → Type 0
+FitsWant (want.Event e) (reply.Answer a) = Unit {0}
+FitsWant (want.Open session login entry) (reply.Answer a) = Unit {0}
+FitsWant (want.Standing session) (reply.Standing b) = Unit {0}
+FitsWant _ _ = ⊥
+
+-- what a conversation wanted, and what it was told of that
+pub record Learnt : Type 0 where
+  pub want : Want
+  pub reply : Reply
+
+abbrev pub learnt : Want → Reply → Learnt
+learnt w r = record { want = w; reply = r }
+
+-- what client c learns where client d is told this
+abbrev pub own : ℕ → ℕ → Learnt → List Learnt
+own d c x = if d == c then x ∷ [] else []
+
+-- this opens the session of this number for the role of this name
+abbrev pub OpensSession : Want → ℕ → List ℕ → Type 0
+OpensSession (want.Open session login entry) n role = (session ≡ n) × (login ≡ role)
+OpensSession _ n role = ⊥

@@ -1,0 +1,29 @@
+//! Laws of conversations, and of what was done for clients.
+
+ghost use Rattle.std.specs.Prelude.{◌++◌, ℕ, List};
+ghost use Rattle.talks.specs.Wants.{Learnt};
+ghost use Rattle.talks.specs.Conversations.{Heard};
+ghost use Rattle.talks.specs.Turns.{Turn, TakesTurns, OpenedIn};
+
+use crate::clients::ServedClients;
+use crate::machine::Machine;
+use crate::talk::Talk;
+
+/// What is heard of some bytes is heard of them with any bytes behind them, and then goes on: so the
+/// pieces in which bytes come make no difference.
+pub fn pieces_make_no_difference<T: Talk>()
+    ensures more { (t u : T) (bytes said rest more : List ℕ) (xs : List Learnt)
+        → Heard T.Talk t bytes xs said rest u → Heard T.Talk t (bytes ++ more) xs said (rest ++ more) u }
+    ensures on { (t u v : T) (bytes said rest piece also left : List ℕ) (xs ys : List Learnt)
+        → Heard T.Talk t bytes xs said rest u → Heard T.Talk u (rest ++ piece) ys also left v
+        → Heard T.Talk t (bytes ++ piece) (xs ++ ys) (said ++ also) left v }
+{}
+
+/// Each session that a client has after some turns, and had not before them, was opened in one of
+/// them, by a step of the machine as it stood then, which that client's conversation wanted.
+pub fn sessions_are_opened<M: Machine, T: Talk, C: ServedClients<T>>()
+    ensures { (old : M) (before : C) (turns : List Turn) (new : M) (after : C)
+        (took : TakesTurns M.Machine T.Talk C.ServedClients old before turns new after) (c n : ℕ) (login : List ℕ)
+        → (M.Has old c n login → ⊥) → M.Has new c n login
+        → OpenedIn M.Machine T.Talk C.ServedClients old before turns new after took c n login }
+{}

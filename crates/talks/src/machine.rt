@@ -1,0 +1,94 @@
+//! What answers many conversations, one after the other.
+
+ghost use Rattle.std.specs.Prelude.{◌≡◌, ◌⊎◌, true, false, ℕ, List, Bool};
+ghost use Rattle.talks.specs.Wants.{WantsStep, WantsQuestion, FitsWant, OpensSession};
+ghost use Rattle.talks.specs.declared.want.Want.{Want as TheWant};
+ghost use Rattle.talks.specs.declared.want.Reply.{Reply as TheReply};
+
+use crate::want::{Reply, Want};
+
+/// What answers events and questions of clients, which number their sessions each for itself.
+pub trait Machine {
+    /// What a step that a client wants is answered, and where it leads.
+    ghost Steps: { Self → ℕ → TheWant → TheReply → Self → Type 0 };
+
+    /// What a question of a client is told, which changes nothing but that the machine may stop.
+    ghost Tells: { Self → ℕ → TheWant → TheReply → Self → Type 0 };
+
+    /// What the end of a session that a client has left open does.
+    ghost Closes: { Self → ℕ → Self → Type 0 };
+
+    /// A moment of its clock.
+    ghost moment: { Self → ℕ };
+
+    /// It has stopped, and refuses every event.
+    ghost stopped: { Self → Bool };
+
+    /// A client has a session of this number open, which was opened for the role of this name.
+    ghost Has: { Self → ℕ → ℕ → List ℕ → Type 0 };
+
+    /// A session of another client holds the writer lock, for which this event would be refused.
+    ghost IsLockedOut: { Self → ℕ → TheWant → Type 0 };
+
+    /// It was looked up that none does.
+    ghost IsFree: { Self → ℕ → TheWant → Type 0 };
+
+    /// This event asks for the writer lock, which no session of its client holds.
+    ghost asks_lock: { Self → ℕ → TheWant → Bool };
+
+    /// Whether it has stopped.
+    fn has_stopped(&self) -> bool
+        ensures { result ≡ stopped self.now };
+
+    /// Carries out what a client wants, and answers it.
+    fn step(&mut self, client: u32, want: &Want) -> Reply
+        requires { WantsStep want.now }
+        ensures steps { Steps self.old client want.now result self.new }
+        ensures fits { FitsWant want.now result };
+
+    /// Answers a question of a client.
+    fn ask(&mut self, client: u32, want: &Want) -> Reply
+        requires { WantsQuestion want.now }
+        ensures tells { Tells self.old client want.now result self.new }
+        ensures fits { FitsWant want.now result };
+
+    /// Whether a session of another client holds the writer lock, for which the event would be
+    /// refused.
+    fn is_locked_out(&self, client: u32, want: &Want) -> bool
+        ensures locked { result ≡ true → IsLockedOut self.now client want.now }
+        ensures free { result ≡ false → IsFree self.now client want.now };
+
+    /// Whether the event asks for the writer lock, which no session of its client holds.
+    fn asks_for_lock(&self, client: u32, want: &Want) -> bool
+        ensures { result ≡ asks_lock self.now client want.now };
+
+    /// Closes the first session that a client has open, and tells whether there was one. A machine
+    /// that has stopped closes none.
+    fn close_next(&mut self, client: u32) -> bool
+        ensures closed { result ≡ true → Closes self.old client self.new }
+        ensures kept { result ≡ false → self.new ≡ self.old }
+        ensures none { result ≡ false → (stopped self.old ≡ true) ⊎ ((n : ℕ) (login : List ℕ) → Has self.old client n login → ⊥) };
+
+    /// A session comes only by the step that opens it, for the client that wants it.
+    ghost steps_open: { (old new : Self) (c : ℕ) (w : TheWant) (r : TheReply) (d n : ℕ) (login : List ℕ)
+        → Steps old c w r new → Has new d n login → Has old d n login ⊎ ((c ≡ d) × OpensSession w n login) };
+
+    /// No question opens one.
+    ghost tells_open: { (old new : Self) (c : ℕ) (w : TheWant) (r : TheReply) (d n : ℕ) (login : List ℕ)
+        → Tells old c w r new → Has new d n login → Has old d n login };
+
+    /// And no end of one.
+    ghost closes_open: { (old new : Self) (c d n : ℕ) (login : List ℕ)
+        → Closes old c new → Has new d n login → Has old d n login };
+
+    /// A machine that has stopped stays so.
+    ghost steps_stopped: { (old new : Self) (c : ℕ) (w : TheWant) (r : TheReply)
+        → Steps old c w r new → stopped old ≡ true → stopped new ≡ true };
+
+    /// Questions change nothing of that.
+    ghost tells_stopped: { (old new : Self) (c : ℕ) (w : TheWant) (r : TheReply)
+        → Tells old c w r new → stopped old ≡ true → stopped new ≡ true };
+
+    /// Nor do ends of sessions.
+    ghost closes_stopped: { (old new : Self) (c : ℕ) → Closes old c new → stopped old ≡ true → stopped new ≡ true };
+}

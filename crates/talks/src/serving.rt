@@ -1,0 +1,108 @@
+//! Clients, served by a machine.
+
+ghost use Rattle.std.specs.Prelude.{◌≡◌, ◌≢◌, true, false, Option, Some, None, IfSome};
+ghost use Rattle.talks.specs.Wants.{WantsStep, WantsQuestion};
+ghost use Rattle.talks.specs.Conversations.{wanted, ending};
+ghost use Rattle.talks.specs.Clients.{IsLeaving};
+ghost use Rattle.talks.specs.Turns.{Turn, TakesTurn, Moves, Goes, MayGo, MustWait, Wants};
+ghost use Rattle.talks.specs.Serving.{ServesClients, EndedAs};
+ghost use Rattle.talks.specs.declared.want.Want.{Want as TheWant};
+
+use crate::clients::{Finish, Next, ServedClients, Why};
+use crate::machine::Machine;
+use crate::talk::Talk;
+
+/// Why serving clients ended.
+#[derive(Clone, Copy, PartialEq, Eq)]
+pub enum ServeEnd {
+    /// No client comes any more, and the connection of each that came has ended.
+    Ended(Finish),
+    /// As many turns were taken as were to be taken at most.
+    TurnLimit,
+}
+
+/// Serves clients, in so many turns at most, until nobody comes any more.
+pub fn serve_clients<M: Machine, T: Talk, C: ServedClients<T>>(
+    machine: &mut M,
+    clients: &mut C,
+    most: u64,
+) -> ServeEnd
+    ensures { ServesClients M.Machine T.Talk C.ServedClients most machine.old clients.old result machine.new clients.new }
+{
+    for _ in 0..most {
+        let next = clients.next(machine.has_stopped());
+        match next {
+            Next::Step { client } => take_step(machine, clients, client),
+            Next::Question { client } => answer_question(machine, clients, client),
+            Next::Left { client, why } => leave(machine, clients, client, why),
+            Next::Ended(ending) => return ServeEnd::Ended(ending),
+        }
+    }
+    ServeEnd::TurnLimit
+}
+
+// Makes the step that a client wants and tells it, or lets the client wait.
+fn take_step<M: Machine, T: Talk, C: ServedClients<T>>(
+    machine: &mut M,
+    clients: &mut C,
+    client: u32,
+)
+    requires { (w : TheWant) × Wants M.Machine T.Talk C.ServedClients clients.old client w × WantsStep w }
+    ensures { (turn : Turn) × TakesTurn M.Machine T.Talk C.ServedClients machine.old clients.old turn machine.new clients.new
+        × Moves M.Machine T.Talk C.ServedClients turn clients.old clients.new }
+{
+    if may_go(&*machine, &*clients, client) {
+        let reply = machine.step(client, clients.want(client));
+        clients.learn(&*machine, client, reply);
+    } else {
+        clients.hold_back(client);
+    }
+}
+
+// Whether a step may be made for a client.
+fn may_go<M: Machine, T: Talk, C: ServedClients<T>>(machine: &M, clients: &C, client: u32) -> bool
+    requires { (w : TheWant) × Wants M.Machine T.Talk C.ServedClients clients.now client w }
+    ensures goes { result ≡ true → (w : TheWant) → Wants M.Machine T.Talk C.ServedClients clients.now client w → MayGo M.Machine T.Talk C.ServedClients machine.now clients.now client w }
+    ensures waits { result ≡ false → (w : TheWant) → Wants M.Machine T.Talk C.ServedClients clients.now client w → MustWait M.Machine T.Talk C.ServedClients machine.now clients.now client w }
+{
+    if clients.may_wait_no_more(client) {
+        return true;
+    }
+    let want = clients.want(client);
+    if machine.is_locked_out(client, want) {
+        return false;
+    }
+    !(machine.asks_for_lock(client, want) && clients.is_behind(client))
+}
+
+// Tells a client what its question is told.
+fn answer_question<M: Machine, T: Talk, C: ServedClients<T>>(
+    machine: &mut M,
+    clients: &mut C,
+    client: u32,
+)
+    requires { (w : TheWant) × Wants M.Machine T.Talk C.ServedClients clients.old client w × WantsQuestion w }
+    ensures { (turn : Turn) × TakesTurn M.Machine T.Talk C.ServedClients machine.old clients.old turn machine.new clients.new
+        × Moves M.Machine T.Talk C.ServedClients turn clients.old clients.new }
+{
+    let reply = machine.ask(client, clients.want(client));
+    clients.learn(&*machine, client, reply);
+}
+
+// Closes a session of a client whose connection has ended, or lets it go where none is open.
+fn leave<M: Machine, T: Talk, C: ServedClients<T>>(
+    machine: &mut M,
+    clients: &mut C,
+    client: u32,
+    why: Why,
+)
+    requires ending { ending (C.at clients.old client) ≡ Some why }
+    requires leaving { IsLeaving T.Talk (C.at clients.old client) }
+    requires stopped { why ≡ Why.Stopped → M.stopped machine.old ≡ true }
+    ensures { (turn : Turn) × TakesTurn M.Machine T.Talk C.ServedClients machine.old clients.old turn machine.new clients.new
+        × Moves M.Machine T.Talk C.ServedClients turn clients.old clients.new }
+{
+    if !machine.close_next(client) {
+        clients.close(client);
+    }
+}
