@@ -12,7 +12,7 @@ use Rattle.expressions.specs.Stages.{◌>>=◌}
 use Rattle.abstract_database.specs.Lists.{TheName}
 use Rattle.abstract_database.specs.Roles.{may_log_in}
 use Rattle.abstract_database.specs.Statements.{Effect, exec}
-use Rattle.abstract_database.specs.Machine.{Block, Outside, Inside, Failed, Session, Event, opens, executes, closes, Reading, Machine, Transition, refuses, succeeds, session_of, users_of, as_role, with_session_changed, seen, open_session, close_session, after_refusal, transition_or_refusal, may_execute, begin, with_role_set, commit, rollback, with_changes, applied, where_admitted, changes_database, execute_of_session, execute_in, execute, running_transition, transition}
+use Rattle.abstract_database.specs.Machine.{client_of, own_sessions, Block, Outside, Inside, Failed, Session, Event, opens, executes, closes, Reading, Machine, Transition, refuses, succeeds, session_of, users_of, as_role, with_session_changed, seen, open_session, close_session, after_refusal, transition_or_refusal, may_execute, begin, with_role_set, commit, rollback, with_changes, applied, where_admitted, changes_database, execute_of_session, execute_in, execute, running_transition, transition}
 use Rattle.abstract_database.proofs.ResultLemmas.{Every, every_bind, every_ok}
 
 module _ (m : Machine) where
@@ -28,7 +28,7 @@ module _ (m : Machine) where
   open_lasts number login false false false = refl
 
   opened_lasts : (number : ℕ) (login : TheName) → Lasts (open_session m number login)
-  opened_lasts number login = open_lasts number login (is_some (session_of number m.sessions)) (nat_le 256 (length m.sessions)) (may_log_in m.committed login)
+  opened_lasts number login = open_lasts number login (is_some (session_of number m.sessions)) (nat_le 256 (length (own_sessions (client_of number) m.sessions))) (may_log_in m.committed login)
 
   closed_lasts : (number : ℕ) (s : Option Session) → Lasts (close_session m number s)
   closed_lasts number None = refl
