@@ -1,5 +1,5 @@
 -- The conversation with one client: what was heard, learnt and said.
-use Rattle.std.specs.Prelude.{◌≡◌, ◌≢◌, ℕ, Bool, true, List, [], ◌∷◌, ◌++◌, take, drop, Option, Some, None}
+use Rattle.std.specs.Prelude.{◌≡◌, ◌≢◌, ◌⊎◌, ℕ, Bool, true, List, [], ◌∷◌, ◌++◌, take, drop, Option, Some, None}
 use Rattle.std.specs.Io.KnownBytes.{append_known, Appends, Consumes, IsAtEnd}
 use Rattle.talks.specs.Wants.{Learnt, FitsWant, WantsEnd}
 use Rattle.talks.specs.declared.want.Want.{Want}
@@ -102,6 +102,7 @@ module _ {T : Type 0} (k : Ghosts T) where
     pub starts : k.starts x.talk
     pub held : x.held ≡ []
     pub remaining : x.remaining ≡ bytes
+    pub sent : (x.sent ≡ None) ⊎ (x.sent ≡ Some [])
     pub unsent : x.unsent ≡ []
     pub failures : x.failures ≡ 0
     pub why : x.why ≡ None

@@ -1,0 +1,239 @@
+//! Two clients in memory, which take turns.
+
+ghost use Rattle.std.specs.Prelude.{◌≡◌, ◌<◌, ◌+◌, ◌-◌, ◌^◌, ◌==◌, not, ℕ, List, [], ◌∷◌, Some, None, IfSome, true, false};
+ghost use Rattle.talks.specs.Wants.{FitsWant, learnt};
+ghost use Rattle.talks.specs.Conversations.{Passes, IsGone, wanted};
+ghost use Rattle.talks.specs.Clients.{without, put_last, is_behind, IsNext, Moved};
+ghost use Rattle.talks.specs.declared.want.Want.{Want as TheWant};
+ghost use Rattle.talks_tests.specs.Memory.{place_of};
+ghost use Rattle.talks_tests.specs.TwoClients.{waiting_of, places, NextOf};
+
+use crate::line::{BeginsAnew, MemoryClient, Stage, Wish};
+use talks::clients::{Finish, Next, ServedClients};
+use talks::machine::Machine;
+use talks::want::{Reply, Want};
+
+/// Who waits, the first that came first.
+#[derive(Clone, Copy, PartialEq, Eq)]
+pub enum Queue {
+    Nobody,
+    First,
+    Second,
+    FirstSecond,
+    SecondFirst,
+}
+
+impl Queue {
+    fn without_first(self) -> Queue
+        ensures { waiting_of result ≡ without 0 (waiting_of self) }
+    {
+        match self {
+            Queue::Nobody | Queue::First => Queue::Nobody,
+            Queue::Second | Queue::FirstSecond | Queue::SecondFirst => Queue::Second,
+        }
+    }
+
+    fn without_second(self) -> Queue
+        ensures { waiting_of result ≡ without 1 (waiting_of self) }
+    {
+        match self {
+            Queue::Nobody | Queue::Second => Queue::Nobody,
+            Queue::First | Queue::FirstSecond | Queue::SecondFirst => Queue::First,
+        }
+    }
+
+    fn with_first(self) -> Queue
+        ensures { waiting_of result ≡ put_last 0 (waiting_of self) }
+    {
+        match self {
+            Queue::Nobody => Queue::First,
+            Queue::Second => Queue::SecondFirst,
+            Queue::First | Queue::FirstSecond | Queue::SecondFirst => self,
+        }
+    }
+
+    fn with_second(self) -> Queue
+        ensures { waiting_of result ≡ put_last 1 (waiting_of self) }
+    {
+        match self {
+            Queue::Nobody => Queue::Second,
+            Queue::First => Queue::FirstSecond,
+            Queue::Second | Queue::FirstSecond | Queue::SecondFirst => self,
+        }
+    }
+
+    fn is_before(self, client: u32) -> bool
+        ensures { result ≡ is_behind client (waiting_of self) }
+    {
+        match self {
+            Queue::Nobody => false,
+            Queue::First | Queue::FirstSecond => !is_same(0, client),
+            Queue::Second | Queue::SecondFirst => !is_same(1, client),
+        }
+    }
+}
+
+fn is_same(a: u32, b: u32) -> bool
+    ensures { result ≡ (a == b) }
+{
+    a == b
+}
+
+/// Two clients, which take turns.
+#[derive(Drop)]
+pub struct TwoClients<T> {
+    pub first: MemoryClient<T>,
+    pub second: MemoryClient<T>,
+    pub queue: Queue,
+    /// The second was looked at last.
+    pub second_was_last: bool,
+    pub looks: u64,
+}
+
+impl<T> TwoClients<T> {
+    /// Two clients that are to come.
+    pub fn new(first: MemoryClient<T>, second: MemoryClient<T>) -> TwoClients<T> {
+        TwoClients {
+            first,
+            second,
+            queue: Queue::Nobody,
+            second_was_last: true,
+            looks: 0,
+        }
+    }
+
+    // Whether both have gone, and nobody waits.
+    fn is_done(&self) -> bool
+        ensures first { result ≡ true → self.now.first.stage ≡ Stage.Gone }
+        ensures second { result ≡ true → self.now.second.stage ≡ Stage.Gone }
+        ensures waiting { result ≡ true → waiting_of self.now.queue ≡ [] }
+    {
+        if !self.first.has_gone() || !self.second.has_gone() {
+            return false;
+        }
+        matches!(self.queue, Queue::Nobody)
+    }
+}
+
+// What is to be done next for a client that has this wish.
+fn next_of(client: u32, wish: Wish) -> Option<Next>
+    ensures { NextOf client wish result }
+{
+    match wish {
+        Wish::Nothing => None,
+        Wish::Step => Some(Next::Step { client }),
+        Wish::Question => Some(Next::Question { client }),
+        Wish::Left(why) => Some(Next::Left { client, why }),
+    }
+}
+
+impl<T: BeginsAnew> TwoClients<T> {
+    // Looks at the one that was not looked at last.
+    fn look(&mut self, stopped: bool) -> Option<Next>
+        ensures moved { Moved T.Talk (places self.old) (places self.new) }
+        ensures waiting { self.new.queue ≡ self.old.queue }
+        ensures looks { self.new.looks ≡ self.old.looks }
+        ensures next { IfSome result (λ n. IsNext T.Talk stopped (places self.new) (waiting_of self.new.queue) (Some 2) 0 self.new.looks n) }
+    {
+        if self.is_done() {
+            return Some(Next::Ended(Finish::Done));
+        }
+        if self.second_was_last {
+            self.look_at_first(stopped)
+        } else {
+            self.look_at_second(stopped)
+        }
+    }
+
+    fn look_at_first(&mut self, stopped: bool) -> Option<Next>
+        ensures moved { Moved T.Talk (places self.old) (places self.new) }
+        ensures waiting { self.new.queue ≡ self.old.queue }
+        ensures looks { self.new.looks ≡ self.old.looks }
+        ensures next { IfSome result (λ n. IsNext T.Talk stopped (places self.new) (waiting_of self.new.queue) (Some 2) 0 self.new.looks n) }
+    {
+        self.second_was_last = false;
+        next_of(0, self.first.attend())
+    }
+
+    fn look_at_second(&mut self, stopped: bool) -> Option<Next>
+        ensures moved { Moved T.Talk (places self.old) (places self.new) }
+        ensures waiting { self.new.queue ≡ self.old.queue }
+        ensures looks { self.new.looks ≡ self.old.looks }
+        ensures next { IfSome result (λ n. IsNext T.Talk stopped (places self.new) (waiting_of self.new.queue) (Some 2) 0 self.new.looks n) }
+    {
+        self.second_was_last = true;
+        next_of(1, self.second.attend())
+    }
+}
+
+impl<T: BeginsAnew> ServedClients<T> for TwoClients<T> {
+    ghost use Rattle.std.specs.Prelude.{◌≡◌, ℕ, [], ◌∷◌, Some};
+
+    ghost at = { places };
+
+    ghost waiting = { λ x. waiting_of x.queue };
+
+    ghost expected = { λ x. Some 2 };
+
+    ghost refusals = { λ x. 0 };
+
+    ghost looks = { λ x. x.looks };
+
+    ghost learns = { λ x moment c r y. (w : TheWant) × (wanted T.Talk (places x c) ≡ Some w) × FitsWant w r × Passes T.Talk (places x c) (learnt w r ∷ []) (places y c) };
+
+    ghost has_waited = { λ x c. ⊥ };
+
+    fn next(&mut self, stopped: bool) -> Next {
+        'looking: while self.looks < u64::MAX {
+            self.looks += 1;
+            if let Some(next) = self.look(stopped) {
+                return next;
+            }
+        }
+        Next::Ended(Finish::LookLimit)
+    }
+
+    fn want(&self, client: u32) -> &Want {
+        if client == 0 {
+            self.first.want()
+        } else {
+            self.second.want()
+        }
+    }
+
+    fn learn<M: Machine>(&mut self, _machine: &M, client: u32, reply: Reply) {
+        if client == 0 {
+            self.queue = self.queue.without_first();
+            self.first.learn(reply);
+        } else {
+            self.queue = self.queue.without_second();
+            self.second.learn(reply);
+        }
+    }
+
+    fn hold_back(&mut self, client: u32) {
+        if client == 0 {
+            self.queue = self.queue.with_first();
+        } else {
+            self.queue = self.queue.with_second();
+        }
+    }
+
+    fn is_behind(&self, client: u32) -> bool {
+        self.queue.is_before(client)
+    }
+
+    fn may_wait_no_more(&self, _client: u32) -> bool {
+        false
+    }
+
+    fn close(&mut self, client: u32) {
+        if client == 0 {
+            self.queue = self.queue.without_first();
+            self.first.close();
+        } else {
+            self.queue = self.queue.without_second();
+            self.second.close();
+        }
+    }
+}
