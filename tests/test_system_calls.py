@@ -169,6 +169,18 @@ class Files(unittest.TestCase):
         self.is_commit(commits[syncs[1] + 1:])
 
     @unittest.skipUnless(HAS_STRACE, 'there is no strace')
+    def test_a_record_is_one_write(self):
+        """With a journal each commit writes page 0 at once and syncs, also where its record has three sectors; before the first one page 0
+        is written again."""
+        make_database(self.path('db'), pages=PAGES, journal=True)
+        script = 'open r root\nr: CREATE TABLE t (k BIGINT PRIMARY KEY, x TEXT)\nr: INSERT INTO t VALUES (1, \'%s\')\n' % ('x' * 1000)
+        calls, printed = self.traced('run', self.path('db'), self.script(script))
+        self.assertEqual(printed, 'ok OPEN\nok CREATE TABLE\nok INSERT 1\n')
+        first = next(at for at, call in enumerate(calls) if call.name in WRITES)
+        self.assertEqual(calls[first - 1:first + 2], RENEWAL)
+        self.assertEqual(writes_and_syncs(calls[first + 2:]), RENEWAL[1:] * 2)
+
+    @unittest.skipUnless(HAS_STRACE, 'there is no strace')
     def test_a_sync_that_fails(self):
         """That of the opening, of page 0, of the pages, of the root: the server stops, and writes nothing more; the file holds a
         database. Page 0 was written with the bytes that it had."""
