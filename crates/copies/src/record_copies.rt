@@ -38,7 +38,7 @@ fn finish<S: Store>(target: &mut S, batch: Batch) -> Result<(), CopyFault>
 {
     let mut batch = batch;
     batch.remove(&MARK)?;
-    target.commit(&batch)?;
+    target.commit(&mut batch)?;
     Ok(())
 }
 
@@ -79,7 +79,7 @@ pub fn copy_records<M: Map, S: Store, W: CopyProgress>(
         if !take_records(source, &mut place, &mut batch, &mut bytes)? {
             return finish(target, batch);
         }
-        target.commit(&batch)?;
+        target.commit(&mut batch)?;
         progress.tell(bytes);
     }
     Err(CopyFault::Read(Fault::Memory))

@@ -1,5 +1,5 @@
 //! Commits of a store with a journal: a record, where there is room for one, or else the pages.
-ghost use Rattle.std.specs.Prelude.{◌≡◌, ◌≢◌, ◌<◌, ◌≤◌, ◌+◌, ◌/◌, ℕ, List, [], false, IsTrue, Ok, length};
+ghost use Rattle.std.specs.Prelude.{◌≡◌, ◌≢◌, ◌<◌, ◌≤◌, ◌+◌, ◌/◌, ℕ, List, [], false, IsTrue, Ok, OnErr, length};
 ghost use Rattle.storage_sizes.specs.declared.record_format.RecordFormat.TheVariants.{V2};
 ghost use Rattle.journal.specs.Changes.{Spells};
 ghost use Rattle.store.specs.Contents.{changed_by_batch, changed_in};
@@ -69,7 +69,8 @@ impl<D: JournalDevice> JournalStore<D> {
         }
     }
 
-    // Commits a batch that changes something. Only one that may be a record is encoded and copied.
+    // Commits a batch that changes something. Only one that may be a record is encoded and copied: the copy is joined to
+    // what waits before the device is written, which may fail, and the batch itself stays with the caller.
     fn commit_some(&mut self, batch: &Batch) -> Result<(), StoreFault>
         requires works { (journal_state self.old).has_failed ≡ false }
         requires some { batch.now ≢ [] }
@@ -90,6 +91,23 @@ impl<D: JournalDevice> JournalStore<D> {
             return Err(StoreFault::Memory);
         };
         self.append(copy, number + 1, &bytes)
+    }
+
+    // Commits all changes of a batch, or none of them.
+    fn commit_lent(&mut self, batch: &Batch) -> Result<(), StoreFault>
+        ensures commits { Commits result (changed_by_batch batch.now (stored (journal_state self.old)))
+            (journal_state self.old) (journal_state self.new) }
+        ensures empty { batch.now ≡ [] → (journal_state self.old).has_failed ≡ false
+            → (result ≡ Ok tt) × (self.new ≡ self.old) }
+        ensures still { IsStill result self.old self.new }
+    {
+        if self.has_failed() {
+            return Err(StoreFault::Device);
+        }
+        if batch.is_empty() {
+            return Ok(());
+        }
+        self.commit_some(batch)
     }
 }
 
@@ -118,20 +136,15 @@ impl<D: JournalDevice> Store for JournalStore<D> {
     /// are there, and the free pages are enough for what waits and it, it is a record, with one sync, and waits; else all that waits and it are committed to the pages. Full: the pages have no room for the batch
     /// behind what waits, which may be in the pages then. Once the store has answered
     /// Device nothing changes.
-    fn commit(&mut self, batch: &Batch) -> Result<(), StoreFault>
-        ensures commits { Commits result (changed_by_batch batch.now (stored (journal_state self.old)))
+    fn commit(&mut self, batch: &mut Batch) -> Result<(), StoreFault>
+        ensures commits { Commits result (changed_by_batch batch.old (stored (journal_state self.old)))
             (journal_state self.old) (journal_state self.new) }
-        ensures empty { batch.now ≡ [] → (journal_state self.old).has_failed ≡ false
+        ensures empty { batch.old ≡ [] → (journal_state self.old).has_failed ≡ false
             → (result ≡ Ok tt) × (self.new ≡ self.old) }
         ensures still { IsStill result self.old self.new }
+        ensures given_back { OnErr result (batch.new ≡ batch.old) }
     {
-        if self.has_failed() {
-            return Err(StoreFault::Device);
-        }
-        if batch.is_empty() {
-            return Ok(());
-        }
-        self.commit_some(batch)
+        self.commit_lent(batch)
     }
 
     /// Commits all changes of a batch, as `commit` does: the records are of record format 2 already.
@@ -140,6 +153,6 @@ impl<D: JournalDevice> Store for JournalStore<D> {
             (journal_state self.old) (journal_state self.new) }
         ensures still { IsStill result self.old self.new }
     {
-        self.commit(batch)
+        self.commit_lent(batch)
     }
 }

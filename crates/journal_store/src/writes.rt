@@ -41,7 +41,7 @@ impl<D: JournalDevice> Store for DeviceStore<D> {
 
     /// Commits all changes of a batch, or none of them, as `Store` says: to the pages, or, with a journal, as a record of it
     /// where there is room.
-    fn commit(&mut self, batch: &Batch) -> Result<(), StoreFault> {
+    fn commit(&mut self, batch: &mut Batch) -> Result<(), StoreFault> {
         match self {
             DeviceStore::Pages(store) => store.commit(batch),
             DeviceStore::Journaled(store) => store.commit(batch),

@@ -214,7 +214,7 @@ impl<D: Device> Map for PageStore<D> {
 }
 
 impl<D: Device> Store for PageStore<D> {
-    ghost use Rattle.std.specs.Prelude.{◌≢◌, ◌+◌, [], Ok, OnOk};
+    ghost use Rattle.std.specs.Prelude.{◌≢◌, ◌+◌, [], Ok, OnOk, OnErr};
     ghost use Rattle.storage_sizes.specs.declared.record_format.RecordFormat.TheVariants.{V1, V2};
     ghost use Rattle.store.specs.Contents.{changed_by_batch, changed_in};
     ghost use Rattle.store.specs.Records.{applied};
@@ -249,18 +249,19 @@ impl<D: Device> Store for PageStore<D> {
     /// leaves what contents it has. Full is answered where a page was wanted and none was left, and where more pages would be in
     /// use than before, and fewer free than the reserve has: so removals may take it. Once the store has answered Device nothing
     /// changes. `fulls` rises with an answer Full alone, and `failures` with Device.
-    fn commit(&mut self, batch: &Batch) -> Result<(), StoreFault>
-        ensures commits { Commits result (changed_by_batch batch.now (stored (store_state self.old)))
+    fn commit(&mut self, batch: &mut Batch) -> Result<(), StoreFault>
+        ensures commits { Commits result (changed_by_batch batch.old (stored (store_state self.old)))
             (store_state self.old) (store_state self.new) }
-        ensures empty { batch.now ≡ [] → (store_state self.old).has_failed ≡ false
+        ensures empty { batch.old ≡ [] → (store_state self.old).has_failed ≡ false
             → (result ≡ Ok tt) × (self.new ≡ self.old) }
-        ensures batch { CommitsWhole Kept batch.now (changed_by_batch batch.now) result
+        ensures batch { CommitsWhole Kept batch.old (changed_by_batch batch.old) result
             self.old.tree self.new.tree }
         ensures still { IsStill result self.old.tree self.new.tree }
         ensures counts { CountsCommit result self.old.tree self.new.tree }
         ensures rises { (store_state self.old).sound
-            → (store_state self.old).map ≢ applied batch.now (store_state self.old).map
+            → (store_state self.old).map ≢ applied batch.old (store_state self.old).map
             → OnOk result ((store_state self.new).number ≡ (store_state self.old).number + 1) }
+        ensures given_back { OnErr result (batch.new ≡ batch.old) }
     {
         self.tree.commit(batch)
     }

@@ -54,7 +54,7 @@ pub(crate) fn check_store<S: Store>(alloc: Global, store: &mut S) -> Result<(), 
     ensures failed { OnErr result (((S.state store.old).has_failed ≡ true)
         × (result ≡ Err Fault.Device)) }
 {
-    match store.commit(&Batch::new(alloc)) {
+    match store.commit(&mut Batch::new(alloc)) {
         Ok(()) => Ok(()),
         Err(_) => Err(Fault::Device),
     }

@@ -1,10 +1,10 @@
 -- What a server makes of what was decided.
-use Rattle.std.proofs.Common.{◌≡◌, ℕ, Bool, true, false, nat_eq, ⊎_elim, refl, sym, ◌∙◌, ap, subst, Option, Some, None, List, [], ◌∷◌, Result, Ok, Err, OnOk, IfErr}
+use Rattle.std.proofs.Common.{◌≡◌, ℕ, Bool, true, false, nat_eq, ⊎_elim, inl, inr, refl, sym, ◌∙◌, ap, subst, Option, Some, None, List, [], ◌∷◌, Result, Ok, Err, OnOk, IfErr}
 use Rattle.sql_types.specs.declared.answer.Answer.{Answer}
 use Rattle.indexmap.specs.IndexMap.{insert_entry}
 use Rattle.sector_device.specs.Timeline.{IsPresent}
 use Rattle.storage_sizes.specs.declared.record_format.RecordFormat.TheVariants.{V2}
-use Rattle.store.specs.Records.{Records, Changes, applied}
+use Rattle.store.specs.Records.{Records, Changes, applied, lookup}
 use Rattle.store.specs.Store.{Contents, StoreState, OnlyReads, Commits, Rose, HasDeviceCause, stored}
 use Rattle.store.specs.Contents.{changed_by_batch}
 use Rattle.store.specs.Readers.{HasRead}
@@ -18,7 +18,8 @@ use Rattle.abstract_database.specs.Machine.{Event as MachineEvent, opens, execut
 use Rattle.abstract_database.specs.Runs.{TheText, ReadingRelation, MayRunOutOfMemory, MayCallStore, MayCommit}
 use Rattle.stored_database.specs.Definitions.{Definitions}
 use Rattle.stored_database.specs.Records.{Shows}
-use Rattle.transactions.specs.Views.{applied_all}
+use Rattle.transactions.specs.Views.{applied_all, latest}
+use Rattle.transactions.specs.Commits.{CommitsJoined}
 use Rattle.catalogue.specs.declared.change.SchemaChange.{SchemaChange}
 use Rattle.catalogue.specs.Changes.{definitions_after}
 use Rattle.server.specs.declared.decision.Decision.{Decision}
@@ -144,6 +145,20 @@ pub slot_committed : (r : Result (Unit {0}) StoreFault) (cs : Changes) (held : O
     → Commits r (changed_by_batch cs (stored old)) old new → OnOk r ((writer : Writer) → held ≡ Some writer → CommitsLists writer.lists old new)
 slot_committed (Ok x) cs held old new same commits = λ writer is sound. (cs, same writer is sound, commits)
 slot_committed (Err f) cs held old new same commits = tt
+
+-- the same of the lists that the writer lock has
+pub slot_joined : {S : Type 0} (state : S → StoreState) (r : Result (Unit {0}) StoreFault) (held : Option Writer) (own : Writer) (old new : S)
+    → ((cs : Changes) → ((key : List ℕ) → lookup key cs ≡ latest key own.lists) → (state old).sound → applied cs (state old).map ≡ applied_all own.lists (state old).map)
+    → held ≡ Some own → CommitsJoined state own.lists r old new
+    → OnOk r ((writer : Writer) → held ≡ Some writer → CommitsLists writer.lists (state old) (state new))
+slot_joined state r held own old new same there (inl refused) =
+    subst (λ (z : Result (Unit {0}) StoreFault). OnOk z ((writer : Writer) → held ≡ Some writer → CommitsLists writer.lists (state old) (state new))) (sym refused.0) tt
+slot_joined state r held own old new same there (inr done) =
+    slot_committed r done.0 held (state old) (state new)
+    (λ writer is sound.
+    let one : own ≡ writer = let a = there in let b = is in cc in
+    subst (λ (z : Writer). applied done.0 (state old).map ≡ applied_all z.lists (state old).map) one (same done.0 done.1 sound))
+    done.2
 
 -- it is enough to speak of the faults that there are
 pub each_fault : (r : Result (Unit {0}) StoreFault) (P : StoreFault → Type 0) → ((f : StoreFault) → r ≡ Err f → P f) → IfErr r P

@@ -10,6 +10,7 @@ ghost use Rattle.server.specs.Session.{with_block_changed};
 ghost use Rattle.server.specs.Writers.{definitions_under};
 ghost use Rattle.abstract_database.specs.Database.{Database};
 ghost use Rattle.abstract_database.specs.Runs.{At};
+ghost use Rattle.stored_database.specs.Definitions.{Definitions};
 ghost use Rattle.stored_database.specs.Records.{Shows};
 ghost use Rattle.server.specs.Standing.{event_of, Represents, at_start};
 ghost use Rattle.server.specs.Runs.{Steps, Runs};
@@ -269,21 +270,21 @@ impl<S: Store, X: EventHandler> Server<S, X> {
     {
         let Effect {
             answer,
-            changes,
+            mut changes,
             schema,
         } = effect;
         match schema {
-            None => self.commit_records(answer, &changes),
-            Some(change) => self.commit_change(answer, &changes, change),
+            None => self.commit_records(answer, &mut changes),
+            Some(change) => self.commit_change(answer, &mut changes, change),
         }
     }
 
     // Commits the changes of a statement that leaves the definitions as they are.
-    fn commit_records(&mut self, answer: Answer, changes: &Batch) -> Result<Answer, StoreFault>
+    fn commit_records(&mut self, answer: Answer, changes: &mut Batch) -> Result<Answer, StoreFault>
         ensures history { KeepsHistory (S.state self.old.store) (S.state self.new.store) }
         ensures running { self.new.stopped ≡ self.old.stopped }
         ensures carries { Carries X.Reads S.state self.old self.new
-            (decisions.Commit (record { answer = answer; changes = changes.now; schema = None })) result }
+            (decisions.Commit (record { answer = answer; changes = changes.old; schema = None })) result }
     {
         match self.store.commit(changes) {
             Ok(()) => Ok(answer),
@@ -296,13 +297,13 @@ impl<S: Store, X: EventHandler> Server<S, X> {
     fn commit_change(
         &mut self,
         answer: Answer,
-        changes: &Batch,
+        changes: &mut Batch,
         change: SchemaChange,
     ) -> Result<Answer, StoreFault>
         ensures history { KeepsHistory (S.state self.old.store) (S.state self.new.store) }
         ensures running { self.new.stopped ≡ self.old.stopped }
         ensures carries { Carries X.Reads S.state self.old self.new (decisions.Commit
-            (record { answer = answer; changes = changes.now; schema = Some change })) result }
+            (record { answer = answer; changes = changes.old; schema = Some change })) result }
     {
         let before = mem::replace(&mut self.catalogue, Catalogue::none(self.alloc));
         match Staged::new(before, change) {
@@ -319,14 +320,14 @@ impl<S: Store, X: EventHandler> Server<S, X> {
     fn commit_staged(
         &mut self,
         answer: Answer,
-        changes: &Batch,
+        changes: &mut Batch,
         staged: Staged,
     ) -> Result<Answer, StoreFault>
         ensures history { KeepsHistory (S.state self.old.store) (S.state self.new.store) }
         ensures running { self.new.stopped ≡ self.old.stopped }
         ensures carries { Carries X.Reads S.state (record self.old { catalogue = staged.before })
             self.new (decisions.Commit
-            (record { answer = answer; changes = changes.now; schema = Some staged.change })) result }
+            (record { answer = answer; changes = changes.old; schema = Some staged.change })) result }
     {
         match self.store.commit(changes) {
             Ok(()) => {
@@ -421,25 +422,27 @@ impl<S: Store, X: EventHandler> Server<S, X> {
         }
     }
 
-    // Commits what the writer lock holds, if there is one. The writer lock stays.
+    // Commits what the writer lock holds, if there is one. The writer lock stays, with its definitions, and after a fault
+    // with its changes.
     fn commit_held(&mut self) -> Result<(), StoreFault>
         ensures history { KeepsHistory (S.state self.old.store) (S.state self.new.store) }
-        ensures kept { self.new ≡ record self.old { store = self.new.store } }
+        ensures kept { self.new ≡ record self.old { store = self.new.store; writer = self.new.writer } }
+        ensures definitions { (d : Definitions)
+            → definitions_under self.new.writer d ≡ definitions_under self.old.writer d }
         ensures ok { OnOk result ((writer : TheWriter) → self.old.writer ≡ Some writer
             → CommitsLists writer.lists (S.state self.old.store) (S.state self.new.store)) }
         ensures err { IfErr result (λ fault. (answer : TheAnswer) (change : TheChange)
             → Carries X.Reads S.state self.old self.new
             (decisions.CommitWriter answer change) (Err fault)) }
     {
-        let Some(writer) = &self.writer else {
+        let Some(mut writer) = self.writer.take() else {
             return Ok(());
         };
         // For the proof: lists of changes that are joined change the same.
         joined_changes();
-        match writer.lists.joined() {
-            Ok(joined) => self.store.commit(joined.batch()),
-            Err(_) => Err(StoreFault::Memory),
-        }
+        let result = writer.lists.commit_to(&mut self.store);
+        self.writer = Some(writer);
+        result
     }
 
     // The changes under the writer lock are committed: its definitions are those of the database, and it is free.

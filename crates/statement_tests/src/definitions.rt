@@ -183,10 +183,10 @@ impl DefinedDatabase {
     ) -> Result<(&'static str, u64), Fault> {
         let Effect {
             answer,
-            changes,
+            mut changes,
             schema,
         } = effect;
-        let digest = self.commit(alloc, before, &changes, schema)?;
+        let digest = self.commit(alloc, before, &mut changes, schema)?;
         Ok((word_of(&answer), digest))
     }
 
@@ -195,7 +195,7 @@ impl DefinedDatabase {
         &mut self,
         alloc: Global,
         before: Catalogue,
-        changes: &Batch,
+        changes: &mut Batch,
         schema: Option<SchemaChange>,
     ) -> Result<u64, Fault> {
         let after = changed(before, schema)?;

@@ -139,7 +139,7 @@ pub fn put_record(alloc: Global, store: &mut MemStore, text: &str) -> Result<()>
     if !put(&mut changes, record.key(), record.value())? {
         bail!("no store takes a record of this size");
     }
-    store.commit(&changes)?;
+    store.commit(&mut changes)?;
     Ok(())
 }
 

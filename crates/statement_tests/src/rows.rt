@@ -164,7 +164,7 @@ fn carry_out(
 ) -> Result<()> {
     let session = Session::new(role.try_copy(alloc)?, role.try_copy(alloc)?);
     match Statements.execute(alloc, store, catalogue, &session, statement) {
-        Ok(effect) => commit(alloc, store, &effect, out),
+        Ok(effect) => commit(alloc, store, effect, out),
         Err(StatementError::Refused(code)) => Ok(put_refused(alloc, code, Asked::Outcome, out)),
         Err(StatementError::Failed(Fault::Damaged)) => Ok(out.put("failed Damaged\n")),
         Err(StatementError::Failed(fault)) => bail!(fault),
@@ -172,9 +172,14 @@ fn carry_out(
 }
 
 /// Commits what a statement changes, and tells its answer.
-fn commit(alloc: Global, store: &mut MemStore, effect: &Effect, out: &mut Told) -> Result<()> {
-    store.commit(&effect.changes)?;
-    put_answer(alloc, &effect.answer, out);
+fn commit(alloc: Global, store: &mut MemStore, effect: Effect, out: &mut Told) -> Result<()> {
+    let Effect {
+        answer,
+        mut changes,
+        schema: _,
+    } = effect;
+    store.commit(&mut changes)?;
+    put_answer(alloc, &answer, out);
     Ok(())
 }
 

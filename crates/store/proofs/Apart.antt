@@ -1,67 +1,107 @@
--- Changes made in two parts, those that put a value and those that remove a key; and changes put behind all others.
-use Rattle.std.proofs.Common.{◌≡◌, ℕ, zero, suc, ◌<◌, Bool, true, false, if◌then◌else◌, ◌⊎◌, inl, inr, is_some, List, [], ◌∷◌, ◌++◌, Option, Some, None, length, get_or, set, refl, sym, ap, subst, ◌∙◌, arith}
-use Rattle.std.specs.Prelude.{not, cond}
-use Rattle.std.specs.List.{AllByRecursion, filter}
+-- Changes from whose end some are taken, and to whose end others are put.
+use Rattle.std.proofs.Common.{◌≡◌, ℕ, zero, suc, ◌<◌, ◌≤◌, Bool, true, false, if◌then◌else◌, ◌⊎◌, inl, inr, List, [], ◌∷◌, ◌++◌, Option, Some, None, length, get_or, set, take, refl, sym, ap, subst, ◌∙◌, arith}
+use Rattle.std.specs.Prelude.{IfNone}
+use Rattle.std.specs.List.{AllByRecursion}
 use Rattle.std.proofs.lemmas.List.{append_assoc, append-nil, length-append}
-use Rattle.std.proofs.lemmas.List.Elements.{filter-append}
 use Rattle.std.proofs.lemmas.Slice.Eq.{bytes_eq-Decides}
 use Rattle.std.specs.declared.cmp.Ordering.TheVariants.{Less, Equal, Greater}
 use Rattle.std.specs.declared.cmp.Ordering.{Ordering}
 use Rattle.std.specs.Ordering.{is_lt}
 use Rattle.store.specs.Place.{IsPlace, has_key_at}
-use Rattle.store.specs.Records.{Changes, Records, key_cmp, IsBefore, IsOrdered, changed, applied, entry_at, entry_of, found_by, lookup}
-use Rattle.store.specs.Batch.{all_changes}
-use Rattle.store.specs.Held.{putting, removing}
+use Rattle.store.specs.Records.{Changes, Records, key_cmp, IsBefore, IsChangeSize, IsOrdered, entry_at, entry_of, found_by, lookup}
+use Rattle.store.specs.Batch.{IsBatch, all_changes}
 use Rattle.store.specs.Pieces.{AreFilled, AreLess, BeginWith, IsHome, IsSpot, ends_before, puts}
-use Rattle.store.proofs.Changes.{after, before_trans, itself, ordered_applied, applied-append}
-use Rattle.store.proofs.Turns.{end_ordered, first_change_first}
+use Rattle.store.proofs.Changes.{after, before_trans, itself}
+use Rattle.store.proofs.Turns.{end_ordered}
 use Rattle.store.proofs.InOrder.{before_start, place_at_start, start_ordered}
 use Rattle.store.proofs.Spots.{spot_made}
 use Rattle.store.proofs.InPieces.{ArePieces, all_changes-append, all_lesser, before_end, before_rest, ends_less, lesser_pieces, piece_ordered, set_itself}
 use Rattle.store.proofs.Counting.{IsRecounted, few_counted, puts-append}
 
--- ---- in two parts
+-- ---- the last change
 
-before_filter : (test : List ℕ × Option (List ℕ) → Bool) (key : List ℕ) (cs : Changes) → IsBefore key cs → IsBefore key (filter test cs)
-before_filter test key [] b = tt
-before_filter test key (c ∷ cs) b = kept (test c) (before_filter test key cs b.1)
-  where
-    kept : (p : Bool) → IsBefore key (filter test cs) → IsBefore key (cond p (c ∷ filter test cs) (filter test cs))
-    kept true rest = (b.0, rest)
-    kept false rest = rest
+-- the last piece without its last changes
+pub last_shorter : (ps : List Changes) (at : ℕ) (d p tail : Changes) → suc at ≡ length ps → get_or ps at d ≡ p ++ tail → all_changes ps ≡ all_changes (set ps at p) ++ tail
+last_shorter [] at d p tail all is = absurd (omega (arith, all))
+last_shorter (x ∷ []) zero d p tail all is = append-nil x ∙ is ∙ ap (λ (es : Changes). es ++ tail) (sym (append-nil p))
+last_shorter (x ∷ y ∷ ps) zero d p tail all is = absurd (omega (arith, all))
+last_shorter (x ∷ ps) (suc at) d p tail all is = ap (λ (es : Changes). x ++ es) (last_shorter ps at d p tail (omega (arith, all)) is) ∙ sym (append_assoc x (all_changes (set ps at p)) tail)
 
-pub ordered_filter : (test : List ℕ × Option (List ℕ) → Bool) (cs : Changes) → IsOrdered cs → IsOrdered (filter test cs)
-ordered_filter test [] o = tt
-ordered_filter test (c ∷ cs) o = kept (test c) (ordered_filter test cs o.1)
-  where
-    kept : (p : Bool) → IsOrdered (filter test cs) → IsOrdered (cond p (c ∷ filter test cs) (filter test cs))
-    kept true rest = (before_filter test c.0 cs o.0, rest)
-    kept false rest = rest
+-- the pieces before the last, where that has no change
+pub none_in_last : (ps : List Changes) (at : ℕ) → suc at ≡ length ps → all_changes (set ps at []) ≡ all_changes (take at ps)
+none_in_last [] at all = absurd (omega (arith, all))
+none_in_last (x ∷ []) zero all = refl
+none_in_last (x ∷ y ∷ ps) zero all = absurd (omega (arith, all))
+none_in_last (x ∷ ps) (suc at) all = ap (λ (es : Changes). x ++ es) (none_in_last ps at (omega (arith, all)))
 
--- those that put a value are made first
-pub made_apart : (cs : Changes) (es : Records) → IsOrdered cs → IsOrdered es → applied (removing cs) (applied (putting cs) es) ≡ applied cs es
-made_apart [] es o e = refl
-made_apart ((k, None) ∷ cs) es o e = ap (λ (xs : Records). changed k None xs) (made_apart cs es o.1 e)
-made_apart ((k, Some v) ∷ cs) es o e =
-    let rising : IsOrdered ((k, Some v) ∷ removing cs) = (before_filter (λ c. not (is_some c.1)) k cs o.0, ordered_filter (λ c. not (is_some c.1)) cs o.1) in
-    sym (first_change_first (k, Some v) (removing cs) (applied (putting cs) es) rising (ordered_applied (putting cs) es e))
-    ∙ ap (λ (xs : Records). changed k (Some v) xs) (made_apart cs es o.1 e)
+taken_set : (ps : List Changes) (at : ℕ) (p : Changes) → take at (set ps at p) ≡ take at ps
+taken_set [] at p = refl
+taken_set (x ∷ ps) zero p = refl
+taken_set (x ∷ ps) (suc at) p = ap (λ (qs : List Changes). x ∷ qs) (taken_set ps at p)
 
-pub one_removed : (c : List ℕ × Option (List ℕ)) (es : Records) → c.1 ≡ None → applied (removing (c ∷ [])) es ≡ changed c.0 None es
-one_removed (k, None) es none = refl
-one_removed (k, Some v) es none = cc
+filled_taken : (n : ℕ) (ps : List Changes) → AreFilled ps → AreFilled (take n ps)
+filled_taken zero ps f = tt
+filled_taken (suc n) [] f = tt
+filled_taken (suc n) (p ∷ ps) f = (f.0, filled_taken n ps f.1)
 
--- the changes of a last piece are made, and those before it are left
-pub piece_made : (changes left c : Changes) (old new all : Records) → changes ≡ left ++ c → new ≡ applied (removing c) old → applied (removing changes) old ≡ all → applied (removing left) new ≡ all
-piece_made changes left c old new all is made whole =
-    ap (λ (es : Records). applied (removing left) es) made
-    ∙ sym (applied-append (removing left) (removing c) old)
-    ∙ ap (λ (cs : Changes). applied cs old) (sym (ap removing is ∙ filter-append (λ x. not (is_some x.1)) left c))
-    ∙ whole
+filled_set : (ps : List Changes) (at : ℕ) (p : Changes) → AreFilled ps → 1 ≤ length p → AreFilled (set ps at p)
+filled_set [] at p f some = tt
+filled_set (x ∷ ps) zero p f some = (some, f.1)
+filled_set (x ∷ ps) (suc at) p f some = (f.0, filled_set ps at p f.1 some)
 
--- the last of pieces
-pub last_piece : (ps left : List Changes) (p : Changes) → ps ≡ left ++ (p ∷ []) → all_changes ps ≡ all_changes left ++ p
-last_piece ps left p is = ap all_changes is ∙ all_changes-append left (p ∷ []) ∙ ap (λ (es : Changes). all_changes left ++ es) (append-nil p)
+not_none : (p : Changes) → (p ≡ [] → ⊥) → 1 ≤ length p
+not_none [] some = absurd (some refl)
+not_none (c ∷ p) some = omega arith
+
+-- a last piece that has changes still
+pub some_in_last : (ps : List Changes) (at : ℕ) (old new tail : Changes) → IsOrdered (all_changes ps) → AreFilled ps → suc at ≡ length ps → old ≡ get_or ps at old → old ≡ new ++ tail → (new ≡ [] → ⊥)
+    → ArePieces (set ps at new) × (all_changes ps ≡ all_changes (set ps at new) ++ tail)
+some_in_last ps at old new tail o f all seen is some =
+    let same = last_shorter ps at old new tail all (sym seen ∙ is) in (
+      record {
+        ordered = start_ordered (all_changes (set ps at new)) tail (subst (λ (es : Changes). IsOrdered es) same o);
+        filled = filled_set ps at new f (not_none new some);
+      },
+      same,
+    )
+
+-- the last piece has a change
+pub last_filled : (ps : List Changes) (at : ℕ) (old : Changes) → AreFilled ps → suc at ≡ length ps → old ≡ get_or ps at old → old ≡ [] → ⊥
+last_filled [] at old f all seen none = absurd (omega (arith, all))
+last_filled (x ∷ []) zero old f all seen none = let filled : 1 ≤ length x = f.0 in let empty : length x ≡ 0 = ap (λ (es : Changes). length es) (sym seen ∙ none) in absurd (omega (arith, filled, empty))
+last_filled (x ∷ y ∷ ps) zero old f all seen none = absurd (omega (arith, all))
+last_filled (x ∷ ps) (suc at) old f all seen none = last_filled ps at old f.1 (omega (arith, all)) seen none
+
+pub never_none : {X P : Type 0} (Q : Type 0) (r : Option X) → IfNone r P → (P → ⊥) → IfNone r Q
+never_none Q None is never = absurd (never is)
+never_none Q (Some x) is never = tt
+
+-- and one that has none, which goes
+pub last_gone : (ps left : List Changes) (at : ℕ) (old new tail : Changes) → IsOrdered (all_changes ps) → AreFilled ps → suc at ≡ length ps → old ≡ get_or ps at old → old ≡ new ++ tail → new ≡ [] → left ≡ take at (set ps at new)
+    → ArePieces left × (all_changes ps ≡ all_changes left ++ tail)
+last_gone ps left at old new tail o f all seen is none gone =
+    let kept : left ≡ take at ps = gone ∙ taken_set ps at new in
+    let same : all_changes ps ≡ all_changes left ++ tail =
+    last_shorter ps at old new tail all (sym seen ∙ is)
+    ∙ ap (λ (p : Changes). all_changes (set ps at p) ++ tail) none
+    ∙ ap (λ (es : Changes). es ++ tail) (none_in_last ps at all ∙ sym (ap all_changes kept)) in (
+      record {
+        ordered = start_ordered (all_changes left) tail (subst (λ (es : Changes). IsOrdered es) same o);
+        filled = subst (λ (qs : List Changes). AreFilled qs) (sym kept) (filled_taken at ps f);
+      },
+      same,
+    )
+
+sizes_start : (xs ys : Changes) → AllByRecursion IsChangeSize (xs ++ ys) → AllByRecursion IsChangeSize xs
+sizes_start [] ys sizes = tt
+sizes_start (x ∷ xs) ys sizes = (sizes.0, sizes_start xs ys sizes.1)
+
+-- a batch without its last changes
+pub batch_start : (cs left tail : Changes) → cs ≡ left ++ tail → IsBatch cs → IsBatch left
+batch_start cs left tail is b = record {
+  ordered = start_ordered left tail (subst (λ (es : Changes). IsOrdered es) is b.ordered);
+  sizes = sizes_start left tail (subst (λ (es : Changes). AllByRecursion IsChangeSize es) is b.sizes);
+}
 
 -- ---- behind all others
 
@@ -97,6 +137,17 @@ pieces_behind ps qs true o f rising filled = record {
   ordered = subst (λ (es : Changes). IsOrdered es) (sym (all_changes-append ps qs)) rising;
   filled = filled_both ps qs f filled;
 }
+
+-- pieces that are moved away, or stay
+pub pieces_left : (qs : List Changes) (b : Bool) → IsOrdered (all_changes qs) → AreFilled qs → ArePieces (if b then [] else qs)
+pieces_left qs true o f = record { ordered = tt; filled = tt }
+pieces_left qs false o f = record { ordered = o; filled = f }
+
+-- the only piece
+pub only_piece : (qs : List Changes) (p : Changes) → length qs ≡ 1 → p ≡ get_or qs 0 p → all_changes qs ≡ p
+only_piece [] p one is = absurd (omega (arith, one))
+only_piece (q ∷ []) p one is = append-nil q ∙ sym is
+only_piece (q ∷ r ∷ qs) p one is = absurd (omega (arith, one))
 
 -- the last piece has more changes
 pub last_longer : (ps : List Changes) (at : ℕ) (d p : Changes) → suc at ≡ length ps → all_changes (set ps at (get_or ps at d ++ p)) ≡ all_changes ps ++ p

@@ -145,6 +145,13 @@ recounted_remove at es new d count old inside is made counted old_is =
     let few = few_counted new in
     record { there = omega (arith, counted, old_is, here, less); exact = omega (arith, counted, old_is, here, less, same); few = omega (arith, counted, old_is, here, less, same, few) }
 
+-- the last change, which is taken off
+pub recounted_pop : (es left : Changes) (c : List ℕ × Option (List ℕ)) (count old : ℕ) → es ≡ left ++ (c ∷ []) → count ≡ length (puts es) → old ≡ weight c → IsRecounted count old 0 (length left) left
+recounted_pop es left c count old is counted old_is =
+    let both = ap (λ (cs : Changes). length (puts cs)) is ∙ ap (λ (rs : Records). length rs) (puts-append left (c ∷ [])) ∙ length-append (puts left) (puts (c ∷ [])) in
+    let few = few_counted left in
+    record { there = omega (arith, counted, old_is, both); exact = omega (arith, counted, old_is, both); few = omega (arith, counted, old_is, both, few) }
+
 -- the changes behind a cut
 pub recounted_cut : (at : ℕ) (es kept behind : Changes) (count old : ℕ) → kept ≡ take at es → behind ≡ drop at es → count ≡ length (puts es) → old ≡ length (puts behind) → IsRecounted count old 0 (length kept) kept
 recounted_cut at es kept behind count old front back counted old_is =

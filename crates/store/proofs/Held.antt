@@ -118,21 +118,30 @@ before_last (x ∷ xs) c k b = before_last xs c k b.1
 pub others_held : (cs : Changes) (c : List ℕ × Option (List ℕ)) (es new : Changes) → IsOrdered (cs ++ (c ∷ [])) → AreHeld (cs ++ (c ∷ [])) es → ((k : List ℕ) → key_cmp k c.0 ≡ Less → lookup k new ≡ lookup k es) → AreHeld cs new
 others_held [] c es new o held stay = tt
 others_held (d ∷ cs) c es new o held stay = (
-  subst (λ (v : Option (Option (List ℕ))). IsSome v) (sym (stay d.0 (before_last cs c d.0 o.0))) held.0,
+  λ put. subst (λ (v : Option (Option (List ℕ))). IsSome v) (sym (stay d.0 (before_last cs c d.0 o.0))) (held.0 put),
   others_held cs c es new o.1 held.1 stay,
 )
 
-all_kept : (cs es new : Changes) → ((k : List ℕ) → IsSome (lookup k es) → IsSome (lookup k new)) → AreHeld cs es → AreHeld cs new
-all_kept [] es new kept held = tt
-all_kept (c ∷ cs) es new kept held = (kept c.0 held.0, all_kept cs es new kept held.1)
+-- and the last has one
+pub last_held : (cs : Changes) (c : List ℕ × Option (List ℕ)) (es : Changes) → AreHeld (cs ++ (c ∷ [])) es → IsSome c.1 → IsSome (lookup c.0 es)
+last_held [] c es held = held.0
+last_held (d ∷ cs) c es held = last_held cs c es held.1
 
-taken_held : (cs es : Changes) (i : ℕ) (d : List ℕ × Option (List ℕ)) → i < length cs → AreHeld (take i cs) es → IsSome (lookup (get_or cs i d).0 es) → AreHeld (take (suc i) cs) es
+pub all_kept : (cs es new : Changes) → ((k : List ℕ) → IsSome (lookup k es) → IsSome (lookup k new)) → AreHeld cs es → AreHeld cs new
+all_kept [] es new kept held = tt
+all_kept (c ∷ cs) es new kept held = (λ put. kept c.0 (held.0 put), all_kept cs es new kept held.1)
+
+pub both_held : (cs ds es : Changes) → AreHeld cs es → AreHeld ds es → AreHeld (cs ++ ds) es
+both_held [] ds es first second = second
+both_held (c ∷ cs) ds es first second = (first.0, both_held cs ds es first.1 second)
+
+taken_held : (cs es : Changes) (i : ℕ) (d : List ℕ × Option (List ℕ)) → i < length cs → AreHeld (take i cs) es → (IsSome (get_or cs i d).1 → IsSome (lookup (get_or cs i d).0 es)) → AreHeld (take (suc i) cs) es
 taken_held [] es i d inside held there = absurd (omega arith)
 taken_held (c ∷ cs) es zero d inside held there = (there, tt)
 taken_held (c ∷ cs) es (suc i) d inside held there = (held.0, taken_held cs es i d (omega arith) held.1 there)
 
--- one change more has an entry
-pub one_held : (cs es new : Changes) (i : ℕ) (d : List ℕ × Option (List ℕ)) → i < length cs → AreHeld (take i cs) es → ((k : List ℕ) → IsSome (lookup k es) → IsSome (lookup k new)) → IsSome (lookup (get_or cs i d).0 new) → AreHeld (take (i + 1) cs) new
+-- one change more has an entry if it puts a value
+pub one_held : (cs es new : Changes) (i : ℕ) (d : List ℕ × Option (List ℕ)) → i < length cs → AreHeld (take i cs) es → ((k : List ℕ) → IsSome (lookup k es) → IsSome (lookup k new)) → (IsSome (get_or cs i d).1 → IsSome (lookup (get_or cs i d).0 new)) → AreHeld (take (i + 1) cs) new
 one_held cs es new i d inside held kept there =
     subst (λ (n : ℕ). AreHeld (take n cs) new) (sym (add-one i)) (taken_held cs new i d inside (all_kept (take i cs) es new kept held) there)
 

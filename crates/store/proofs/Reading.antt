@@ -1,5 +1,5 @@
 -- Reads, one after the other.
-use Rattle.std.proofs.Common.{◌≡◌, Ok, Err, inl, inr, ⊎_elim, refl, sym, ◌∙◌, ◌<◌, ◌≤◌, ◌^◌, ◌-◌, ℕ, arith}
+use Rattle.std.proofs.Common.{◌≡◌, Result, Ok, Err, OnErr, inl, inr, ⊎_elim, refl, sym, ◌∙◌, ◌<◌, ◌≤◌, ◌^◌, ◌-◌, ℕ, arith}
 use Rattle.std.proofs.lemmas.Bool.{cases_lt}
 use Rattle.sector_device.specs.Timeline.{IsPresent, joined, weakened}
 use Rattle.sector_device.proofs.Runs.{started}
@@ -80,3 +80,8 @@ pub no_memory_later : {T : Type 0} (fault : Fault) (old mid : StoreState) → On
 no_memory_later reader.Memory old mid reads same is = record { only_reads = reads; cause = tt; failed = same }
 no_memory_later reader.Device old mid reads same is = cc
 no_memory_later reader.Damaged old mid reads same is = cc
+
+-- what holds whatever is answered
+pub on_any_err : {T E P : Type 0} (r : Result T E) → P → OnErr r P
+on_any_err (Ok x) p = tt
+on_any_err (Err e) p = p

@@ -1,5 +1,5 @@
 -- Walks over the records of a span.
-use Rattle.std.proofs.Common.{◌≡◌, ℕ, Bool, true, false, List, [], ◌∷◌, Result, Ok, Err, refl, ap, sym, ◌∙◌, subst, if◌then◌else◌}
+use Rattle.std.proofs.Common.{◌≡◌, ℕ, Bool, true, false, List, [], ◌∷◌, Ok, Err, refl, ap, sym, ◌∙◌, subst, if◌then◌else◌}
 use Rattle.store.specs.Records.{Record, Records, IsOrdered, entries_where}
 use Rattle.store.specs.Walks.{is_within}
 use Rattle.store.specs.Steps.{AheadWithin, Goes, Takes}

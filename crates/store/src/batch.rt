@@ -1,9 +1,10 @@
 //! The changes that a store commits at once.
-ghost use Rattle.std.specs.Prelude.{◌≡◌, ◌<◌, ◌≤◌, ◌↔◌, [], length, slice_get, Some, None, Option, MatchOption, OnOk, OnErr, IsTrue, take, drop, vec_len};
+ghost use Rattle.std.specs.Prelude.{◌≡◌, ◌<◌, ◌≤◌, ◌↔◌, [], length, slice_get, Some, None, Option, MatchOption, OnOk, OnErr, IsTrue, take, drop, vec_len, ◌++◌, option_to_list, IfNone};
 ghost use Rattle.std.specs.Option.{option_copied};
 ghost use Rattle.std.specs.List.{AllByRecursion};
 ghost use Rattle.store.specs.Records.{Changes, IsOrdered, IsKeySize, IsChangeSize, changed, entry_at, first_from};
 ghost use Rattle.store.specs.Batch.{IsBatch, all_changes};
+ghost use Rattle.store.specs.InPieces.{changes_of};
 ghost use Rattle.store.specs.Pieces.{AreFilled};
 
 use crate::pieces::Pieces;
@@ -122,6 +123,26 @@ impl Batch {
     {
         let change = Change::removal(self.alloc, key)?;
         self.record(change)
+    }
+
+    // Takes the last change off, or `None` where there is none.
+    pub(crate) fn pop(&mut self) -> Option<Change>
+        ensures last { self.old ≡ self.new ++ option_to_list result }
+        ensures none { IfNone result (self.old ≡ []) }
+    {
+        self.changes.pop()
+    }
+
+    // Moves all changes behind entries that come before them. The only error is that an allocation
+    // failed, which leaves both as they were.
+    pub(crate) fn move_behind(&mut self, entries: &mut Pieces) -> Result<(), AllocError>
+        requires { IsOrdered (changes_of entries.old ++ self.old) }
+        ensures ok { OnOk result (changes_of entries.new ≡ changes_of entries.old ++ self.old) }
+        ensures err { OnErr result (changes_of entries.new ≡ changes_of entries.old) }
+        ensures given_back { OnErr result (self.new ≡ self.old) }
+    {
+        entries.move_behind(&mut self.changes)?;
+        Ok(())
     }
 
     // Puts a change at its key's place.

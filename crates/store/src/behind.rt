@@ -1,8 +1,8 @@
 //! Pieces that are put behind all others.
-ghost use Rattle.std.specs.Prelude.{◌≡◌, ◌<◌, ◌++◌, ◌∷◌, [], IsTrue, IsSome, IfOk, IfSome, OnOk, OnErr, vec_len};
+ghost use Rattle.std.specs.Prelude.{◌≡◌, ◌<◌, ◌++◌, [], IsTrue, IfOk, IfSome, OnOk, OnErr, length, vec_len};
 ghost use Rattle.store.specs.Records.{IsOrdered};
 ghost use Rattle.store.specs.Batch.{all_changes};
-ghost use Rattle.store.specs.Pieces.{AreFilled, AreLess, BeginWith};
+ghost use Rattle.store.specs.Pieces.{AreLess, BeginWith};
 
 use crate::Piece;
 use crate::pieces::{MAX_PIECE_LENGTH, Pieces};
@@ -36,49 +36,53 @@ impl Pieces {
         self.list[len - 1].ends_before(key)
     }
 
-    // Puts copies of later pieces behind all changes. The only error is that an allocation failed,
-    // which leaves the changes as they were.
-    pub(crate) fn copy_behind(&mut self, later: &[Piece]) -> Result<(), AllocError>
-        requires ordered { IsOrdered (all_changes self.old.list.items ++ all_changes later.now) }
-        requires filled { AreFilled later.now }
+    // Moves later changes behind all that are there. The only error is that an allocation failed,
+    // which leaves both as they were.
+    pub(crate) fn move_behind(&mut self, later: &mut Pieces) -> Result<(), AllocError>
+        requires { IsOrdered (all_changes self.old.list.items ++ all_changes later.old.list.items) }
         ensures ok { OnOk result (all_changes self.new.list.items
-            ≡ all_changes self.old.list.items ++ all_changes later.now) }
+            ≡ all_changes self.old.list.items ++ all_changes later.old.list.items) }
+        ensures moved { OnOk result (later.new.list.items ≡ []) }
         ensures err { OnErr result (all_changes self.new.list.items
             ≡ all_changes self.old.list.items) }
+        ensures given_back { OnErr result (later.new.list.items ≡ later.old.list.items) }
     {
-        if let Some(piece) = self.only_for_last(later) {
-            return self.copy_into_last(piece);
+        if self.has_room_for(later) {
+            return self.move_into_last(later);
         }
-        let mut copies = copy_pieces(self.alloc, later)?;
-        self.list.append(&mut copies)?;
+        self.list.append(&mut later.list)?;
         Ok(())
     }
 
-    // The only one of these pieces, where the last piece has room for it.
-    fn only_for_last<'a>(&self, later: &'a [Piece]) -> Option<&'a Piece>
-        ensures only { IfSome result (λ piece. later.now ≡ piece.now ∷ []) }
-        ensures there { IsSome result → 0 < vec_len self.now.list }
+    // Whether the last piece has room for all changes of others, which are in one piece.
+    fn has_room_for(&self, later: &Pieces) -> bool
+        ensures only { IsTrue result → length later.now.list.items ≡ 1 }
+        ensures there { IsTrue result → 0 < vec_len self.now.list }
     {
-        let [piece] = later else {
-            return None;
+        let [piece] = later.as_slice() else {
+            return false;
         };
         match self.list.last() {
-            Some(last) if last.len().saturating_add(piece.len()) <= MAX_PIECE_LENGTH => Some(piece),
-            _ => None,
+            Some(last) => last.len().saturating_add(piece.len()) <= MAX_PIECE_LENGTH,
+            None => false,
         }
     }
 
-    // Puts copies of the changes of a piece into the last one.
-    fn copy_into_last(&mut self, later: &Piece) -> Result<(), AllocError>
+    // Moves the changes of the only piece of others into the last one.
+    fn move_into_last(&mut self, later: &mut Pieces) -> Result<(), AllocError>
         requires there { 0 < vec_len self.old.list }
-        requires ordered { IsOrdered (all_changes self.old.list.items ++ later.now) }
+        requires only { length later.old.list.items ≡ 1 }
+        requires ordered { IsOrdered (all_changes self.old.list.items ++ all_changes later.old.list.items) }
         ensures ok { OnOk result (all_changes self.new.list.items
-            ≡ all_changes self.old.list.items ++ later.now) }
+            ≡ all_changes self.old.list.items ++ all_changes later.old.list.items) }
+        ensures moved { OnOk result (later.new.list.items ≡ []) }
         ensures err { OnErr result (all_changes self.new.list.items
             ≡ all_changes self.old.list.items) }
+        ensures given_back { OnErr result (later.new.list.items ≡ later.old.list.items) }
     {
         let at = self.list.len() - 1;
-        self.list[at].copy_behind(self.alloc, later)?;
+        self.list[at].move_behind(&mut later.list[0])?;
+        later.list.clear();
         Ok(())
     }
 }

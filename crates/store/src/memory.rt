@@ -1,12 +1,12 @@
 //! A store in memory.
-ghost use Rattle.std.specs.Prelude.{◌≡◌, ◌∷◌, [], List, ℕ, None, Some, IsTrue, IsSome, is_some, IfOk, IfSome, OnOk, OnErr, Err};
+ghost use Rattle.std.specs.Prelude.{◌≡◌, [], List, ℕ, None, Some, IsTrue, IsSome, is_some, IfOk, OnOk, OnErr, Err};
 ghost use Rattle.std.specs.Option.{option_copied};
 ghost use Rattle.std.specs.declared.cmp.Ordering.TheVariants.{Less};
 ghost use Rattle.std.proofs.Common.{refl, ◌∙◌};
 ghost use Rattle.store.specs.Records.{IsOrdered, IsOrdered-prop, applied, changed, key_cmp, lookup};
 ghost use Rattle.store.specs.Batch.{all_changes};
 ghost use Rattle.store.specs.InPieces.{changes_of};
-ghost use Rattle.store.specs.Held.{AreHeld, putting, records_of, removing};
+ghost use Rattle.store.specs.Held.{AreHeld, records_of};
 ghost use Rattle.store.specs.Memory.{memory_state};
 ghost use Rattle.storage_sizes.specs.Spellings.{current};
 
@@ -107,14 +107,30 @@ impl MemStore {
         Ok(())
     }
 
-    // Makes an entry for the key of each of these changes.
-    fn hold_all(&mut self, changes: &[Change]) -> Result<(), AllocError>
+    // Makes an entry for the key of each of these changes that puts a value.
+    fn hold_each(&mut self, changes: &[Change]) -> Result<(), AllocError>
         ensures record_format { self.new.record_format ≡ self.old.record_format }
         ensures same { records_of self.new.entries ≡ records_of self.old.entries }
         ensures held { OnOk result (AreHeld changes.now (changes_of self.new.entries)) }
+        ensures kept { (k : List ℕ) → IsSome (lookup k (changes_of self.old.entries))
+            → IsSome (lookup k (changes_of self.new.entries)) }
     {
         for change in changes {
-            self.hold(change)?;
+            if change.is_put() {
+                self.hold(change)?;
+            }
+        }
+        Ok(())
+    }
+
+    // The same of the changes of pieces.
+    fn hold_all(&mut self, pieces: &[Piece]) -> Result<(), AllocError>
+        ensures record_format { self.new.record_format ≡ self.old.record_format }
+        ensures same { records_of self.new.entries ≡ records_of self.old.entries }
+        ensures held { OnOk result (AreHeld (all_changes pieces.now) (changes_of self.new.entries)) }
+    {
+        for piece in pieces {
+            self.hold_each(piece.as_slice())?;
         }
         Ok(())
     }
@@ -140,7 +156,7 @@ impl MemStore {
     }
 
     // Removes the entries of the keys of these changes that have no value.
-    fn release_all(&mut self, changes: &[Change])
+    fn release_each(&mut self, changes: &[Change])
         ensures record_format { self.new.record_format ≡ self.old.record_format }
         ensures same { records_of self.new.entries ≡ records_of self.old.entries }
     {
@@ -149,9 +165,19 @@ impl MemStore {
         }
     }
 
-    // Makes a change of a key that has an entry.
+    // The same of the changes of pieces.
+    fn release_all(&mut self, pieces: &[Piece])
+        ensures record_format { self.new.record_format ≡ self.old.record_format }
+        ensures same { records_of self.new.entries ≡ records_of self.old.entries }
+    {
+        for piece in pieces {
+            self.release_each(piece.as_slice());
+        }
+    }
+
+    // Makes a change, whose key has an entry where a value is put.
     fn make(&mut self, change: Change)
-        requires { IsSome (lookup change.0 (changes_of self.old.entries)) }
+        requires { IsSome change.1 → IsSome (lookup change.0 (changes_of self.old.entries)) }
         ensures record_format { self.new.record_format ≡ self.old.record_format }
         ensures made { records_of self.new.entries
             ≡ changed change.0 change.1 (records_of self.old.entries) }
@@ -165,135 +191,55 @@ impl MemStore {
         }
     }
 
-    // Makes changes of keys that have entries.
-    fn make_all(&mut self, mut changes: Vec<Change>)
-        requires ordered { IsOrdered changes.items }
-        requires held { AreHeld changes.items (changes_of self.old.entries) }
+    // Makes the changes of a batch, which are taken off it from the last on. Each that puts a value
+    // has an entry.
+    fn make_all(&mut self, batch: &mut Batch)
+        requires ordered { IsOrdered batch.old }
+        requires held { AreHeld batch.old (changes_of self.old.entries) }
         ensures record_format { self.new.record_format ≡ self.old.record_format }
         ensures made { records_of self.new.entries
-            ≡ applied changes.items (records_of self.old.entries) }
+            ≡ applied batch.old (records_of self.old.entries) }
     {
-        while let Some(change) = changes.pop() {
+        while let Some(change) = batch.pop() {
             self.make(change);
         }
     }
 
-    // Makes one change, or none.
-    fn change_one(&mut self, only: &Change) -> Result<(), StoreFault>
+    // Makes all changes of a batch, or none of them. The batch is as it was until all entries are
+    // there.
+    fn change_among(&mut self, batch: &mut Batch) -> Result<(), StoreFault>
         ensures record_format { self.new.record_format ≡ self.old.record_format }
         ensures made { OnOk result (records_of self.new.entries
-            ≡ changed only.now.0 only.now.1 (records_of self.old.entries)) }
+            ≡ applied batch.old (records_of self.old.entries)) }
         ensures refused { OnErr result (records_of self.new.entries ≡ records_of self.old.entries) }
+        ensures given_back { OnErr result (batch.new ≡ batch.old) }
         ensures memory { OnErr result (result ≡ Err StoreFault.Memory) }
     {
-        if only.is_put() {
-            let copy = only.try_copy(self.alloc)?;
-            self.entries.put_near(copy, self.next)?;
-        } else {
-            self.entries.remove_near(only.key(), self.next);
-        }
-        Ok(())
-    }
-
-    // Removes the keys that these changes remove, the last first.
-    fn remove_each(&mut self, changes: &[Change])
-        ensures record_format { self.new.record_format ≡ self.old.record_format }
-        ensures made { records_of self.new.entries
-            ≡ applied (removing changes.now) (records_of self.old.entries) }
-    {
-        let mut left = changes;
-        while let Some((change, before)) = left.split_last() {
-            if !change.is_put() {
-                self.entries.remove(change.key());
-            }
-            left = before;
-        }
-    }
-
-    // The same of the changes of pieces.
-    fn remove_all(&mut self, pieces: &[Piece])
-        ensures record_format { self.new.record_format ≡ self.old.record_format }
-        ensures made { records_of self.new.entries
-            ≡ applied (removing (all_changes pieces.now)) (records_of self.old.entries) }
-    {
-        let mut left = pieces;
-        while let Some((piece, before)) = left.split_last() {
-            self.remove_each(piece.as_slice());
-            left = before;
-        }
-    }
-
-    // Makes all changes of a batch, or none of them: first those that put a value.
-    fn change_among(&mut self, batch: &Batch) -> Result<(), StoreFault>
-        ensures record_format { self.new.record_format ≡ self.old.record_format }
-        ensures made { OnOk result (records_of self.new.entries
-            ≡ applied batch.now (records_of self.old.entries)) }
-        ensures refused { OnErr result (records_of self.new.entries ≡ records_of self.old.entries) }
-        ensures memory { OnErr result (result ≡ Err StoreFault.Memory) }
-    {
-        let puts = copy_puts(self.alloc, batch.pieces())?;
-        if self.hold_all(&puts).is_err() {
-            self.release_all(&puts);
+        self.entries.begin_at(self.next);
+        if self.hold_all(batch.pieces()).is_err() {
+            self.release_all(batch.pieces());
             return Err(StoreFault::Memory);
         }
-        self.make_all(puts);
-        self.remove_all(batch.pieces());
+        self.entries.turn_back();
+        self.make_all(batch);
         Ok(())
     }
 
-    // The same, where changes that come behind all entries are put there as they are.
-    fn change_all(&mut self, batch: &Batch) -> Result<(), StoreFault>
+    // The same, where changes that come behind all entries are moved there as they are.
+    fn change(&mut self, batch: &mut Batch) -> Result<(), StoreFault>
         ensures record_format { self.new.record_format ≡ self.old.record_format }
         ensures made { OnOk result (records_of self.new.entries
-            ≡ applied batch.now (records_of self.old.entries)) }
+            ≡ applied batch.old (records_of self.old.entries)) }
         ensures refused { OnErr result (records_of self.new.entries ≡ records_of self.old.entries) }
+        ensures given_back { OnErr result (batch.new ≡ batch.old) }
         ensures memory { OnErr result (result ≡ Err StoreFault.Memory) }
     {
-        let pieces = batch.pieces();
-        if !self.entries.are_later(pieces) {
+        if !self.entries.are_later(batch.pieces()) {
             return self.change_among(batch);
         }
-        self.entries.copy_behind(pieces)?;
+        batch.move_behind(&mut self.entries)?;
         Ok(())
     }
-
-    // The same, where one change by itself takes no entry that is empty for a while.
-    fn change(&mut self, batch: &Batch) -> Result<(), StoreFault>
-        ensures record_format { self.new.record_format ≡ self.old.record_format }
-        ensures made { OnOk result (records_of self.new.entries
-            ≡ applied batch.now (records_of self.old.entries)) }
-        ensures refused { OnErr result (records_of self.new.entries ≡ records_of self.old.entries) }
-        ensures memory { OnErr result (result ≡ Err StoreFault.Memory) }
-    {
-        match only_change(batch.pieces()) {
-            Some(change) => self.change_one(change),
-            None => self.change_all(batch),
-        }
-    }
-}
-
-// The change of pieces that have one, or `None` where they have none or more.
-fn only_change(pieces: &[Piece]) -> Option<&Change>
-    ensures { IfSome result (λ change. all_changes pieces.now ≡ change.now ∷ []) }
-{
-    let [piece] = pieces else {
-        return None;
-    };
-    match piece.as_slice() {
-        [change] => Some(change),
-        _ => None,
-    }
-}
-
-// Copies the changes that put a value into one list.
-fn copy_puts(alloc: Global, pieces: &[Piece]) -> Result<Vec<Change>, AllocError>
-    ensures { IfOk result (λ copies. copies.items ≡ putting (all_changes pieces.now)) }
-{
-    let mut copies = Vec::new(alloc);
-    for piece in pieces {
-        piece.copy_puts_to(alloc, &mut copies)?;
-    }
-    Ok(copies)
 }
 
 impl Map for MemStore {
@@ -409,7 +355,7 @@ impl Store for MemStore {
         self.record_format
     }
 
-    fn commit(&mut self, batch: &Batch) -> Result<(), StoreFault> {
+    fn commit(&mut self, batch: &mut Batch) -> Result<(), StoreFault> {
         if batch.is_empty() {
             return Ok(());
         }
@@ -417,7 +363,8 @@ impl Store for MemStore {
     }
 
     fn commit_migration(&mut self, batch: &Batch) -> Result<(), StoreFault> {
-        self.change(batch)?;
+        let mut copy = batch.try_copy(self.alloc)?;
+        self.change(&mut copy)?;
         self.record_format = RecordFormat::V2;
         Ok(())
     }

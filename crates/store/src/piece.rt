@@ -1,9 +1,8 @@
 //! Runs of changes.
-ghost use Rattle.std.specs.Prelude.{◌≡◌, ◌≤◌, [], ◌∷◌, ◌++◌, None, Some, IsTrue, ◌↔◌, IsSome, IsOk, length, take, drop, slice_get, IfOk, OnOk, OnErr};
+ghost use Rattle.std.specs.Prelude.{◌≡◌, ◌≤◌, [], ◌∷◌, ◌++◌, None, Some, IsTrue, ◌↔◌, IsSome, IsOk, length, take, drop, slice_get, IfOk, OnOk, OnErr, option_to_list, IfNone};
 ghost use Rattle.std.specs.Option.{option_copied};
 ghost use Rattle.store.specs.Records.{IsOrdered, changed, entry_at, first_from, lookup};
 ghost use Rattle.store.specs.Place.{IsPlace, IsStopPlace, has_key_at, has_lesser_key_at};
-ghost use Rattle.store.specs.Held.{putting};
 ghost use Rattle.store.specs.Pieces.{ends_before, ends_within, IsInnerPlace, puts, puts_within, weight};
 
 use crate::Change;
@@ -168,31 +167,26 @@ impl Piece {
         Ok(copies)
     }
 
-    // Adds copies of the changes that put a value to others.
-    pub(crate) fn copy_puts_to(
-        &self,
-        alloc: Global,
-        copies: &mut Vec<Change>,
-    ) -> Result<(), AllocError>
-        ensures { OnOk result (copies.new.items ≡ copies.old.items ++ putting self.now) }
+    // Takes the last change off, or `None` where there is none.
+    pub(crate) fn pop(&mut self) -> Option<Change>
+        ensures last { self.old ≡ self.new ++ option_to_list result }
+        ensures none { IfNone result (self.old ≡ []) }
     {
-        for change in &self.changes {
-            if change.is_put() {
-                copies.push(change.try_copy(alloc)?)?;
-            }
-        }
-        Ok(())
+        let change = self.changes.pop()?;
+        self.put_count -= count_put(&change);
+        Some(change)
     }
 
-    // Puts copies of the changes of a later piece behind the others. The only error is that an
-    // allocation failed, which leaves the piece as it was.
-    pub(crate) fn copy_behind(&mut self, alloc: Global, later: &Piece) -> Result<(), AllocError>
-        ensures ok { OnOk result (self.new ≡ self.old ++ later.now) }
+    // Moves the changes of a later piece behind the others. The only error is that an allocation
+    // failed, which leaves both as they were.
+    pub(crate) fn move_behind(&mut self, later: &mut Piece) -> Result<(), AllocError>
+        ensures ok { OnOk result (self.new ≡ self.old ++ later.old) }
         ensures err { OnErr result (self.new ≡ self.old) }
+        ensures given_back { OnErr result (later.new ≡ later.old) }
     {
-        let mut copies = later.copies(alloc)?;
-        self.changes.append(&mut copies)?;
+        self.changes.append(&mut later.changes)?;
         self.put_count += later.put_count;
+        later.put_count = 0;
         Ok(())
     }
 

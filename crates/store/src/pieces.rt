@@ -1,5 +1,5 @@
 //! Changes in pieces of bounded length.
-ghost use Rattle.std.specs.Prelude.{◌≡◌, ◌≤◌, ◌<◌, [], Some, None, ◌∷◌, MatchOption, IsSome, IsOk, is_some, get_or, length, vec_len, IsTrue, ◌↔◌, IfOk, OnOk, OnErr};
+ghost use Rattle.std.specs.Prelude.{◌≡◌, ◌≤◌, ◌<◌, [], Some, None, ◌∷◌, MatchOption, IsSome, IsOk, is_some, get_or, length, vec_len, IsTrue, ◌↔◌, ◌++◌, IfOk, OnOk, OnErr, option_to_list, IfNone};
 ghost use Rattle.std.specs.Option.{option_copied};
 ghost use Rattle.std.specs.List.{AllByRecursion};
 ghost use Rattle.store.specs.Records.{IsOrdered, IsOrdered-prop, changed, entry_at, entries_where, first_from, is_from, lookup};
@@ -155,6 +155,23 @@ impl Pieces {
         self.last = place.before();
     }
 
+    // Takes the last change off, or `None` where there is none.
+    pub(crate) fn pop(&mut self) -> Option<Change>
+        ensures last { all_changes self.old.list.items
+            ≡ all_changes self.new.list.items ++ option_to_list result }
+        ensures none { IfNone result (all_changes self.old.list.items ≡ []) }
+    {
+        let len = self.list.len();
+        if len == 0 {
+            return None;
+        }
+        let change = self.list[len - 1].pop();
+        if self.list[len - 1].is_empty() {
+            self.list.pop();
+        }
+        change
+    }
+
     // Removes the change of a key, if there is one.
     pub(crate) fn remove(&mut self, key: &[u8])
         ensures { all_changes self.new.list.items
@@ -177,6 +194,20 @@ impl Pieces {
         if self.list[place.piece].is_empty() {
             self.list.remove(place.piece);
         }
+    }
+
+    // The next put, removal or search tries this place first.
+    pub(crate) fn begin_at(&mut self, place: Place)
+        ensures { self.new.list.items ≡ self.old.list.items }
+    {
+        self.last = place;
+    }
+
+    // The next put, removal or search tries the last one's place first.
+    pub(crate) fn turn_back(&mut self)
+        ensures { self.new.list.items ≡ self.old.list.items }
+    {
+        self.last = self.last.before();
     }
 
     // Whether a key has a change. The next put tries its place first, or the one behind it.

@@ -1,5 +1,5 @@
 //! Stores: maps of records that change by commits.
-ghost use Rattle.std.specs.Prelude.{◌≡◌, false, Option, Some, [], Ok};
+ghost use Rattle.std.specs.Prelude.{◌≡◌, false, Option, Some, [], Ok, OnErr};
 ghost use Rattle.storage_sizes.specs.declared.record_format.RecordFormat.TheVariants.{V2};
 ghost use Rattle.store.specs.Contents.{changed_by_batch, changed_in};
 ghost use Rattle.store.specs.Store.{Contents, Commits, stored};
@@ -28,11 +28,15 @@ pub trait Store: Map {
     /// Commits all changes of a batch, or none of them; the spelling stays. Full: no room is left.
     /// Number: no number is. Device: the device failed, and whether the batch is committed is known
     /// only when the device is opened again. An empty batch is committed without a call below.
-    fn commit(&mut self, batch: &Batch) -> Result<(), StoreFault>
-        ensures commits { Commits result (changed_by_batch batch.now (stored (Self.state self.old)))
+    ///
+    /// The store may keep the changes, so nothing is said of what the batch has after `Ok`. After a
+    /// fault it is as it was.
+    fn commit(&mut self, batch: &mut Batch) -> Result<(), StoreFault>
+        ensures commits { Commits result (changed_by_batch batch.old (stored (Self.state self.old)))
             (Self.state self.old) (Self.state self.new) }
-        ensures empty { batch.now ≡ [] → (Self.state self.old).has_failed ≡ false
-            → (result ≡ Ok tt) × (self.new ≡ self.old) };
+        ensures empty { batch.old ≡ [] → (Self.state self.old).has_failed ≡ false
+            → (result ≡ Ok tt) × (self.new ≡ self.old) }
+        ensures given_back { OnErr result (batch.new ≡ batch.old) };
 
     /// Commits all changes of a batch and with them that the records are of record format 2, or
     /// nothing. The faults are those of `commit`. Where the records are of record format 1 an

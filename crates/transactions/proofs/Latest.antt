@@ -1,5 +1,5 @@
 -- What lists of changes say of keys.
-use Rattle.std.proofs.Common.{◌≡◌, ℕ, ◌<◌, ◌≤◌, ◌+◌, ◌-◌, List, [], ◌∷◌, ◌++◌, Option, Some, None, length, take, drop, get_or, refl, ap, sym, ◌∙◌, arith}
+use Rattle.std.proofs.Common.{◌≡◌, ℕ, ◌<◌, ◌≤◌, ◌+◌, ◌-◌, List, [], ◌∷◌, ◌++◌, Option, Some, None, Result, Ok, Err, OnErr, length, take, drop, get_or, set, refl, ap, sym, ◌∙◌, arith}
 use Rattle.std.proofs.lemmas.List.{drop_more, take-append-drop}
 use Rattle.store.specs.Records.{Entries, Records, Changes, IsOrdered, lookup, entry_at, entry_of, applied, value_under}
 use Rattle.store.proofs.Changes.{ordered_applied, lookup-applied}
@@ -65,3 +65,19 @@ pub change_found : (key : List ℕ) (lists : List Changes) (at : ℕ) (item : Ch
 change_found key lists at item change front none found =
     let here : latest key (drop (at - 1) lists) ≡ Some change.1 = ap (latest key) front ∙ rw none (value_of_entry key item (Some change) found) in
     ap (latest key) (sym (take-append-drop (at - 1) lists)) ∙ latest-append key (take (at - 1) lists) (drop (at - 1) lists) ∙ rw here refl
+
+-- the word of the only list
+pub only_latest : (lists : List Changes) (list : Changes) (key : List ℕ) → length lists ≡ 1 → list ≡ get_or lists 0 list → lookup key list ≡ latest key lists
+only_latest [] list key one is = absurd (omega (arith, one))
+only_latest (cs ∷ []) list key one is = ap (lookup key) is
+only_latest (cs ∷ ds ∷ lists) list key one is = absurd (omega (arith, one))
+
+-- and the lists where it was put back
+pub only_back : (lists : List Changes) (list new : Changes) → length lists ≡ 1 → list ≡ get_or lists 0 list → new ≡ list → set lists 0 new ≡ lists
+only_back [] list new one is same = absurd (omega (arith, one))
+only_back (cs ∷ lists) list new one is same = ap (λ (x : Changes). x ∷ lists) (same ∙ is)
+
+-- where a fault gives it back
+pub only_given_back : {T E : Type 0} (r : Result T E) (lists own : List Changes) (list new : Changes) → length lists ≡ 1 → list ≡ get_or lists 0 list → lists ≡ own → OnErr r (new ≡ list) → OnErr r (set lists 0 new ≡ own)
+only_given_back (Ok x) lists own list new one is whole back = tt
+only_given_back (Err e) lists own list new one is whole back = only_back lists list new one is back ∙ whole

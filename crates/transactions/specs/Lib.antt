@@ -4,3 +4,4 @@ pub mod Merging
 pub mod Within
 pub mod WithinLaws
 pub mod Places
+pub mod Commits

@@ -24,11 +24,6 @@ abbrev pub latest : List ℕ → List Changes → Option (Option (List ℕ))
 latest key [] = None
 latest key (cs ∷ lists) = or_earlier (latest key lists) (lookup key cs)
 
--- the only list, or else the one that was made
-abbrev pub only_or : Option Changes → Changes → Changes
-only_or None made = made
-only_or (Some list) made = list
-
 -- the lists say nothing of the keys from this one on
 abbrev pub SayNothingFrom : List ℕ → List Changes → Type 0
 SayNothingFrom from lists = (key : List ℕ) → is_from from key ≡ true → latest key lists ≡ None

@@ -1,13 +1,15 @@
 //! The changes of a transaction.
-ghost use Rattle.std.specs.Prelude.{◌≡◌, ◌∷◌, [], ℕ, List, Some, None, IsTrue, ◌↔◌, IfOk, IfSome, OnOk, OnErr, vec_len, vec_capacity};
+ghost use Rattle.std.specs.Prelude.{◌≡◌, [], ℕ, List, Some, None, IsTrue, ◌↔◌, IfOk, OnOk, OnErr, vec_len, vec_capacity};
 ghost use Rattle.std.specs.List.{AllByRecursion};
 ghost use Rattle.store.specs.Records.{Records, IsOrdered, IsChangeSize, changed, lookup, applied};
+ghost use Rattle.store.specs.Store.{KeepsHistory};
+ghost use Rattle.transactions.specs.Commits.{CommitsJoined};
 ghost use Rattle.transactions.specs.Views.{applied_all, latest, or_earlier};
 
 use sql_types::try_copy::TryCopy;
 use std::alloc::{AllocError, Global};
 use std::marker::Model;
-use store::{Batch, Change};
+use store::{Batch, Change, Store, StoreFault};
 
 /// The changes of the statements of a transaction: one list, into which each statement's changes
 /// go, and one more for each time that an allocation failed on the way. Contracts see them as these
@@ -25,37 +27,6 @@ impl Model for ChangeLists {
     ghost Value = { List Changes };
 
     ghost view = { λ c. c.lists.items };
-}
-
-/// Lists in one: the only list that there is, lent, or one that was made of all. Contracts see it as
-/// its changes.
-#[derive(Drop)]
-pub struct Joined<'a> {
-    only: Option<&'a Batch>,
-    // Made where it is not the only one.
-    made: Batch,
-}
-
-impl<'a> Model for Joined<'a> {
-    ghost use Rattle.std.specs.Option.{option_copied};
-    ghost use Rattle.store.specs.Records.{Changes};
-    ghost use Rattle.transactions.specs.Views.{only_or};
-
-    ghost Value = { Changes };
-
-    ghost view = { λ j. only_or (option_copied j.only) j.made };
-}
-
-impl<'a> Joined<'a> {
-    /// The one list, lent.
-    pub fn batch(&self) -> &Batch
-        ensures { result.now ≡ self.now }
-    {
-        match self.only {
-            Some(list) => list,
-            None => &self.made,
-        }
-    }
 }
 
 impl ChangeLists {
@@ -101,27 +72,22 @@ impl ChangeLists {
         }
     }
 
-    /// All lists in one, as [`ChangeLists::join`] makes it; where there is one list it is lent, and
-    /// nothing is copied.
-    pub fn joined(&self) -> Result<Joined<'_>, AllocError>
-        ensures { IfOk result (λ joined. (key : List ℕ) → lookup key joined ≡ latest key self.now) }
+    /// Commits all lists to a store as one batch, as [`ChangeLists::join`] makes it; where there is
+    /// one list it is that batch, and nothing is copied here. Memory: an allocation failed. The other
+    /// faults are those of [`Store::commit`]. After a fault the lists are as they were. Nothing is
+    /// said of them after `Ok`.
+    pub fn commit_to<S: Store>(&mut self, store: &mut S) -> Result<(), StoreFault>
+        ensures history { KeepsHistory (S.state store.old) (S.state store.new) }
+        ensures commits { CommitsJoined S.state self.old result store.old store.new }
+        ensures given_back { OnErr result (self.new ≡ self.old) }
     {
-        if let Some(list) = self.only() {
-            return Ok(Joined {
-                only: Some(list),
-                made: Batch::new(self.alloc),
-            });
+        if self.lists.len() == 1 {
+            return store.commit(&mut self.lists[0]);
         }
-        let made = self.join()?;
-        Ok(Joined { only: None, made })
-    }
-
-    // The only list, or `None` where there is none or more.
-    fn only(&self) -> Option<&Batch>
-        ensures { IfSome result (λ list. self.now ≡ list.now ∷ []) }
-    {
-        let (first, later) = self.lists.split_first()?;
-        if later.is_empty() { Some(first) } else { None }
+        match self.join() {
+            Ok(mut joined) => store.commit(&mut joined),
+            Err(_) => Err(StoreFault::Memory),
+        }
     }
 
     /// All lists in one: of each key the change of the last list that names it.

@@ -8,7 +8,7 @@ mod merge;
 mod place;
 mod view;
 
-pub use changes::{ChangeLists, Joined};
+pub use changes::ChangeLists;
 pub use laws::joined_changes;
 pub use merge::{Merge, MergedPlace};
 pub use place::ViewPlace;

@@ -40,7 +40,7 @@ pub fn new_store(alloc: Global, admin: &str) -> Result<MemStore> {
 /// The store of a new database with the role root, with changes.
 pub fn store_with(alloc: Global, changes: &Batch) -> Result<MemStore> {
     let mut store = new_store(alloc, "root")?;
-    store.commit(changes)?;
+    store.commit(&mut changes.try_copy(alloc)?)?;
     Ok(store)
 }
 

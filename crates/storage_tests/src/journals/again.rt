@@ -77,9 +77,8 @@ fn commit_both(
     index: usize,
     tally: &mut TestTally,
 ) -> Result<()> {
-    let batch = script.batch(index, 0)?;
-    commit(store, memory, &batch, tally)?;
-    map_calls::commit(memory, &batch)?;
+    commit(store, memory, &mut script.batch(index, 0)?, tally)?;
+    map_calls::commit(memory, &mut script.batch(index, 0)?)?;
     Ok(())
 }
 
@@ -112,11 +111,11 @@ fn turned_again(
     device
 }
 
-/// Makes a commit, and again where it is refused memory. The store in memory does not have it yet.
+/// Makes a commit, and again with the same batch where it is refused memory. The store in memory does not have it yet.
 fn commit(
     store: &mut TestStore,
     memory: &mut MemStore,
-    batch: &Batch,
+    batch: &mut Batch,
     tally: &mut TestTally,
 ) -> Result<(), StoreFault> {
     let number = store.number();

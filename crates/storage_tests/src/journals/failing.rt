@@ -59,7 +59,7 @@ fn commit_failing(
 ) -> Result<bool> {
     let failures = store.failures();
     store.prepare(event);
-    let answer = store.commit(&script.batch(index, 0)?);
+    let answer = store.commit(&mut script.batch(index, 0)?);
     if store.failures() == failures {
         tally.disagree(answer.is_ok(), "a commit is not made");
         return Ok(true);
@@ -68,7 +68,7 @@ fn commit_failing(
     let is_so = answer == Err(StoreFault::Device);
     tally.disagree(is_so, "a failure is answered otherwise");
     store.prepare(DeviceEvent::StatementError(0));
-    let is_closed = store.is_closed(&script.batch(index, 1)?);
+    let is_closed = store.is_closed(&mut script.batch(index, 1)?);
     tally.disagree(is_closed, "a call is answered after a failure");
     let is_quiet = store.failures() == failures.saturating_add(1);
     tally.disagree(is_quiet, "a call is made after a failure");

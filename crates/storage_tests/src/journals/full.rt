@@ -10,6 +10,7 @@ use crate::stores::table::add_change;
 use crate::transcript::Transcript;
 use anyhow::{Result, bail};
 use kv_store::DEFAULT_CACHE_PAGES;
+use sql_types::try_copy::TryCopy;
 use std::alloc::Global;
 use store::{Batch, MemStore, StoreFault};
 
@@ -48,10 +49,10 @@ impl Filled {
     }
 
     /// Makes a commit. Answers whether there was room for it.
-    fn commit(&mut self, batch: &Batch) -> Result<bool> {
-        match self.store.commit(batch) {
+    fn commit(&mut self, alloc: Global, batch: &Batch) -> Result<bool> {
+        match self.store.commit(&mut batch.try_copy(alloc)?) {
             Ok(()) => {
-                commit(&mut self.memory, batch)?;
+                commit(&mut self.memory, &mut batch.try_copy(alloc)?)?;
                 Ok(true)
             }
             Err(StoreFault::Full) => Ok(false),
@@ -141,7 +142,8 @@ impl StorePair {
     /// Puts a row in both stores. Whether the one without a journal takes it, and whether the other does.
     fn put(&mut self, row: u32, byte: u8) -> Result<(bool, bool)> {
         let batch = self.row_batch(row, byte)?;
-        Ok((self.plain.commit(&batch)?, self.journaled.commit(&batch)?))
+        let is_taken = self.plain.commit(self.alloc, &batch)?;
+        Ok((is_taken, self.journaled.commit(self.alloc, &batch)?))
     }
 
     /// A batch that puts a row.

@@ -246,9 +246,9 @@ fn is_answered(
     writes: u64,
     tally: &mut TestTally,
 ) -> Result<bool> {
-    let batch = script.batch(next.index, next.life)?;
+    let mut batch = script.batch(next.index, next.life)?;
     store.prepare(DeviceEvent::StatementError(writes));
-    let answer = store.commit(&batch);
+    let answer = store.commit(&mut batch);
     tally.count_first();
     let is_so = answer.is_ok() || answer == Err(StoreFault::Device);
     tally.disagree(is_so, "a stop is answered otherwise");
@@ -289,7 +289,7 @@ fn make_next(
     tally: &mut TestTally,
 ) -> Result<()> {
     let mut store = store;
-    let answer = store.commit(&script.batch(next.index, next.life)?);
+    let answer = store.commit(&mut script.batch(next.index, next.life)?);
     tally.disagree(answer.is_ok(), "the next commit is not made");
     let image = synced(script.alloc, store.into_device())?;
     tally.disagree(

@@ -45,7 +45,7 @@ impl TestStore {
     }
 
     /// Commits a batch.
-    pub fn commit(&mut self, batch: &Batch) -> Result<(), StoreFault> {
+    pub fn commit(&mut self, batch: &mut Batch) -> Result<(), StoreFault> {
         commit(&mut self.store, batch)
     }
 
@@ -76,7 +76,7 @@ impl TestStore {
     }
 
     /// Whether it answers Device alone: a read, and the commit of a batch.
-    pub fn is_closed(&mut self, batch: &Batch) -> bool {
+    pub fn is_closed(&mut self, batch: &mut Batch) -> bool {
         let mut entry = Entry::new(self.alloc);
         let read = look_up(&mut self.store, &[1], &mut entry);
         let committed = commit(&mut self.store, batch);
@@ -111,7 +111,7 @@ pub fn commit_whole(
     life: u8,
     tally: &mut TestTally,
 ) -> Result<()> {
-    let answer = store.commit(&script.batch(index, life)?);
+    let answer = store.commit(&mut script.batch(index, life)?);
     tally.disagree(answer.is_ok(), "a commit is not made");
     Ok(())
 }

@@ -20,7 +20,7 @@ pub fn wanted_after(script: &BatchScript, lives: &[u8]) -> Result<MemStore> {
 /// Makes the first commits of a script in a store in memory, each in the life that stands at its place.
 fn commit_first(script: &BatchScript, lives: &[u8], memory: &mut MemStore) -> Result<()> {
     for (index, life) in lives.iter().enumerate() {
-        commit(memory, &script.batch(index, *life)?)?;
+        commit(memory, &mut script.batch(index, *life)?)?;
     }
     Ok(())
 }

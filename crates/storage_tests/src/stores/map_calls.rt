@@ -4,7 +4,7 @@
 use store::{Batch, Cursor, Entry, Map, Store, StoreFault};
 
 /// Commits a batch.
-pub fn commit<S: Store>(store: &mut S, batch: &Batch) -> Result<(), StoreFault> {
+pub fn commit<S: Store>(store: &mut S, batch: &mut Batch) -> Result<(), StoreFault> {
     store.commit(batch)
 }
 

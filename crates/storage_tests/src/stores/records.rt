@@ -64,7 +64,7 @@ impl<S: Store> Callee for Records<S> {
     fn make(&mut self, call: &CallWords<'_>, out: &mut Transcript) -> Result<()> {
         match call.name {
             "commit" => {
-                let answer = commit(&mut self.store, &self.batch);
+                let answer = commit(&mut self.store, &mut self.batch);
                 self.begin_next(answer, call, out);
             }
             "migrate" => {

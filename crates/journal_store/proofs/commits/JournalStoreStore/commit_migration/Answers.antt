@@ -9,4 +9,4 @@ use Rattle.journal_store.proofs.commits.JournalStoreStore.commit_migration.Goals
 pub returns-clause-commits : goal.returns-clause-commits
 returns-clause-commits g c =
     let s = c.args.self.now in
-    commits_as c.commit.result _ _ (journal_state s) _ (λ sound works. ap (λ (x : RecordFormat). changed_in x c.args.batch.now (stored (journal_state s))) (sound.works works).second) c.commit.ensures.commits
+    commits_as c.commit_lent.result _ _ (journal_state s) _ (λ sound works. ap (λ (x : RecordFormat). changed_in x c.args.batch.now (stored (journal_state s))) (sound.works works).second) c.commit_lent.ensures.commits

@@ -17,4 +17,5 @@ returns g c =
       still = is.still;
       counts = is.counts;
       rises = is.rises;
+      given_back = is.given_back;
     }

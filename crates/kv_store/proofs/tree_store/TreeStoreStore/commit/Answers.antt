@@ -6,6 +6,7 @@ use Rattle.page_roots.specs.Formats.{record_format_of}
 use Rattle.store.specs.Records.{Changes, applied}
 use Rattle.store.specs.Store.{Contents, Commits, stored}
 use Rattle.store.specs.Contents.{changed_in, changed_by_batch}
+use Rattle.store.proofs.Reading.{on_any_err}
 use Rattle.kv_store.specs.declared.reserve.Reserve.TheVariants.{Kept}
 use Rattle.kv_store.specs.Contents.{contents_of}
 use Rattle.kv_store.specs.ContentLaws.{same_parts}
@@ -24,6 +25,7 @@ returns-then-self g c = record {
   counts = refl;
   rises = λ sound differs. tt;
   kind = refl;
+  given_back = refl;
 }
 
 pub returns-then-is_empty : goal.returns-then-is_empty
@@ -38,6 +40,7 @@ returns-then-is_empty g c =
       counts = record { fulls = refl; failures = refl };
       rises = λ sound differs. absurd (differs (sym (ap (λ (cs : Changes). applied cs (contents_of old.pages.below).records) none)));
       kind = refl;
+      given_back = tt;
     }
 
 pub returns : goal.returns
@@ -55,4 +58,5 @@ returns g c =
       counts = is.counts;
       rises = λ sound differs. is.rises sound (λ same. differs (ap (λ (x : Contents). x.records) same));
       kind = is.kind;
+      given_back = on_any_err c.change.result refl;
     }

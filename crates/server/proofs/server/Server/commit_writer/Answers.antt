@@ -34,7 +34,7 @@ returns-in-Ok-clause-carries g c sound runs db holder e w p =
       machine_at p.0.database None after,
       p.5,
       works_unheld state (record c.end_slot.new.self { sessions = c.change_sessions.new.sessions }) mid.store d p.0.database after store
-          (ap (λ z. z.catalogue) ended ∙ ap (λ z. definitions_under z.writer z.catalogue) kept ∙ ap (λ (z : Option Writer). definitions_under z old.catalogue) there) (ap (λ z. z.writer) ended)
+          (ap (λ z. z.catalogue) ended ∙ c.commit_held.ensures.definitions mid.catalogue ∙ ap (λ z. definitions_under old.writer z.catalogue) kept ∙ ap (λ (z : Option Writer). definitions_under z old.catalogue) there) (ap (λ z. z.writer) ended)
           (ap (λ z. z.stopped) ended ∙ ap (λ z. z.stopped) kept ∙ runs) changed (commits.failed ∙ w.unfailed) (done.committed.record_format ∙ w.second) (rw done.committed.map shown),
       rw store (commit_done c.in-Ok.field-0 (changed_by_batch cs (stored st)) st (state mid.store) old.catalogue d db p.0.database commits.history done w.second w.committed w.second shown),
     )

@@ -1,7 +1,6 @@
 use Rattle.std.proofs.Common.{◌≡◌, ◌+◌, ◌-◌, ◌^◌, ◌<◌, ◌≤◌, ◌∙◌, length, min, drop, sym, ap, subst, arith}
 use Rattle.store.specs.Records.{Changes, IsOrdered}
 use Rattle.store.specs.Pieces.{from_place, puts, puts_within}
-use Rattle.store.specs.Walks.{count_of}
 use Rattle.store.proofs.InPieces.{piece_ordered}
 use Rattle.store.proofs.InPlaces.{past_all}
 use Rattle.store.proofs.Stops.{ends_in, ends_out}
