@@ -46,6 +46,23 @@ def table(name, rows, number=lambda key: key * 7919 % 99991):
     return [f'CREATE TABLE {name} (k BIGINT PRIMARY KEY, x BIGINT, o TEXT)', 'BEGIN', *inserts, 'COMMIT']
 
 
+def tenants():
+    """Statements that make a table of 200 tenants, of whom bob is one, with as many rows each, in one block."""
+    names = ['bob', *(f't{tenant:03}' for tenant in range(1, 200))]
+    values = [[f"('{name}', {key}, {key * 7919 % 99991})" for key in range(ROWS // 200)] for name in names]
+    inserts = ['INSERT INTO t VALUES ' + ', '.join(rows[low:low + 100]) for rows in values for low in range(0, len(rows), 100)]
+    return ['CREATE TABLE t (o TEXT, k BIGINT, x BIGINT, PRIMARY KEY (o, k))', 'BEGIN', *inserts, 'COMMIT']
+
+
+def under(condition, statement):
+    """A SELECT of t with one more condition, if there is one."""
+    if not condition:
+        return statement
+    if ' WHERE ' in statement:
+        return statement.replace(' WHERE ', f' WHERE {condition} AND ', 1)
+    return statement.replace(' FROM t', f' FROM t WHERE {condition}', 1)
+
+
 def two_tables(rows):
     return Fill(table('a', rows, lambda key: key * 7 % rows) + table('b', rows, lambda key: key * 7 % rows))
 
@@ -57,8 +74,11 @@ def fills():
     made = {f't{rows}': Fill(table('t', rows)) for rows in (1_000, 10_000, ROWS, 1_000_000)}
     made |= {f'two{rows}': two_tables(rows) for rows in (1_000, 10_000)}
     made['empty'] = Fill(['CREATE TABLE t (k BIGINT PRIMARY KEY, x BIGINT, o TEXT)'])
-    made['policy'] = Fill([*guarded, 'CREATE POLICY p ON t USING (x >= 0)'], 'bob', ' AND x >= 0')
-    made['owner'] = Fill([*guarded, 'CREATE POLICY p ON t USING (o = current_user)'], 'bob', " AND o = 'bob'")
+    made['policy'] = Fill([*guarded, 'CREATE POLICY p ON t USING (x >= 0)'], 'bob', 'x >= 0')
+    made['owner'] = Fill([*guarded, 'CREATE POLICY p ON t USING (o = current_user)'], 'bob', "o = 'bob'")
+    made['retained'] = Fill([*guarded, 'CREATE POLICY p ON t USING (k >= 0)'], 'bob', 'k >= 0')
+    own = ['ALTER TABLE t ENABLE ROW LEVEL SECURITY', 'CREATE POLICY p ON t USING (o = current_user)']
+    made['tenants'] = Fill([*tenants(), *bob, *own], 'bob', "o = 'bob'")
     made['journaled'] = Fill(table('t', 10_000), journal=True)
     made['memberships'] = Fill([*table('t', ROWS), 'CREATE ROLE bob LOGIN', *chain, 'GRANT SELECT ON t TO g3'], 'bob')
     return made
@@ -105,6 +125,10 @@ def reads():
     yield Work('range of 10,000', 'memory', full, ranges(60, 10_000))
     yield Work('scan', 'memory', full, scans(40))
     yield Work('scan, policy', 'memory', 'owner', ['SELECT count(*) FROM t WHERE x < 50000'] * 20)
+    yield Work('tenant, count', 'memory', 'tenants', ['SELECT count(*) FROM t'] * 20_000)
+    yield Work('tenant, by key', 'memory', 'tenants', [f'SELECT x FROM t WHERE k = {random.randrange(ROWS // 200)}' for _ in range(20_000)])
+    yield Work('tenant, order by key limit 2', 'memory', 'tenants', ['SELECT k FROM t ORDER BY k LIMIT 2'] * 20_000)
+    yield Work('last 100, policy', 'memory', 'retained', [f'SELECT x FROM t WHERE k >= {ROWS - 100}'] * 2_000)
     yield Work('all rows', 'memory', full, ['SELECT * FROM t'] * 10)
     yield Work('order by x', 'memory', full, [ordered + 'x'] * 5)
     yield Work('order by x limit 10', 'memory', full, [ordered + 'x LIMIT 10'] * 20)
@@ -196,7 +220,7 @@ class Bench:
         made = [each.replace('k BIGINT PRIMARY KEY', 'k INTEGER PRIMARY KEY') for each in fill.statements if not each.startswith(rights)]
         with open(path, 'w') as out:
             out.writelines(f'{each};\n' for each in (made if with_fill else []))
-            out.writelines(f'{each}{fill.condition};\n' for each in statements)
+            out.writelines(f'{under(fill.condition, each)};\n' for each in statements)
         return path
 
     def less_base(self, who, work, measure):

@@ -1,4 +1,6 @@
 pub mod ByParts
+pub mod FoundOrder
+pub mod Known
 pub mod CountedRows
 pub mod EachLookedUp
 pub mod InOrder

@@ -29,7 +29,7 @@ use Rattle.gathering.proofs.Done.{all_pass}
 use Rattle.key_ranges.specs.Infallible.{GuardNeverFails}
 use Rattle.sql_ast.specs.Layout.{Layout}
 use Rattle.sql_ast.specs.Rows.{row_cmp}
-use Rattle.abstract_database.specs.Lists.{Among, Rising}
+use Rattle.abstract_database.specs.Lists.{Among}
 use Rattle.std.specs.Ordering.{is_gt}
 use Rattle.store.specs.declared.fault.Fault.TheVariants.{Memory, Device, Damaged}
 use Rattle.store.specs.declared.stop.StatementError.{StatementError}
@@ -39,6 +39,8 @@ use Rattle.table_rows.specs.Ranged.{records_of}
 use Rattle.table_rows.specs.Visits.{AnswerAfter}
 use Rattle.table_rows.specs.Walked.{WalksFront, Walks}
 use Rattle.executor.specs.declared.one_table.OneTable.{OneTable}
+use Rattle.executor.specs.FoundOrder.{IsOrderOf}
+use Rattle.executor.proofs.FoundOrder.{never_fall_by}
 use Rattle.executor.specs.Selected.{FitQuery, source_of, AnswersFront, CountsNoRows, GathersInOrder, GathersRows, ReadsAs}
 
 -- ---- a row
@@ -71,15 +73,15 @@ all_alone P (row ∷ rows) all = (all.0, all_alone P rows all.1)
 -- ---- the whole
 
 -- the query of the definition is what is answered where all rows still come
-pub whole_is : (table : Target) (users : UserNames) (q : Query) (rows : List Row) (g : ResultCollector) → FitQuery users q rows → Rising (row_cmp table.columns.now.key) rows → GathersRows table.columns.now.key users q g
+pub whole_is : (table : Target) (order : List ℕ) (users : UserNames) (q : Query) (rows : List Row) (g : ResultCollector) → FitQuery users q rows → NeverFalls (row_cmp order) rows → GathersRows order users q g
     → query (source_of table rows ∷ []) users (bound_of q) ≡ (passing (sees table) rows >>= λ seen. answer_after g (map alone seen))
-whole_is table users q rows g fit rising gathers = go (passing (sees table) rows) refl
+whole_is table order users q rows g fit never gathers = go (passing (sees table) rows) refl
   where
     go : (r : Result (List Row) SqlState) → passing (sees table) rows ≡ r → ((r >>= λ seen. Ok (seen ∷ [])) >>= λ visible. answered users (bound_of q) (product visible)) ≡ (r >>= λ seen. answer_after g (map alone seen))
     go (Err code) e = refl
     go (Ok seen) e =
         ap (answered users (bound_of q)) (rows_are_combinations seen)
-        ∙ sym (gathers seen (pairs_passed _ (sees table) rows seen (rising_never_falls (row_cmp table.columns.now.key) rows rising) e).0 (passing_part (λ row. FitsQuery users q (alone row)) (sees table) rows seen fit e))
+        ∙ sym (gathers seen (pairs_passed _ (sees table) rows seen never e).0 (passing_part (λ row. FitsQuery users q (alone row)) (sees table) rows seen fit e))
 
 -- ---- rows in the order of the key
 
@@ -129,7 +131,7 @@ pub none_walked : {A : Type 0} (id : ℕ) (layout : Layout) (records : Records) 
 none_walked id layout records old same = record { front = []; behind = records; parts = refl; spelled = tt; decides = λ rows rest h none. same (rows ++ rest) }
 
 -- the front that was walked is what the query was answered of
-module _ (table : Target) (records : Records) (users : UserNames) (q : Query) (g : ResultCollector) (same : GathersRows table.columns.now.key users q g) where
+module _ (table : Target) (records : Records) (order : List ℕ) (is_order : IsOrderOf table order) (users : UserNames) (q : Query) (g : ResultCollector) (same : GathersRows order users q g) where
   abbrev asked : AnswerAfter (List Row)
   asked rows = passing (sees table) rows >>= λ seen. answer_after g (map alone seen)
 
@@ -139,7 +141,9 @@ module _ (table : Target) (records : Records) (users : UserNames) (q : Query) (g
     behind = w.behind;
     parts = w.parts;
     spelled = w.spelled;
-    decides = λ rows rest held none rising fit. whole_is table users q (rows ++ rest) g fit rising same ∙ w.decides rows rest held none ∙ is;
+    decides = λ rows rest held none rising each fit.
+        let never = never_fall_by table order (rows ++ rest) is_order each (rising_never_falls (row_cmp table.columns.now.key) (rows ++ rest) rising) in
+        whole_is table order users q (rows ++ rest) g fit never same ∙ w.decides rows rest held none ∙ is;
   }
 
   -- so is the refusal of a walk

@@ -1,3 +1,5 @@
 pub mod Joined
 pub mod Selected
 pub mod ByParts
+pub mod FoundOrder
+pub mod Known

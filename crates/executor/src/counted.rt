@@ -1,47 +1,79 @@
-//! `count(*)` over all rows of a table, by their keys.
-ghost use Rattle.std.specs.Prelude.{◌≡◌, IsTrue, length};
-ghost use Rattle.store.specs.Records.{entries_where, has_prefix};
+//! `count(*)` over all rows that are found of a table, by their keys.
+ghost use Rattle.std.specs.Prelude.{◌≡◌, IsTrue, IfOk, Ok, length};
 ghost use Rattle.store.specs.StatementError.{ReadsMap};
-ghost use Rattle.row_codec.specs.Rows.{row_prefix};
+ghost use Rattle.store.specs.Walks.{count_of};
+ghost use Rattle.expressions.specs.Rows.{names_of};
 ghost use Rattle.table_rows.specs.Failures.{Answers};
+ghost use Rattle.table_rows.specs.Ranged.{records_of};
 ghost use Rattle.gathering.specs.Found.{counted};
-ghost use Rattle.executor.specs.Selected.{CountsAll};
+ghost use Rattle.executor.specs.Known.{CountsFound};
 
+use crate::known_columns::all_pass;
+use expressions::eval::Users;
 use gathering::collector::count_row;
 use gathering::query::{OutputList, Query};
+use key_ranges::KeyRange;
 use sql_types::items::Items;
 use sql_types::value::Value;
-use std::alloc::Global;
+use std::alloc::{AllocError, Global};
 use store::{Map, StatementError};
 use table_rows::{Target, count_rows};
 
-// Whether a query over one table counts all its rows: neither a policy nor a condition nor a range
-// leaves one out.
-pub(crate) fn counts_all(table: &Target<'_>, query: &Query) -> bool
-    ensures { IsTrue result → CountsAll table.now query.now }
+// Whether a query over one table counts all rows that its target finds: neither a policy nor a
+// condition leaves one out.
+pub(crate) fn counts_found(
+    alloc: Global,
+    table: &Target<'_>,
+    users: &Users<'_>,
+    query: &Query,
+) -> Result<bool, AllocError>
+    ensures { IfOk result (λ all.
+        IsTrue all → CountsFound table.now (names_of users.now) query.now) }
 {
     match query.list {
-        OutputList::Rows(_) => false,
-        OutputList::Count => {
-            table.range.is_none() && query.conditions.is_empty() && table.guard.existing.is_empty()
-        }
+        OutputList::Rows(_) => Ok(false),
+        OutputList::Count => all_pass(alloc, table, users, query),
     }
 }
 
-// The count of the rows of the table of this number, as a query answers it.
-pub(crate) fn count_all<M: Map>(
+// The count of the rows that a target finds, as a query answers it.
+pub(crate) fn count_found<M: Map>(
     alloc: Global,
     records: &mut M,
-    table: u32,
+    table: &Target<'_>,
 ) -> Result<Items<Items<Value>>, StatementError>
     ensures preserved { M.preserved records.old records.new }
     ensures reads { ReadsMap result (M.state records.old) (M.state records.new) }
     ensures counted { (M.state records.old).sound → Answers result
-        (counted (length (entries_where (has_prefix (row_prefix table)) (M.state records.old).map))) }
+        (counted (length (records_of table.now (M.state records.old).map))) }
 {
-    let count = count_rows(alloc, records, table)?;
+    let count = count_keys(alloc, records, table)?;
     match count_row(alloc, count)? {
         Ok(rows) => Ok(rows),
         Err(code) => Err(StatementError::Refused(code)),
+    }
+}
+
+// How many records a target finds, up to `u64::MAX`, by their keys.
+fn count_keys<M: Map>(
+    alloc: Global,
+    records: &mut M,
+    table: &Target<'_>,
+) -> Result<u64, StatementError>
+    ensures preserved { M.preserved records.old records.new }
+    ensures reads { ReadsMap result (M.state records.old) (M.state records.new) }
+    ensures counts { (M.state records.old).sound → Answers result
+        (Ok (count_of (records_of table.now (M.state records.old).map))) }
+{
+    match table.range {
+        None => count_rows(alloc, records, table.id),
+        Some(KeyRange::Point(key)) => {
+            let found = records.contains(key.as_slice())?;
+            Ok(u64::from(found))
+        }
+        Some(KeyRange::Span { start, stop }) => {
+            let count = records.count_to(start.as_slice(), stop.as_slice(), u64::MAX)?;
+            Ok(count)
+        }
     }
 }

@@ -3,10 +3,12 @@
 
 mod by_look_ups;
 mod counted;
+mod found_order;
 mod in_place;
 mod in_ranges;
 mod inner_lookup;
 mod joined_rows;
+mod known_columns;
 mod looked_up;
 mod one_table;
 mod outer_walk;
