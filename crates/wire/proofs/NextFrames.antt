@@ -3,7 +3,7 @@ use Rattle.std.proofs.Common.{◌≡◌, ◌<◌, ◌≤◌, ◌+◌, ◌-◌, �
 use Rattle.std.specs.Str.{is_utf8}
 use Rattle.std.proofs.lemmas.Bool.{cases_lt, cases_Bool}
 use Rattle.std.proofs.lemmas.Bool.Decides.{nat_tests}
-use Rattle.std.proofs.lemmas.List.{take-append-le, drop-append-le, get_or_append_left, length-append, length-drop}
+use Rattle.std.proofs.lemmas.List.{take-append-le, drop-append-le, get_or_append_left, length-append, length-drop, length-take-le, take-append-drop}
 use Rattle.std.specs.Int.{w32, from_be_bytes}
 use Rattle.wire.proofs.FrameNumbers.{number_append}
 use Rattle.sql_types.specs.declared.event.Event.{Event}
@@ -160,6 +160,25 @@ whole_size bytes e n h = elim (frame_case bytes) [
       let size = kind_size (slice_index bytes 4) (from_be_bytes w32 (drop 5 bytes)) (take (named bytes - 5) (drop 9 bytes)) (4 + named bytes) e n (sym is ∙ h) in
       let bounds = length_from (named bytes) fits in
       (omega (arith, bounds.0, size), omega (arith, enough, size))
+]
+
+-- the bytes of a whole frame alone are read as it
+pub whole_alone : (bytes : List ℕ) (e : Event) (n : ℕ) → next_frame bytes ≡ whole e n → next_frame (take n bytes) ≡ whole e n
+whole_alone bytes e n h = elim (frame_case bytes) [
+  | short is ↦ absurd (incomplete_whole is h)
+  | wrong le unfit is ↦ absurd (bad_whole is h)
+  | there le fits enough is ↦
+      let size : n ≡ 4 + named bytes = kind_size (slice_index bytes 4) (from_be_bytes w32 (drop 5 bytes)) (take (named bytes - 5) (drop 9 bytes)) (4 + named bytes) e n (sym is ∙ h) in
+      let count : length (take n bytes) ≡ n = length-take-le n bytes (omega (arith, size, enough)) in
+      let bounds = length_from (named bytes) fits in
+      let joined : take n bytes ++ drop n bytes ≡ bytes = take-append-drop n bytes in
+      let name : named bytes ≡ named (take n bytes) = ap named (sym joined) ∙ more_named (take n bytes) (drop n bytes) (omega (arith, count, size)) in
+      let good : is_length (named (take n bytes)) ≡ true = ap is_length (sym name) ∙ fits in
+      let short_enough : 4 + named (take n bytes) ≤ length (take n bytes) = omega (arith, count, size, name) in
+      let long_enough : 4 ≤ length (take n bytes) = omega (arith, count, size) in
+      carried_there (take n bytes) long_enough good short_enough
+      ∙ sym (more_there (take n bytes) (drop n bytes) long_enough good short_enough)
+      ∙ ap next_frame joined ∙ h
 ]
 
 -- ---- what is held back is short

@@ -16,25 +16,28 @@ const MIN_LENGTH: usize = 5;
 /// The greatest length that a frame may name, in bytes.
 const MAX_LENGTH: usize = 131_072;
 
-// An event whose texts are lent by its frame.
+/// An event whose texts are lent by its frame.
 #[derive(Clone, Copy)]
-pub(crate) enum EventView<'a> {
+pub enum EventView<'a> {
     Open { session: u32, login: &'a str },
     Statement { session: u32, text: &'a str },
     Close { session: u32 },
 }
 
-// The next frame of a stream: not there to its end, bad, or the whole frame of an event, of so many bytes.
+/// What stands at the front of a stream.
 #[derive(Clone, Copy)]
-pub(crate) enum FrameView<'a> {
+pub enum FrameView<'a> {
+    /// Less than a frame, good so far.
     Incomplete,
+    /// A bad frame.
     Bad,
+    /// The whole frame of an event, of so many bytes.
     Whole { event: EventView<'a>, size: usize },
 }
 
-// The next frame of a stream.
+/// What stands at the front of a stream.
 #[tactic(auto, unfolding(crate::specs::Frame::next_frame))]
-pub(crate) fn next_frame(bytes: &[u8]) -> FrameView<'_>
+pub fn next_frame(bytes: &[u8]) -> FrameView<'_>
     ensures { viewed_frame result ≡ next_frame bytes.now }
 {
     if bytes.len() < 4 {
@@ -90,8 +93,8 @@ fn text_of(bytes: &[u8]) -> Option<&str>
 }
 
 impl EventView<'_> {
-    // The event, with texts of its own.
-    pub(crate) fn to_event(self, alloc: Global) -> Result<Event, AllocError>
+    /// The event, with texts of its own. The only error is that an allocation failed.
+    pub fn to_event(self, alloc: Global) -> Result<Event, AllocError>
         ensures { IfOk result (λ event. event ≡ viewed_event self.entry) }
     {
         match self {

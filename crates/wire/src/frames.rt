@@ -1,9 +1,10 @@
 //! The events of a stream of frames that comes in pieces.
 
-ghost use Rattle.std.specs.Prelude.{◌≡◌, ◌≢◌, ◌≤◌, ◌++◌, ℕ, Bool, true, false, List, [], length, drop, IfOk, OnErr};
+ghost use Rattle.std.specs.Prelude.{◌≡◌, ◌≢◌, ◌≤◌, ◌++◌, ℕ, Bool, true, false, List, [], length, drop, IfOk, OnOk, OnErr};
 ghost use Rattle.sql_types.specs.declared.event.Event.{Event as AnEvent};
 ghost use Rattle.wire.specs.Frame.{next_frame, bad as bad_frame};
 ghost use Rattle.wire.specs.Stream.{Spells, IsStream, IsFed};
+ghost use Rattle.wire.specs.Views.{viewed_frame};
 
 use crate::frame_view::{FrameView, next_frame};
 use sql_types::event::Event;
@@ -69,10 +70,10 @@ impl Frames {
             });
         }
         let before = self.held.len();
-        self.held.extend_from_slice(piece)?;
+        self.push(piece)?;
         match read_events(self.alloc, &self.held) {
             Ok(FrameEvents { events, bad, end }) => {
-                drop_front(&mut self.held, end);
+                self.pass(end);
                 Ok(Fed { events, bad })
             }
             Err(refused) => {
@@ -82,12 +83,39 @@ impl Frames {
         }
     }
 
+    /// Takes the next piece of the stream, behind what is held back.
+    ///
+    /// An error says that an allocation failed; nothing has changed, and the piece can be taken again.
+    pub fn push(&mut self, piece: &[u8]) -> Result<(), AllocError>
+        ensures ok { OnOk result (self.new ≡ self.old ++ piece.now) }
+        ensures err { OnErr result (self.new ≡ self.old) }
+    {
+        self.held.extend_from_slice(piece)?;
+        Ok(())
+    }
+
+    /// What stands at the front of what is held back, read in place: a whole frame, a bad one, or less
+    /// than a frame.
+    pub fn front(&self) -> FrameView<'_>
+        ensures { viewed_frame result ≡ next_frame self.now }
+    {
+        next_frame(&self.held)
+    }
+
+    /// Drops so many bytes at the front of what is held back, as those of a frame that was taken.
+    pub fn pass(&mut self, size: usize)
+        requires { size ≤ length self.old }
+        ensures { self.new ≡ drop size self.old }
+    {
+        self.held.drain(..size);
+    }
+
     // Whether the stream has ended at a bad frame.
     fn has_ended(&self) -> bool
         ensures ended { result ≡ true → next_frame self.now ≡ bad_frame }
         ensures goes_on { result ≡ false → next_frame self.now ≢ bad_frame }
     {
-        matches!(next_frame(&self.held), FrameView::Bad)
+        matches!(self.front(), FrameView::Bad)
     }
 }
 
@@ -128,11 +156,4 @@ fn read_events(alloc: Global, bytes: &[u8]) -> Result<FrameEvents, AllocError>
             }
         }
     }
-}
-
-fn drop_front(bytes: &mut Vec<u8>, count: usize)
-    requires { count ≤ length bytes.old.items }
-    ensures { bytes.new.items ≡ drop count bytes.old.items }
-{
-    bytes.drain(..count);
 }

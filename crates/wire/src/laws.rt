@@ -30,6 +30,17 @@ pub fn whole_frames()
         × (size ≡ length (event_frame e)) }
 {}
 
+/// A whole frame at the front of some bytes is within them, and its bytes alone are read as it. It
+/// stands there whatever follows them, and so does a bad frame.
+pub fn fronts_stay()
+    ensures whole { (e : Event) (size : ℕ) (bytes more : List ℕ) → next_frame bytes ≡ whole e size
+        → (size ≤ length bytes) × (next_frame (bytes ++ more) ≡ whole e size) }
+    ensures alone { (e : Event) (size : ℕ) (bytes : List ℕ) → next_frame bytes ≡ whole e size
+        → next_frame (take size bytes) ≡ whole e size }
+    ensures bad { (bytes more : List ℕ) → next_frame bytes ≡ bad
+        → next_frame (bytes ++ more) ≡ bad }
+{}
+
 /// Frames byte by byte: an `open` of session 7 for `root`, its answer, and the answer to a bad frame.
 #[tactic(auto, unfolding(crate::specs::AnswerFrames::answer_frames))]
 pub fn frame_bytes()

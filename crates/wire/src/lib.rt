@@ -9,7 +9,7 @@ pub mod answers;
 pub mod connection;
 pub mod frame_buffer;
 pub mod frame_sink;
-mod frame_view;
+pub mod frame_view;
 pub mod frames;
 pub mod input;
 pub mod laws;

@@ -1,4 +1,4 @@
-use Rattle.std.proofs.Common.{◌≡◌, ℕ, List, ◌++◌, drop, refl, sym, ◌∙◌, ap, subst}
+use Rattle.std.proofs.Common.{◌≡◌, ℕ, List, ◌++◌, drop, refl, subst}
 use Rattle.wire.specs.Frame.{next_frame, bad}
 use Rattle.wire.specs.Stream.{Spells}
 use Rattle.wire.proofs.Streams.{stream_fed, spells_fed, rest_bound}
@@ -12,17 +12,22 @@ returns-then-has_ended-clause-stream c = λ bytes events is_bad was.
 
 pub returns-in-Ok-clause-stream : goal.returns-in-Ok-clause-stream
 returns-in-Ok-clause-stream c = λ bytes events is_bad was.
-    let held : c.deref.result.now ≡ c.extend_from_slice.new.self.items = c.deref.ensures.value in
-    let joined : c.extend_from_slice.new.self.items ≡ c.args.self.now ++ c.args.piece.now =
-    c.in_ok-extend_from_slice.ensures.items ∙ ap (λ (xs : List ℕ). xs ++ c.args.piece.now) c.self.view_is in
+    let lent = c.deref.ensures.value in
+    let view = c.self-2.view_is in
+    let whole = c.in_ok-push.ensures.ok in
+    let passed = c.pass.ensures in
+    let joined : c.deref.result.now ≡ c.args.self.now ++ c.args.piece.now = cc in
+    let left : drop c.in-Ok.field-0.end c.deref.result.now ≡ c.pass.new.self = cc in
     let read : Spells c.deref.result.now c.in-Ok.field-0.events.items c.in-Ok.field-0.bad (drop c.in-Ok.field-0.end c.deref.result.now) = c.in-Ok.ensures.spelled in
-    let left : drop c.in-Ok.field-0.end c.deref.result.now ≡ c.drop_front.new.bytes.items = ap (drop c.in-Ok.field-0.end) held ∙ sym c.drop_front.ensures in
-    spells_fed bytes c.args.self.now c.args.piece.now c.deref.result.now events c.in-Ok.field-0.events.items is_bad c.in-Ok.field-0.bad c.drop_front.new.bytes.items was
-    (c.if-has_ended.ensures.goes_on refl) (held ∙ joined)
+    spells_fed bytes c.args.self.now c.args.piece.now c.deref.result.now events c.in-Ok.field-0.events.items is_bad c.in-Ok.field-0.bad c.pass.new.self was
+    (c.if-has_ended.ensures.goes_on refl) joined
     (subst (λ (r : List ℕ). Spells c.deref.result.now c.in-Ok.field-0.events.items c.in-Ok.field-0.bad r) left read)
 
 pub returns-in-Ok-clause-held : goal.returns-in-Ok-clause-held
 returns-in-Ok-clause-held c =
-    let left : drop c.in-Ok.field-0.end c.deref.result.now ≡ c.drop_front.new.bytes.items = ap (drop c.in-Ok.field-0.end) c.deref.ensures.value ∙ sym c.drop_front.ensures in
-    rest_bound c.deref.result.now c.in-Ok.field-0.events.items c.in-Ok.field-0.bad c.drop_front.new.bytes.items
+    let lent = c.deref.ensures.value in
+    let view = c.self-2.view_is in
+    let passed = c.pass.ensures in
+    let left : drop c.in-Ok.field-0.end c.deref.result.now ≡ c.pass.new.self = cc in
+    rest_bound c.deref.result.now c.in-Ok.field-0.events.items c.in-Ok.field-0.bad c.pass.new.self
     (subst (λ (r : List ℕ). Spells c.deref.result.now c.in-Ok.field-0.events.items c.in-Ok.field-0.bad r) left c.in-Ok.ensures.spelled)
