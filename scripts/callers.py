@@ -29,7 +29,7 @@ TOP = os.path.dirname(os.path.dirname(os.path.realpath(__file__)))
 TESTS = {'statement_tests', 'storage_tests', 'feed_tests', 'system_tests', 'database_examples'}
 # Facts that are proved by what a body does, and what there has to be for such a fact, each with what it says.
 LAWS = {
-    'cli::perform_in_memory': 'the commands over a system in memory, an instance of `perform`',
+    'cli::carry_out_in_memory': 'the commands over a system in memory, an instance of `carry_out`',
     'databases::live': 'what an opening and a run leave, whenever a stop comes',
     'server::Server::run': 'what `step` does of several events, one after the other',
     'systems::MemListener::new': 'there are clients that the law of systems speaks of',
@@ -55,7 +55,6 @@ COMING = {
     'postgres_texts::SessionSetting::initial_value': 'the same',
     'postgres_texts::SessionSetting::is_told': 'the same',
     'postgres_texts::SessionSetting::value_of': 'the same',
-    'sql_parser::error_place': 'commands and clients that explain a syntax error',
 }
 # What tests alone call: a device in memory fails and stops when it is asked to.
 FOR_TESTS = {'sector_device::MemDevice'}

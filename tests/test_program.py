@@ -621,6 +621,102 @@ class Program(unittest.TestCase):
         status, _, messages = self.told('Script', 'standard input', f'line {line}, byte {byte}', 'not UTF-8')
         return status, b'', messages
 
+    def explained(self, option, text, status, answers, *told):
+        """What a script prints and what is told of it, over a file and in memory."""
+        script, path = self.write('s.sql', text), self.path('explained.db')
+        make_database(path)
+        said = ''.join(line.replace('@', f'guarddb: {script}: line ') + '\n' for line in told)
+        self.assertEqual(run('run', path, script, option), (status, answers, said))
+        self.assertEqual(run('run', '--memory', 'root', option, script), (status, answers, said))
+        self.assertEqual(run('check', path), (0, 'ok CHECK\n', ''))
+        os.remove(path)
+
+    def meaning(self, code):
+        """What is told of a refusal, by the list of the clients."""
+        return f'refused {code}: {guarddb.CODES[code].meaning}'
+
+    def test_refusals_that_are_explained(self):
+        """Standard error tells of each its line and its meaning; the answers and the status are those of a run that tells nothing."""
+        text = '# first\n\nopen r root\nr: SELECT 1 / 0\nr: SELECT k FROM t\nopen r root\nr: SELECT 2\nr: SELECT 3 +\n'
+        answers = 'ok OPEN\nrefused 22012\nrefused 42P01\nrefused 08002\nrows 1\n2\nrefused 42601\n'
+        self.assertEqual(run('run', '--memory', 'root', self.write('s.sql', text)), (0, answers, ''))
+        told = [f'@4: {self.meaning("22012")}', f'@5: {self.meaning("42P01")}', f'@6: {self.meaning("08002")}',
+                f'@8: {self.meaning("42601")}', '    SELECT 3 +', '              ^']
+        self.explained('--explain', text, 0, answers, *told)
+        self.explained('--stop', text, 3, 'ok OPEN\nrefused 22012\n', told[0])
+        good = 'open r root\nr: SELECT 1\n'
+        for option in ('--explain', '--stop'):
+            self.explained(option, good, 0, 'ok OPEN\nrows 1\n1\n')
+            self.explained(option, good + 'no line\n', 2, 'ok OPEN\nrows 1\n1\n', 'guarddb: line 3', f'@3: {NO_FORM}')
+
+    def test_what_a_stopped_script_has_done(self):
+        """What was committed before the first refusal is there, what stood in an open block is not, and nothing after it was run."""
+        path, script = self.path('stopped'), self.write('s.sql', 'open r root\nr: CREATE TABLE t (k BIGINT PRIMARY KEY)\nr: INSERT INTO t VALUES (1)\n'
+                                                       'r: BEGIN\nr: INSERT INTO t VALUES (2)\nr: INSERT INTO t VALUES (1)\nr: ROLLBACK\nr: INSERT INTO t VALUES (3)\n')
+        make_database(path)
+        answers = 'ok OPEN\nok CREATE TABLE\nok INSERT 1\nok BEGIN\nok INSERT 1\nrefused 23505\n'
+        self.assertEqual(run('run', path, script, '--stop'), (3, answers, f'guarddb: {script}: line 6: {self.meaning("23505")}\n'))
+        reads = self.write('again', 'open r root\nr: SELECT k FROM t\n')
+        self.assertEqual(run('run', path, reads), (0, 'ok OPEN\nrows 1\n1\n', ''))
+
+    def test_places_of_wrong_syntax(self):
+        """A mark stands below the first word with which no statement goes on, or behind the last one."""
+        for statement, mark in (('SELECT k FORM t', '         ^'), ('SELEC 1', '^'), ('CREATE TABLE t (k BIGINT PRIMARY)', '                                ^'),
+                                ("SELECT 'é' 'ü'", '           ^'), ('SELECT\t1 1', '      \t  ^'), ('', '^')):
+            with self.subTest(statement=statement):
+                self.explained('--explain', f'open r root\nr: {statement}\n', 0, 'ok OPEN\nrefused 42601\n',
+                               f'@2: {self.meaning("42601")}', '    ' + statement, '    ' + mark)
+        # the number of values is no matter of syntax
+        text = 'open r root\nr: CREATE TABLE t (k BIGINT PRIMARY KEY)\nr: INSERT INTO t VALUES (1, 2)\n'
+        self.explained('--explain', text, 0, 'ok OPEN\nok CREATE TABLE\nrefused 42601\n', f'@3: {self.meaning("42601")}')
+
+    def test_words_that_are_left_out(self):
+        """Where the word at the place, or before it, is one that docs/sql.md lists as left out, that line is told; one in a name is not."""
+        for statement, place, line in (
+                ('SELECT k FROM t WHERE k IN (1)', 24, 'IN, BETWEEN, LIKE, ILIKE, regular expressions'), ('SELECT sum(k) FROM t', 10, 'aggregates, but for count(*) as the whole list'),
+                ('SELECT k FROM t group BY k', 22, 'DISTINCT, GROUP BY, HAVING, windows'), ('CREATE GROUP g', 7, 'USER and GROUP'),
+                ('DROP TABLE IF EXISTS t', 14, 'IF EXISTS, IF NOT EXISTS, CASCADE and RESTRICT of a DROP, two names in one'),
+                ('SELECT k FROM t WHERE EXISTS (SELECT 1)', 29, 'sub-queries, EXISTS, WITH'), ('CREATE TABLE t (k Int)', 18, 'other types'), ('TRUNCATE t', 0, 'TRUNCATE, MERGE, COPY'),
+                ('SELECT k FROM t LEFT OUTER JOIN u ON true', 21, 'outer joins'), ('SELECT k FROM t "group" BY k', 24, None), ('SELECT k FROM t WHERE k ~ 1', 24, None)):
+            with self.subTest(statement=statement):
+                said = [f'@2: {self.meaning("42601")}', '    ' + statement, '    ' + ' ' * place + '^'] + ([f'@2: left out: {line}'] if line else [])
+                self.explained('--explain', f'open r root\nr: {statement}\n', 0, 'ok OPEN\nrefused 42601\n', *said)
+                if line:
+                    with open(os.path.join(TOP, 'docs', 'sql.md'), encoding='utf-8') as page:
+                        self.assertIn(f'\n| {line} |', page.read().replace('`count(*)`', 'count(*)'))
+
+    def test_words_that_are_taken_for_aliases(self):
+        """They are told of as the clients do, whether the statement was refused or not; with a name in quotes, or behind AS, they are not."""
+        table = 'open r root\nr: CREATE TABLE t (k BIGINT PRIMARY KEY)\n'
+        for word in ('OFFSET', 'FETCH', 'HAVING', 'TABLESAMPLE', 'LEFT JOIN t u ON true', 'RIGHT JOIN t u ON true', 'FULL JOIN t u ON true', 'NATURAL JOIN t u ON true'):
+            statement = f'SELECT 1 FROM t {word}'
+            with self.subTest(statement=statement):
+                said, = guarddb.taken_for_aliases(statement)
+                self.explained('--explain', f'{table}r: {statement}\n', 0, 'ok OPEN\nok CREATE TABLE\nrows 0\n', f'@3: {said}')
+        self.explained('--stop', f'{table}r: SELECT k FROM t, "u" left\n', 3, 'ok OPEN\nok CREATE TABLE\nrefused 42P01\n',
+                       f'@3: {self.meaning("42P01")}', f'@3: left is taken for an alias of the table "u": {guarddb.TAKEN["LEFT"]}')
+        for statement in ('SELECT 1 FROM t AS left', 'SELECT 1 FROM t "LEFT"', 'SELECT 1 FROM t, t u'):
+            with self.subTest(statement=statement):
+                self.explained('--explain', f'{table}r: {statement}\n', 0, 'ok OPEN\nok CREATE TABLE\nrows 0\n')
+
+    def test_refusals_that_cannot_be_told(self):
+        """Answers and status stay where standard error takes nothing; where standard output takes nothing, that is the fault."""
+        script = self.write('s.sql', 'open r root\nr: SELECT\nr: SELECT 1\n')
+        for option, answers, status in (('--explain', 'ok OPEN\nrefused 42601\nrows 1\n1\n', 0), ('--stop', 'ok OPEN\nrefused 42601\n', 3)):
+            words = [PROGRAM, 'run', '--memory', 'root', script, option]
+            with open('/dev/full', 'wb') as full:
+                ended = subprocess.run(words, stdout=subprocess.PIPE, stderr=full, check=False)
+                self.assertEqual((ended.returncode, ended.stdout.decode()), (status, answers))
+                ended = subprocess.run(words, stdout=full, stderr=subprocess.PIPE, check=False)
+            self.assertEqual(ended.returncode, 1)
+            self.assertTrue(ended.stderr.decode().endswith('guarddb: Output\nguarddb: standard output: closed, or it takes no more\n'))
+
+    def test_both_words_at_once(self):
+        """With both a script ends at the first refusal."""
+        script = self.write('s.sql', 'open r root \nopen r root\n')
+        said = f'guarddb: {script}: line 1: {self.meaning("28000")}\nguarddb: {script}: line 1: ends in a blank, which is read as part of ROLE\n'
+        self.assertEqual(run('run', '--memory', 'root', script, '--stop', '--explain'), (3, 'refused 28000\n', said))
+
     def test_lines_that_are_invalid(self):
         """A message names the script, the line and the rule; the answers before it and the status are those of any invalid line."""
         mark = 'begins with a byte order mark; save the script as UTF-8 without one'

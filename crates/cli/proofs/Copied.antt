@@ -1,13 +1,13 @@
 -- What a copy of the database in a file comes to, by what was done one after the other.
-use Rattle.std.proofs.Common.{◌≡◌, ◌≢◌, ◌∙◌, ◌⊎◌, ◌≤◌, ◌+◌, ℕ, List, Result, Ok, Err, true, false, codes, length, length-append, inl, inr, refl, sym, ap, subst, arith}
+use Rattle.std.proofs.Common.{◌≡◌, ◌≢◌, ◌∙◌, ◌≤◌, ◌+◌, ℕ, List, Result, Ok, Err, codes, length, length-append, inl, inr, refl, sym, ap, subst, arith}
 use Rattle.sector_device.specs.Device.{history_none}
 use Rattle.sector_device.specs.Timeline.{IsPresent}
-use Rattle.sector_device.specs.Device.{DeviceState, timeline}
+use Rattle.sector_device.specs.Device.{timeline}
 use Rattle.sector_device.specs.declared.device.Device.{Ghosts}
 use Rattle.sector_device.specs.declared.open_file.FileFault.{FileFault}
 use Rattle.sector_device.specs.declared.open_file.FileFault.TheVariants as file
 use Rattle.sector_device.specs.declared.system_cause.SystemCause.{SystemCause}
-use Rattle.systems.specs.Systems.{Absent, Free, Shared, Reading, At, HasDevice, IsNamed, IsOpen, IsReadable, IsReading, IsSame, IsSameBut, IsSameButBoth, IsUnnamed, Rose, SystemState}
+use Rattle.systems.specs.Systems.{Absent, Reading, At, IsNamed, IsOpen, IsReadable, IsReading, IsSame, IsSameBut, IsSameButBoth, IsUnnamed, Rose, SystemState}
 use Rattle.cow_pages.proofs.Reading.{reads_none}
 use Rattle.copies.specs.declared.fault.CopyFault.{CopyFault}
 use Rattle.databases.specs.Databases.{IsUnwritten}
@@ -15,8 +15,8 @@ use Rattle.cli.specs.declared.copy_fault.CopyRefusal.{CopyRefusal}
 use Rattle.cli.specs.declared.copy_fault.CopyRefusal.TheVariants.{File, New}
 use Rattle.cli.specs.declared.fault.CommandFault.TheVariants as command
 use Rattle.cli.specs.CopyFaults.{of_partial}
-use Rattle.cli.specs.Copying.{CopiesBeside, CopiesFile, IsCopied, IsFileCopied, IsFileUncopied, IsNotBegun, IsNotNamed, IsNotRenamed, IsRenamed, IsSameButThree, IsStopped, IsTakenBack, IsTried, IsUncopied, KeepsFile, Renames, StandsAgainstCopy, partial_path}
-use Rattle.cli.specs.Formatting.{IsMadeBlank, StandsAgainst}
+use Rattle.cli.specs.Copying.{CopiesBeside, CopiesFile, IsCopied, IsFileCopied, IsFileUncopied, IsSameButThree, IsTakenBack, IsTried, IsUncopied, KeepsFile, Renames, StandsAgainstCopy, partial_path}
+use Rattle.cli.specs.Formatting.{StandsAgainst}
 use Rattle.cli.proofs.Changes.{but_joined, rose_between, same_joined, same_then_but}
 
 -- ---- names and causes

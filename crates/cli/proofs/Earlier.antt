@@ -59,7 +59,7 @@ module _ (X : Type 0) {D L K : Type 0} (g : Ghosts D) (k : SinkGhosts K) (Reads 
   opened_from told before after it = record { device = it.device; opened = it.opened; is_opened = λ is. it.is_opened ((same is).faithful is); tells = it.tells }
 
   module _ (script : List ℕ) (out_before out_after : K) (err_before err_after : Known) (new : SystemState D L) (told : Bool) where
-    ran_from : (end : ScriptEnd) → IsFileRun X g k Reads mid path script out_before told err_before end new out_after err_after → IsFileRun X g k Reads old path script out_before told err_before end new out_after err_after
+    pub ran_from : (end : ScriptEnd) → IsFileRun X g k Reads mid path script out_before told err_before end new out_after err_after → IsFileRun X g k Reads old path script out_before told err_before end new out_after err_after
     ran_from end it = record {
       file = opened_from told err_before err_after it.file;
       left = it.left;
@@ -68,7 +68,7 @@ module _ (X : Type 0) {D L K : Type 0} (g : Ghosts D) (k : SinkGhosts K) (Reads 
       changes = changes_from it.file.device it.left new it.changes;
     }
 
-    not_run_from : (fault : CommandFault) → IsFileNotRun X g k Reads mid path fault out_before told err_before new out_after err_after → IsFileNotRun X g k Reads old path fault out_before told err_before new out_after err_after
+    pub not_run_from : (fault : CommandFault) → IsFileNotRun X g k Reads mid path fault out_before told err_before new out_after err_after → IsFileNotRun X g k Reads old path fault out_before told err_before new out_after err_after
     not_run_from fault it = (record { unopened = unopened_from fault new it.0.unopened; told_all = it.0.told_all; silent = it.0.silent }, it.1)
 
     runs_from : (outcome : Result ScriptEnd CommandFault)

@@ -17,8 +17,8 @@ module _ (G : Given → Type 0) (words : Given) (gives : G words) where
   ordered_so (order.Format file pages admin journal) has = (has.0, so _ has.1, has.2, has.3)
   ordered_so (order.Copy file new pages journal) has = (has.0, so _ has.1, has.2)
   ordered_so (order.Journal file on) has = so _ has
-  ordered_so (order.Run file script) has = so _ has
-  ordered_so (order.RunMemory admin script) has = (so _ has.0, has.1)
+  ordered_so (order.Run file script on) has = (has.0, has.1, so _ has.2, has.3)
+  ordered_so (order.RunMemory admin script on) has = (has.0, has.1, so _ has.2, has.3, has.4)
   ordered_so (order.Serve file port connections idle) has = (has.0, has.1, has.2, so _ has.3, has.4, has.5, has.6)
   ordered_so (order.ServeSocket file socket connections idle) has = (has.0, has.1, so _ has.2, has.3, has.4, has.5)
   ordered_so (order.Check file) has = so _ has

@@ -80,19 +80,19 @@ pub no_format : (rows : List Row) → ((file pages admin : TheWord) (journal : B
 no_format rows lacks (Format file pages admin journal) gives = lacks file pages admin journal gives.words
 no_format rows lacks (Copy file new pages journal) gives = other_name _ _ gives.named (λ e. omega (arith, e))
 no_format rows lacks (Journal file state) gives = other_name _ _ gives.named (λ e. omega (arith, e))
-no_format rows lacks (Run file script) gives = other_name _ _ gives.named (λ e. omega (arith, e))
-no_format rows lacks (RunMemory admin script) gives = other_name _ _ gives.named (λ e. omega (arith, e))
+no_format rows lacks (Run file script stop explain) gives = other_name _ _ gives.named (λ e. omega (arith, e))
+no_format rows lacks (RunMemory admin script stop explain) gives = other_name _ _ gives.named (λ e. omega (arith, e))
 no_format rows lacks (Serve file port connections idle) gives = other_name _ _ gives.named (λ e. omega (arith, e))
 no_format rows lacks (ServeSocket file socket connections idle) gives = other_name _ _ gives.named (λ e. omega (arith, e))
 no_format rows lacks (Check file) gives = other_name _ _ gives.named (λ e. omega (arith, e))
 no_format rows lacks (Describe file role json) gives = other_name _ _ gives.named (λ e. omega (arith, e))
 
-pub no_run : (rows : List Row) → ((file script : TheWord) → HasWords rows (Run file script) → ⊥) → ((admin script : TheWord) → HasWords rows (RunMemory admin script) → ⊥) → (given : Given) → GivesAs (codes "run") rows given → ⊥
+pub no_run : (rows : List Row) → ((file script : TheWord) (stop explain : Bool) → HasWords rows (Run file script stop explain) → ⊥) → ((admin script : TheWord) (stop explain : Bool) → HasWords rows (RunMemory admin script stop explain) → ⊥) → (given : Given) → GivesAs (codes "run") rows given → ⊥
 no_run rows fewer lacks (Format file pages admin journal) gives = other_name _ _ gives.named (λ e. omega (arith, e))
 no_run rows fewer lacks (Copy file new pages journal) gives = other_name _ _ gives.named (λ e. omega (arith, e))
 no_run rows fewer lacks (Journal file state) gives = other_name _ _ gives.named (λ e. omega (arith, e))
-no_run rows fewer lacks (Run file script) gives = fewer file script gives.words
-no_run rows fewer lacks (RunMemory admin script) gives = lacks admin script gives.words
+no_run rows fewer lacks (Run file script stop explain) gives = fewer file script stop explain gives.words
+no_run rows fewer lacks (RunMemory admin script stop explain) gives = lacks admin script stop explain gives.words
 no_run rows fewer lacks (Serve file port connections idle) gives = other_name _ _ gives.named (λ e. omega (arith, e))
 no_run rows fewer lacks (ServeSocket file socket connections idle) gives = other_name _ _ gives.named (λ e. omega (arith, e))
 no_run rows fewer lacks (Check file) gives = other_name _ _ gives.named (λ e. omega (arith, e))
@@ -102,8 +102,8 @@ pub no_serve : (rows : List Row) → ((file port connections : TheWord) (idle : 
 no_serve rows port socket (Format file pages admin journal) gives = other_name _ _ gives.named (λ e. omega (arith, e))
 no_serve rows port socket (Copy file new pages journal) gives = other_name _ _ gives.named (λ e. omega (arith, e))
 no_serve rows port socket (Journal file state) gives = other_name _ _ gives.named (λ e. omega (arith, e))
-no_serve rows port socket (Run file script) gives = other_name _ _ gives.named (λ e. omega (arith, e))
-no_serve rows port socket (RunMemory admin script) gives = other_name _ _ gives.named (λ e. omega (arith, e))
+no_serve rows port socket (Run file script stop explain) gives = other_name _ _ gives.named (λ e. omega (arith, e))
+no_serve rows port socket (RunMemory admin script stop explain) gives = other_name _ _ gives.named (λ e. omega (arith, e))
 no_serve rows port socket (Serve file number connections idle) gives = port file number connections idle gives.words
 no_serve rows port socket (ServeSocket file path connections idle) gives = socket file path connections idle gives.words
 no_serve rows port socket (Check file) gives = other_name _ _ gives.named (λ e. omega (arith, e))
@@ -113,8 +113,8 @@ pub no_check : (rows : List Row) → ((file : TheWord) → HasWords rows (Check 
 no_check rows lacks (Format file pages admin journal) gives = other_name _ _ gives.named (λ e. omega (arith, e))
 no_check rows lacks (Copy file new pages journal) gives = other_second _ _ gives.named (λ e. omega (arith, e))
 no_check rows lacks (Journal file state) gives = other_name _ _ gives.named (λ e. omega (arith, e))
-no_check rows lacks (Run file script) gives = other_name _ _ gives.named (λ e. omega (arith, e))
-no_check rows lacks (RunMemory admin script) gives = other_name _ _ gives.named (λ e. omega (arith, e))
+no_check rows lacks (Run file script stop explain) gives = other_name _ _ gives.named (λ e. omega (arith, e))
+no_check rows lacks (RunMemory admin script stop explain) gives = other_name _ _ gives.named (λ e. omega (arith, e))
 no_check rows lacks (Serve file port connections idle) gives = other_name _ _ gives.named (λ e. omega (arith, e))
 no_check rows lacks (ServeSocket file socket connections idle) gives = other_name _ _ gives.named (λ e. omega (arith, e))
 no_check rows lacks (Check file) gives = lacks file gives.words
@@ -124,8 +124,8 @@ pub no_describe : (rows : List Row) → ((file : TheWord) (role : Option TheWord
 no_describe rows lacks (Format file pages admin journal) gives = other_name _ _ gives.named (λ e. omega (arith, e))
 no_describe rows lacks (Copy file new pages journal) gives = other_name _ _ gives.named (λ e. omega (arith, e))
 no_describe rows lacks (Journal file state) gives = other_name _ _ gives.named (λ e. omega (arith, e))
-no_describe rows lacks (Run file script) gives = other_name _ _ gives.named (λ e. omega (arith, e))
-no_describe rows lacks (RunMemory admin script) gives = other_name _ _ gives.named (λ e. omega (arith, e))
+no_describe rows lacks (Run file script stop explain) gives = other_name _ _ gives.named (λ e. omega (arith, e))
+no_describe rows lacks (RunMemory admin script stop explain) gives = other_name _ _ gives.named (λ e. omega (arith, e))
 no_describe rows lacks (Serve file port connections idle) gives = other_name _ _ gives.named (λ e. omega (arith, e))
 no_describe rows lacks (ServeSocket file socket connections idle) gives = other_name _ _ gives.named (λ e. omega (arith, e))
 no_describe rows lacks (Check file) gives = other_name _ _ gives.named (λ e. omega (arith, e))
@@ -135,8 +135,8 @@ pub no_copy : (rows : List Row) → ((file new pages : TheWord) (journal : Bool)
 no_copy rows lacks (Format file pages admin journal) gives = other_name _ _ gives.named (λ e. omega (arith, e))
 no_copy rows lacks (Copy file new pages journal) gives = lacks file new pages journal gives.words
 no_copy rows lacks (Journal file state) gives = other_name _ _ gives.named (λ e. omega (arith, e))
-no_copy rows lacks (Run file script) gives = other_name _ _ gives.named (λ e. omega (arith, e))
-no_copy rows lacks (RunMemory admin script) gives = other_name _ _ gives.named (λ e. omega (arith, e))
+no_copy rows lacks (Run file script stop explain) gives = other_name _ _ gives.named (λ e. omega (arith, e))
+no_copy rows lacks (RunMemory admin script stop explain) gives = other_name _ _ gives.named (λ e. omega (arith, e))
 no_copy rows lacks (Serve file port connections idle) gives = other_name _ _ gives.named (λ e. omega (arith, e))
 no_copy rows lacks (ServeSocket file socket connections idle) gives = other_name _ _ gives.named (λ e. omega (arith, e))
 no_copy rows lacks (Check file) gives = other_second _ _ gives.named (λ e. omega (arith, e))
@@ -146,8 +146,8 @@ pub no_journal : (rows : List Row) → ((file state : TheWord) → HasWords rows
 no_journal rows lacks (Format file pages admin journal) gives = other_name _ _ gives.named (λ e. omega (arith, e))
 no_journal rows lacks (Copy file new pages journal) gives = other_name _ _ gives.named (λ e. omega (arith, e))
 no_journal rows lacks (Journal file state) gives = lacks file state gives.words
-no_journal rows lacks (Run file script) gives = other_name _ _ gives.named (λ e. omega (arith, e))
-no_journal rows lacks (RunMemory admin script) gives = other_name _ _ gives.named (λ e. omega (arith, e))
+no_journal rows lacks (Run file script stop explain) gives = other_name _ _ gives.named (λ e. omega (arith, e))
+no_journal rows lacks (RunMemory admin script stop explain) gives = other_name _ _ gives.named (λ e. omega (arith, e))
 no_journal rows lacks (Serve file port connections idle) gives = other_name _ _ gives.named (λ e. omega (arith, e))
 no_journal rows lacks (ServeSocket file socket connections idle) gives = other_name _ _ gives.named (λ e. omega (arith, e))
 no_journal rows lacks (Check file) gives = other_name _ _ gives.named (λ e. omega (arith, e))

@@ -10,6 +10,8 @@ mod OnlyRead
 mod Switched
 mod Taken
 mod Earlier
+mod ExplainedEarlier
+mod EventLines
 pub mod Lasting
 pub mod Machine
 pub mod ScriptEnds

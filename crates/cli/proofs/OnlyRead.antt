@@ -25,7 +25,7 @@ use Rattle.databases.specs.declared.fault.DatabaseFault.TheVariants as database
 use Rattle.databases.specs.Databases.{IsUnwritten}
 use Rattle.databases.proofs.Opening.{device_cause}
 use Rattle.databases.proofs.DeviceOpening.{refused_pages}
-use Rattle.cli.specs.Reading.{AreDefinitionsOf, HasDefinitions, HasFault, ReadsOn}
+use Rattle.cli.specs.Reading.{AreDefinitionsOf, HasFault, ReadsOn}
 
 -- ---- what was read of a store
 

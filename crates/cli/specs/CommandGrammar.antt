@@ -22,9 +22,9 @@ flag_rule id = record (new_rule id) { long = Some id; action = Some SetTrue }
 abbrev pub format_app : App
 format_app = with_rule (with_rule (with_rule (with_rule (new_app (codes "format")) (word_rule (codes "file") true)) (option_rule (codes "pages") true)) (option_rule (codes "admin") true)) (flag_rule (codes "journal"))
 
--- `run`, with `--memory NAME` or without, and up to two words
+-- `run`, with `--memory NAME` or without, and up to two words, with `--stop` or without, and with `--explain` or without
 abbrev pub run_app : App
-run_app = with_rule (with_rule (with_rule (new_app (codes "run")) (option_rule (codes "memory") false)) (word_rule (codes "first") false)) (word_rule (codes "second") false)
+run_app = with_rule (with_rule (with_rule (with_rule (with_rule (new_app (codes "run")) (option_rule (codes "memory") false)) (word_rule (codes "first") false)) (word_rule (codes "second") false)) (flag_rule (codes "stop"))) (flag_rule (codes "explain"))
 
 -- `serve`, with a word or without, and with each of `--port P`, `--socket PATH`, `--connections K` and `--idle SECONDS` or without
 abbrev pub serve_app : App

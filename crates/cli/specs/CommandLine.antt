@@ -15,6 +15,8 @@ use Rattle.cli.specs.declared.number.NumberOption.{NumberOption}
 use Rattle.cli.specs.declared.number.NumberOption.TheVariants.{Pages, Port, Connections, Idle}
 use Rattle.cli.specs.CommandGrammar.{program_app}
 use Rattle.cli.specs.Numbers.{IsNumberFor, NoNumberFor}
+use Rattle.cli.specs.declared.refusals.OnRefusal.{OnRefusal}
+use Rattle.cli.specs.Refusals.{at_refusal}
 
 abbrev pub TheWord : Type 0
 TheWord = List ℕ
@@ -37,8 +39,8 @@ pub data Given : Type 0 where
   Format : (file pages admin : TheWord) (journal : Bool) → Given
   Copy : (file new pages : TheWord) (journal : Bool) → Given
   Journal : (file state : TheWord) → Given
-  Run : (file script : TheWord) → Given
-  RunMemory : (admin script : TheWord) → Given
+  Run : (file script : TheWord) (stop explain : Bool) → Given
+  RunMemory : (admin script : TheWord) (stop explain : Bool) → Given
   Serve : (file port connections : TheWord) (idle : Option TheWord) → Given
   ServeSocket : (file socket connections : TheWord) (idle : Option TheWord) → Given
   Check : (file : TheWord) → Given
@@ -48,8 +50,8 @@ abbrev pub command_of : Given → TheWord
 command_of (Format file pages admin journal) = codes "format"
 command_of (Copy file new pages journal) = codes "copy"
 command_of (Journal file state) = codes "journal"
-command_of (Run file script) = codes "run"
-command_of (RunMemory admin script) = codes "run"
+command_of (Run file script stop explain) = codes "run"
+command_of (RunMemory admin script stop explain) = codes "run"
 command_of (Serve file port connections idle) = codes "serve"
 command_of (ServeSocket file socket connections idle) = codes "serve"
 command_of (Check file) = codes "check"
@@ -61,14 +63,22 @@ pub record IsFlag (value : Option TheWord) (given : Bool) : Type 0 where
   pub unset : value ≡ Some (codes "false") → given ≡ false
   pub absent : value ≡ None → given ≡ false
 
+-- `run` with `--stop` or not, and with `--explain` or not
+abbrev pub AreRunFlags : List Row → Bool → Bool → Type 0
+AreRunFlags rows stop explain = IsFlag (one_of (codes "stop") rows) stop × IsFlag (one_of (codes "explain") rows) explain
+
+-- `run` is to do this at a refusal
+abbrev pub IsAtRefusal : List Row → OnRefusal → Type 0
+IsAtRefusal rows on = (stop explain : Bool) × AreRunFlags rows stop explain × (on ≡ at_refusal stop explain)
+
 -- the words stand where the command takes them: `format` and `copy` have `--journal` or not; `run` has two words without `--memory`, and one with it;
 -- `serve` has a port or a socket, and `--idle` or not; `describe` has a role or none, and `--json` or not
 abbrev pub HasWords : List Row → Given → Type 0
 HasWords rows (Format file pages admin journal) = (first_of (codes "file") rows ≡ Some file) × (first_of (codes "pages") rows ≡ Some pages) × (first_of (codes "admin") rows ≡ Some admin) × IsFlag (one_of (codes "journal") rows) journal
 HasWords rows (Copy file new pages journal) = (first_of (codes "file") rows ≡ Some file) × (first_of (codes "new") rows ≡ Some new) × (first_of (codes "pages") rows ≡ Some pages) × IsFlag (one_of (codes "journal") rows) journal
 HasWords rows (Journal file state) = (first_of (codes "file") rows ≡ Some file) × (first_of (codes "state") rows ≡ Some state)
-HasWords rows (Run file script) = (first_of (codes "memory") rows ≡ None) × (first_of (codes "first") rows ≡ Some file) × (first_of (codes "second") rows ≡ Some script)
-HasWords rows (RunMemory admin script) = (first_of (codes "memory") rows ≡ Some admin) × (first_of (codes "first") rows ≡ Some script) × (first_of (codes "second") rows ≡ None)
+HasWords rows (Run file script stop explain) = (first_of (codes "memory") rows ≡ None) × (first_of (codes "first") rows ≡ Some file) × (first_of (codes "second") rows ≡ Some script) × AreRunFlags rows stop explain
+HasWords rows (RunMemory admin script stop explain) = (first_of (codes "memory") rows ≡ Some admin) × (first_of (codes "first") rows ≡ Some script) × (first_of (codes "second") rows ≡ None) × AreRunFlags rows stop explain
 HasWords rows (Serve file port connections idle) = (first_of (codes "file") rows ≡ Some file) × (first_of (codes "port") rows ≡ Some port) × (first_of (codes "socket") rows ≡ None) × (first_of (codes "connections") rows ≡ Some connections) × (first_of (codes "idle") rows ≡ idle)
 HasWords rows (ServeSocket file socket connections idle) = (first_of (codes "file") rows ≡ Some file) × (first_of (codes "port") rows ≡ None) × (first_of (codes "socket") rows ≡ Some socket) × (first_of (codes "connections") rows ≡ Some connections) × (first_of (codes "idle") rows ≡ idle)
 HasWords rows (Check file) = first_of (codes "file") rows ≡ Some file
@@ -120,8 +130,8 @@ abbrev pub IsOrdered : (Given → Type 0) → Invocation → Type 0
 IsOrdered G (order.Format file pages admin journal) = (number : TheWord) × G (Format file.now number admin.now journal) × IsNumberFor Pages number pages × IsName admin.now
 IsOrdered G (order.Copy file new pages journal) = (number : TheWord) × G (Copy file.now new.now number journal) × IsNumberFor Pages number pages
 IsOrdered G (order.Journal file on) = G (Journal file.now (switch_word on))
-IsOrdered G (order.Run file script) = G (Run file.now script.now)
-IsOrdered G (order.RunMemory admin script) = G (RunMemory admin.now script.now) × IsName admin.now
+IsOrdered G (order.Run file script on) = (stop explain : Bool) × G (Run file.now script.now stop explain) × (on ≡ at_refusal stop explain)
+IsOrdered G (order.RunMemory admin script on) = (stop explain : Bool) × G (RunMemory admin.now script.now stop explain) × (on ≡ at_refusal stop explain) × IsName admin.now
 IsOrdered G (order.Serve file port connections idle) = (number count : TheWord) × (limit : Option TheWord) × G (Serve file.now number count limit) × IsNumberFor Port number port × IsNumberFor Connections count connections × IsIdleFor limit idle
 IsOrdered G (order.ServeSocket file socket connections idle) = (count : TheWord) × (limit : Option TheWord) × G (ServeSocket file.now socket.now count limit) × IsSocketPath socket.now × IsNumberFor Connections count connections × IsIdleFor limit idle
 IsOrdered G (order.Check file) = G (Check file.now)
@@ -140,7 +150,7 @@ Asks words o = IsOrdered (Gives words) o
 -- the word for the name of a role, for the path of a socket, for on or off, and for a number
 abbrev pub name_in : Given → Option TheWord
 name_in (Format file pages admin journal) = Some admin
-name_in (RunMemory admin script) = Some admin
+name_in (RunMemory admin script stop explain) = Some admin
 name_in (Describe file role json) = role
 name_in _ = None
 

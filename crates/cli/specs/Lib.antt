@@ -1,3 +1,4 @@
+pub mod CarryingOut
 pub mod CommandGrammar
 pub mod CommandLine
 pub mod Numbers
@@ -22,3 +23,6 @@ pub mod Script
 pub mod JournalCommand
 pub mod CommandNames
 pub mod ScriptNotes
+pub mod ExplainedRuns
+pub mod Explaining
+pub mod Refusals

@@ -220,9 +220,9 @@ module _ (X : Type 0) {D L K C S : Type 0} (g : Ghosts D) (k : SinkGhosts K) (c 
       Copies g state old file target pages journal exit new (k.held out_before) (k.held out_after) err_before err_after
   IsPerformed (order.Journal file on) exit new out_before out_after err_before err_after =
       Switches g old file on exit new (k.held out_before) (k.held out_after) err_before err_after
-  IsPerformed (order.Run file script) exit new out_before out_after err_before err_after =
+  IsPerformed (order.Run file script on) exit new out_before out_after err_before err_after =
       RunsOver X g k Reads old (subject.Named file) file.now (subject.Named script) script.now exit new out_before out_after err_before err_after
-  IsPerformed (order.RunMemory admin script) exit new out_before out_after err_before err_after =
+  IsPerformed (order.RunMemory admin script on) exit new out_before out_after err_before err_after =
       RunsInMemory X k Reads old (subject.Named script) admin.now script.now exit new out_before out_after err_before err_after
   IsPerformed (order.Serve file port connections idle) exit new out_before out_after err_before err_after =
       Serves X g c Reads listening old (subject.Named file) file.now (Port port) connections exit new err_before err_after × (out_after ≡ out_before)

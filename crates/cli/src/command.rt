@@ -3,7 +3,7 @@
 ghost use Rattle.std.specs.Prelude.{◌≡◌, ◌↔◌, IsTrue, IfOk, IfErr, Some, codes};
 ghost use Rattle.clap.specs.Words.{found_of, rows_of};
 ghost use Rattle.sql_types.specs.Name.{IsName};
-ghost use Rattle.cli.specs.CommandLine.{Asks, Refuses, Journal, Serve, ServeSocket, GivesAs, IsOrdered, IsUnfit, IsIdleFor, IsNoNumber, IsReadFrom, IsRoleName, IsSocketPath, lent_word, lent_words};
+ghost use Rattle.cli.specs.CommandLine.{IsAtRefusal, Asks, Refuses, Journal, Serve, ServeSocket, GivesAs, IsOrdered, IsUnfit, IsIdleFor, IsNoNumber, IsReadFrom, IsRoleName, IsSocketPath, lent_word, lent_words};
 ghost use Rattle.cli.specs.Numbers.{IsNumberFor};
 ghost use Rattle.cli.specs.declared.number.NumberOption.TheVariants.{Idle};
 ghost use Rattle.cli.specs.Usage.{usage_reason};
@@ -11,6 +11,7 @@ ghost use Rattle.cli.specs.Usage.{usage_reason};
 use crate::error_reason::ErrorReason;
 use crate::grammar::program_command;
 use crate::number::NumberOption;
+use crate::refusals::{OnRefusal, at_refusal};
 use clap::ArgMatches;
 use clap::error::{Error, ErrorKind};
 use sql_types::name::MAX_NAME_LENGTH;
@@ -43,16 +44,19 @@ pub enum Invocation<'a> {
         file: &'a str,
         on: bool,
     },
-    /// `run FILE SCRIPT`: runs the file SCRIPT over the database in FILE.
+    /// `run FILE SCRIPT`: runs the file SCRIPT over the database in FILE. With `--explain` refusals are told
+    /// of, and with `--stop` it ends at the first.
     Run {
         file: &'a str,
         script: &'a str,
+        on_refusal: OnRefusal,
     },
     /// `run --memory NAME SCRIPT`: runs the file SCRIPT over an empty database in memory whose one
-    /// role is the superuser NAME.
+    /// role is the superuser NAME, with `--explain` or `--stop` or without.
     RunMemory {
         admin: &'a str,
         script: &'a str,
+        on_refusal: OnRefusal,
     },
     /// `serve FILE --port P --connections K`: serves K connections on port P of 127.0.0.1, one after
     /// another, over the database in FILE. With `--idle SECONDS` a connection ends that sends nothing
@@ -278,11 +282,21 @@ fn switch_journal<'a>(file: &'a str, word: &'a str) -> Result<Invocation<'a>, Us
     }
 }
 
+/// What `--stop` and `--explain` ask for.
+fn refusal_flags(given: &ArgMatches<'_>) -> OnRefusal
+    ensures { IsAtRefusal (rows_of (found_of given.now)) result }
+{
+    let stop = given.get_flag("stop");
+    let explain = given.get_flag("explain");
+    at_refusal(stop, explain)
+}
+
 /// The order that the words after `run` give.
 fn read_run<'a>(given: &ArgMatches<'a>) -> Result<Invocation<'a>, UsageFault<'a>>
     ensures asked { IfOk result (IsOrdered (GivesAs (codes "run") (rows_of (found_of given.now)))) }
     ensures refused { IfErr result (IsUnfit (GivesAs (codes "run") (rows_of (found_of given.now)))) }
 {
+    let on_refusal = refusal_flags(given);
     let Some(first) = given.get_str("first") else {
         return Err(UsageFault::Form);
     };
@@ -293,6 +307,7 @@ fn read_run<'a>(given: &ArgMatches<'a>) -> Result<Invocation<'a>, UsageFault<'a>
         return Ok(Invocation::Run {
             file: first,
             script,
+            on_refusal,
         });
     };
     if given.get_str("second").is_some() {
@@ -304,6 +319,7 @@ fn read_run<'a>(given: &ArgMatches<'a>) -> Result<Invocation<'a>, UsageFault<'a>
     Ok(Invocation::RunMemory {
         admin,
         script: first,
+        on_refusal,
     })
 }
 

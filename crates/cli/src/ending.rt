@@ -48,6 +48,8 @@ pub enum Ending {
     Served,
     /// The server has stopped while it served connections.
     ServerStopped,
+    /// The script was to end at the first refusal, and did.
+    Refused,
     /// Nobody reads standard output any more: a pipe was closed at its other end, as `head` does once it
     /// has its lines.
     ReaderLeft,
@@ -88,14 +90,22 @@ pub struct Exit {
     pub told: bool,
 }
 
+/// How a command ended, and the writers that it told.
+#[derive(Drop)]
+pub struct Performed<K, E> {
+    pub exit: Exit,
+    pub out: K,
+    pub err: E,
+}
+
 /// Tells on `err` how the program's work ended, where it did not end well: `guarddb: ` and the name
 /// of a fault, or `guarddb: line N` for an invalid line of the script. After the name of a fault,
 /// but `Memory`, there is a second line, which says what the fault is about and why it came:
 /// `guarddb: shop.db: permission denied`. The end of a server is told too, as `guarddb: done` or
-/// `guarddb: stopped`. Where a reader has left, nothing is told. The exit status is 0 where the work was
-/// done, 1 after a fault, where the server has stopped and where a reader has left, and 2 after an
-/// invalid line. An error of `err` changes no status. Where
-/// nothing is told, nothing is written.
+/// `guarddb: stopped`. Where a reader has left, nothing is told, and nothing at a refusal at which a script
+/// was to end, since it was told before. The exit status is 0 where the work was done, 1 after a fault,
+/// where the server has stopped and where a reader has left, 2 after an invalid line, and 3 at such a
+/// refusal. An error of `err` changes no status. Where nothing is told, nothing is written.
 pub fn exit_with<E: Write>(ending: Ending, about: Subject<'_>, err: &mut E) -> Exit
     ensures status { result.status ≡ exit_status ending }
     ensures told { HasTold result (ending_message about.entry ending)
@@ -110,6 +120,10 @@ pub fn exit_with<E: Write>(ending: Ending, about: Subject<'_>, err: &mut E) -> E
         },
         Ending::Stopped | Ending::ReaderLeft => Exit {
             status: 1,
+            told: true,
+        },
+        Ending::Refused => Exit {
+            status: 3,
             told: true,
         },
         Ending::Served => Exit {

@@ -53,14 +53,17 @@ fn format_command<'a>(alloc: Global) -> Result<Command<'a>, AllocError>
         .arg(flag(alloc, "journal"))
 }
 
-/// `run FILE SCRIPT` and `run --memory NAME SCRIPT`: the words are counted after they were read.
+/// `run FILE SCRIPT` and `run --memory NAME SCRIPT`, each with `--stop`, `--explain` or neither: the words
+/// are counted after they were read.
 fn run_command<'a>(alloc: Global) -> Result<Command<'a>, AllocError>
     ensures { IfOk result (IsCommand run_app) }
 {
     command(alloc, "run")
         .arg(option(alloc, "memory", "NAME", false))?
         .arg(word(alloc, "first", "FILE", false))?
-        .arg(word(alloc, "second", "SCRIPT", false))
+        .arg(word(alloc, "second", "SCRIPT", false))?
+        .arg(flag(alloc, "stop"))?
+        .arg(flag(alloc, "explain"))
 }
 
 /// `serve FILE --port P --connections K` and `serve FILE --socket PATH --connections K`, with `--idle

@@ -4,6 +4,7 @@
 //! What the program does for the orders of its command line: its output, its messages and its exit status.
 #![tactic(auto)]
 
+pub mod carrying_out;
 pub mod command;
 pub mod command_name;
 mod copy_command;
@@ -11,6 +12,8 @@ mod copy_fault;
 mod describing;
 pub mod ending;
 mod error_reason;
+mod explained_runs;
+mod explainer;
 mod fault;
 mod file_copies;
 mod format;
@@ -22,6 +25,7 @@ mod opened;
 mod printing;
 pub mod program;
 mod reading;
+pub mod refusals;
 mod run;
 pub mod running;
 pub mod runs;

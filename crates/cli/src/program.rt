@@ -59,6 +59,8 @@ const CHECKED: &str = "ok CHECK\n";
 /// `describe` writes nothing to the file. Where the database has no role of the name that is asked
 /// for, the fault is `NoRole`.
 ///
+/// A script is run without a word on its refusals, whatever is asked for: `explain` tells of them.
+///
 /// On a system that is faithful, the script and the database are those that the words name, and the
 /// connections are those that come to the place. However it ends, a file that was opened is closed
 /// and there as it was left, a place that was bound is given up, and nothing else of the system has
@@ -89,12 +91,16 @@ pub fn perform<Y: System, X: EventHandler + Drop, K: TakesText, E: Write>(
             journal,
         } => copy(system, alloc, *file, *new, *pages, *journal, out, err),
         Invocation::Journal { file, on } => switch(system, alloc, *file, *on, out, err),
-        Invocation::Run { file, script } => {
-            run_over_file(system, alloc, handler, *file, *script, out, err)
-        }
-        Invocation::RunMemory { admin, script } => {
-            run_read_in_memory(system, alloc, handler, *admin, *script, out, err)
-        }
+        Invocation::Run {
+            file,
+            script,
+            on_refusal: _,
+        } => run_over_file(system, alloc, handler, *file, *script, out, err),
+        Invocation::RunMemory {
+            admin,
+            script,
+            on_refusal: _,
+        } => run_read_in_memory(system, alloc, handler, *admin, *script, out, err),
         Invocation::Serve {
             file,
             port,

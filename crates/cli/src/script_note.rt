@@ -103,7 +103,7 @@ fn tell_notes<E: Write>(
 }
 
 // The lines of a script, which newlines separate.
-fn split_lines(alloc: Global, script: &str) -> Result<Vec<&str>, AllocError>
+pub(crate) fn split_lines(alloc: Global, script: &str) -> Result<Vec<&str>, AllocError>
     ensures { IfOk result (λ lines. texts_of lines.items ≡ lines_of script.now) }
 {
     script.split('\n').collect(alloc)

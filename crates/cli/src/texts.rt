@@ -2,8 +2,8 @@
 
 /// How the program is called.
 pub const USAGE: &str = "guarddb format FILE --pages N --admin NAME [--journal]
-       guarddb run FILE SCRIPT
-       guarddb run --memory NAME SCRIPT
+       guarddb run FILE SCRIPT [--stop|--explain]
+       guarddb run --memory NAME SCRIPT [--stop|--explain]
        guarddb serve FILE --port P --connections K [--idle SECONDS]
        guarddb serve FILE --socket PATH --connections K [--idle SECONDS]
        guarddb check FILE
@@ -22,8 +22,8 @@ pub const COPY_USAGE: &str = "guarddb copy FILE NEW --pages N [--journal]";
 pub const JOURNAL_USAGE: &str = "guarddb journal FILE on|off";
 
 /// How `run` is called.
-pub const RUN_USAGE: &str = "guarddb run FILE SCRIPT
-       guarddb run --memory NAME SCRIPT";
+pub const RUN_USAGE: &str = "guarddb run FILE SCRIPT [--stop|--explain]
+       guarddb run --memory NAME SCRIPT [--stop|--explain]";
 
 /// How `serve` is called.
 pub const SERVE_USAGE: &str = "guarddb serve FILE --port P --connections K [--idle SECONDS]
@@ -39,8 +39,8 @@ pub const DESCRIBE_USAGE: &str = "guarddb describe FILE [ROLE] [--json]";
 pub const HELP: &str = "Guarddb: a SQL server for several sessions over one database
 
 Usage: guarddb format FILE --pages N --admin NAME [--journal]
-       guarddb run FILE SCRIPT
-       guarddb run --memory NAME SCRIPT
+       guarddb run FILE SCRIPT [--stop|--explain]
+       guarddb run --memory NAME SCRIPT [--stop|--explain]
        guarddb serve FILE --port P --connections K [--idle SECONDS]
        guarddb serve FILE --socket PATH --connections K [--idle SECONDS]
        guarddb check FILE
@@ -55,13 +55,15 @@ Commands:
           whose one role is the superuser NAME. A FILE that is there already is left as it is.
           With --journal small commits are quicker, and no older guarddb opens FILE
           Example: guarddb format shop.db --pages 256 --admin ann
-  run FILE SCRIPT
-          Runs the file SCRIPT over the database in FILE, which keeps what it commits
-          Example: guarddb run shop.db first.script
-  run --memory NAME SCRIPT
+  run FILE SCRIPT [--stop|--explain]
+          Runs the file SCRIPT over the database in FILE, which keeps what it commits. With
+          --explain standard error tells of each refusal its line and what its code means, and
+          shows where the syntax is wrong. With --stop the script ends at the first one
+          Example: guarddb run shop.db first.script --stop
+  run --memory NAME SCRIPT [--stop|--explain]
           Runs the file SCRIPT over an empty database in memory, whose one role is the
           superuser NAME
-          Example: guarddb run --memory ann first.script
+          Example: guarddb run --memory ann first.script --explain
   serve FILE --port P --connections K [--idle SECONDS]
           Serves K connections, K from 1 to 65535, one after another over the database in
           FILE. It listens on port P of 127.0.0.1, P from 1 to 65535. With --idle, SECONDS
@@ -106,8 +108,8 @@ Each line of a script is one event, and each event is answered:
 Empty lines and lines that begin with # are skipped.
 
 The exit status is 0 when the command was carried out, 1 after a fault, which standard
-error names, and when the server has stopped, and 2 for an invalid line of the script and
-for words that are no command.
+error names, and when the server has stopped, 2 for an invalid line of the script and for
+words that are no command, and 3 when --stop has ended a script.
 ";
 
 /// The version of the program.

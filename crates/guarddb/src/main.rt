@@ -1,10 +1,10 @@
 //! The program `guarddb`.
 #![tactic(auto)]
 
+use cli::carrying_out::carry_out;
 use cli::command::{Invocation, UsageFault, read_command};
 use cli::command_name::command_named;
 use cli::ending::Subject;
-use cli::program::perform;
 use cli::runs::run_for;
 use cli::usage::{report_fault, report_usage, words_fault};
 use real_system::{NULL_DEVICE, RealSystem};
@@ -56,7 +56,7 @@ fn run(
         return run_standard_input(rt, alloc);
     }
     match read_command(alloc, words.as_slice()) {
-        Ok(order) => carry_out(rt, alloc, system, &order),
+        Ok(order) => carry_out_on_streams(rt, alloc, system, &order),
         Err(fault) => {
             let command = command_named(words[0]);
             Ok(report_usage(fault, command, &mut rt.stderr()).status)
@@ -85,31 +85,44 @@ fn read_to_end<R: Read + Drop>(alloc: Global, mut reader: R) -> io::Result<Vec<u
     Ok(read)
 }
 
-/// Carries an order out. The answers of a script over a file go out line by line: whoever reads
-/// that a COMMIT was made may count on it.
-fn carry_out(
+/// Carries an order out with the standard streams. The answers of a script over a file go out line by
+/// line: whoever reads that a COMMIT was made may count on it.
+fn carry_out_on_streams(
     rt: &HostRuntime,
     alloc: Global,
     system: &mut RealSystem<'_, HostRuntime>,
     order: &Invocation<'_>,
 ) -> Result<u8, UsageFault<'static>> {
     let handler = SessionHandler::new(Statements);
-    let mut err = Messages {
+    let err = Messages {
         writer: rt.stderr(),
         are_lost: are_told_to_database(system, order),
     };
-    if let Invocation::Run { file: _, script: _ } = order {
+    if let Invocation::Run {
+        file: _,
+        script: _,
+        on_refusal: _,
+    } = order
+    {
         let Ok(out) = LineWriter::new(alloc, rt.stdout()) else {
             return Err(UsageFault::Memory);
         };
-        let mut out = TextSink::new(out);
-        return Ok(perform(system, alloc, handler, order, &mut out, &mut err).status);
+        let out = TextSink::new(out);
+        return Ok(
+            carry_out(system, alloc, handler, order, out, err)
+                .exit
+                .status,
+        );
     }
     let Ok(out) = BufWriter::new(alloc, rt.stdout()) else {
         return Err(UsageFault::Memory);
     };
-    let mut out = TextSink::new(out);
-    Ok(perform(system, alloc, handler, order, &mut out, &mut err).status)
+    let out = TextSink::new(out);
+    Ok(
+        carry_out(system, alloc, handler, order, out, err)
+            .exit
+            .status,
+    )
 }
 
 /// Whether messages on standard error would be written to a file that an order names as a database.
@@ -122,7 +135,11 @@ fn are_told_to_database(system: &RealSystem<'_, HostRuntime>, order: &Invocation
             journal: _,
         }
         | Invocation::Journal { file, on: _ }
-        | Invocation::Run { file, script: _ }
+        | Invocation::Run {
+            file,
+            script: _,
+            on_refusal: _,
+        }
         | Invocation::Serve {
             file,
             port: _,
@@ -150,6 +167,7 @@ fn are_told_to_database(system: &RealSystem<'_, HostRuntime>, order: &Invocation
         Invocation::RunMemory {
             admin: _,
             script: _,
+            on_refusal: _,
         }
         | Invocation::Help
         | Invocation::Version => false,

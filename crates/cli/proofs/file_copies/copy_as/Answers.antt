@@ -1,4 +1,4 @@
-use Rattle.std.proofs.Common.{Result, Err, Ok, arith, inl, inr, refl, subst, sym}
+use Rattle.std.proofs.Common.{Result, Ok, arith, inl, inr, refl, subst, sym}
 use Rattle.systems.specs.Systems.{IsUnnamed, Rose}
 use Rattle.copies.specs.declared.fault.CopyFault.{CopyFault}
 use Rattle.copies.specs.DatabaseCopies.{CopiesDatabase}

@@ -1,0 +1,42 @@
+//! What the program does for the words of its command line.
+
+ghost use Rattle.cli.specs.CarryingOut.{IsCarriedOut};
+
+use crate::command::Invocation;
+use crate::ending::Performed;
+use crate::explained_runs::explain;
+use crate::program::perform;
+use crate::refusals::explained_run;
+use sector_device::Device;
+use server::decide::EventHandler;
+use std::alloc::Global;
+use std::io::Write;
+use systems::System;
+use wire::listen::Listen;
+use wire::sink::Sink;
+use wire::text_sink::TakesText;
+
+/// Does what a command asks for: a run whose refusals are to be told of as `explain` does, and any other order
+/// as `perform` does. With `--explain` or `--stop` `err` is told of each refusal of a script, after `out` has
+/// taken it as ever. With `--stop` the script ends at the first, and the exit status is 3.
+pub fn carry_out<Y: System, X: EventHandler + Drop, K: TakesText + Drop, E: Write + Drop>(
+    system: &mut Y,
+    alloc: Global,
+    handler: X,
+    order: &Invocation<'_>,
+    out: K,
+    err: E,
+) -> Performed<K, E>
+    ensures { IsCarriedOut X Y.Device.Device K.Sink Y.Listener.Sink.Sink E.contents X.Reads
+        Y.Listener.listening Y.state (Y.state system.old) order.now out err (Y.state system.new)
+        result }
+{
+    match explained_run(order) {
+        Some(run) => explain(system, alloc, handler, run, out, err),
+        None => {
+            let (mut out, mut err) = (out, err);
+            let exit = perform(system, alloc, handler, order, &mut out, &mut err);
+            Performed { exit, out, err }
+        }
+    }
+}

@@ -1,0 +1,36 @@
+-- What the codes of refusals mean.
+use Rattle.std.specs.Prelude.{ℕ, List, codes}
+use Rattle.sql_types.specs.declared.state.SqlState.{SqlState}
+use Rattle.sql_types.specs.declared.state.SqlState.TheVariants as state
+
+abbrev pub refusal_meaning : SqlState → List ℕ
+refusal_meaning state.SyntaxError = codes "syntax, a rule of form, or a wrong number of values"
+refusal_meaning state.NameTooLong = codes "a name of over 63 bytes"
+refusal_meaning state.UndefinedTable = codes "no such table"
+refusal_meaning state.UndefinedColumn = codes "no such column"
+refusal_meaning state.AmbiguousColumn = codes "a column that two tables have"
+refusal_meaning state.DuplicateAlias = codes "two tables of FROM under one name"
+refusal_meaning state.UndefinedObject = codes "no such role or policy"
+refusal_meaning state.DuplicateTable = codes "the table exists already"
+refusal_meaning state.DuplicateObject = codes "the role or the policy exists already"
+refusal_meaning state.DuplicateColumn = codes "a column that is named twice"
+refusal_meaning state.DatatypeMismatch = codes "a type that does not fit"
+refusal_meaning state.InsufficientPrivilege = codes "a right is missing; the set role is gone or not allowed any more; or a new row that a policy refuses"
+refusal_meaning state.InvalidGrantOperation = codes "GRANT OPTION to PUBLIC, or a membership that would make a circle"
+refusal_meaning state.DependentPrivileges = codes "a REVOKE without CASCADE of what other grants depend on"
+refusal_meaning state.DependentObjects = codes "a role that is in use"
+refusal_meaning state.DivisionByZero = codes "a divisor of zero"
+refusal_meaning state.NumericValueOutOfRange = codes "a number outside BIGINT"
+refusal_meaning state.NotNullViolation = codes "a null in a column that is NOT NULL"
+refusal_meaning state.UniqueViolation = codes "a primary key that another row has"
+refusal_meaning state.InFailedTransaction = codes "the block has failed"
+refusal_meaning state.LockNotAvailable = codes "another session holds the writer lock"
+refusal_meaning state.InvalidAuthorization = codes "a login that is no role, or one without LOGIN; or the session's login role is gone"
+refusal_meaning state.ProgramLimitExceeded = codes "a limit; or no number is left for one more commit"
+refusal_meaning state.TooManyConnections = codes "too many sessions"
+refusal_meaning state.DiskFull = codes "no room on the device: nothing was changed; never in memory"
+refusal_meaning state.OutOfMemory = codes "no memory for the event, which changed nothing and may be tried again"
+refusal_meaning state.IoError = codes "the device failed, and the server has stopped: each further event is answered so; never in memory"
+refusal_meaning state.ProtocolViolation = codes "bytes that are no frame; over a connection alone"
+refusal_meaning state.ConnectionDoesNotExist = codes "the session is not open"
+refusal_meaning state.ConnectionNameInUse = codes "the session is open already"
