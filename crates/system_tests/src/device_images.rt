@@ -1,12 +1,8 @@
 //! What devices of 64 pages hold, as files tell it.
 
 use crate::files::text_of;
-use crate::frames::bytes_of;
 use std::alloc::Global;
 use std::io;
-
-/// How many bytes 64 pages have.
-pub const LENGTH: usize = 262_144;
 
 /// What a device of 64 pages holds, the script that is asked of the server over it, and whether the openings of it are stopped
 /// and fail.
@@ -37,16 +33,6 @@ impl DeviceImage {
         };
         image.follow_file(rt, alloc, name)?;
         Ok(image)
-    }
-
-    /// The bytes.
-    pub fn into_bytes(self) -> Vec<u8> {
-        let DeviceImage {
-            bytes,
-            script: _,
-            is_stopped: _,
-        } = self;
-        bytes
     }
 
     /// Does what the file `NAME.image` says.
@@ -97,7 +83,7 @@ fn put_bytes(alloc: Global, bytes: &mut Vec<u8>, rest: &str) -> io::Result<()> {
 }
 
 /// Puts bytes in the place of those at an offset.
-pub fn change_bytes(alloc: Global, bytes: &mut Vec<u8>, rest: &str) -> io::Result<()> {
+fn change_bytes(alloc: Global, bytes: &mut Vec<u8>, rest: &str) -> io::Result<()> {
     let (start, digits) = number_in(rest);
     let mut at = start;
     for value in bytes_of(alloc, digits)?.iter() {
@@ -110,12 +96,29 @@ pub fn change_bytes(alloc: Global, bytes: &mut Vec<u8>, rest: &str) -> io::Resul
 }
 
 /// The word that a text begins with, and what stands behind it.
-pub fn word_in(text: &str) -> (&str, &str) {
+fn word_in(text: &str) -> (&str, &str) {
     text.split_once(' ').unwrap_or((text, ""))
 }
 
 /// The number that a text begins with, and what stands behind it.
-pub fn number_in(text: &str) -> (usize, &str) {
+fn number_in(text: &str) -> (usize, &str) {
     let (number, rest) = word_in(text);
     (number.parse().unwrap_or(0), rest)
+}
+
+/// The bytes of two hexadecimal digits each, with a blank between bytes.
+fn bytes_of(alloc: Global, digits: &str) -> io::Result<Vec<u8>> {
+    let mut bytes = Vec::new(alloc);
+    for byte in digits.split(' ') {
+        bytes.push(byte_of(byte)?)?;
+    }
+    Ok(bytes)
+}
+
+/// The byte of two hexadecimal digits.
+fn byte_of(digits: &str) -> io::Result<u8> {
+    match u8::from_str_radix(digits, 16) {
+        Ok(byte) => Ok(byte),
+        Err(_) => Err(io::Error::from(io::ErrorKind::InvalidData)),
+    }
 }

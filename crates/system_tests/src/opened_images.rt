@@ -9,12 +9,10 @@
 
 use crate::device_images::DeviceImage;
 use crate::events::events_of;
-use crate::files::{names_of, text_of};
 use crate::stops::fault::TestFault;
 use crate::stops::images::Image;
-use crate::stops::servers::{CACHE_PAGES, DeviceServer, find_on, open_and_end, open_device};
+use crate::stops::servers::{CACHE_PAGES, find_on, open_and_end, open_device};
 use crate::stops::talks::text_answered;
-use sector_device::MemDevice;
 use std::alloc::{AllocError, Global};
 use std::io;
 
@@ -102,54 +100,4 @@ fn tell_answers(
         out.push_str(text_answered(alloc, &mut server, event)?.as_str())?;
     }
     Ok(())
-}
-
-/// Opens each device of which a file of the folder tells that its openings are stopped, and once more where memory is refused.
-/// Prints a line for each: whether it then holds what is expected, or what it holds. For runs in which a request for memory is
-/// refused: each that ends well prints the same.
-pub fn open_again(rt: &HostRuntime, alloc: Global) -> io::Result<()> {
-    for name in &names_of(rt, alloc, ".image")? {
-        let image = DeviceImage::read(rt, alloc, name.as_str())?;
-        if image.is_stopped {
-            print_as_expected(rt, alloc, name.as_str(), image.bytes.as_slice())?;
-        }
-    }
-    Ok(())
-}
-
-/// Opens a device with these bytes, and prints the line of it.
-fn print_as_expected(rt: &HostRuntime, alloc: Global, name: &str, bytes: &[u8]) -> io::Result<()> {
-    let opened = text_of(rt, alloc, name, ".opened")?;
-    let expected = opened.as_str().lines().nth(2).unwrap_or("");
-    match contents_at_last(alloc, bytes) {
-        Ok(contents) if contents.as_str().trim_end() == expected => {
-            println!(rt; "{name}: as expected")
-        }
-        Ok(contents) => println!(rt; "{name}: {contents}"),
-        Err(TestFault::Memory) => Err(io::Error::from(io::ErrorKind::OutOfMemory)),
-        Err(fault) => println!(rt; "{name}: {fault:?}"),
-    }
-}
-
-/// What a device that has these bytes holds once it is opened, where memory is refused to one opening at most.
-fn contents_at_last(alloc: Global, bytes: &[u8]) -> Result<String, TestFault> {
-    let (device, refusal) = open_and_end(alloc, device_of(alloc, bytes)?, CACHE_PAGES);
-    let left = match refusal {
-        None => Image::of(alloc, device)?,
-        Some(fault) => {
-            if fault.is_memory() {
-                Image::of(alloc, open_device(alloc, device, CACHE_PAGES)?.end())?
-            } else {
-                return Err(fault);
-            }
-        }
-    };
-    let mut out = String::new(alloc);
-    tell_contents(alloc, &left, &mut out)?;
-    Ok(out)
-}
-
-/// A device that has these bytes, and zeros behind them.
-fn device_of(alloc: Global, bytes: &[u8]) -> Result<MemDevice, TestFault> {
-    Image::of_bytes(alloc, bytes)?.running(alloc)
 }

@@ -13,16 +13,12 @@ pub fn report(
     differing: &mut u64,
 ) -> io::Result<()> {
     if expected == printed {
-        return report_count(rt, what, name, count_answers(printed));
+        let count = count_answers(printed);
+        return println!(rt; "{what} {name}: {count} answers as expected");
     }
     *differing = differing.saturating_add(1);
     print!(rt; "{what} {name}: a line differs: ")?;
     print_difference(rt, expected, printed)
-}
-
-/// Prints the line of what was run, where so many answers came as expected.
-pub fn report_count(rt: &HostRuntime, what: &str, name: &str, count: usize) -> io::Result<()> {
-    println!(rt; "{what} {name}: {count} answers as expected")
 }
 
 /// Prints the first line that is not the expected one, `none` where there are fewer.

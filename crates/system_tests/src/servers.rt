@@ -10,8 +10,6 @@ use statements::Statements;
 use std::alloc::Global;
 use std::io;
 use store::Store;
-use wire::listen::Listen;
-use wire::listener::{Served, serve_listener};
 
 /// A server over a store.
 pub type ServerOver<S> = Server<S, SessionHandler<Statements>>;
@@ -44,14 +42,4 @@ pub fn answered_by<S: Store>(
     let mut answers = Vec::new(alloc);
     server.run(ONLY_CLIENT, events, &mut answers)?;
     text_of_answers(alloc, answers.as_slice())
-}
-
-/// Serves one connection of a listener over a store.
-pub fn serve_over<S: Store + Drop, L: Listen>(
-    alloc: Global,
-    store: S,
-    listener: &mut L,
-) -> io::Result<Served> {
-    let mut server = open_server(alloc, store)?;
-    Ok(serve_listener(alloc, &mut server, listener, 1))
 }

@@ -61,16 +61,6 @@ impl TestFault {
         )
     }
 
-    /// Whether an opening was refused since memory was.
-    pub fn is_memory(self) -> bool {
-        matches!(
-            self,
-            TestFault::NoStore(OpenFault::Memory)
-                | TestFault::NoServer(OpeningFault::Read(Fault::Memory))
-                | TestFault::NoServer(OpeningFault::Commit(StoreFault::Memory))
-        )
-    }
-
     /// Whether an opening found no database: no root, or records that stand for none.
     pub fn is_no_database(self) -> bool {
         matches!(
