@@ -1,17 +1,10 @@
 -- Marks of what stays after a REVOKE, and what is lost.
 use Rattle.std.specs.Prelude.{◌≡◌, ◌<◌, ◌&&◌, ◌||◌, ℕ, Bool, true, false, not, List, map, filter, length, get_or, Option, Ok}
 use Rattle.sql_ast.specs.declared.privilege.Descriptor.{Descriptor}
-use Rattle.grant_graph.specs.declared.revoking.RevokeMode.{RevokeMode}
-use Rattle.grant_graph.specs.declared.revoking.RevokeMode.TheVariants as revoked
 use Rattle.abstract_database.specs.Lists.{change_where}
 use Rattle.sql_ast.specs.declared.statement.DropBehavior.{DropBehavior}
 use Rattle.grant_graph.specs.declared.revoking.RevocationMarks.{RevocationMarks}
 use Rattle.abstract_database.specs.Privileges.{without_option, is_taken_by, revoked as revoked_of}
-
--- whether the grant option alone is taken
-abbrev pub is_grant_option_for : RevokeMode → Bool
-is_grant_option_for revoked.Privilege = false
-is_grant_option_for revoked.GrantOption = true
 
 -- marks of the first n: of each whether something is left of it and it is reached
 pub record Stay (n : ℕ) (option : Bool) (reached named marks : List Bool) : Type 0 where

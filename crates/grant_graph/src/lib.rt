@@ -13,5 +13,5 @@ pub use acting::{Grants, acting_grantor_among, covers};
 pub use granting::grant;
 pub use keys::action_number;
 pub use marking::without;
-pub use revoking::{RevocationMarks, RevokeMode, revocation};
+pub use revoking::{RevocationMarks, revocation};
 pub use supports::all_supported;

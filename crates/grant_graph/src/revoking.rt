@@ -2,7 +2,7 @@
 ghost use Rattle.std.specs.Prelude.{◌≡◌, ◌⊎◌, ◌↔◌, ◌&&◌, ◌||◌, false, not, length, Err, IfOk, IfErr, IsTrue};
 ghost use Rattle.sql_types.specs.declared.state.SqlState.TheVariants.{OutOfMemory};
 ghost use Rattle.abstract_database.specs.Privileges.{revoked, is_cascade as cascades};
-ghost use Rattle.grant_graph.specs.Revoking.{Stay, Loses, Takes, is_grant_option_for};
+ghost use Rattle.grant_graph.specs.Revoking.{Stay, Loses, Takes};
 
 use crate::marking::mark_named;
 use crate::supports::reached;
@@ -10,25 +10,6 @@ use sql_ast::privilege::Descriptor;
 use sql_ast::statement::DropBehavior;
 use sql_types::state::{Refusal, SqlState};
 use std::alloc::{AllocError, Global};
-
-/// What a REVOKE takes (SQL:2016 Foundation, 12.7, `<revoke option extension>`).
-#[derive(Clone, Copy, PartialEq, Eq)]
-pub enum RevokeMode {
-    /// The privilege with its grant option.
-    Privilege,
-    /// The grant option alone, as GRANT OPTION FOR says.
-    GrantOption,
-}
-
-/// Whether the grant option alone is taken.
-fn is_grant_option_for(taken: RevokeMode) -> bool
-    ensures { result ≡ is_grant_option_for taken }
-{
-    match taken {
-        RevokeMode::Privilege => false,
-        RevokeMode::GrantOption => true,
-    }
-}
 
 /// Whether a descriptor stays: something is left of it, since it is not named or loses its option alone, and it is reached.
 fn stays(is_reached: bool, is_named: bool, grant_option_for: bool) -> bool
@@ -116,14 +97,13 @@ pub fn revocation(
     alloc: Global,
     descriptors: &[Descriptor],
     named: &[Descriptor],
-    taken: RevokeMode,
+    grant_option_for: bool,
     behavior: Option<DropBehavior>,
 ) -> Result<RevocationMarks, Refusal>
-    ensures taking { IfOk result (Takes (is_grant_option_for taken) behavior named.now descriptors.now) }
+    ensures taking { IfOk result (Takes grant_option_for behavior named.now descriptors.now) }
     ensures refused { IfErr result (λ e. (e.0 ≡ OutOfMemory)
-        ⊎ (revoked (is_grant_option_for taken) behavior named.now descriptors.now ≡ Err e.0)) }
+        ⊎ (revoked grant_option_for behavior named.now descriptors.now ≡ Err e.0)) }
 {
-    let grant_option_for = is_grant_option_for(taken);
     let named = mark_named(alloc, descriptors, named)?;
     let reached = reached(alloc, descriptors, named.as_slice())?;
     let staying = stay(

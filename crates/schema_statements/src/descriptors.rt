@@ -5,7 +5,6 @@ ghost use Rattle.sql_types.specs.declared.tag.Tag.TheVariants as tag;
 ghost use Rattle.abstract_database.specs.Statements.{grant as grant_of, revoke as revoke_of};
 ghost use Rattle.schema_statements.specs.Asking.{asked_by, IsAsker};
 ghost use Rattle.schema_statements.specs.DescriptorChanges.{with_those, without_those, Fits};
-ghost use Rattle.grant_graph.specs.Revoking.{is_grant_option_for};
 ghost use Rattle.schema_statements.specs.NamedDescriptors.{IsNamed};
 ghost use Rattle.schema_statements.specs.PrivilegeDescriptors.{Around, database_in, carried_out, checked, grant_checked, warning_where};
 
@@ -13,7 +12,7 @@ use crate::descriptor_changes::{RevokedDescriptors, coming, what_is_taken};
 use crate::named_descriptors::{Named, what_is_named};
 use crate::privilege_checks::{check, has_public};
 use crate::requester::Requester;
-use grant_graph::{RevokeMode, revocation};
+use grant_graph::revocation;
 use sql_ast::privilege::Descriptor;
 use sql_ast::statement::{Grant, Revoke};
 use sql_types::state::{Refusal, SqlState};
@@ -25,17 +24,6 @@ fn warning_if(leaves_out: bool, warning: Warning) -> Option<Warning>
     ensures { result ≡ warning_where leaves_out warning }
 {
     if leaves_out { Some(warning) } else { None }
-}
-
-/// What the statement takes.
-fn taken_by(grant_option_for: bool) -> RevokeMode
-    ensures { is_grant_option_for result ≡ grant_option_for }
-{
-    if grant_option_for {
-        RevokeMode::GrantOption
-    } else {
-        RevokeMode::Privilege
-    }
 }
 
 /// Checks a GRANT, and answers what it names.
@@ -162,7 +150,7 @@ pub(crate) fn revoke_privileges(
         alloc,
         descriptors,
         named.descriptors.as_slice(),
-        taken_by(statement.grant_option_for),
+        statement.grant_option_for,
         statement.behavior,
     )?;
     let taken = what_is_taken(alloc, descriptors, &taking, statement.grant_option_for)?;

@@ -10,7 +10,7 @@ use Rattle.grant_graph.proofs.revoking.revocation.Goals as goal
 pub returns-then-is_refused-clause-refused : goal.returns-then-is_refused-clause-refused
 returns-then-is_refused-clause-refused c =
     let ds = c.args.descriptors.now in
-    let option = c.is_grant_option_for-grant_option_for.result in
+    let option = c.args.grant_option_for in
     let N = c.args.named.now in
     let named = c.in_ok-named.named.items in
     let reached = c.in_ok-reached.reached.items in
@@ -18,12 +18,12 @@ returns-then-is_refused-clause-refused c =
     let are : MarkSupported named ds reached = rw (c.as_slice.ensures.value) at c.in_ok-reached.ensures in
     let why = c.is_refused.ensures.0 c.if-is_refused.true in
     let lost : Loses option reached named = rw (c.as_slice-4.ensures.value, c.as_slice-5.ensures.value) at why.1 in
-    rw (← c.is_grant_option_for-grant_option_for.ensures) (inr (revoked_err option c.args.behavior N ds named reached c.in_ok-staying.staying.items is are why.0 lost))
+    inr (revoked_err option c.args.behavior N ds named reached c.in_ok-staying.staying.items is are why.0 lost)
 
 pub returns-clause-taking : goal.returns-clause-taking
 returns-clause-taking c =
     let ds = c.args.descriptors.now in
-    let option = c.is_grant_option_for-grant_option_for.result in
+    let option = c.args.grant_option_for in
     let N = c.args.named.now in
     let named = c.in_ok-named.named.items in
     let reached = c.in_ok-reached.reached.items in
@@ -32,8 +32,7 @@ returns-clause-taking c =
     let are : MarkSupported named ds reached = rw (c.as_slice.ensures.value) at c.in_ok-reached.ensures in
     let stay : Stay (length reached) option reached named staying = rw (c.as_slice-2.ensures.value, c.as_slice-3.ensures.value) at c.in_ok-staying.ensures in
     let stays = stays_by (is_taken_by N) ds named reached staying is are option in
-    rw (← c.is_grant_option_for-grant_option_for.ensures)
-    (record {
+    record {
       named = is;
       count = (ap length is ∙ length-map ds (is_taken_by N), stay.count ∙ are.count);
       stays = stays;
@@ -41,4 +40,4 @@ returns-clause-taking c =
       left = revoked_ok option c.args.behavior N ds named reached staying is are
           (λ h. both_ways c.is_refused.result c.if-is_refused.false (c.is_refused.ensures.1 (rw (c.as_slice-4.ensures.value, c.as_slice-5.ensures.value) h)))
           (filter stays (in_place option (is_taken_by N) ds)) refl;
-    })
+    }

@@ -33,14 +33,14 @@ returns-in_err-taking-clause-refused c =
     (λ e. inr (λ around.
     revoke_depends d.roles d.memberships t.descriptors s.table t.definition c.args.requester.role.now around s.grant_option_for s.privileges s.grantees s.behavior
     c.in_ok-named.named _ c.in_ok-named.ensures.named c.in_ok-named.ensures.allowed e))
-    (rw (c.taken_by.ensures, c.as_slice.ensures.value, c.descriptors-descriptors.ensures.descriptors) at c.in_err-taking.ensures.refused))
+    (rw (c.as_slice.ensures.value, c.descriptors-descriptors.ensures.descriptors) at c.in_err-taking.ensures.refused))
 
 pub returns-clause-revoked : goal.returns-clause-revoked
 returns-clause-revoked c = λ around.
     let s = c.args.statement.now in
     let d = c.args.requester.catalogue.now in
     let t = c.args.requester.table.now in
-    let takes = rw (c.taken_by.ensures, c.as_slice.ensures.value, c.descriptors-descriptors.ensures.descriptors) at c.in_ok-taking.ensures.taking in
+    let takes = rw (c.as_slice.ensures.value, c.descriptors-descriptors.ensures.descriptors) at c.in_ok-taking.ensures.taking in
     let taken = c.in_ok-taken.taken in
     let by = rw c.descriptors-descriptors.ensures.descriptors at c.in_ok-taken.ensures in
     let new = with_those taken.added.items (without_those taken.removed.items t.descriptors) in
