@@ -14,6 +14,7 @@ use sql_types::name::Name;
 pub(crate) fn know_name(name: &Name)
     ensures { IsUtf8Name name.now }
 {
+    // For the proof: what a `str` has is UTF-8.
     let _ = name.as_str().as_bytes();
 }
 
@@ -32,6 +33,7 @@ pub(crate) fn know_text(clause: &Option<PolicyClause>)
     ensures { IfSome clause.now HasUtf8 }
 {
     if let Some(clause) = clause {
+        // For the proof: what a `str` has is UTF-8.
         let _ = clause.text.as_str().as_bytes();
     }
 }

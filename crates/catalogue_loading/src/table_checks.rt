@@ -21,6 +21,7 @@ fn is_whole_definition(
         ↔ IsWholeDefinition catalogue.now.roles table.now) }
 {
     know_name(table.name());
+    // For the proof: the names of columns differ, by their type.
     let _ = table.columns().as_slice();
     let policies = table.policies();
     if !catalogue.has_role(table.owner()) {

@@ -137,7 +137,7 @@ fn type_of(
             typed_if(fits(operand, ColumnType::Boolean), ColumnType::Boolean)
         }
         Expression::IsNull(operand) | Expression::IsNotNull(operand) => {
-            let _ = type_of(operand, scope)?;
+            let _ = type_of(operand, scope)?; // Any type will do.
             Ok(Some(ColumnType::Boolean))
         }
         Expression::MemberOf(operand) => {

@@ -67,6 +67,7 @@ impl Verifier {
           server_key = server_key;
         } }
     {
+        // For the proof: these are bytes, and the keys have 32 of them.
         told_of_bytes(&salt);
         told_of_key(&stored_key);
         told_of_key(&server_key);
@@ -192,5 +193,6 @@ fn told_of_key(key: &[u8; 32])
     ensures size { length key.now ≡ 32 }
     ensures bytes { IsBytes key.now }
 {
+    // For the proof: what an array of bytes has is bytes.
     told_of_bytes(key);
 }

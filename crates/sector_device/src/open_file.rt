@@ -110,6 +110,7 @@ impl FileDevice<SystemFile> {
         };
         let made = fill(rt, file, path, pages);
         if made.is_err() {
+            // What failed is told, whether or not its file could be removed.
             let _ = fs::remove_file(rt, path);
         }
         made

@@ -81,6 +81,7 @@ impl<S: Store, X: EventHandler> Server<S, X> {
         let Some(session) = self.session_at(client, 0) else {
             return false;
         };
+        // Nobody is there to hear it.
         let _answer = self.step(client, &Event::Close { session });
         true
     }

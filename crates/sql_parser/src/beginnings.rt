@@ -40,6 +40,7 @@ fn is_spelled(alloc: Global, text: &str) -> Result<bool, AllocError>
     ensures yes { IfOk result (λ found. found ≡ true → IsSpelled text.now) }
     ensures no { IfOk result (λ found. found ≡ false → IsSpelled text.now → ⊥) }
 {
+    // For the proof: a text has one list of tokens.
     one_lexing();
     match tokens_of(alloc, text)? {
         Some(tokens) => are_statement(alloc, text, tokens.as_slice()),

@@ -37,6 +37,7 @@ pub fn tokens_of<'a>(alloc: Global, text: &'a str) -> Result<Option<Vec<Token<'a
         IfSome found (λ tokens. AreTokensOf text.now (lexemes tokens.items))) }
     ensures none { IfOk result (λ found. IfNone found (HasNoTokens text.now)) }
 {
+    // For the proof: a text has one list of tokens.
     one_lexing();
     match lexer::tokens(alloc, text) {
         Ok(tokens) => Ok(Some(tokens)),

@@ -56,6 +56,7 @@ pub fn parse(alloc: Global, text: &str) -> Result<Statement, Refusal>
     ensures read { IfOk result IsRead }
     ensures policies { IfOk result HasConditionsAsWritten }
 {
+    // For the proof: a text has one list of tokens.
     one_lexing();
     parse_text::<OneStatement>(alloc, text)
 }

@@ -123,6 +123,7 @@ pub fn error_place(alloc: Global, text: &str) -> Result<Option<usize>, AllocErro
     ensures wrong { IfOk result (λ found. IfSome found (GoesWrongAt text.now)) }
     ensures within { IfOk result (λ found. IfSome found (λ place. place ≤ length text.now)) }
 {
+    // For the proof: a text is parsed with one answer.
     one_answer();
     match parse(alloc, text) {
         Err(Refusal(SqlState::SyntaxError)) => Ok(Some(place_of(alloc, text)?)),

@@ -57,6 +57,7 @@ pub fn serve_listener<S: Store, X: EventHandler, L: Listen>(
         let Ok((mut reader, mut sink)) = listener.take() else {
             return Served::Net;
         };
+        // However it ended, the next one is taken.
         let _end = serve_connection(alloc, server, &mut reader, &mut sink);
         listener.close(reader, sink);
         if server.has_stopped() {

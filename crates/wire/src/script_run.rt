@@ -176,5 +176,6 @@ fn close_session<S: Store, X: EventHandler>(server: &mut Server<S, X>, session: 
     ensures steps { (answer : Answer)
         × Steps X.Reads S.state 0 server.old (Event.Close session) answer server.new }
 {
+    // Nobody is told.
     let _answer = server.step(ONLY_CLIENT, &Event::Close { session });
 }

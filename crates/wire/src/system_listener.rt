@@ -41,6 +41,7 @@ impl Accept for TcpListener {
     // What is written goes out at once, without waiting for more.
     fn accept_within(&self, idle: Option<Duration>) -> io::Result<(TcpStream, TcpStream)> {
         let (reader, _) = self.accept()?;
+        // Where it cannot be set, answers go out a little later.
         let _ = reader.set_nodelay(true);
         reader.set_read_timeout(idle)?;
         reader.set_write_timeout(idle)?;
@@ -120,6 +121,7 @@ impl<R: Eprint + Clock, L: Accept> Listen for SystemListener<'_, R, L> {
 
     // What a failed writer has kept is not tried again.
     fn close(&mut self, _reader: CountedReader<L::Stream>, sink: FrameSink<BufWriter<L::Stream>>) {
+        // What it has kept goes with it.
         let _ = sink.into_writer().into_parts();
     }
 }
@@ -134,6 +136,7 @@ impl<R: Eprint + Clock, L: Accept> SystemListener<'_, R, L> {
                     if !is_passing(&error) {
                         return Err(error);
                     }
+                    // Where standard error is closed, nobody is told.
                     let _ = eprintln!(self.rt;
                         "guarddb: no connection taken, trying again: {error}"
                     );
