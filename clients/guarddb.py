@@ -164,7 +164,9 @@ def with_cause(fault, place):
         return socket.timeout(f'no connection to {place} in time: the server takes none')
     if getattr(fault, 'errno', None):
         is_other = isinstance(place, str) and os.path.exists(place) and not stat.S_ISSOCK(os.stat(place).st_mode)
-        fault.strerror = 'no socket (guarddb serve makes one)' if is_other else CAUSES.get(fault.errno, fault.strerror)
+        is_number = fault.errno == errno.ENOENT and place.isdigit()
+        fault.strerror = 'no socket (guarddb serve makes one)' if is_other else 'no such socket; a port is an int, not a str' if is_number \
+            else CAUSES.get(fault.errno, fault.strerror)
         fault.filename = place
     return fault
 
@@ -340,11 +342,24 @@ def read_answer(text, types=()):
     if words[0] == 'refused':
         raise Refused(words[1])
     if words[0] == 'rows':
-        rows = [line.split('\t') for line in lines]
-        return [[read_field(*pair) for pair in zip(row, types + (str,) * len(row))] for row in rows]
+        return read_rows([line.split('\t') for line in lines], tuple(types))
     warning = words.pop(1) if words[0] == 'warn' else None
     count = int(words.pop()) if words[-1].isdigit() else None
     return Done(' '.join(words[1:]), count, warning)
+
+
+def read_rows(rows, types):
+    """The rows with their fields converted. A ValueError names the column, counted from 1, that is not of its type."""
+    try:
+        return [[read_field(*pair) for pair in zip(row, types + (str,) * len(row))] for row in rows]
+    except ValueError:
+        for row in rows:
+            for number, pair in enumerate(zip(row, types), 1):
+                try:
+                    read_field(*pair)
+                except ValueError as fault:
+                    raise ValueError(f'column {number}: {fault}') from None
+        raise
 
 
 def read_field(field, read):

@@ -34,6 +34,7 @@ from shell_output import Output, csv_lines, edited
 from shell_place import (CONNECTION, NO_READER, OWN, REFUSED, End, Fault, Place, cause, end_by, open_standard_streams, say,
                          signals_held, warn)
 from shell_typing import line_editing, readline
+from shell_variables import Variables
 
 PATIENCE = 3                                    # seconds after which it is said that an open is not answered yet
 KEEP_BLOCK = ('53100', '53200', '58030')        # refusals that leave a block as it was
@@ -77,7 +78,7 @@ class Shell:
     def __init__(self, place, is_interactive, is_raw, form='aligned'):
         self.place, self.is_interactive, self.is_raw = place, is_interactive, is_raw
         self.connection = self.current = self.description = None    # what is told of the file, None where that may have changed
-        self.sessions, self.names, self.output = {}, set(), Output(form)
+        self.sessions, self.names, self.output, self.variables = {}, set(), Output(form), Variables()
         self.text = self.quote = self.last = ''     # the text typed so far, the quote that is open in it, and the last statement
         self.expanded, self.is_timed = 'auto', False
 
@@ -153,7 +154,8 @@ class Shell:
             raise Fault(REFUSED, WITH_A_DOT)        # as no statement begins
         line = self.quote + line        # only a quote goes on over the end of a line, so the text before it is not cut again
         begin = command_at(line)
-        first, *others = split(line[:begin])
+        before = self.variables.filled(line[:begin])
+        first, *others = split(before)
         *statements, rest = self.text + first[len(self.quote):], *others
         is_more = self.text != '' and not statements
         self.abandon()
@@ -161,7 +163,7 @@ class Shell:
         if len(rest) > guarddb.MAX_TEXT:
             raise Fault(REFUSED, 'The statement does not end: it is already longer than a frame can carry.')
         if is_more or not is_blank(rest):
-            self.text, self.quote = rest, open_quote(line[:begin])
+            self.text, self.quote = rest, open_quote(before)
         if begin < len(line):
             self.text += '\n' * (self.text[-1:] not in ('', '\n'))     # what comes next is another word
             self.command(line[begin:])
@@ -285,18 +287,23 @@ class Shell:
     # -- commands
 
     def command(self, line):
-        name, *words = [found[0] if found[1] is None else found[2].replace(found[1] * 2, found[1])
-                        for found in WORD.finditer(line.strip().rstrip(';'))]
+        name, *words = self.words(line.strip().rstrip(';'))
         name = name[:-1] if name in ('\\d+', '\\dt+', '\\du+', '\\dp+') else name
         least, most, call = self.commands().get(name, (0, 0, None))
         if name == '\\copy':        # whose words are cut otherwise
             return say(copy(self, line.strip()))
+        if name == '\\echo':       # which prints a `;` at its end, too
+            call, words = self.echo, self.words(line.strip())[1:]
         if call is None:
             is_list = LIST_COMMAND.fullmatch(name)
             raise Fault(REFUSED, NO_CATALOGUE if is_list else rf'Invalid command {name}; \? lists the commands.')
         if not least <= len(words) <= most:
             raise Fault(REFUSED, rf'Wrong arguments for {name}; \? shows them.')
         call(*words)
+
+    def words(self, line):
+        """The words of a command, with the values of variables where they stand outside of quotes."""
+        return [self.variables.filled(found[0]) if found[1] is None else found[2].replace(found[1] * 2, found[1]) for found in WORD.finditer(line)]
 
     def commands(self):
         """Each command by its name: how many arguments it takes, at least and at most, and what it does."""
@@ -308,7 +315,8 @@ class Shell:
             '\\o': (0, 1, lambda name=None: self.output.send(name)), '\\pset': (0, 2, self.set_output),
             '\\z': (0, 1, lambda *words: self.list(list_privileges, *words)),
             '\\g': (0, 1, self.run_sent), '\\gx': (0, 0, self.run_expanded), '\\p': (0, 0, self.tell_text),
-            '\\r': (0, 0, self.abandon), '\\h': (0, 9, lambda *words: say(forms(words))), '\\i': (1, 1, self.run_file),
+            '\\echo': (0, 999, self.echo), '\\set': (0, 999, self.set_variable), '\\unset': (1, 1, self.unset_variable),
+            '\\watch': (0, 1, self.watch), '\\r': (0, 0, self.abandon), '\\h': (0, 9, lambda *words: say(forms(words))), '\\i': (1, 1, self.run_file),
             '\\timing': (0, 1, self.time), '\\x': (0, 1, self.expand), '\\?': (0, 0, lambda: say(HELP)),
             '\\q': (0, 0, self.quit)}
 
@@ -338,6 +346,47 @@ class Shell:
         """Runs the text typed so far, and sends its answer, this one alone, to a file."""
         with self.output.sent(name):
             self.run_typed()
+
+    def watch(self, word='2'):
+        """Runs the text typed so far, or else the last statement, again and again, so many seconds apart, until Ctrl-C or a refusal."""
+        pause, statement = pause_of(word), self.text or self.last
+        if not statement:
+            raise Fault(REFUSED, NOTHING_TYPED)
+        self.abandon()
+        has_pager, self.output.has_pager = self.output.has_pager, False
+        try:
+            while True:
+                if not self.is_raw and self.output.form != 'csv':
+                    self.output.put(f'{time.strftime("%a %b %e %H:%M:%S %Y")} (every {word}s)\n')
+                self.run(statement)
+                if not self.waits(pause):
+                    return
+        finally:
+            self.output.has_pager = has_pager
+
+    def waits(self, pause):
+        """Waits so many seconds; False where Ctrl-C in a terminal ends that."""
+        try:
+            time.sleep(pause)
+        except KeyboardInterrupt:
+            if not self.is_interactive:
+                raise
+            say('')
+            return False
+        return True
+
+    def echo(self, *words):
+        """Prints the words."""
+        is_open = words[:1] == ('-n',)
+        say(' '.join(words[is_open:]), end='' if is_open else '\n')
+
+    def set_variable(self, name=None, *words):
+        if name is not None:
+            return self.variables.put(name, *words)
+        say('\n'.join(self.variables.lines() or ['No variable is set.']))
+
+    def unset_variable(self, name):
+        self.variables.pop(name, None)
 
     def edit(self, name=None):
         """Takes what an editor leaves of the text typed so far, of the last statement, or of a file, as if it were typed."""
@@ -395,6 +444,14 @@ class Shell:
     def tell_blocks(self):
         for opened in self.sessions.values():
             tell_block(opened)
+
+
+def pause_of(word):
+    """The seconds that a word of \\watch names."""
+    try:
+        return seconds(word)
+    except ValueError:
+        raise Fault(REFUSED, rf'\watch takes a number of seconds, not {word}.') from None
 
 
 def shown_lines(text):

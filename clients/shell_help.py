@@ -15,13 +15,17 @@ HELP = r'''Statements end with ; and may take several lines. Ctrl-C discards the
   \copy T TO FILE    writes the rows of the table T, or of (SELECT ..), to a file of CSV; T FROM FILE inserts them
   \d [NAME]          lists the tables of the file, or the columns and policies of one; \dt [NAME] the tables
   \dp  \du [NAME]    list the privileges on tables, the roles
+  \echo [-n] TEXT    prints TEXT; -n leaves out the newline
   \e [FILE]          edits the text typed so far, or the last statement, or a file, and runs it
   \p  \r             shows, discards the text typed so far
   \h [WORD ..]       shows the syntax of all statements, or of those that begin with these words
   \i FILE            runs the statements and commands in a file
   \o [FILE]          sends answers to a file, and without one to the terminal again
   \pset [NAME VALUE] null TEXT, format aligned or csv, pager on or off
+  \set [NAME TEXT]   sets a variable: :NAME stands for TEXT, :'NAME' for the literal, :"NAME" for the name; alone it lists them
+  \unset NAME        forgets a variable
   \timing [on|off]   shows how long each statement takes
+  \watch [SECONDS]   runs the text typed so far, or the last statement, again and again, until Ctrl-C
   \x [on|off|auto]   shows each column on a line of its own; auto: if a row is wider than the terminal
   \?                 shows this help
   \q                 leaves, as Ctrl-D does'''

@@ -32,9 +32,9 @@ class End(Fault):
     """Ends the shell, with a status and a message, which may be empty."""
 
 
-def say(text):
+def say(text, end='\n'):
     try:
-        print(text, flush=True)
+        print(text, end=end, flush=True)
     except OSError as fault:
         os.dup2(os.open(os.devnull, os.O_WRONLY), 1)        # for what Python still holds
         if isinstance(fault, BrokenPipeError):              # who read it has enough, such as head
@@ -121,9 +121,11 @@ class Place:
         if self.is_file:
             self.stop(at_once=True)         # a start that was given up
             return self.start()
+        if self.is_port and not 0 < int(self.name) < 65536:
+            raise Fault(CONNECTION, f'There is no port {self.name}: they are 1 to 65535.')
         try:
             return guarddb.connect(int(self.name) if self.is_port else self.name, timeout=self.timeout)
-        except (OSError, OverflowError) as fault:
+        except OSError as fault:
             raise Fault(CONNECTION, f'No server at {self.name}: {cause(fault)}.') from None
 
     def start(self):

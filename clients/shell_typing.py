@@ -72,6 +72,7 @@ class Completer:
         if command == '\\h':
             return beginning(in_case(next_words(typed.split()), text), text)
         arguments = {'\\x': ['on', 'off', 'auto'], '\\timing': ['on', 'off'], '\\close': self.shell.sessions,
+                     '\\set': sorted(self.shell.variables), '\\unset': sorted(self.shell.variables),
                      '\\pset': ['null', 'format', 'pager', 'aligned', 'csv', 'on', 'off'],
                      '\\c': sorted({*self.shell.sessions, *self.shell.known_names()})}
         if command in arguments:

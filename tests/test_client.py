@@ -115,6 +115,8 @@ class Client(unittest.TestCase):
         with Peer(sent) as connection, connection:
             rows = connection.open('root').ask('SELECT k, s, o FROM t', int, guarddb.boolean)
         self.assertEqual(rows, [[-7, False, 't'], [None, True, None]])
+        with self.assertRaisesRegex(ValueError, r'\Acolumn 2: invalid literal for int\(\) with base 10: .f.\Z'):
+            guarddb.read_answer('rows 2\n-7\t\\N\n1\tf\n', (int, int))
 
     def test_refusals_are_exceptions(self):
         with self.assertRaises(Refused) as found:
@@ -250,6 +252,7 @@ class Client(unittest.TestCase):
                 (file, ConnectionRefusedError, f"[Errno 111] no socket (guarddb serve makes one): '{file}'"),
                 ('/none/shop.sock', FileNotFoundError,
                  "[Errno 2] no such socket (a server makes it, and removes it at its end): '/none/shop.sock'"),
+                ('54330', FileNotFoundError, "[Errno 2] no such socket; a port is an int, not a str: '54330'"),
             ]:
                 with self.subTest(place), self.assertRaises(kind) as found:
                     guarddb.connect(place, wait=0.05)

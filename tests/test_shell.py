@@ -791,6 +791,68 @@ class Answers(InAFolder):
                 terminal.type(CONTROL_D)
                 self.assertEqual(terminal.end(), 0)
 
+    def test_variables(self):
+        """They stand in statements and in words of commands, and not in texts, quoted names and comments."""
+        script = ('\\set a 4\n\\set b it "\'s" me\n\\set\n\\echo  :a  \':a\' :\'b\' :"b" :none ;\n\\echo -n x\n\\echo y\n'
+                  'SELECT :a + 1, :\'b\', \':a\' -- :a\n;\n\\set c \'SELECT 1; SELECT\'\n:c 2;\n\\set o "a\nSELECT o FROM t WHERE k = 2;\n'
+                  '\\unset a\n\\unset a\nSELECT :a;')
+        out = ("a = '4'\nb = 'it''sme'\n4 :a 'it''sme' \"it'sme\" :none ;\nxy\n"
+               " 4 + 1 | 'it''sme' | ':a'\n-------+-----------+------\n     5 | it'sme    | :a\n(1 row)\n"
+               ' 1\n---\n 1\n(1 row)\n 2\n---\n 2\n(1 row)\n o\n----\n \'\'\n(1 row)\n')
+        done = self.run_shell('root', input=script)
+        self.tells(done, 3, out, f'line 15: {syntax("SELECT :a", 7)}\n')
+        self.tells(self.run_shell('root', '\\set table t', 'SELECT k FROM :"table" WHERE o = :\'none\'\\g'), 3, '',
+                   syntax('SELECT k FROM "t" WHERE o = :\'none\'', 28) + '\n')
+        for text, message in [('\\set a-b 1', 'A variable has letters, digits and _ in its name, not a-b.'),
+                              ('\\set AUTOCOMMIT off', 'AUTOCOMMIT is a setting of psql, which this shell does not have.'),
+                              ("\\set a\nSELECT :\"a\"", ':"a" cannot stand in a statement: a name has 1 to 63 bytes, and no zero byte.'),
+                              ('\\unset', 'Wrong arguments for \\unset; \\? shows them.'), ('\\set', None), ('\\set ON_ERROR_STOP on', None)]:
+            self.tells(self.run_shell('root', text), 3 if message else 0, '' if message or 'ON' in text else 'No variable is set.\n',
+                       f'{message}\n' if message else '')
+
+    def test_variables_in_a_terminal(self):
+        with self.terminal(self.path, 'root') as terminal:
+            terminal.until('root=> ')
+            self.assertEqual(terminal.answer("\\set name 'x y'\r", 'root=> '), "\\set name 'x y'\n")
+            self.assertEqual(terminal.answer('\\echo :name\r', 'root=> '), '\\echo :name\nx y\n')
+            self.assertIn('\n x y\n', terminal.answer("SELECT :'name';\r", 'root=> '))
+            self.assertEqual(terminal.answer("SELECT :'name'\r", 'root-> '), "SELECT :'name'\n")
+            self.assertEqual(terminal.answer('\\p\r', 'root-> '), "\\p\nSELECT 'x y'\n")
+            self.assertIn("name = 'x y'\n", terminal.answer('\\r \r', 'root=> ') + terminal.answer('\\set\r', 'root=> '))
+            self.assertEqual(terminal.answer('\\unset na\t\r', 'root=> '), '\\unset name\n')
+            self.assertEqual(terminal.answer('\\set\r', 'root=> '), '\\set\nNo variable is set.\n')
+            terminal.type(CONTROL_D)
+            self.assertEqual(terminal.end(), 0)
+
+    def test_a_statement_that_is_watched(self):
+        """It is run until Ctrl-C, or until it is refused."""
+        time_line = r'\w{3} \w{3} [ \d]\d \d\d:\d\d:\d\d \d{4} \(every 0.2s\)\n\n'
+        with Terminal(['env', "PAGER=sed 's/^/paged: /'", *self.words(self.path, 'root')], self.folder) as terminal:
+            terminal.until('root=> ')
+            terminal.type('SELECT t.k FROM t, t u, t v \\watch 0.2\r')
+            end = time.monotonic() + PATIENCE
+            while terminal.text().count('(64 rows)\n') < 3 and time.monotonic() < end:
+                terminal.read(0.1)
+            since = len(terminal.text())
+            terminal.interrupt()
+            terminal.until('\nroot=> ', since - 1)
+            self.assertLessEqual(3, len(re.findall(time_line + ' t.k\n-----\n', terminal.text())))
+            self.assertNotIn('paged', terminal.text())
+            self.assertIn('(1 row)\n', terminal.answer('SELECT 1;\r', 'root=> '))
+            terminal.type('\\watch 9\r')
+            terminal.until('(every 9s)\n\n 1\n---\n 1\n(1 row)\n')
+            terminal.interrupt()
+            terminal.until('\nroot=> ')
+            self.assertIn('paged', terminal.answer('SELECT t.k FROM t, t u, t v;\r', 'root=> '))
+            terminal.type(CONTROL_D)
+            self.assertEqual(terminal.end(), 0)
+        done = self.run_shell('root', 'BEGIN', '\\o a.txt', "INSERT INTO t (k) VALUES (77) \\watch 0.01")
+        self.tells(done, 3, 'BEGIN\n', shell_help.explained('23505') + '\n')
+        self.assertEqual(len(re.findall(time_line.replace('0.2', '0.01') + 'INSERT 1\n', self.read('a.txt'))), 1)
+        for text, message in [('\\watch', 'Nothing is typed so far.'), ('SELECT 1\\watch often', '\\watch takes a number of seconds, not often.'),
+                              ('SELECT 1\\watch 0', '\\watch takes a number of seconds, not 0.')]:
+            self.tells(self.run_shell('root', text), 3, '', message + '\n')
+
     def test_an_editor(self):
         """What it leaves is run, or is still to be ended; what it does not change is not run again."""
         editor = os.path.join(self.folder, 'editor')
@@ -895,6 +957,7 @@ class Faults(InAFolder):
         port = str(free_port())
         for place, text_told in [(port, f'No server at {port}: connection refused (no server listens there).\n'),
                             (path, f'No server at {path}: connection refused (no server listens there).\n'),
+                            ('99999', 'There is no port 99999: they are 1 to 65535.\n'), ('0', 'There is no port 0: they are 1 to 65535.\n'),
                             ('none', 'none is not a port, a socket or a file: No such file or directory.\n'
                              'HINT:  Start its server, or make a new database: guarddb format none --pages 64 --admin ROLE\n')]:
             with self.subTest(place):
