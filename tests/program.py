@@ -22,6 +22,18 @@ def run(*words, given=''):
     return done.returncode, done.stdout.decode(), done.stderr.decode()
 
 
+def of_program(lines):
+    """What the program answers to each event of a script over memory."""
+    status, printed, messages = run(given='\n'.join(lines) + '\n')
+    assert status == 0, (lines, status, messages)
+    answers, left = [], iter(printed.split('\n')[:-1])
+    for line in left:
+        count = int(line[5:]) if line.startswith('rows ') else 0
+        answers.append('\n'.join([line] + [next(left) for _ in range(count)]))
+    assert len(answers) == len(lines), (lines, answers)
+    return answers
+
+
 def make_database(path, pages=256, admin='root', journal=False):
     done = run('format', path, '--pages', str(pages), '--admin', admin, *['--journal'] * journal)
     assert done == (0, 'ok FORMAT\n', ''), done

@@ -1,7 +1,8 @@
 #!/usr/bin/env python3
-"""Tries that what a tenant is told says nothing of what is hidden from it: tenants.py [--premises] [SEED [PAIRS]]
+"""Tries that what a tenant is told says nothing of what is hidden from it: tenants.py [--premises | --wrong] [SEED [PAIRS]]
 
-A tenant has two login roles and three sessions. Pairs of scripts are tried, PAIRS of each kind: their databases look the same to the
+Pairs of scripts are tried, PAIRS of each kind. In two kinds a single session watches, and what is hidden from it is found out by asking:
+asked_pairs.py has them. In the others a tenant has two login roles and three sessions. The databases of both scripts look the same to the
 tenant, and its own events are the same in both. They differ in rows that policies hide from each of its roles, in tables that none of
 them may read, and in columns that none of them may read, which are no part of the key and which no policy names; others do other
 things in them, which leave what the tenant may tell as it was; the tenant makes tables of its own, and grants; root defines things.
@@ -21,14 +22,20 @@ updates read        a table on which the tenant may only UPDATE is one that it m
 keys tell           a column of the key may be hidden
 policies tell       a column that a policy names may be hidden
 23505, 54000, 55P03 the code is no exception
+
+With --wrong each kind is tried over a wrong model of wrong_models.py, which tells something hidden; a difference is to be found, too.
+
+tenants.py --write FOLDER writes twelve short pairs of a single session with the answers of scripts/model.py, and tells how many answers
+agreed. Of these are the scripts two_worlds_N_one, two_worlds_N_other, others_N_one and others_N_other in crates/system_tests/data/.
 """
 import collections
 import concurrent.futures
 import sys
 
-from program import IS_FAKE
+from asked_pairs import ALONE, BESIDE_OTHERS, asked_pair, of_model, write
+from program import IS_FAKE, of_program
 from tenant_worlds import OTHER_SESSIONS, SESSIONS, TenantWorld, tells_by_count
-from two_worlds import of_program
+from wrong_models import WRONG, of_wrong_model
 
 KINDS = {
     'several sessions': {'rows'},
@@ -155,13 +162,14 @@ class Pair:
         codes -= set(self.without)
         return next((code for code in EXCEPTIONS if code in codes and 'refused ' + code in answers), None)
 
-    def compared(self):
-        """The first difference: what was asked, and both answers; None where there is none."""
-        told = [of_program(script.lines) for script in self.scripts]
-        for script, answers in zip(self.scripts, told):
-            for line, answer, of_model in zip(script.lines, answers, script.answers):
-                if answer != of_model:
-                    return line, answer, of_model + ' of the model'
+    def compared(self, wrong=None):
+        """The first difference: what was asked, and both answers; None where there is none. The answers are those of the wrong model of
+        this kind, or else of the program, which are the model's."""
+        told = [(of_wrong_model(wrong) if wrong else of_program)(script.lines) for script in self.scripts]
+        for script, answers in zip(self.scripts, [] if wrong else told):
+            for line, answer, right in zip(script.lines, answers, script.answers):
+                if answer != right:
+                    return line, answer, right + ' of the model'
         self.counts['pairs'] += 1
         for i, j in self.own:
             line, one, other = self.scripts[0].lines[i], told[0][i], told[1][j]
@@ -175,19 +183,28 @@ class Pair:
         return None
 
 
-def try_pair(seed, number, kind, without):
+def try_pair(seed, number, kind, without, wrong=None):
     """What was counted of a pair, and the difference with the scripts, or None."""
+    if kind in (ALONE, BESIDE_OTHERS):
+        return try_asked_pair(seed, number, kind, wrong)
     pair = Pair(seed, number, kind, without)
     if not pair.is_one():
         return collections.Counter(), None
     pair.grow()
-    difference = pair.compared()
+    difference = pair.compared(wrong)
     return pair.counts, difference and ([script.lines for script in pair.scripts], difference)
+
+
+def try_asked_pair(seed, number, kind, wrong):
+    """The same of a pair of a single session."""
+    asked = {'ask': of_model, 'answers': of_wrong_model(wrong)} if wrong else {}
+    scripts, counts, difference = asked_pair(seed, number, kind, **asked)
+    return counts, difference and (scripts, difference)
 
 
 # ---- families
 
-def try_family(seed, number, kind=None, without=()):
+def try_family(seed, number, kind=None, without=(), wrong=None):
     """Of worlds that look the same to a tenant: whether the answers of two are the same where the listed refusals are."""
     pair = Pair(seed, number, 'tables and columns', without)
     lists, differ = pair.world.alike(WORLDS)
@@ -198,7 +215,7 @@ def try_family(seed, number, kind=None, without=()):
     first, found = len(pair.world.script.lines), {}
     for lines in lists:
         whole = pair.world.script.lines + lines + own
-        answers = of_program(whole)[first + len(lines):]
+        answers = (of_wrong_model(wrong) if wrong else of_program)(whole)[first + len(lines):]
         pattern = tuple(answer if answer[8:] in EXCEPTIONS else None for answer in answers)
         other = found.setdefault(pattern, (answers, whole))
         if other[0] != answers:
@@ -209,25 +226,25 @@ def try_family(seed, number, kind=None, without=()):
 
 # ---- all of them
 
-def some(tried, seed, numbers, kind, without):
+def some(tried, seed, numbers, *how):
     counts = collections.Counter()
     for number in numbers:
-        counted, difference = tried(seed, number, kind, without)
+        counted, difference = tried(seed, number, *how)
         counts += counted
         if difference:
             return counts, difference
     return counts, None
 
 
-def try_kind(tried, seed, pairs, kind, without=()):
-    """Tries pairs until there were so many; what was counted, and the first difference."""
+def try_kind(tried, seed, pairs, kind, without=(), *wrong):
+    """Tries pairs until there were so many; what was counted, and the first difference. `wrong` names a wrong model, where it is one's."""
     counts, step, start = collections.Counter(), 10, 0
     with concurrent.futures.ProcessPoolExecutor() as pool:
         while counts['pairs'] < pairs:
             left = pairs - counts['pairs']
             ranges = [range(first, min(first + step, start + left)) for first in range(start, start + left, step)]
             start += left
-            for done in [pool.submit(some, tried, seed, numbers, kind, without) for numbers in ranges]:
+            for done in [pool.submit(some, tried, seed, numbers, kind, without, *wrong) for numbers in ranges]:
                 counted, difference = done.result()
                 counts += counted
                 if difference:
@@ -255,20 +272,32 @@ def needs(premise, seed, pairs):
     return bool(difference)
 
 
+def finds(kind, seed, pairs):
+    """Whether answers of the wrong model of a kind differ somewhere."""
+    tried = try_family if kind == 'families' else try_pair
+    counts, difference = try_kind(tried, seed, pairs, kind, (), kind)
+    print('%s, %s: %s after %d pairs' % (kind, WRONG[kind][0], 'a difference' if difference else 'no difference', counts['pairs']), flush=True)
+    return bool(difference)
+
+
 def main():
-    is_of_premises = sys.argv[1:2] == ['--premises']
-    words = sys.argv[1 + is_of_premises:]
+    word = sys.argv[1] if sys.argv[1:] and sys.argv[1].startswith('--') else None
+    words = sys.argv[2 if word else 1:]
+    if word == '--write':
+        write(*words)
+        return 0
     seed = words[0] if words else '1'
-    pairs = int(words[1]) if words[1:] else 2000 if is_of_premises else 20
-    if is_of_premises:
-        return 0 if all([needs(premise, seed, pairs) for premise in PREMISES]) else 1
-    passed = [tell(kind, *try_kind(try_pair, seed, pairs, kind)) for kind in KINDS]
+    pairs = int(words[1]) if words[1:] else 2000 if word else 20
+    if word:
+        tried = {'--premises': (needs, PREMISES), '--wrong': (finds, WRONG)}[word]
+        return 0 if all([tried[0](each, seed, pairs) for each in tried[1]]) else 1
+    passed = [tell(kind, *try_kind(try_pair, seed, pairs, kind)) for kind in [ALONE, BESIDE_OTHERS, *KINDS]]
     passed.append(tell('families', *try_kind(try_family, seed, max(pairs // 10, 1), None)))
     return 0 if all(passed) else 1
 
 
 if __name__ == '__main__':
     sys.setrecursionlimit(100000)
-    if IS_FAKE:
+    if IS_FAKE and sys.argv[1:2] not in (['--write'], ['--wrong']):
         sys.exit('GUARDDB is to name a program that runs scripts')
     sys.exit(main())

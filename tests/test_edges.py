@@ -8,6 +8,7 @@ nothing is tried.
 """
 import contextlib
 import os
+import random
 import re
 import resource
 import shlex
@@ -71,6 +72,26 @@ SESSIONS = [
     ('b', 'DROP ROLE eve', 'refused 42704'), ('b', 'DROP ROLE ann', 'refused 42501'), ('b', 'CREATE POLICY p ON t USING (true)', 'refused 42710'),
     ('b', 'CREATE POLICY q ON t USING (true)', 'refused 42501'), ('b', 'BEGIN', 'ok BEGIN'), ('b', 'SELECT k FROM t', 'rows 1\n1'),
     ('a', 'DROP TABLE t', 'ok DROP TABLE'), ('b', 'SELECT k FROM t', 'refused 42P01'), ('b', 'COMMIT', 'ok ROLLBACK'),
+]
+# Circles of grants, a role that is dropped under a session, and what fails first. The lines that open sessions are among them.
+FIRST = [
+    ('r', 'CREATE ROLE cid LOGIN', 'ok CREATE ROLE'), ('open c', 'cid', 'ok OPEN'), ('r', 'CREATE ROLE eve LOGIN', 'ok CREATE ROLE'), ('open e', 'eve', 'ok OPEN'),
+    ('r', 'DROP ROLE eve', 'ok DROP ROLE'), ('e', 'SELECT 1', 'refused 28000'),
+    ('a', 'CREATE TABLE w (k BIGINT PRIMARY KEY, x BIGINT, y BIGINT)', 'ok CREATE TABLE'),
+    ('a', 'INSERT INTO w VALUES (1, 9223372036854775807, 1), (2, 0, 1)', 'ok INSERT 2'),
+    ('a', 'SELECT x + 1 FROM w ORDER BY 1 / x', 'refused 22012'), ('a', 'SELECT x + 1 FROM w', 'refused 22003'),
+    ('a', 'GRANT SELECT ON w TO bob WITH GRANT OPTION', 'ok GRANT'), ('b', 'GRANT SELECT ON w TO cid WITH GRANT OPTION', 'ok GRANT'),
+    ('c', 'GRANT SELECT ON w TO bob', 'ok GRANT'), ('c', 'GRANT SELECT ON w TO bob WITH GRANT OPTION', 'ok GRANT'),
+    ('a', 'GRANT INSERT (y) ON w TO bob WITH GRANT OPTION', 'ok GRANT'), ('a', 'GRANT INSERT ON w TO cid', 'ok GRANT'),
+    ('b', 'GRANT ALL (k, y) ON w TO cid', 'ok GRANT'), ('a', 'ALTER TABLE w ENABLE ROW LEVEL SECURITY', 'ok ALTER TABLE'),
+    ('a', 'CREATE POLICY z ON w USING (1 / x = 1)', 'ok CREATE POLICY'),
+    ('a', 'CREATE POLICY a ON w AS RESTRICTIVE USING (9223372036854775807 + k > 0)', 'ok CREATE POLICY'), ('c', 'SELECT k FROM w WHERE k = 2', 'refused 22012'),
+    ('c', 'INSERT INTO w VALUES (3, 0, 0)', 'refused 22012'), ('a', 'CREATE POLICY m ON w USING (9223372036854775807 + k > 0)', 'ok CREATE POLICY'),
+    ('c', 'SELECT k FROM w', 'refused 22003'), ('c', 'INSERT INTO w VALUES (3, 0, 0)', 'refused 22003'),
+    ('a', 'CREATE TABLE v (k TEXT PRIMARY KEY, o TEXT)', 'ok CREATE TABLE'), ('a', f"INSERT INTO v VALUES ('{'k' * 200}', NULL)", 'refused 54000'),
+    ('a', f"INSERT INTO v VALUES ('k', '{'o' * 1198}')", 'refused 54000'),
+    ('a', 'INSERT INTO w VALUES ' + ', '.join(f'({k}, 0, 0)' for k in range(257)), 'refused 54000'),
+    ('a', 'CREATE TABLE z (' + ', '.join(f'c{number} BIGINT' for number in range(17)) + ', PRIMARY KEY (c0))', 'refused 54000'),
 ]
 
 
@@ -143,6 +164,28 @@ class Files(InAFolder):
         self.is_whole(self.db)
         self.assertIn('\n  bob   no', run('describe', self.db)[1])
 
+    def test_damaged_files_get_no_journal(self):
+        """Of 204 files that are altered at random `journal` refuses those that `check` refuses, for the same, and writes none of them."""
+        refused, r = 0, random.Random(1)
+        for journal in (False, True):
+            self.makes(FIVE, path=self.path(f'db{journal}'), journal=journal)
+            whole = self.read(self.path(f'db{journal}'))
+            used = [at for at, byte in enumerate(whole) if byte]
+            for number in range(102):
+                data = bytearray(whole)
+                for _ in range(r.choice((1, 1, 2))):
+                    data[r.choice(used)] ^= 1 << r.randrange(8)
+                self.write('db', bytes(data))
+                checked = run('check', self.db)
+                if checked[0] == 0:
+                    continue
+                refused += 1
+                for word in ('on', 'off'):
+                    with self.subTest(journal=journal, number=number, word=word):
+                        self.fault(run('journal', self.db, word), checked[2].split('\n')[0].removeprefix('guarddb: '))
+                        self.assertEqual(self.read(self.db), data)
+        self.assertLess(50, refused)
+
     def test_a_bit_of_a_root_drops_a_journal(self):
         """docs/reliability.md, "One altered bit of a root": nothing says so."""
         self.makes(FOUR, journal=True)
@@ -185,6 +228,35 @@ class Files(InAFolder):
         for words, limit in [(('run', self.db, script), PAGE), (('journal', self.db, 'on'), 2 * SECTOR)]:
             self.assertEqual(limited(*words, RLIMIT_FSIZE=limit)[0], -signal.SIGXFSZ, words)
             self.is_whole(self.db)
+
+    def test_a_format_that_is_interrupted(self):
+        """FILE stays as far as it was written, and the next `format` does not replace it."""
+        words = ['format', self.db, '--pages', '65536', '--admin', 'root']
+        for number in (signal.SIGINT, signal.SIGKILL):
+            process = subprocess.Popen([PROGRAM, *words], stdout=subprocess.PIPE, stderr=subprocess.DEVNULL)
+            end = time.monotonic() + PATIENCE
+            while not (os.path.exists(self.db) and os.path.getsize(self.db)) and time.monotonic() < end:
+                time.sleep(0.001)
+            process.send_signal(number)
+            if process.communicate(timeout=PATIENCE)[0] == b'':        # else it was whole before the signal came
+                self.assertEqual(process.returncode, -number)
+                self.assertRegex(run('check', self.db)[2], r'\Aguarddb: (NotADatabase|WrongSize)\n')
+            self.fault(run(*words), 'Exists')
+            os.remove(self.db)
+
+    @unittest.skipUnless(HAS_STRACE, 'there is no strace')
+    def test_an_output_that_fails_once(self):
+        """Each command that has done its work says so where the second attempt gets through, and ends with `Output`."""
+        self.makes(FIVE)
+        for words, answer in [(('format', self.path('new'), '--pages', '64', '--admin', 'root'), 'ok FORMAT\n'), (('check', self.db), 'ok CHECK\n'),
+                              (('copy', self.db, self.path('copy'), '--pages', '64'), 'ok COPY\n'), (('journal', self.db, 'on'), 'ok JOURNAL\n')]:
+            with self.subTest(words[0]):
+                traced = ['strace', '-f', '-o', '/dev/null', '-e', 'inject=write:error=EIO:when=1', PROGRAM, *words]
+                done = subprocess.run(traced, capture_output=True, text=True, timeout=PATIENCE)
+                self.assertEqual((done.returncode, done.stderr.split('\n')[0]), (1, 'guarddb: Output'))
+                self.assertIn(done.stdout, ('', answer))
+        for path in (self.db, self.path('new'), self.path('copy')):
+            self.is_whole(path)
 
     def test_little_stack(self):
         """docs/reliability.md, "Memory": 1 MiB is enough for each statement, and for a policy of that depth."""
@@ -316,12 +388,12 @@ class Serving(InAFolder):
 class Pages(InAFolder):
     def test_differences_from_postgresql(self):
         """Each statement is on the page, or is one of its kind, and is answered as the page says."""
-        lines = DIFFERENCES + SESSIONS
+        lines = DIFFERENCES + SESSIONS + FIRST
         script = ROLES + ('r: CREATE ROLE team\nopen a ann\nopen b bob\n'
                           'a: CREATE TABLE t (k BIGINT PRIMARY KEY, x BIGINT, s BOOLEAN, o TEXT)\n')
         begun = ''.join('ok OPEN\n' if line.startswith('open') else 'ok CREATE ROLE\n' if ' ROLE ' in line else 'ok CREATE TABLE\n'
                         for line in script.splitlines())
-        told = run('run', '--memory', 'root', self.write('script', script + ''.join(f'{name}: {text}\n' for name, text, _ in lines)))
+        told = run('run', '--memory', 'root', self.write('script', script + ''.join(f'{name} {text}\n' if ' ' in name else f'{name}: {text}\n' for name, text, _ in lines)))
         self.assertEqual((told[0], told[2]), (0, ''))
         answers, at = told[1].removeprefix(begun).split('\n'), 0
         for _, text, expected in lines:
@@ -329,6 +401,38 @@ class Pages(InAFolder):
             self.assertEqual((text, '\n'.join(answers[at:at + count])), (text, expected))
             at += count
         self.assertEqual(answers[at:], [''])
+
+    def processor_time(self, lines):
+        """The seconds of processor time that a script over memory takes, the least of two."""
+        script, spent = self.write('script', '\n'.join(lines) + '\n'), []
+        for _ in range(2):
+            before = resource.getrusage(resource.RUSAGE_CHILDREN)
+            status, answers, messages = run('run', '--memory', 'root', script)
+            after = resource.getrusage(resource.RUSAGE_CHILDREN)
+            self.assertEqual((status, messages, 'refused' in answers), (0, '', False))
+            spent.append(after.ru_utime + after.ru_stime - before.ru_utime - before.ru_stime)
+        return min(spent)
+
+    def test_policies_bound(self):
+        """docs/sql.md, "Row policies": with the tenant first in the key a tenant's statements read its rows alone, and the time of a
+        question for another one's does not tell how many they are."""
+        lines = ['open r root', 'r: CREATE ROLE ann LOGIN', 'r: CREATE ROLE crew', 'r: GRANT crew TO ann',
+                 'r: CREATE TABLE t (tenant TEXT, k BIGINT, x BIGINT, PRIMARY KEY (tenant, k))', 'r: GRANT ALL ON t TO crew', 'r: BEGIN']
+        for tenant, count in [('ann', 20), ('bob', 20000)]:
+            lines += [f'r: INSERT INTO t VALUES {", ".join(str((tenant, k, k)) for k in range(first, min(first + 200, count)))}'
+                      for first in range(0, count, 200)]
+        lines += ['r: COMMIT', 'r: ALTER TABLE t ENABLE ROW LEVEL SECURITY', 'r: CREATE POLICY own ON t TO crew USING (%s)', 'open a ann']
+        asked = ['SELECT count(*) FROM t', 'SELECT x FROM t WHERE k = 5', 'UPDATE t SET x = x + 1 WHERE k = 5', 'DELETE FROM t WHERE k = 777',
+                 'SELECT p.x FROM t p JOIN t q ON p.k = q.x LIMIT 1', "SELECT count(*) FROM t WHERE tenant = 'bob'", "SELECT count(*) FROM t WHERE tenant = 'cid'"]
+        for policy, statements in [('tenant = current_user', asked), ("tenant = session_user AND k >= 0", asked[:1]), ("MEMBER OF tenant AND tenant < 'b'", asked[:1]),
+                                   ("tenant = 'ann' OR current_user = 'root'", asked[:1])]:
+            begun = [line % policy if 'POLICY own' in line else line for line in lines]
+            base = self.processor_time(begun)
+            for text in statements:
+                with self.subTest(policy, text=text):
+                    self.assertLess(self.processor_time([*begun, *[f'a: {text}'] * 100]) - base, 0.1)       # a walk over all takes 0.3 and more
+        begun = [line % '1 / (k + 1) >= 0 AND tenant = current_user' if 'POLICY own' in line else line for line in lines]
+        self.assertLess(0.1, self.processor_time([*begun, *['a: SELECT count(*) FROM t'] * 100]) - self.processor_time(begun))
 
     def commands(self):
         """The commands of README.md over files and sockets: those of the first terminal, and those of the second."""

@@ -1,6 +1,6 @@
 """Random scripts whose database hides rows from a session, which watches: bob's.
 
-A World makes the definitions, some rows, and events of bob and of others. Which rows are hidden it does not know: two_worlds.py
+A World makes the definitions, some rows, and events of bob and of others. Which rows are hidden it does not know: asked_pairs.py
 asks. The same seed makes the same world.
 """
 import random

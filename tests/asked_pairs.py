@@ -1,61 +1,42 @@
-#!/usr/bin/env python3
-"""Tries that what a session is answered says nothing of rows that policies hide from it: two_worlds.py [SEED [PAIRS]]
+"""Pairs of scripts of one session, bob's, in which what is hidden from it is found out by asking, and not by the model: for tests/tenants.py.
 
-Bob's session watches. What he may see is found out by asking: as bob, under each role that he may set, each row is asked for by
-its key, alone in its table, and it is seen whether the guards of SELECT, UPDATE and DELETE fail on it. Two kinds of pairs are
-tried, PAIRS of each:
+As bob, under each role that he may set, each row is asked for by its key, alone in its table, and it is seen whether the guards of SELECT,
+UPDATE and DELETE fail on it. There are two kinds of pairs:
 
-- two worlds: the same definitions, and databases that differ only in rows that are hidden from all roles that bob may set, and
-  on which no guard fails. Then come bob's events.
-- others: one script has events of other sessions between bob's, each of which leaves what his roles see as it was; the other
-  script has bob's events alone.
+- one session: the same definitions, and databases that differ only in rows that are hidden from all roles that bob may set, and on which
+  no guard fails. Then come bob's events.
+- one session beside others: one script has events of other sessions between bob's, each of which leaves what his roles see as it was; the
+  other script has bob's events alone.
 
-Bob's answers must be the same in both scripts, up to the first event that one alone answers 23505, and that others hold the slot
-against (55P03). Policies are of every kind, or FOR ALL without WITH CHECK, or these over columns of the key alone: then there is
-no exception for 23505. A third of the pairs is of each. Bob's UPDATE and DELETE read a column where policies are of every kind.
-
-A line for each kind says how many pairs and events there were. Where answers differ, both scripts are printed, with the first
-difference, and the status is 1.
-
-two_worlds.py --write FOLDER writes twelve short pairs with the answers of scripts/model.py, and tells how many answers agreed.
+Bob's answers must be the same in both scripts, up to the first event that one alone answers 23505, and that others hold the slot against
+(55P03). Policies are of every kind, or FOR ALL without WITH CHECK, or these over columns of the key alone: then there is no exception for
+23505. A third of the pairs is of each. Bob's UPDATE and DELETE read a column where policies are of every kind.
 """
 import collections
-import concurrent.futures
 import os
-import sys
 
-from program import IS_FAKE, TOP, run
+from program import of_program
+from tenant_worlds import model
 from world_scripts import ANY, FOR_ALL, LETTERS, OF_KEYS, OTHERS, ROLES, World
 
 POLICIES = [ANY, FOR_ALL, OF_KEYS]
 FAILURES = ('refused 22003', 'refused 22012')
-
-
-def of_program(lines):
-    """What the program answers to each event of a script."""
-    status, printed, messages = run(given='\n'.join(lines) + '\n')
-    assert status == 0, (lines, status, messages)
-    answers, left = [], iter(printed.split('\n')[:-1])
-    for line in left:
-        count = int(line[5:]) if line.startswith('rows ') else 0
-        answers.append('\n'.join([line] + [next(left) for _ in range(count)]))
-    assert len(answers) == len(lines), (lines, answers)
-    return answers
+ALONE, BESIDE_OTHERS = 'one session', 'one session beside others'
+# What a kind is called where its worlds are made: the scripts in crates/system_tests/data/ were made under these names.
+NAMES = {ALONE: 'two worlds', BESIDE_OTHERS: 'others'}
 
 
 def of_model(lines):
-    sys.path.insert(0, os.path.join(TOP, 'scripts'))
-    import model
     return model.run('\n'.join(lines))
 
 
-class Comparison:
+class AskedPair:
     """A world, and what is asked of it."""
 
     def __init__(self, seed, number, kind, ask, events):
         self.policies = POLICIES[number % 3]
         self.ask, self.kind, self.events = ask, kind, events
-        self.world = World('%s %s %s' % (seed, kind, number), self.policies, kind == 'others')
+        self.world = World('%s %s %s' % (seed, NAMES[kind], number), self.policies, kind == BESIDE_OTHERS)
         self.definitions = list(self.world.definitions())
         self.may_ask = ['r: GRANT ALL ON %s TO PUBLIC' % table.name for table in self.world.tables]
         self.roles = self.settable()
@@ -101,7 +82,10 @@ class Comparison:
 
     # ---- the scripts
 
-    def two_worlds(self):
+    def scripts(self):
+        return self.alone() if self.kind == ALONE else self.beside_others()
+
+    def alone(self):
         """The lines of both scripts, where their databases differ, and from where on bob's events stand."""
         one, other = [], []
         for (name, _), rows in self.hidden_rows().items():
@@ -115,7 +99,7 @@ class Comparison:
         events = ['open b bob'] + [self.world.watched(self.roles) for _ in range(self.events)]
         return None if one == other else (self.definitions + one + events, self.definitions + other + events)
 
-    def others(self):
+    def beside_others(self):
         """The lines of a script with events of others, and of one without."""
         lines = self.definitions + ['r: GRANT SELECT ON %s TO PUBLIC' % table.name for table in self.world.tables]
         names, sure = [name for name in OTHERS if name not in self.roles], []
@@ -164,73 +148,29 @@ class Comparison:
         """By which code the answers may differ from here on, or None."""
         if '23505' in one + other and self.policies != OF_KEYS:
             return '23505'
-        return '55P03' if self.kind == 'others' and one == 'refused 55P03' else None
+        return '55P03' if self.kind == BESIDE_OTHERS and one == 'refused 55P03' else None
 
-    def compared(self, scripts):
-        """What was counted, and the first difference or None."""
-        told = []
-        for lines in scripts:
-            told.append([(line, answer) for line, answer in zip(lines, self.ask(lines)) if line.startswith('b: ')])
-        counts = collections.Counter({'pairs': 1, self.policies: 1})
+    def compared(self, scripts, answers):
+        """What was counted, and the first difference between the answers to both scripts, or None."""
+        told = [[(line, answer) for line, answer in zip(lines, answers(lines)) if line.startswith('b: ')] for lines in scripts]
+        counts = collections.Counter({'pairs': 1, 'pairs with policies ' + self.policies: 1})
         for (line, one), (_, other) in zip(*told):
             if one != other:
                 code = self.exception(one, other)
-                counts['ended by ' + (code or 'a difference')] += 1
+                counts['parted by ' + (code or 'a difference')] += 1
                 return counts, None if code else (line, one, other)
-            counts['statements'] += 1
+            counts['own answers'] += 1
             counts['refused'] += one.startswith('refused')
             counts['of rows'] += one.startswith('rows ') and not one.startswith('rows 0')
             counts['changes'] += one[:9] in ('ok INSERT', 'ok UPDATE', 'ok DELETE') and not one.endswith(' 0')
         return counts, None
 
 
-def pair(seed, number, kind, ask=of_program, events=24):
-    """The two scripts of a number, or None where nothing is hidden, and what their answers come to."""
-    comparison = Comparison(seed, number, kind, ask, events)
-    scripts = comparison.two_worlds() if kind == 'two worlds' else comparison.others()
-    return scripts, *(comparison.compared(scripts) if scripts else (collections.Counter(), None))
-
-
-def some_pairs(seed, numbers, kind):
-    """What these numbers come to, with the first pair that differs."""
-    counts = collections.Counter()
-    for number in numbers:
-        scripts, counted, difference = pair(seed, number, kind)
-        counts += counted
-        if difference:
-            return counts, (scripts, difference)
-    return counts, None
-
-
-def summed(kind, counts):
-    order = ['statements', 'refused', 'of rows', 'changes', 'ended by 23505', 'ended by 55P03']
-    policies = ', '.join('%d with policies %s' % (counts[what], what) for what in POLICIES)
-    return '%s: %d pairs, %s, %s' % (kind, counts['pairs'], policies, ', '.join('%s: %d' % (what, counts[what]) for what in order))
-
-
-def tell(scripts, difference):
-    for title, lines in zip(('ONE', 'OTHER'), scripts):
-        print('\n'.join(['# ' + title, *lines]))
-    print('%s\nis answered\n%s\nand\n%s' % difference)
-
-
-def try_pairs(seed, pairs, kind):
-    """Tries pairs until so many had hidden rows; whether all were answered alike."""
-    counts, step, start = collections.Counter(), 25, 0
-    with concurrent.futures.ProcessPoolExecutor() as pool:
-        while counts['pairs'] < pairs:
-            left = pairs - counts['pairs']
-            ends = range(start, start + left, step)
-            tried = [pool.submit(some_pairs, seed, range(first, min(first + step, start + left)), kind) for first in ends]
-            start += left
-            for counted, found in (one.result() for one in tried):
-                counts += counted
-                if found:
-                    pool.shutdown(cancel_futures=True)
-                    tell(*found)
-                    return False
-    print(summed(kind, counts))
-    return True
+def asked_pair(seed, number, kind, ask=of_program, events=24, answers=None):
+    """The two scripts of a number, or None where nothing is hidden, and what their answers come to. What is hidden is found out by `ask`."""
+    pair = AskedPair(seed, number, kind, ask, events)
+    scripts = pair.scripts()
+    return scripts, *(pair.compared(scripts, answers or ask) if scripts else (collections.Counter(), None))
 
 
 def written(lines, about, path):
@@ -241,31 +181,20 @@ def written(lines, about, path):
 
 
 def write(folder, seed='1'):
-    """Writes short pairs with the model's answers."""
-    about = {'two worlds': 'The same definitions, and other rows that are hidden from bob: he is answered as in %s, up to 23505.',
-             'others': 'Events of others %s: bob is answered as in %s, up to 23505 and 55P03.'}
+    """Writes six short pairs of each kind with the model's answers, as they lie in crates/system_tests/data/."""
+    about = {ALONE: 'The same definitions, and other rows that are hidden from bob: he is answered as in %s, up to 23505.',
+             BESIDE_OTHERS: 'Events of others %s: bob is answered as in %s, up to 23505 and 55P03.'}
     for kind in about:
         made, number = 0, 0
         while made < 6:
-            scripts, counts, difference = pair(seed, number, kind, of_model, 14)
+            scripts, counts, difference = asked_pair(seed, number, kind, of_model, 14)
             number += 1
             assert not difference, (scripts, difference)
-            if counts['statements'] < 14 or counts['of rows'] < 2 or counts['changes'] < 2 or POLICIES[made % 3] not in counts:
+            if counts['own answers'] < 14 or counts['of rows'] < 2 or counts['changes'] < 2 \
+                    or 'pairs with policies ' + POLICIES[made % 3] not in counts:
                 continue
             made += 1
-            names = ['%s_%d_%s' % (kind.replace(' ', '_'), made, part) for part in ('one', 'other')]
+            names = ['%s_%d_%s' % (NAMES[kind].replace(' ', '_'), made, part) for part in ('one', 'other')]
             for name, twin, lines, has in zip(names, reversed(names), scripts, ('stand between bob\'s', 'are left out')):
-                written(lines, about[kind] % ((twin,) if kind == 'two worlds' else (has, twin)), os.path.join(folder, name))
-            print('%s: %d answers to bob are the same' % (names[0][:-4], counts['statements']))
-
-
-if __name__ == '__main__':
-    sys.setrecursionlimit(100000)
-    words = sys.argv[1:]
-    if words[:1] == ['--write']:
-        write(*words[1:])
-    elif IS_FAKE:
-        sys.exit('GUARDDB is to name a program that runs scripts')
-    else:
-        seed, pairs = words[0] if words else '1', int(words[1]) if words[1:] else 10000
-        sys.exit(0 if all([try_pairs(seed, pairs, kind) for kind in ('two worlds', 'others')]) else 1)
+                written(lines, about[kind] % ((twin,) if kind == ALONE else (has, twin)), os.path.join(folder, name))
+            print('%s: %d answers to bob are the same' % (names[0][:-4], counts['own answers']))

@@ -1,0 +1,86 @@
+#!/usr/bin/env python3
+"""What remains after a sync that failed, and a power failure behind it: python3 tests/test_failed_syncs.py
+
+Once a sync has failed Linux counts the pages as clean: whoever reads the file finds them, the next sync succeeds, and they are not on the
+medium. tests/failing_disk.c does that to one file. Each sync of a run fails in turn; another run follows, and then the power fails, so
+that the file is what the medium has. What was answered by then is there. The library is compiled by `cc`; where there is none this is left
+out, and a line says so. The program is the one in the environment variable GUARDDB; without it nothing is tried.
+"""
+import os
+import shutil
+import subprocess
+import tempfile
+import unittest
+
+from program import IS_FAKE, PROGRAM, TESTS, make_database, run
+
+COMPILER = shutil.which('cc')
+SETUP = 'open r root\nr: CREATE TABLE t (k BIGINT PRIMARY KEY, x TEXT)\n'
+ROWS = 5
+
+
+def inserts(first, count):
+    return 'open r root\n' + ''.join(f"r: INSERT INTO t VALUES ({k}, '{'x' * 300}')\n" for k in range(first, first + count))
+
+
+@unittest.skipIf(IS_FAKE, 'GUARDDB names no program')
+@unittest.skipUnless(COMPILER, 'there is no cc: syncs that fail are left out')
+class FailedSyncs(unittest.TestCase):
+    @classmethod
+    def setUpClass(cls):
+        cls.folder = tempfile.mkdtemp(prefix='guarddb-')
+        cls.addClassCleanup(shutil.rmtree, cls.folder)
+        cls.library = os.path.join(cls.folder, 'failing_disk.so')
+        subprocess.run([COMPILER, '-O1', '-shared', '-fPIC', '-o', cls.library, os.path.join(TESTS, 'failing_disk.c'), '-ldl'], check=True)
+        cls.db, cls.medium = os.path.join(cls.folder, 'db'), os.path.join(cls.folder, 'medium')
+
+    def make(self, journal):
+        """A database with an empty table, all of it on the medium."""
+        for path in (self.db, self.medium, self.medium + '.dirty'):
+            if os.path.exists(path):
+                os.remove(path)
+        make_database(self.db, pages=128, journal=journal)
+        self.assertEqual(run('run', self.db, '/dev/stdin', given=SETUP)[0], 0)
+        shutil.copy(self.db, self.medium)
+
+    def run_on_disk(self, script, fails=0):
+        """The answers to a script, where this sync fails, or none."""
+        place = {'LD_PRELOAD': self.library, 'DISK_FILE': self.db, 'DISK_MEDIUM': self.medium, 'DISK_FAILS': str(fails)}
+        done = subprocess.run([PROGRAM, 'run', self.db, '/dev/stdin'], input=script.encode(), capture_output=True, env=os.environ | place, check=False)
+        return done.stdout.decode().splitlines()
+
+    def fail_power(self):
+        shutil.copy(self.medium, self.db)
+        open(self.medium + '.dirty', 'wb').close()
+
+    def keys(self):
+        """The keys in the file, and that it is whole."""
+        self.assertEqual(run('check', self.db), (0, 'ok CHECK\n', ''))
+        status, printed, _ = run('run', self.db, '/dev/stdin', given='open r root\nr: SELECT k FROM t\n')
+        self.assertEqual(status, 0)
+        return {int(line) for line in printed.splitlines()[2:]}
+
+    def told(self, answers, first):
+        """The keys whose INSERT was answered by ok; the first answer is that of the session."""
+        return {first + at for at, answer in enumerate(answers[1:]) if answer == 'ok INSERT 1'}
+
+    def test_what_was_answered_is_there(self):
+        """Each sync of a run fails in turn. Then the power fails: at once, or after another run that reads, or that writes."""
+        for journal in (False, True):
+            for fails in range(1, 30):
+                for then in (None, 'open r root\nr: SELECT count(*) FROM t\n', inserts(100, 2), inserts(100, 9)):
+                    with self.subTest(journal=journal, fails=fails, then=then):
+                        self.make(journal)
+                        first = self.run_on_disk(inserts(1, ROWS), fails)
+                        kept = self.told(first, 1)
+                        if then:
+                            kept |= self.told(self.run_on_disk(then), 100)
+                        self.fail_power()
+                        self.assertLessEqual(kept, self.keys())
+                if 'refused 58030' not in first and first:
+                    break
+            self.assertGreater(fails, 4)
+
+
+if __name__ == '__main__':
+    unittest.main()
