@@ -106,6 +106,7 @@ class Place:
     def __init__(self, name, program, timeout):
         self.name, self.program, self.timeout = name, program, timeout
         self.server = self.folder = self.messages = None
+        self.begun = ''         # of a message that is not yet there to its end
         self.is_port = re.fullmatch('[0-9]{1,5}', name) is not None
         self.is_file = not self.is_port and not stat.S_ISSOCK(self.mode())
 
@@ -139,12 +140,12 @@ class Place:
                                                start_new_session=True)
         except OSError as fault:
             raise Fault(CONNECTION, f'{self.program} cannot be started: {cause(fault)}.') from None
-        self.messages, is_in_use = open(messages, encoding='utf-8', errors='replace'), False
+        self.messages, self.begun, is_in_use = open(messages, encoding='utf-8', errors='replace'), '', False
         while self.server.poll() is None:
             is_in_use |= 'guarddb: InUse' in self.tell_messages()
             with contextlib.suppress(ConnectionRefusedError, FileNotFoundError):
                 return guarddb.connect(path, wait=0.2, timeout=self.timeout)
-        is_in_use |= 'guarddb: InUse' in self.tell_messages()
+        is_in_use |= 'guarddb: InUse' in self.tell_messages(at_end=True)
         hint = ': another program has it open. If that is a server, give its port or its socket' if is_in_use else ''
         raise Fault(CONNECTION, f'No server could be started over {self.name}{hint}.')
 
@@ -164,9 +165,11 @@ class Place:
             if copy and os.path.exists(copy):
                 os.remove(copy)
 
-    def tell_messages(self):
-        """Prints the server's new messages, except those of an ordinary start and end."""
-        lines = self.messages.read().split('\n')
+    def tell_messages(self, at_end=False):
+        """Prints the server's new messages, except those of an ordinary start and end: whole lines, and at its end what is left of one."""
+        *lines, self.begun = (self.begun + self.messages.read()).split('\n')
+        if at_end:
+            lines, self.begun = [*lines, self.begun], ''
         for line in lines:
             if line and not line.startswith(('guarddb: listening', 'guarddb: done')):
                 warn(line)
@@ -188,7 +191,7 @@ class Place:
             os.killpg(self.server.pid, signal.SIGKILL)
             self.server.wait()
         if self.messages:
-            self.tell_messages()
+            self.tell_messages(at_end=True)
             self.messages.close()
         if self.folder:
             shutil.rmtree(self.folder, ignore_errors=True)

@@ -6,6 +6,7 @@ of the program in the environment variable GUARDDB, or else fake_guarddb.py.
 """
 import contextlib
 import fcntl
+import io
 import os
 import pty
 import random
@@ -30,6 +31,7 @@ import shell_display
 import shell_help
 import shell_hints
 from shell import Shell
+from shell_place import Place
 
 SHELL = os.path.join(TOP, 'clients', 'shell.py')
 PATIENCE = 300      # seconds that a test waits for what is to come, which on a busy machine takes long
@@ -334,6 +336,19 @@ class Texts(unittest.TestCase):
         with open(os.path.join(TOP, 'docs', 'sql.md'), encoding='utf-8') as file:
             refusals = re.search(r'\| Refusal \| Meaning \|\n(.*?)\n\n', file.read(), re.S)[1]
         self.assertEqual({*shell_help.ADVICE, '08002', '08P01'}, set(re.findall(r'^\| (\w{5}) \|', refusals, re.M)))
+
+
+    def test_messages_that_come_in_pieces(self):
+        """What a server tells is looked at a line at a time, however it comes."""
+        place, err = Place('5433', 'guarddb', None), io.StringIO()
+        with contextlib.redirect_stderr(err):
+            for piece in ('guarddb: list', 'ening on /tmp/a\nguarddb: no', ' memory\nguarddb: In', 'Use'):
+                place.messages = io.StringIO(piece)
+                place.tell_messages()
+            self.assertEqual(err.getvalue(), 'guarddb: no memory\n')
+            place.messages = io.StringIO()
+            place.tell_messages(at_end=True)
+        self.assertEqual(err.getvalue(), 'guarddb: no memory\nguarddb: InUse\n')
 
 
 class InAFolder(unittest.TestCase):
