@@ -2,6 +2,7 @@
 import contextlib
 import os
 import random
+import signal
 import socket
 import subprocess
 import sys
@@ -14,6 +15,11 @@ IS_FAKE = not os.environ.get('GUARDDB')
 sys.stderr.write(f'The program is {PROGRAM}{", since GUARDDB names none" if IS_FAKE else ""}.\n')
 
 sys.path.insert(0, os.path.join(TOP, 'clients'))
+
+# What is started in the background of a script ignores Ctrl-C, and what that starts would, too; what is handled here it does not.
+for ignored in (signal.SIGHUP, signal.SIGINT, signal.SIGQUIT):
+    if signal.getsignal(ignored) is signal.SIG_IGN:
+        signal.signal(ignored, lambda number, frame: None)
 
 
 def run(*words, given=''):
