@@ -4,7 +4,6 @@ use Rattle.sector_device.specs.Timeline.{IsPresent}
 use Rattle.sql_types.specs.declared.answer.Answer.{Answer}
 use Rattle.sql_types.specs.declared.answer.Answer.TheVariants.{Refused}
 use Rattle.sql_types.specs.declared.event.Event.{Event}
-use Rattle.sql_types.specs.declared.state.SqlState.{SqlState}
 use Rattle.sql_types.specs.declared.state.SqlState.TheVariants.{OutOfMemory, DiskFull, ProgramLimitExceeded, IoError, SyntaxError}
 use Rattle.store.specs.declared.fault.StoreFault.{StoreFault}
 use Rattle.store.specs.declared.fault.StoreFault.TheVariants.{Memory, Full, Number, Device}

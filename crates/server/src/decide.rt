@@ -9,7 +9,7 @@ ghost use Rattle.abstract_database.specs.Machine.{Holder, executes, number_in};
 ghost use Rattle.abstract_database.specs.Runs.{TheText, ReadingRelation};
 ghost use Rattle.server.specs.Standing.{HolderShows, HoldsInBlock, event_of};
 ghost use Rattle.server.specs.Decisions.{DecidesAt, machine_at};
-ghost use Rattle.server.specs.LockedOut.{TellsLockedOut};
+ghost use Rattle.server.specs.LockedOut.{TellsLockedOut, TellsAsking};
 
 use crate::decision::Decision;
 use crate::session::Session;
@@ -90,5 +90,22 @@ pub trait EventHandler {
             → HolderShows records context.entry.catalogue.now context.entry.writer.now holder
             → HoldsInBlock holder context.entry.sessions.now.entries
             → TellsLockedOut Reads (machine_at db holder context.entry.sessions.now.entries)
+            (event_of client event.now) result };
+
+    /// Whether an event of a client is a statement that changes the database and that the machine lets
+    /// its session execute, while nobody holds the writer lock. The only error is that an allocation
+    /// failed, and it comes only for a statement in an open session while nobody holds the writer lock.
+    fn asks_for_lock(
+        &self,
+        alloc: Global,
+        context: Context<'_>,
+        client: u32,
+        event: &Event,
+    ) -> Result<bool, AllocError>
+        ensures tells { (records : Records) (db : Database) (holder : Option Holder)
+            → Shows records context.entry.catalogue.now db
+            → HolderShows records context.entry.catalogue.now context.entry.writer.now holder
+            → HoldsInBlock holder context.entry.sessions.now.entries
+            → TellsAsking Reads (machine_at db holder context.entry.sessions.now.entries)
             (event_of client event.now) result };
 }

@@ -1,12 +1,15 @@
 //! What a server tells of itself, and the end of a client's sessions.
 
-ghost use Rattle.std.specs.Prelude.{◌≡◌, Option, None, Ok, true, false};
+ghost use Rattle.std.specs.Prelude.{◌≡◌, ◌&&◌, Option, None, Ok, true, false};
+ghost use Rattle.std.specs.List.{list_any};
 ghost use Rattle.std.specs.Option.{option_map};
 ghost use Rattle.store.specs.Store.{KeepsHistory};
+ghost use Rattle.abstract_database.specs.Database.{is_role_named};
 ghost use Rattle.abstract_database.specs.Machine.{number_in, session_of};
+ghost use Rattle.abstract_database.specs.Roles.{is_superuser as is_superuser_of};
 ghost use Rattle.abstract_database.specs.Runs.{At};
 ghost use Rattle.server.specs.Clients.{client_session, HasNoneOpen, ClosesNext};
-ghost use Rattle.server.specs.LockedOut.{TellsLockedOut};
+ghost use Rattle.server.specs.LockedOut.{TellsLockedOut, TellsAsking};
 ghost use Rattle.server.specs.Session.{block_state};
 ghost use Rattle.server.specs.Standing.{Represents, event_of};
 
@@ -14,6 +17,7 @@ use crate::decide::{Context, EventHandler};
 use crate::numbers::{ClientSession, client_session, number_in};
 use crate::server::Server;
 use crate::session::BlockState;
+use sql_ast::role::Role;
 use sql_types::event::Event;
 use std::alloc::AllocError;
 use store::Store;
@@ -65,6 +69,34 @@ impl<S: Store, X: EventHandler> Server<S, X> {
             .is_locked_out(self.alloc, context, client, event)
     }
 
+    /// Whether an event of this client asks for the writer lock, which nobody holds: it is a statement
+    /// that changes the database, and its session may execute it. The only error is that an allocation
+    /// failed. It comes only for a statement in an open session while nobody holds the writer lock.
+    pub fn asks_for_lock(&self, client: u32, event: &Event) -> Result<bool, AllocError>
+        ensures stopped { self.now.stopped ≡ true → result ≡ Ok false }
+        ensures tells { (w : At) → Represents S.state self.now w
+            → TellsAsking X.Reads w.standing.machine (event_of client event.now) result }
+    {
+        if self.stopped {
+            return Ok(false);
+        }
+        let context = Context {
+            catalogue: &self.catalogue,
+            writer: &self.writer,
+            sessions: &self.sessions,
+        };
+        self.handler
+            .asks_for_lock(self.alloc, context, client, event)
+    }
+
+    /// Whether the role of this name is a superuser in the committed database. It looks at each role.
+    pub fn is_superuser(&self, role: &str) -> bool
+        ensures { self.now.stopped ≡ false → (w : At) → Represents S.state self.now w
+            → result ≡ is_superuser_of w.standing.machine.committed role.now }
+    {
+        has_superuser(self.catalogue.roles(), role)
+    }
+
     /// Closes the first session that this client has open, in the order of opening, and tells whether
     /// it did. `false` only where the client has none open, or the server has stopped, which closes
     /// none.
@@ -85,4 +117,12 @@ impl<S: Store, X: EventHandler> Server<S, X> {
         let _answer = self.step(client, &Event::Close { session });
         true
     }
+}
+
+// Whether a role of this name among these is a superuser.
+fn has_superuser(roles: &[Role], name: &str) -> bool
+    ensures { result ≡ list_any (λ role. is_role_named name.now role && role.attributes.superuser)
+        roles.now }
+{
+    roles.iter().any(|role| role.name.as_str() == name && role.attributes.superuser)
 }

@@ -11,6 +11,7 @@ pub mod Deciding
 pub mod SeenDefinitions
 pub mod WriterLock
 pub mod LockedOut
+pub mod Asking
 pub mod Serving
 pub mod Executing
 pub mod TwoServers

@@ -22,19 +22,19 @@ use Rattle.sessions.specs.Writers.{is_slot_of_other}
 use Rattle.sessions.proofs.Deciding.{is_short}
 use Rattle.sessions.proofs.SeenDefinitions.{held_by_other}
 
-true_is_not_false : true ≡ false → ⊥
+pub true_is_not_false : true ≡ false → ⊥
 true_is_not_false is = cc
 
-none_is_not_some : {A : Type 0} (x : A) → ◌≡◌ {A = Option A} None (Some x) → ⊥
+pub none_is_not_some : {A : Type 0} (x : A) → ◌≡◌ {A = Option A} None (Some x) → ⊥
 none_is_not_some x is = cc
 
-some_inside : {A : Type 0} (x y : A) → ◌≡◌ {A = Option A} (Some x) (Some y) → x ≡ y
+pub some_inside : {A : Type 0} (x y : A) → ◌≡◌ {A = Option A} (Some x) (Some y) → x ≡ y
 some_inside x y is = cc
 
-statement_inside : (x y : Statement) → ◌≡◌ {A = Result Statement SqlState} (Ok x) (Ok y) → x ≡ y
+pub statement_inside : (x y : Statement) → ◌≡◌ {A = Result Statement SqlState} (Ok x) (Ok y) → x ≡ y
 statement_inside x y is = cc
 
-refusal_is_no_statement : (code : SqlState) (x : Statement) → ◌≡◌ {A = Result Statement SqlState} (Err code) (Ok x) → ⊥
+pub refusal_is_no_statement : (code : SqlState) (x : Statement) → ◌≡◌ {A = Result Statement SqlState} (Err code) (Ok x) → ⊥
 refusal_is_no_statement code x is = cc
 
 -- ---- texts

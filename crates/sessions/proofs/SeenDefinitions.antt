@@ -1,5 +1,5 @@
 -- What a session sees, as a server knows it and as the machine does.
-use Rattle.std.proofs.Common.{◌≡◌, ℕ, nat_eq, Bool, true, false, not, Option, Some, None, refl, sym, ap, subst}
+use Rattle.std.proofs.Common.{◌≡◌, ℕ, nat_eq, Bool, true, false, not, is_some, Option, Some, None, refl, sym, ap, subst}
 use Rattle.store.specs.Records.{Records}
 use Rattle.transactions.specs.Views.{applied_all}
 use Rattle.abstract_database.specs.Database.{Database}
@@ -36,3 +36,10 @@ held_by_other records d None None number held = refl
 held_by_other records d None (Some h) number held = absurd held
 held_by_other records d (Some writer) None number held = absurd held
 held_by_other records d (Some writer) (Some h) number held = ap (λ (n : ℕ). not (nat_eq n number)) held.0
+
+-- somebody holds the writer lock where the machine has a holder
+pub is_held : (records : Records) (d : Definitions) (writer : Option Writer) (holder : Option Holder) → HolderShows records d writer holder → is_some writer ≡ is_some holder
+is_held records d None None held = refl
+is_held records d None (Some h) held = absurd held
+is_held records d (Some writer) None held = absurd held
+is_held records d (Some writer) (Some h) held = refl

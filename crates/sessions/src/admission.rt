@@ -33,8 +33,8 @@ fn changes_rows(statement: &RowStatement) -> bool
     }
 }
 
-// Whether the statement is one that changes the database.
-fn is_writing(statement: &Statement) -> bool
+/// Whether the statement is one that changes the database.
+pub fn is_writing(statement: &Statement) -> bool
     ensures { result ≡ is_writing_of statement.now }
 {
     match statement {

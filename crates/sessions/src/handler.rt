@@ -4,7 +4,7 @@ ghost use Rattle.std.specs.Prelude.{◌≡◌};
 
 use crate::blocks::close;
 use crate::opening::open;
-use crate::texts::{decide_read, decide_text, is_locked_out};
+use crate::texts::{asks_for_lock, decide_read, decide_text, is_locked_out};
 use server::decide::{Context, EventHandler};
 use server::decision::Decision;
 use server::execute::Execute;
@@ -94,6 +94,22 @@ impl<X: Execute> EventHandler for SessionHandler<X> {
                 is_locked_out(alloc, context, number, text.as_str())
             }
             Event::Open { .. } | Event::Close { .. } => Ok(false),
+        }
+    }
+
+    fn asks_for_lock(
+        &self,
+        alloc: Global,
+        context: Context<'_>,
+        client: u32,
+        event: &Event,
+    ) -> Result<bool, AllocError> {
+        match event {
+            Event::Statement { session, text } => {
+                let number = number_in(client, *session);
+                asks_for_lock(alloc, context, number, text.as_str())
+            }
+            Event::Close { .. } | Event::Open { .. } => Ok(false),
         }
     }
 }

@@ -18,4 +18,5 @@ mod two_servers;
 
 pub use handler::SessionHandler;
 pub use laws::{locked_out_events_are_refused, one_reading};
+pub use reading::read_text;
 pub use two_servers::servers_tell_tenants_what_they_see;

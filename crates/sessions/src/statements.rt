@@ -18,9 +18,9 @@ ghost use Rattle.sessions.specs.Decisions.{Always};
 ghost use Rattle.sessions.specs.Writers.{definitions_seen};
 ghost use Rattle.sessions.specs.Visible.{records_seen};
 ghost use Rattle.sessions.specs.Serving.{EndsBlock, IsAdmission, CarriesOut, ServesOver};
-ghost use Rattle.sessions.specs.LockedOut.{IsForLock, TellsRefusal};
+ghost use Rattle.sessions.specs.LockedOut.{IsForLock, TellsRefusal, TellsWriting};
 
-use crate::admission::admit;
+use crate::admission::{admit, is_writing};
 use crate::answers::refuse;
 use crate::blocks::{begin, commit, roll_back};
 use crate::decisions::decision_for;
@@ -143,6 +143,25 @@ impl<'a> OpenSession<'a> {
         match self.admit(alloc, statement) {
             Ok(()) => Ok(false),
             Err(StatementError::Refused(code)) => Ok(is_for_lock(code)),
+            Err(StatementError::Failed(_)) => Err(AllocError),
+        }
+    }
+
+    /// Whether a statement changes the database, and the session may execute it. The only error is that
+    /// an allocation failed.
+    pub(crate) fn asks_for_lock(
+        &self,
+        alloc: Global,
+        statement: &Statement,
+    ) -> Result<bool, AllocError>
+        ensures { IfOk result (TellsWriting self.now statement.now) }
+    {
+        if !is_writing(statement) {
+            return Ok(false);
+        }
+        match self.admit(alloc, statement) {
+            Ok(()) => Ok(true),
+            Err(StatementError::Refused(_)) => Ok(false),
             Err(StatementError::Failed(_)) => Err(AllocError),
         }
     }

@@ -9,7 +9,7 @@ ghost use Rattle.abstract_database.specs.Machine.{Holder, executes};
 ghost use Rattle.abstract_database.specs.Runs.{TheText};
 ghost use Rattle.server.specs.Standing.{HolderShows, HoldsInBlock};
 ghost use Rattle.server.specs.Decisions.{DecidesAt, machine_at};
-ghost use Rattle.server.specs.LockedOut.{TellsLockedOut};
+ghost use Rattle.server.specs.LockedOut.{TellsLockedOut, TellsAsking};
 ghost use Rattle.sessions.specs.Readings.{ReadsText};
 
 use crate::answers::refuse;
@@ -140,5 +140,44 @@ pub(crate) fn is_locked_out(
         }
         Ok(Err(_)) => Ok(false),
         Err(_) => Err(AllocError),
+    }
+}
+
+/// Whether a text is a statement that changes the database and that the session of this number may
+/// execute, while nobody holds the writer lock. The only error is that an allocation failed, and it
+/// comes only in an open session, while nobody holds the writer lock, for a text of at most 65,536
+/// bytes.
+pub(crate) fn asks_for_lock(
+    alloc: Global,
+    context: Context<'_>,
+    number: u64,
+    text: &str,
+) -> Result<bool, AllocError>
+    ensures { (records : Records) (db : Database) (holder : Option Holder)
+        → Shows records context.entry.catalogue.now db
+        → HolderShows records context.entry.catalogue.now context.entry.writer.now holder
+        → HoldsInBlock holder context.entry.sessions.now.entries
+        → TellsAsking ReadsText (machine_at db holder context.entry.sessions.now.entries)
+        (executes number text.now) result }
+{
+    // For the proof: a text has one reading.
+    one_reading();
+    let Some(session) = context.sessions.get(&number) else {
+        return Ok(false);
+    };
+    if context.writer.is_some() {
+        return Ok(false);
+    }
+    match read_text(alloc, text)? {
+        Ok(statement) => {
+            let open = OpenSession {
+                number,
+                session,
+                catalogue: context.catalogue,
+                writer: context.writer,
+            };
+            open.asks_for_lock(alloc, &statement)
+        }
+        Err(_) => Ok(false),
     }
 }

@@ -8,7 +8,7 @@ use Rattle.talks.specs.declared.want.Want.{Want}
 use Rattle.talks.specs.Wants.{Learnt}
 use Rattle.talks.specs.Conversations.{Place, awaited, there, gone, IsGone, EndsOnce, unless_ended, wanted, Passes}
 use Rattle.talks.specs.Clients.{IsLeaving}
-use Rattle.talks.specs.Turns.{Turn, Deed, steps, asks, waits, leaves, ends, LetsGo, IsAmong, IsTurnOf, ClosesLeft, NoneIs, IsCourse, learnt_in, Steps, TakesTurn, TakesTurns}
+use Rattle.talks.specs.Turns.{Turn, Exchange, steps, asks, waits, leaves, ends, LetsGo, IsAmong, IsTurnOf, ClosesLeft, NoneIs, IsCourse, learnt_in, Steps, TakesTurn, TakesTurns}
 use Rattle.talks.proofs.Sessions.{stays_gone}
 
 -- the connection of a client has ended
@@ -55,7 +55,7 @@ left_wants_none t (there x) u left wants = none_wanted x.why left.0 (t.wants x.t
 left_wants_none t (gone told) u left wants = absurd (cc)
 
 module _ {M T C : Type 0} (m : MachineGhosts M) (t : TalkGhosts T) (k : ClientsGhosts C T) where
-  no_step : (clients : C) (old : M) (ds : List Deed) (new : M) → Steps m t k clients old ds new → (c : ℕ) → HasLeft (k.at clients c) → IsAmong c ds → ⊥
+  no_step : (clients : C) (old : M) (ds : List Exchange) (new : M) → Steps m t k clients old ds new → (c : ℕ) → HasLeft (k.at clients c) → IsAmong c ds → ⊥
   no_step clients old [] new made c left among = among
   no_step clients old (d ∷ ds) new made c left among = elim among [
     | inl is ↦ left_wants_none t (k.at clients c) d.want left (subst (λ (e : ℕ). wanted t (k.at clients e) ≡ Some d.want) is made.1)

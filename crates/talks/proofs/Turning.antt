@@ -8,7 +8,7 @@ use Rattle.talks.specs.declared.want.Want.{Want}
 use Rattle.talks.specs.declared.want.Reply.{Reply}
 use Rattle.talks.specs.Wants.{Learnt}
 use Rattle.talks.specs.Conversations.{IsGone, Passes}
-use Rattle.talks.specs.Turns.{Turn, Deed, own_learnt, learnt_in, WasLetGo, TakesTurn, TakesTurns, Goes, Moves}
+use Rattle.talks.specs.Turns.{Turn, Exchange, own_learnt, learnt_in, WasLetGo, TakesTurn, TakesTurns, Goes, Moves}
 use Rattle.talks.proofs.Passing.{passes_stay, passes_on}
 
 -- a turn more is one more
@@ -76,5 +76,5 @@ module _ {M T C : Type 0} (m : MachineGhosts M) (t : TalkGhosts T) (k : ClientsG
 pub same_want : (P : Want → Type 0) (o : Option Want) (a b : Want) → o ≡ Some a → o ≡ Some b → P a → P b
 same_want P o a b first second holds = subst (λ (q : Option Want). elim q as (λ _. Type 0) [ None ↦ Unit {0} | Some x ↦ P x ]) (sym first ∙ second) holds
 
-abbrev pub deed : ℕ → Want → Reply → Deed
-deed c w r = record { client = c; want = w; reply = r }
+abbrev pub exchange : ℕ → Want → Reply → Exchange
+exchange c w r = record { client = c; want = w; reply = r }

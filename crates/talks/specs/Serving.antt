@@ -26,7 +26,7 @@ module _ {M T C : Type 0} (m : MachineGhosts M) (t : TalkGhosts T) (k : ClientsG
     -- who has gone was let go
     pub went : (c : ℕ) → IsGone (k.at after c) → IsGone (k.at before c) ⊎ WasLetGo c turns
     -- and has no session
-    pub closed : (c : ℕ) → WasLetGo c turns → HasNone m t k new c
+    pub closed : m.IsSound old → (c : ℕ) → WasLetGo c turns → HasNone m t k new c
     -- as many are to come as were
     pub expected : k.expected after ≡ k.expected before
     pub ended : EndedAs most turns end new after

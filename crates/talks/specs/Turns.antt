@@ -7,21 +7,21 @@ use Rattle.talks.specs.declared.machine.Machine.{Ghosts as MachineGhosts}
 use Rattle.talks.specs.declared.clients.ServedClients.{Ghosts as ClientsGhosts}
 use Rattle.talks.specs.declared.clients.Why.{Why}
 use Rattle.talks.specs.declared.clients.Why.TheVariants as why
-use Rattle.talks.specs.Wants.{Learnt, learnt, own, WantsStep, WantsQuestion, OpensSession}
+use Rattle.talks.specs.Wants.{Learnt, learnt, own, WantsStep, WantsQuestion, OpensSession, RefusesMemory}
 use Rattle.talks.specs.Conversations.{IsGone, wanted, ending, Passes}
 use Rattle.talks.specs.Clients.{without, is_behind, IsPutLast, IsLeaving, Moved}
 
 -- what a client wanted of the machine, and what it was told of that
-pub record Deed : Type 0 where
+pub record Exchange : Type 0 where
   pub client : ℕ
   pub want : Want
   pub reply : Reply
 
 pub data Turn : Type 0 where
   -- steps were made, one at least, and then each was told
-  steps : Deed → List Deed → Turn
+  steps : Exchange → List Exchange → Turn
   -- a question was answered
-  asks : Deed → Turn
+  asks : Exchange → Turn
   -- an event was not taken yet
   waits : ℕ → Want → Turn
   -- a session was closed that a client has left open
@@ -29,11 +29,11 @@ pub data Turn : Type 0 where
   -- a client was let go whose connection had ended
   ends : ℕ → Why → Turn
 
--- what client c learns of a deed
-abbrev pub learnt_of : ℕ → Deed → List Learnt
+-- what client c learns of an exchange
+abbrev pub learnt_of : ℕ → Exchange → List Learnt
 learnt_of c d = own d.client c (learnt d.want d.reply)
 
-abbrev pub learnt_of_all : ℕ → List Deed → List Learnt
+abbrev pub learnt_of_all : ℕ → List Exchange → List Learnt
 learnt_of_all c [] = []
 learnt_of_all c (d ∷ ds) = learnt_of c d ++ learnt_of_all c ds
 
@@ -65,7 +65,7 @@ WasLetGo c (t ∷ turns) = LetsGo c t ⊎ WasLetGo c turns
 
 -- ---- the course of a client
 
-abbrev pub IsAmong : ℕ → List Deed → Type 0
+abbrev pub IsAmong : ℕ → List Exchange → Type 0
 IsAmong c [] = ⊥
 IsAmong c (d ∷ ds) = (d.client ≡ c) ⊎ IsAmong c ds
 
@@ -99,28 +99,28 @@ module _ {M T C : Type 0} (m : MachineGhosts M) (t : TalkGhosts T) (k : ClientsG
   abbrev pub Wants : C → ℕ → Want → Type 0
   Wants clients c w = wanted t (k.at clients c) ≡ Some w
 
-  -- a step may be made: it was looked up that no other client's session holds the lock for it, and if it asks for the lock nobody waits before
-  -- its client; or its client has waited as long as it may
+  -- a step may be made: no other client's session holds the lock for it, and nobody waits before its client or it does not ask for the lock; or its
+  -- client has waited as long as it may
   abbrev pub MayGo : M → C → ℕ → Want → Type 0
-  MayGo machine clients c w = (m.IsFree machine c w × (m.asks_lock machine c w ≡ true → is_behind c (k.waiting clients) ≡ false)) ⊎ k.has_waited clients c
+  MayGo machine clients c w = (m.IsFree machine c w × (m.AsksForNone machine c w ⊎ (is_behind c (k.waiting clients) ≡ false))) ⊎ k.has_waited clients c
 
   -- and it may be held back
   abbrev pub MustWait : M → C → ℕ → Want → Type 0
-  MustWait machine clients c w = m.IsLockedOut machine c w ⊎ ((m.asks_lock machine c w ≡ true) × (is_behind c (k.waiting clients) ≡ true))
+  MustWait machine clients c w = m.IsLockedOut machine c w ⊎ (m.AsksForLock machine c w × (is_behind c (k.waiting clients) ≡ true))
 
-  -- the machine made these steps, in this order, each of which its client wants and may have
-  abbrev pub Steps : C → M → List Deed → M → Type 0
+  -- the machine made these steps, in this order, each of which its client wants and may have, or is refused for memory
+  abbrev pub Steps : C → M → List Exchange → M → Type 0
   Steps clients old [] new = new ≡ old
-  Steps clients old (d ∷ ds) new = (mid : M) × Wants clients d.client d.want × WantsStep d.want × MayGo old clients d.client d.want
+  Steps clients old (d ∷ ds) new = (mid : M) × Wants clients d.client d.want × WantsStep d.want × (MayGo old clients d.client d.want ⊎ RefusesMemory d.reply)
       × m.Steps old d.client d.want d.reply mid × Steps clients mid ds new
 
   -- each conversation learnt its own, at this moment of the machine
-  abbrev pub Learn : ℕ → C → List Deed → C → Type 0
+  abbrev pub Learn : ℕ → C → List Exchange → C → Type 0
   Learn moment before [] after = after ≡ before
   Learn moment before (d ∷ ds) after = (mid : C) × k.learns before moment d.client d.reply mid × Learn moment mid ds after
 
   -- those that took their turn wait no more
-  abbrev pub waiting_after : List Deed → List ℕ → List ℕ
+  abbrev pub waiting_after : List Exchange → List ℕ → List ℕ
   waiting_after [] waiting = waiting
   waiting_after (d ∷ ds) waiting = waiting_after ds (without d.client waiting)
 
@@ -158,11 +158,11 @@ module _ {M T C : Type 0} (m : MachineGhosts M) (t : TalkGhosts T) (k : ClientsG
   -- ---- which of them opened a session
 
   -- a step on what a client wanted, which opens this session of it for this role, from where the machine stood
-  abbrev pub Opens : M → Deed → M → ℕ → ℕ → List ℕ → Type 0
+  abbrev pub Opens : M → Exchange → M → ℕ → ℕ → List ℕ → Type 0
   Opens old d new c n login = (d.client ≡ c) × OpensSession d.want n login × m.Steps old d.client d.want d.reply new
 
   -- one of these steps did
-  abbrev pub OpenedBySteps : (clients : C) (old : M) (ds : List Deed) (new : M) → Steps clients old ds new → ℕ → ℕ → List ℕ → Type 0
+  abbrev pub OpenedBySteps : (clients : C) (old : M) (ds : List Exchange) (new : M) → Steps clients old ds new → ℕ → ℕ → List ℕ → Type 0
   OpenedBySteps clients old [] new made c n login = ⊥
   OpenedBySteps clients old (d ∷ ds) new made c n login = Opens old d made.0 c n login ⊎ OpenedBySteps clients made.0 ds new made.5 c n login
 

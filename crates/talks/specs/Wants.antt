@@ -1,6 +1,9 @@
 -- What a conversation wants, and what it learns.
-use Rattle.std.specs.Prelude.{◌≡◌, ◌==◌, ℕ, List, [], ◌∷◌, if◌then◌else◌}
+use Rattle.std.specs.Prelude.{◌≡◌, ◌==◌, ℕ, Bool, true, false, List, [], ◌∷◌, Result, Ok, Err, if◌then◌else◌}
+use Rattle.std.specs.declared.alloc.AllocError.{AllocError}
+use Rattle.sql_types.specs.declared.answer.Answer.TheVariants as answer
 use Rattle.sql_types.specs.declared.event.Event.TheVariants as event
+use Rattle.sql_types.specs.declared.state.SqlState.TheVariants.{OutOfMemory}
 use Rattle.talks.specs.declared.want.Want.{Want}
 use Rattle.talks.specs.declared.want.Want.TheVariants as want
 use Rattle.talks.specs.declared.want.Reply.{Reply}
@@ -47,3 +50,13 @@ own d c x = if d == c then x ∷ [] else []
 abbrev pub OpensSession : Want → ℕ → List ℕ → Type 0
 OpensSession (want.Open session login entry) n role = (session ≡ n) × (login ≡ role)
 OpensSession _ n role = ⊥
+
+-- a step is refused for memory
+abbrev pub RefusesMemory : Reply → Type 0
+RefusesMemory r = r ≡ reply.Answer (answer.Refused OutOfMemory)
+
+-- this is so, or that; or an allocation failed, where it may
+abbrev pub TellsWhether : Type 0 → Type 0 → Type 0 → Result Bool AllocError → Type 0
+TellsWhether This That MayFail (Ok true) = This
+TellsWhether This That MayFail (Ok false) = That
+TellsWhether This That MayFail (Err error) = MayFail

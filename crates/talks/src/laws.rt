@@ -22,8 +22,8 @@ pub fn pieces_make_no_difference<T: Talk>()
 /// Each session that a client has after some turns, and had not before them, was opened in one of
 /// them, by a step of the machine as it stood then, which that client's conversation wanted.
 pub fn sessions_are_opened<M: Machine, T: Talk, C: ServedClients<T>>()
-    ensures { (old : M) (before : C) (turns : List Turn) (new : M) (after : C)
-        (took : TakesTurns M.Machine T.Talk C.ServedClients old before turns new after) (c n : ℕ) (login : List ℕ)
+    ensures { (old : M) (before : C) (turns : List Turn) (new : M) (after : C) → M.IsSound old
+        → (took : TakesTurns M.Machine T.Talk C.ServedClients old before turns new after) (c n : ℕ) (login : List ℕ)
         → (M.Has old c n login → ⊥) → M.Has new c n login
         → OpenedIn M.Machine T.Talk C.ServedClients old before turns new after took c n login }
 {}

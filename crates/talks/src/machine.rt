@@ -1,11 +1,12 @@
 //! What answers many conversations, one after the other.
 
 ghost use Rattle.std.specs.Prelude.{◌≡◌, ◌⊎◌, true, false, ℕ, List, Bool};
-ghost use Rattle.talks.specs.Wants.{WantsStep, WantsQuestion, FitsWant, OpensSession};
+ghost use Rattle.talks.specs.Wants.{WantsStep, WantsQuestion, FitsWant, OpensSession, RefusesMemory, TellsWhether};
 ghost use Rattle.talks.specs.declared.want.Want.{Want as TheWant};
 ghost use Rattle.talks.specs.declared.want.Reply.{Reply as TheReply};
 
 use crate::want::{Reply, Want};
+use std::alloc::AllocError;
 
 /// What answers events and questions of clients, which number their sessions each for itself.
 pub trait Machine {
@@ -18,6 +19,9 @@ pub trait Machine {
     /// What the end of a session that a client has left open does.
     ghost Closes: { Self → ℕ → Self → Type 0 };
 
+    /// What it rests on holds, as that the device below keeps what was written.
+    ghost IsSound: { Self → Type 0 };
+
     /// A moment of its clock.
     ghost moment: { Self → ℕ };
 
@@ -27,14 +31,20 @@ pub trait Machine {
     /// A client has a session of this number open, which was opened for the role of this name.
     ghost Has: { Self → ℕ → ℕ → List ℕ → Type 0 };
 
-    /// A session of another client holds the writer lock, for which this event would be refused.
+    /// A session of another client holds the writer lock, for which this step would be refused.
     ghost IsLockedOut: { Self → ℕ → TheWant → Type 0 };
 
-    /// It was looked up that none does.
+    /// None does.
     ghost IsFree: { Self → ℕ → TheWant → Type 0 };
 
-    /// This event asks for the writer lock, which no session of its client holds.
-    ghost asks_lock: { Self → ℕ → TheWant → Bool };
+    /// This step asks for the writer lock, and no session of another client holds it.
+    ghost AsksForLock: { Self → ℕ → TheWant → Type 0 };
+
+    /// It does not ask for it, or another client's does.
+    ghost AsksForNone: { Self → ℕ → TheWant → Type 0 };
+
+    /// An allocation may fail where it is looked what a step needs.
+    ghost MayLackMemory: { Self → ℕ → TheWant → Type 0 };
 
     /// Whether it has stopped.
     fn has_stopped(&self) -> bool
@@ -52,15 +62,25 @@ pub trait Machine {
         ensures tells { Tells self.old client want.now result self.new }
         ensures fits { FitsWant want.now result };
 
-    /// Whether a session of another client holds the writer lock, for which the event would be
-    /// refused.
-    fn is_locked_out(&self, client: u32, want: &Want) -> bool
-        ensures locked { result ≡ true → IsLockedOut self.now client want.now }
-        ensures free { result ≡ false → IsFree self.now client want.now };
+    /// Refuses a step, since an allocation failed where it was looked what it needs.
+    fn refuse_for_memory(&mut self, client: u32, want: &Want) -> Reply
+        requires step { WantsStep want.now }
+        requires may { MayLackMemory self.old client want.now }
+        ensures steps { Steps self.old client want.now result self.new }
+        ensures fits { FitsWant want.now result }
+        ensures refused { RefusesMemory result };
 
-    /// Whether the event asks for the writer lock, which no session of its client holds.
-    fn asks_for_lock(&self, client: u32, want: &Want) -> bool
-        ensures { result ≡ asks_lock self.now client want.now };
+    /// Whether a session of another client holds the writer lock, for which the step would be refused.
+    /// The only error is that an allocation failed.
+    fn is_locked_out(&self, client: u32, want: &Want) -> Result<bool, AllocError>
+        requires { WantsStep want.now }
+        ensures { TellsWhether (IsLockedOut self.now client want.now) (IsFree self.now client want.now) (MayLackMemory self.now client want.now) result };
+
+    /// Whether the step asks for the writer lock, which no session of another client holds. The only
+    /// error is that an allocation failed.
+    fn asks_for_lock(&self, client: u32, want: &Want) -> Result<bool, AllocError>
+        requires { WantsStep want.now }
+        ensures { TellsWhether (AsksForLock self.now client want.now) (AsksForNone self.now client want.now) (MayLackMemory self.now client want.now) result };
 
     /// Closes the first session that a client has open, and tells whether there was one. A machine
     /// that has stopped closes none.
@@ -69,17 +89,29 @@ pub trait Machine {
         ensures kept { result ≡ false → self.new ≡ self.old }
         ensures none { result ≡ false → (stopped self.old ≡ true) ⊎ ((n : ℕ) (login : List ℕ) → Has self.old client n login → ⊥) };
 
+    /// What it rests on holds after a step as before.
+    ghost steps_sound: { (old new : Self) (c : ℕ) (w : TheWant) (r : TheReply)
+        → Steps old c w r new → IsSound old → IsSound new };
+
+    /// So it does after a question.
+    ghost tells_sound: { (old new : Self) (c : ℕ) (w : TheWant) (r : TheReply)
+        → Tells old c w r new → IsSound old → IsSound new };
+
+    /// And after the end of a session.
+    ghost closes_sound: { (old new : Self) (c : ℕ) → Closes old c new → IsSound old → IsSound new };
+
     /// A session comes only by the step that opens it, for the client that wants it.
     ghost steps_open: { (old new : Self) (c : ℕ) (w : TheWant) (r : TheReply) (d n : ℕ) (login : List ℕ)
-        → Steps old c w r new → Has new d n login → Has old d n login ⊎ ((c ≡ d) × OpensSession w n login) };
+        → IsSound old → Steps old c w r new → Has new d n login
+        → Has old d n login ⊎ ((c ≡ d) × OpensSession w n login) };
 
     /// No question opens one.
     ghost tells_open: { (old new : Self) (c : ℕ) (w : TheWant) (r : TheReply) (d n : ℕ) (login : List ℕ)
-        → Tells old c w r new → Has new d n login → Has old d n login };
+        → IsSound old → Tells old c w r new → Has new d n login → Has old d n login };
 
     /// And no end of one.
     ghost closes_open: { (old new : Self) (c d n : ℕ) (login : List ℕ)
-        → Closes old c new → Has new d n login → Has old d n login };
+        → IsSound old → Closes old c new → Has new d n login → Has old d n login };
 
     /// A machine that has stopped stays so.
     ghost steps_stopped: { (old new : Self) (c : ℕ) (w : TheWant) (r : TheReply)

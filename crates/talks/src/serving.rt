@@ -1,7 +1,7 @@
 //! Clients, served by a machine.
 
 ghost use Rattle.std.specs.Prelude.{◌≡◌, ◌≢◌, true, false, Option, Some, None, IfSome};
-ghost use Rattle.talks.specs.Wants.{WantsStep, WantsQuestion};
+ghost use Rattle.talks.specs.Wants.{WantsStep, WantsQuestion, TellsWhether};
 ghost use Rattle.talks.specs.Conversations.{wanted, ending};
 ghost use Rattle.talks.specs.Clients.{IsLeaving};
 ghost use Rattle.talks.specs.Turns.{Turn, TakesTurn, Moves, Goes, MayGo, MustWait, Wants};
@@ -11,6 +11,7 @@ ghost use Rattle.talks.specs.declared.want.Want.{Want as TheWant};
 use crate::clients::{Finish, Next, ServedClients, Why};
 use crate::machine::Machine;
 use crate::talk::Talk;
+use std::alloc::AllocError;
 
 /// Why serving clients ended.
 #[derive(Clone, Copy, PartialEq, Eq)]
@@ -41,7 +42,8 @@ pub fn serve_clients<M: Machine, T: Talk, C: ServedClients<T>>(
     ServeEnd::TurnLimit
 }
 
-// Makes the step that a client wants and tells it, or lets the client wait.
+// Makes the step that a client wants and tells it, or lets the client wait. Where an allocation fails
+// before it is known which, the step is refused for that.
 fn take_step<M: Machine, T: Talk, C: ServedClients<T>>(
     machine: &mut M,
     clients: &mut C,
@@ -51,28 +53,64 @@ fn take_step<M: Machine, T: Talk, C: ServedClients<T>>(
     ensures { (turn : Turn) × TakesTurn M.Machine T.Talk C.ServedClients machine.old clients.old turn machine.new clients.new
         × Moves M.Machine T.Talk C.ServedClients turn clients.old clients.new }
 {
-    if may_go(&*machine, &*clients, client) {
-        let reply = machine.step(client, clients.want(client));
-        clients.learn(&*machine, client, reply);
-    } else {
-        clients.hold_back(client);
+    match may_go(&*machine, &*clients, client) {
+        Ok(true) => make_step(machine, clients, client),
+        Ok(false) => clients.hold_back(client),
+        Err(_) => refuse_step(machine, clients, client),
     }
 }
 
-// Whether a step may be made for a client.
-fn may_go<M: Machine, T: Talk, C: ServedClients<T>>(machine: &M, clients: &C, client: u32) -> bool
-    requires { (w : TheWant) × Wants M.Machine T.Talk C.ServedClients clients.now client w }
-    ensures goes { result ≡ true → (w : TheWant) → Wants M.Machine T.Talk C.ServedClients clients.now client w → MayGo M.Machine T.Talk C.ServedClients machine.now clients.now client w }
-    ensures waits { result ≡ false → (w : TheWant) → Wants M.Machine T.Talk C.ServedClients clients.now client w → MustWait M.Machine T.Talk C.ServedClients machine.now clients.now client w }
+// Makes the step that a client wants and may have, and tells it.
+fn make_step<M: Machine, T: Talk, C: ServedClients<T>>(
+    machine: &mut M,
+    clients: &mut C,
+    client: u32,
+)
+    requires { (w : TheWant) × Wants M.Machine T.Talk C.ServedClients clients.old client w × WantsStep w × MayGo M.Machine T.Talk C.ServedClients machine.old clients.old client w }
+    ensures { (turn : Turn) × TakesTurn M.Machine T.Talk C.ServedClients machine.old clients.old turn machine.new clients.new
+        × Moves M.Machine T.Talk C.ServedClients turn clients.old clients.new }
+{
+    let reply = machine.step(client, clients.want(client));
+    clients.learn(&*machine, client, reply);
+}
+
+// Refuses the step that a client wants, for memory, and tells it.
+fn refuse_step<M: Machine, T: Talk, C: ServedClients<T>>(
+    machine: &mut M,
+    clients: &mut C,
+    client: u32,
+)
+    requires { (w : TheWant) × Wants M.Machine T.Talk C.ServedClients clients.old client w × WantsStep w × M.MayLackMemory machine.old client w }
+    ensures { (turn : Turn) × TakesTurn M.Machine T.Talk C.ServedClients machine.old clients.old turn machine.new clients.new
+        × Moves M.Machine T.Talk C.ServedClients turn clients.old clients.new }
+{
+    let refusal = machine.refuse_for_memory(client, clients.want(client));
+    clients.learn(&*machine, client, refusal);
+}
+
+// Whether a step may be made for a client. The only error is that an allocation failed.
+fn may_go<M: Machine, T: Talk, C: ServedClients<T>>(
+    machine: &M,
+    clients: &C,
+    client: u32,
+) -> Result<bool, AllocError>
+    requires { (w : TheWant) × Wants M.Machine T.Talk C.ServedClients clients.now client w × WantsStep w }
+    ensures { (w : TheWant) → Wants M.Machine T.Talk C.ServedClients clients.now client w
+        → TellsWhether (MayGo M.Machine T.Talk C.ServedClients machine.now clients.now client w)
+        (MustWait M.Machine T.Talk C.ServedClients machine.now clients.now client w)
+        (M.MayLackMemory machine.now client w) result }
 {
     if clients.may_wait_no_more(client) {
-        return true;
+        return Ok(true);
     }
-    let want = clients.want(client);
-    if machine.is_locked_out(client, want) {
-        return false;
+    if machine.is_locked_out(client, clients.want(client))? {
+        return Ok(false);
     }
-    !(machine.asks_for_lock(client, want) && clients.is_behind(client))
+    if !clients.is_behind(client) {
+        return Ok(true);
+    }
+    let asks = machine.asks_for_lock(client, clients.want(client))?;
+    Ok(!asks)
 }
 
 // Tells a client what its question is told.
@@ -85,8 +123,8 @@ fn answer_question<M: Machine, T: Talk, C: ServedClients<T>>(
     ensures { (turn : Turn) × TakesTurn M.Machine T.Talk C.ServedClients machine.old clients.old turn machine.new clients.new
         × Moves M.Machine T.Talk C.ServedClients turn clients.old clients.new }
 {
-    let reply = machine.ask(client, clients.want(client));
-    clients.learn(&*machine, client, reply);
+    let told = machine.ask(client, clients.want(client));
+    clients.learn(&*machine, client, told);
 }
 
 // Closes a session of a client whose connection has ended, or lets it go where none is open.

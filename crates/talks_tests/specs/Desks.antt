@@ -1,5 +1,5 @@
 -- The machine in memory.
-use Rattle.std.specs.Prelude.{◌≡◌, ◌==◌, ◌⊎◌, ℕ, Bool, false, not, List, Option, Some, None, slice_index, if◌then◌else◌}
+use Rattle.std.specs.Prelude.{◌≡◌, ◌==◌, ◌⊎◌, ◌&&◌, ℕ, Bool, false, not, is_none, List, Option, Some, None, slice_index, if◌then◌else◌}
 use Rattle.sql_types.specs.declared.answer.Answer.{Answer}
 use Rattle.sql_types.specs.declared.answer.Answer.TheVariants as answer
 use Rattle.sql_types.specs.declared.event.Event.{Event}
@@ -48,6 +48,10 @@ begins _ = false
 abbrev pub asks : Want → Bool
 asks (want.Event e) = begins e
 asks _ = false
+
+-- and so it does where the lock is free
+abbrev pub asks_lock : Desk → ℕ → Want → Bool
+asks_lock m c w = asks w && is_none m.lock
 
 -- ---- steps
 

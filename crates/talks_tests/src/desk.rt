@@ -2,7 +2,7 @@
 
 ghost use Rattle.std.specs.Prelude.{◌≡◌, ◌==◌, ℕ, List, Some, None, false, true};
 ghost use Rattle.talks.specs.declared.want.Want.{Want as TheWant};
-ghost use Rattle.talks_tests.specs.Desks.{Has, MakesStep, SeatsClient, RunsStatementText, DoesEvent, EndsSession, asks, begins, is_held_by, is_held_by_another, released};
+ghost use Rattle.talks_tests.specs.Desks.{Has, MakesStep, SeatsClient, RunsStatementText, DoesEvent, EndsSession, asks, asks_lock, begins, is_held_by, is_held_by_another, released};
 
 use crate::echo::first_letter;
 use sql_types::answer::Answer;
@@ -11,7 +11,7 @@ use sql_types::state::SqlState;
 use sql_types::tag::Tag;
 use sql_types::text::Text;
 use sql_types::try_copy::TryCopy;
-use std::alloc::Global;
+use std::alloc::{AllocError, Global};
 use talks::machine::Machine;
 use talks::want::{BlockStanding, Reply, Want};
 
@@ -153,7 +153,7 @@ impl Desk {
 }
 
 impl Machine for Desk {
-    ghost use Rattle.std.specs.Prelude.{◌≡◌, ◌&&◌, not, true, false};
+    ghost use Rattle.std.specs.Prelude.{◌≡◌, ◌&&◌, true, false};
     ghost use Rattle.talks_tests.specs.OpeningLaws.{steps_open, ends_open, same_has};
 
     ghost Steps = { λ old c w r new. MakesStep c w r old new };
@@ -161,6 +161,8 @@ impl Machine for Desk {
     ghost Tells = { λ old c w r new. new ≡ old };
 
     ghost Closes = { λ old c new. EndsSession c old new };
+
+    ghost IsSound = { λ m. Unit {0} };
 
     ghost moment = { λ m. m.steps };
 
@@ -172,13 +174,23 @@ impl Machine for Desk {
 
     ghost IsFree = { λ m c w. (asks w && is_held_by_another m.lock c) ≡ false };
 
-    ghost asks_lock = { λ m c w. asks w && not (is_held_by m.lock c) };
+    ghost AsksForLock = { λ m c w. asks_lock m c w ≡ true };
 
-    ghost steps_open = { λ old new c w r d n login made has. steps_open old new c w r d n login made has };
+    ghost AsksForNone = { λ m c w. asks_lock m c w ≡ false };
 
-    ghost tells_open = { λ old new c w r d n login told has. same_has old new d n login told has };
+    ghost MayLackMemory = { λ m c w. Unit {0} };
 
-    ghost closes_open = { λ old new c d n login made has. ends_open old new c d n login made has };
+    ghost steps_sound = { λ old new c w r made sound. sound };
+
+    ghost tells_sound = { λ old new c w r told sound. sound };
+
+    ghost closes_sound = { λ old new c made sound. sound };
+
+    ghost steps_open = { λ old new c w r d n login sound made has. steps_open old new c w r d n login made has };
+
+    ghost tells_open = { λ old new c w r d n login sound told has. same_has old new d n login told has };
+
+    ghost closes_open = { λ old new c d n login sound made has. ends_open old new c d n login made has };
 
     ghost steps_stopped = { λ old new c w r made is. is };
 
@@ -211,12 +223,16 @@ impl Machine for Desk {
         Reply::Standing(None)
     }
 
-    fn is_locked_out(&self, client: u32, want: &Want) -> bool {
-        asks(want) && self.is_held_by_another(client)
+    fn refuse_for_memory(&mut self, _client: u32, _want: &Want) -> Reply {
+        Reply::Answer(Answer::Refused(SqlState::OutOfMemory))
     }
 
-    fn asks_for_lock(&self, client: u32, want: &Want) -> bool {
-        asks(want) && !self.is_held_by(client)
+    fn is_locked_out(&self, client: u32, want: &Want) -> Result<bool, AllocError> {
+        Ok(asks(want) && self.is_held_by_another(client))
+    }
+
+    fn asks_for_lock(&self, _client: u32, want: &Want) -> Result<bool, AllocError> {
+        Ok(asks(want) && self.lock.is_none())
     }
 
     fn close_next(&mut self, client: u32) -> bool {

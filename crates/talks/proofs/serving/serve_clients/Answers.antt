@@ -28,7 +28,7 @@ returns-in-Ended g c =
       talked = talked m t k met.front_more met.bad_more old new before after turns took;
       course = course m t k old before turns new after took;
       went = went m t k met.front_more met.bad_more old new before after turns took;
-      closed = closed m t k laws.steps_open laws.tells_open laws.closes_open laws.steps_stopped laws.tells_stopped laws.closes_stopped old before turns new after took;
+      closed = closed m t k laws.steps_sound laws.tells_sound laws.closes_sound laws.steps_open laws.tells_open laws.closes_open laws.steps_stopped laws.tells_stopped laws.closes_stopped old before turns new after took;
       expected = expected_kept m t k met.front_more met.bad_more old new before after turns took;
       ended = rw (sym c.has_stopped.ensures) it.next;
     }
@@ -52,7 +52,7 @@ returns g c =
       talked = talked m t k met.front_more met.bad_more old new before after turns took;
       course = course m t k old before turns new after took;
       went = went m t k met.front_more met.bad_more old new before after turns took;
-      closed = closed m t k laws.steps_open laws.tells_open laws.closes_open laws.steps_stopped laws.tells_stopped laws.closes_stopped old before turns new after took;
+      closed = closed m t k laws.steps_sound laws.tells_sound laws.closes_sound laws.steps_open laws.tells_open laws.closes_open laws.steps_stopped laws.tells_stopped laws.closes_stopped old before turns new after took;
       expected = expected_kept m t k met.front_more met.bad_more old new before after turns took;
       ended = omega (arith, c.loop.invariant.2);
     }

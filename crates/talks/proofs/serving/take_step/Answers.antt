@@ -1,42 +1,23 @@
-use Rattle.std.proofs.Common.{inl, refl, sym, subst}
-use Rattle.std.proofs.lemmas.List.{append-nil}
-use Rattle.std.specs.Prelude.{List, []}
-use Rattle.talks.specs.Wants.{Learnt, WantsStep}
-use Rattle.talks.specs.Conversations.{wanted, Passes}
-use Rattle.talks.specs.Turns.{steps, waits, learnt_of}
-use Rattle.talks.proofs.Turning.{same_want, deed}
+use Rattle.std.proofs.Common.{◌∙◌, Bool, Result, Ok, inl, refl, ap, subst}
+use Rattle.std.specs.declared.alloc.AllocError.{AllocError}
+use Rattle.talks.specs.Wants.{TellsWhether}
+use Rattle.talks.specs.Turns.{waits, MayGo, MustWait}
 use Rattle.talks.proofs.serving.take_step.Goals as goal
 
-pub returns-then-may_go : goal.returns-then-may_go
-returns-then-may_go g c =
-    let w = c.want.result.now in
+pub returns-in-Ok-false : goal.returns-in-Ok-false
+returns-in-Ok-false g c =
     let client = c.args.client in
-    let d = deed client w c.step-reply.result in
-    let at = g.C.ServedClients.at in (
-      steps d [],
+    let machine = c.args.machine.now in
+    let clients = c.args.clients.now in
+    let w = c.requires.0 in
+    let told = c.in-Ok-false.is ∙ ap (λ (b : Bool). Ok b) c.in-Ok-false.field-0-test in (
+      waits client w,
       (
-        (
-          c.step-reply.new.self,
-          c.want.ensures,
-          same_want WantsStep (wanted g.T.Talk (at c.args.clients.now client)) c.requires.0 w c.requires.1 c.want.ensures c.requires.2,
-          c.may_go.ensures.goes c.if-may_go.true w c.want.ensures,
-          c.step-reply.ensures.steps,
-          refl,
-        ),
-        (c.learn.new.self, c.learn.ensures.learnt, refl),
-        c.learn.ensures.waiting,
+        c.requires.1,
+        subst (λ (r : Result Bool AllocError). TellsWhether (MayGo g.M.Machine g.T.Talk g.C.ServedClients machine clients client w) (MustWait g.M.Machine g.T.Talk g.C.ServedClients machine clients client w)
+            (g.M.Machine.MayLackMemory machine client w) r) told (c.may_go.ensures w c.requires.1),
+        refl,
+        c.hold_back.ensures.waiting,
       ),
-      record {
-        passed = λ e. subst (λ (xs : List Learnt). Passes g.T.Talk (at c.args.clients.now e) xs (at c.learn.new.self e)) (sym (append-nil (learnt_of e d))) (c.learn.ensures.passed w c.want.ensures e);
-        alone = λ e is. inl (c.learn.ensures.gone e is);
-        expected = c.learn.ensures.expected;
-      },
-    )
-
-pub returns-else-may_go : goal.returns-else-may_go
-returns-else-may_go g c =
-    let client = c.args.client in (
-      waits client c.requires.0,
-      (c.requires.1, c.may_go.ensures.waits c.if-may_go.false c.requires.0 c.requires.1, refl, c.hold_back.ensures.waiting),
       record { passed = c.hold_back.ensures.moved.passed; alone = λ e is. inl (c.hold_back.ensures.moved.gone e is); expected = c.hold_back.ensures.expected },
     )
