@@ -1,0 +1,24 @@
+//! Laws of a server that many clients talk to.
+
+ghost use Rattle.std.specs.Prelude.{ℕ, List};
+ghost use Rattle.talks.specs.Turns.{Turn, TakesTurns};
+ghost use Rattle.served_machine.specs.declared.machine.ServedMachine.{ServedMachine};
+ghost use Rattle.served_machine.specs.Sessions.{HasOwnSession, IsSoundServer};
+ghost use Rattle.served_machine.specs.Machines.{machine_of};
+ghost use Rattle.served_machine.specs.Admitted.{AdmittedIn};
+
+use server::decide::EventHandler;
+use store::Store;
+use talks::clients::ServedClients;
+use talks::talk::Talk;
+
+/// Each session that a client has after some turns, and had not before them, was asked for in one of
+/// them, for the role that it is of, by a step whose place admitted that role where the server stood.
+pub fn sessions_are_admitted<S: Store, X: EventHandler, T: Talk, C: ServedClients<T>>()
+    ensures { (old : ServedMachine S X) (before : C) (turns : List Turn) (new : ServedMachine S X)
+        (after : C) → IsSoundServer S.state old.server
+        → (took : TakesTurns (machine_of X.Reads S.state) T.Talk C.ServedClients old before turns new after)
+        (c n : ℕ) (login : List ℕ) → (HasOwnSession S.state old.server c n login → ⊥)
+        → HasOwnSession S.state new.server c n login
+        → AdmittedIn X.Reads S.state T.Talk C.ServedClients old before turns new after took c n login }
+{}
