@@ -1,0 +1,3 @@
+pub mod Channels
+pub mod Comings
+pub mod Memory

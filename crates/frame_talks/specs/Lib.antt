@@ -1,0 +1,4 @@
+pub mod FrameTalks
+pub mod FrameLaws
+pub mod Served
+pub mod Example

@@ -1,0 +1,22 @@
+use Rattle.polled_clients.proofs.clients.PolledClients.serve.Goals as goal
+
+pub returns-in-Nothing-clause-moved : goal.returns-in-Nothing-clause-moved
+returns-in-Nothing-clause-moved g c = c.turn.ensures.moved
+
+pub returns-in-Step-clause-moved : goal.returns-in-Step-clause-moved
+returns-in-Step-clause-moved g c = c.turn.ensures.moved
+
+pub returns-in-Step-clause-next : goal.returns-in-Step-clause-next
+returns-in-Step-clause-next g c = c.in-Step.ensures.need
+
+pub returns-in-Question-clause-moved : goal.returns-in-Question-clause-moved
+returns-in-Question-clause-moved g c = c.turn.ensures.moved
+
+pub returns-in-Question-clause-next : goal.returns-in-Question-clause-next
+returns-in-Question-clause-next g c = c.in-Question.ensures.need
+
+pub returns-in-Left-clause-moved : goal.returns-in-Left-clause-moved
+returns-in-Left-clause-moved g c = c.turn.ensures.moved
+
+pub returns-in-Left-clause-next : goal.returns-in-Left-clause-next
+returns-in-Left-clause-next g c = c.in-Left.ensures.need

@@ -1,0 +1,43 @@
+-- A client that is there.
+use Rattle.std.specs.Prelude.{◌≡◌, Bool, true, List, drop, Some}
+use Rattle.channels.specs.declared.channel.Channel.{Ghosts as ChannelGhosts}
+use Rattle.channels.specs.Channels.{left}
+use Rattle.talks.specs.declared.talk.Talk.{Ghosts}
+use Rattle.talks.specs.declared.want.Want.{Want}
+use Rattle.talks.specs.declared.clients.Why.{Why}
+use Rattle.talks.specs.declared.clients.Why.TheVariants as why
+use Rattle.talks.specs.Wants.{Learnt, WantsStep, WantsQuestion}
+use Rattle.talks.specs.Conversations.{Conversation, Continues, HasCause, unless_ended}
+use Rattle.polled_clients.specs.declared.peer.Peer.{Peer}
+use Rattle.polled_clients.specs.declared.need.Need.{Need}
+use Rattle.polled_clients.specs.declared.need.Need.TheVariants as need
+
+module _ {T C : Type 0} (k : ChannelGhosts C) where
+  -- the conversation with a client
+  abbrev pub conversation_of : Peer T C → Conversation T
+  conversation_of p = record {
+    talk = p.talk;
+    held = drop p.heard p.held.items;
+    remaining = k.remaining p.channel;
+    sent = k.taken p.channel;
+    unsent = left p.queue.going.items p.queue.sent p.queue.said.items;
+    failures = k.failures p.channel;
+    limited = p.limited;
+    why = p.why;
+  }
+
+module _ {T C : Type 0} (t : Ghosts T) (k : ChannelGhosts C) where
+  -- some bytes came, were heard and went out, and this was learnt
+  abbrev pub Goes : Peer T C → List Learnt → Peer T C → Type 0
+  Goes x xs y = Continues t (conversation_of k x) xs (conversation_of k y)
+
+  -- its connection is to end for this
+  abbrev pub MayEnd : Bool → Peer T C → Why → Type 0
+  MayEnd stopped x w = HasCause t w (conversation_of k x) × (w ≡ why.Stopped → stopped ≡ true)
+
+  -- what a client has to do with the machine is so
+  abbrev pub HasNeed : Bool → Need → Peer T C → Type 0
+  HasNeed stopped need.Nothing x = Unit {0}
+  HasNeed stopped need.Step x = (w : Want) × (unless_ended x.why (t.wants x.talk) ≡ Some w) × WantsStep w
+  HasNeed stopped need.Question x = (w : Want) × (unless_ended x.why (t.wants x.talk) ≡ Some w) × WantsQuestion w
+  HasNeed stopped (need.Left w) x = (x.why ≡ Some w) × MayEnd stopped x w

@@ -1,0 +1,495 @@
+//! Clients of a machine over connections of which no call waits: whose turn it is, and who waits.
+
+ghost use Rattle.std.specs.Prelude.{◌≡◌, ◌≢◌, ℕ, List, [], ◌∷◌, Option, Some, None, IfSome, IfOk, nat_eq, true};
+ghost use Rattle.channels.specs.Channels.{NamedBytes};
+ghost use Rattle.channels.specs.Comings.{HasJustCome};
+ghost use Rattle.talks.specs.Wants.{FitsWant, learnt, own};
+ghost use Rattle.talks.specs.Conversations.{Passes, IsGone, awaited, gone, wanted};
+ghost use Rattle.talks.specs.Clients.{IsNext, IsLeaving, Moved, NoneGoes, EndsAs};
+ghost use Rattle.talks.specs.declared.want.Want.{Want as TheWant};
+ghost use Rattle.indexmap.specs.IndexMap.{get};
+ghost use Rattle.polled_clients.specs.Places.{places, HasNeedAt, HasWaited};
+
+use crate::limits::{client_at, look_after, note_look};
+use crate::need::{Need, Pick};
+use crate::peer::Peer;
+use crate::peers::{any, give_up, has_waited, hold, is_nobody, list_owed, rouse, take_turn, teach};
+use crate::turns::{Turns, prepare};
+use crate::waiting::{first, is_behind, put_last, take_out};
+use channels::attend::{Attend, Taken};
+use channels::channel::Channel;
+use indexmap::IndexMap;
+use std::alloc::{AllocError, Global};
+use std::time::Duration;
+use talks::clients::{Finish, Next, ServedClients};
+use talks::machine::Machine;
+use talks::talk::Talk;
+use talks::want::{Reply, Want};
+
+/// What makes a conversation for each client that comes.
+pub trait TalkMaker<T: Talk> {
+    /// A conversation that has heard nothing.
+    fn make(&self) -> Result<T, AllocError>
+        ensures { IfOk result (λ talk. T.starts talk) };
+}
+
+/// How many clients are served, and how long they may take.
+#[derive(Clone, Copy)]
+pub struct ClientLimits {
+    /// How many are to come.
+    pub connections: u32,
+    /// How many are there at once, at most. One more is told so, and closed.
+    pub at_once: usize,
+    /// How long an event may wait for the writer lock. Without it none does.
+    pub wait: Option<Duration>,
+    /// How long one may be silent while it is waited for, a second at least. Without it for ever.
+    pub idle: Option<Duration>,
+}
+
+/// Clients over connections of which no call waits.
+///
+/// A client is listed where something can be done for it at once, and a round gives each that is
+/// listed one turn: one write, and one read or one thing that it wants of the machine. Before each
+/// round it is asked who may have something to do; where nobody is listed, that waits.
+#[derive(Drop)]
+pub struct PolledClients<T, C, A, F> {
+    alloc: Global,
+    attend: A,
+    maker: F,
+    limits: ClientLimits,
+    // What one is told who comes while as many are there as may be.
+    refusal: Vec<u8>,
+    peers: IndexMap<u32, Peer<T, C>>,
+    came: u32,
+    waiting: Vec<u32>,
+    turns: Turns,
+    time: Duration,
+    refusals: u64,
+    looks: u64,
+}
+
+impl<T: Talk + Drop, C: Channel + Drop, A: Attend<C>, F: TalkMaker<T>> PolledClients<T, C, A, F> {
+    /// Nobody has come. `refusal` is what one is told who comes while as many are there as may be.
+    pub fn new(
+        alloc: Global,
+        attend: A,
+        maker: F,
+        limits: ClientLimits,
+        refusal: Vec<u8>,
+    ) -> PolledClients<T, C, A, F>
+        ensures at { (c : ℕ) → places C.Channel A.Attend result c ≡ awaited (A.coming attend c) }
+        ensures waiting { result.waiting.items ≡ [] }
+        ensures expected { result.limits.connections ≡ limits.connections }
+        ensures refusals { result.refusals ≡ 0 }
+        ensures looks { result.looks ≡ 0 }
+    {
+        PolledClients {
+            alloc,
+            attend,
+            maker,
+            limits,
+            refusal,
+            peers: IndexMap::new(alloc),
+            came: 0,
+            waiting: Vec::new(alloc),
+            turns: Turns::new(alloc),
+            time: Duration::ZERO,
+            refusals: 0,
+            looks: 0,
+        }
+    }
+
+    /// What tells who comes. It knows what had gone out to each that was let go, where that is known.
+    pub fn into_attend(self) -> A
+    where
+        F: Drop,
+        ensures { (c : ℕ) (sent : NamedBytes) → places C.Channel A.Attend self c ≡ gone sent → A.closed result c ≡ sent }
+    {
+        self.attend
+    }
+
+    // Looks for something to do, and does one thing.
+    fn look(&mut self, stopped: bool) -> Option<Next>
+        ensures moved { Moved T.Talk (places C.Channel A.Attend self.old) (places C.Channel A.Attend self.new) }
+        ensures waiting { self.new.waiting.items ≡ self.old.waiting.items }
+        ensures limits { self.new.limits ≡ self.old.limits }
+        ensures looks { self.new.looks ≡ self.old.looks }
+        ensures next { IfSome result (λ n. IsNext T.Talk stopped (places C.Channel A.Attend self.new) self.new.waiting.items (Some self.new.limits.connections) self.new.refusals self.new.looks n) }
+    {
+        if let Some(finish) = self.finish(stopped) {
+            return Some(Next::Ended(finish));
+        }
+        let there = any(&self.peers);
+        let waits = first(&self.waiting);
+        match self.turns.pick(there, waits, stopped) {
+            Some(pick) => self.serve(pick, stopped),
+            None => {
+                self.gather();
+                None
+            }
+        }
+    }
+
+    // Why nothing more is to be done, if that is so.
+    fn finish(&self, stopped: bool) -> Option<Finish>
+        ensures ends { IfSome result (λ e. EndsAs stopped (places C.Channel A.Attend self.now) (Some self.now.limits.connections) self.now.refusals self.now.looks e) }
+        ensures waiting { IfSome result (λ e. self.now.waiting.items ≡ []) }
+    {
+        if !self.is_deserted() {
+            return None;
+        }
+        if stopped {
+            return Some(Finish::Stopped);
+        }
+        if self.came == self.limits.connections {
+            return Some(Finish::Done);
+        }
+        if self.refusals > 0 {
+            return Some(Finish::Net);
+        }
+        None
+    }
+
+    // Whether nobody is there, and nobody waits.
+    fn is_deserted(&self) -> bool
+        ensures nobody { result ≡ true → (c : ℕ) → get nat_eq self.now.peers c ≡ None }
+        ensures waiting { result ≡ true → self.now.waiting.items ≡ [] }
+    {
+        is_nobody(&self.peers) && self.waiting.is_empty()
+    }
+
+    // Gives a client its turn.
+    fn serve(&mut self, pick: Pick, stopped: bool) -> Option<Next>
+        ensures moved { Moved T.Talk (places C.Channel A.Attend self.old) (places C.Channel A.Attend self.new) }
+        ensures waiting { self.new.waiting.items ≡ self.old.waiting.items }
+        ensures limits { self.new.limits ≡ self.old.limits }
+        ensures looks { self.new.looks ≡ self.old.looks }
+        ensures next { IfSome result (λ n. IsNext T.Talk stopped (places C.Channel A.Attend self.new) self.new.waiting.items (Some self.new.limits.connections) self.new.refusals self.new.looks n) }
+    {
+        let client = pick.client;
+        match self.turn(pick, stopped) {
+            Need::Nothing => {
+                list_owed(&mut self.turns, &self.peers, client);
+                None
+            }
+            Need::Step => Some(Next::Step { client }),
+            Need::Question => Some(Next::Question { client }),
+            Need::Left(why) => {
+                self.turns.note_leaving(client);
+                Some(Next::Left { client, why })
+            }
+        }
+    }
+
+    // Does one thing for a client, and tells what it has to do with the machine.
+    fn turn(&mut self, pick: Pick, stopped: bool) -> Need
+        ensures moved { Moved T.Talk (places C.Channel A.Attend self.old) (places C.Channel A.Attend self.new) }
+        ensures waiting { self.new.waiting.items ≡ self.old.waiting.items }
+        ensures limits { self.new.limits ≡ self.old.limits }
+        ensures looks { self.new.looks ≡ self.old.looks }
+        ensures need { HasNeedAt T.Talk stopped result (places C.Channel A.Attend self.new pick.client) }
+    {
+        if pick.client >= self.came {
+            return Need::Nothing;
+        }
+        take_turn(&mut self.peers, pick, stopped, self.time)
+    }
+
+    // Before a round: wakes one to whom something may have come, or takes one that comes, or asks
+    // who may have something to do.
+    fn gather(&mut self)
+        ensures moved { Moved T.Talk (places C.Channel A.Attend self.old) (places C.Channel A.Attend self.new) }
+        ensures waiting { self.new.waiting.items ≡ self.old.waiting.items }
+        ensures limits { self.new.limits ≡ self.old.limits }
+        ensures looks { self.new.looks ≡ self.old.looks }
+    {
+        if let Some(client) = self.turns.woken.pop() {
+            self.wake(client);
+        } else if self.turns.may_greet() {
+            self.greet();
+        } else {
+            self.end_round();
+        }
+    }
+
+    // At the end of a round: looks at the limits of one client, where it is time for that, or asks
+    // who may have something to do.
+    fn end_round(&mut self)
+        ensures moved { Moved T.Talk (places C.Channel A.Attend self.old) (places C.Channel A.Attend self.new) }
+        ensures waiting { self.new.waiting.items ≡ self.old.waiting.items }
+        ensures limits { self.new.limits ≡ self.old.limits }
+        ensures looks { self.new.looks ≡ self.old.looks }
+    {
+        if self.turns.looks.begin() {
+            self.note_time();
+            return;
+        }
+        match self.turns.looks.next(self.peers.len()) {
+            Some(index) => self.look_at_index(index),
+            None => self.poll(),
+        }
+    }
+
+    // Looks at the clock.
+    fn note_time(&mut self)
+        ensures moved { Moved T.Talk (places C.Channel A.Attend self.old) (places C.Channel A.Attend self.new) }
+        ensures waiting { self.new.waiting.items ≡ self.old.waiting.items }
+        ensures limits { self.new.limits ≡ self.old.limits }
+        ensures looks { self.new.looks ≡ self.old.looks }
+    {
+        self.time = self.attend.now();
+    }
+
+    // Looks at the limits of the client of an index.
+    fn look_at_index(&mut self, index: usize)
+        ensures moved { Moved T.Talk (places C.Channel A.Attend self.old) (places C.Channel A.Attend self.new) }
+        ensures waiting { self.new.waiting.items ≡ self.old.waiting.items }
+        ensures limits { self.new.limits ≡ self.old.limits }
+        ensures looks { self.new.looks ≡ self.old.looks }
+    {
+        if let Some(client) = client_at(&self.peers, index) {
+            self.look_after(client);
+        }
+    }
+
+    // Looks at the limits of a client.
+    fn look_after(&mut self, client: u32)
+        ensures moved { Moved T.Talk (places C.Channel A.Attend self.old) (places C.Channel A.Attend self.new) }
+        ensures waiting { self.new.waiting.items ≡ self.old.waiting.items }
+        ensures limits { self.new.limits ≡ self.old.limits }
+        ensures looks { self.new.looks ≡ self.old.looks }
+    {
+        let idle = self.limits.idle;
+        let asked = self.turns.looks.asked();
+        look_after(&mut self.peers, client, asked, self.time, idle);
+        note_look(&mut self.turns, &self.peers, client, self.time, idle);
+        list_owed(&mut self.turns, &self.peers, client);
+    }
+
+    // Something may have come to a client.
+    fn wake(&mut self, client: u32)
+        ensures moved { Moved T.Talk (places C.Channel A.Attend self.old) (places C.Channel A.Attend self.new) }
+        ensures waiting { self.new.waiting.items ≡ self.old.waiting.items }
+        ensures limits { self.new.limits ≡ self.old.limits }
+        ensures looks { self.new.looks ≡ self.old.looks }
+    {
+        rouse(&mut self.peers, client);
+        list_owed(&mut self.turns, &self.peers, client);
+    }
+
+    // Takes one that comes, or turns it away where as many are there as may be.
+    fn greet(&mut self)
+        ensures moved { Moved T.Talk (places C.Channel A.Attend self.old) (places C.Channel A.Attend self.new) }
+        ensures waiting { self.new.waiting.items ≡ self.old.waiting.items }
+        ensures limits { self.new.limits ≡ self.old.limits }
+        ensures looks { self.new.looks ≡ self.old.looks }
+    {
+        if self.came >= self.limits.connections || self.refusals > 0 {
+            self.turns.note_nobody();
+        } else if self.peers.len() >= self.limits.at_once {
+            self.turn_away();
+        } else {
+            self.take();
+        }
+    }
+
+    // Tells one that comes that as many are there as may be.
+    fn turn_away(&mut self)
+        ensures moved { Moved T.Talk (places C.Channel A.Attend self.old) (places C.Channel A.Attend self.new) }
+        ensures waiting { self.new.waiting.items ≡ self.old.waiting.items }
+        ensures limits { self.new.limits ≡ self.old.limits }
+        ensures looks { self.new.looks ≡ self.old.looks }
+    {
+        match self.attend.turn_away(&self.refusal) {
+            Taken::Came(()) => {}
+            Taken::Nobody => self.turns.note_nobody(),
+            Taken::Later => self.turns.note_later(self.time),
+            Taken::Failed => self.refusals = self.refusals.saturating_add(1),
+        }
+    }
+
+    // Takes one that comes.
+    fn take(&mut self)
+        ensures moved { Moved T.Talk (places C.Channel A.Attend self.old) (places C.Channel A.Attend self.new) }
+        ensures waiting { self.new.waiting.items ≡ self.old.waiting.items }
+        ensures limits { self.new.limits ≡ self.old.limits }
+        ensures looks { self.new.looks ≡ self.old.looks }
+    {
+        match prepare(&mut self.turns, &self.maker, self.peers.len() + 1) {
+            Ok(talk) => self.take_with(talk),
+            Err(_) => self.turns.note_later(self.time),
+        }
+    }
+
+    // Takes one that comes, for whom there is this conversation.
+    fn take_with(&mut self, talk: T)
+        requires { T.starts talk }
+        ensures moved { Moved T.Talk (places C.Channel A.Attend self.old) (places C.Channel A.Attend self.new) }
+        ensures waiting { self.new.waiting.items ≡ self.old.waiting.items }
+        ensures limits { self.new.limits ≡ self.old.limits }
+        ensures looks { self.new.looks ≡ self.old.looks }
+    {
+        match self.attend.take(self.came) {
+            Taken::Came(channel) => self.admit(talk, channel),
+            Taken::Nobody => self.turns.note_nobody(),
+            Taken::Later => self.turns.note_later(self.time),
+            Taken::Failed => self.refusals = self.refusals.saturating_add(1),
+        }
+    }
+
+    // A client has come.
+    fn admit(&mut self, talk: T, channel: C)
+        requires starts { T.starts talk }
+        requires fresh { HasJustCome C.Channel (A.coming self.old.attend self.old.came) channel }
+        ensures moved { Moved T.Talk (places C.Channel A.Attend self.old) (places C.Channel A.Attend self.new) }
+        ensures waiting { self.new.waiting.items ≡ self.old.waiting.items }
+        ensures limits { self.new.limits ≡ self.old.limits }
+        ensures looks { self.new.looks ≡ self.old.looks }
+    {
+        let client = self.came;
+        let Some(next) = client.checked_add(1) else {
+            return;
+        };
+        let idle = self.limits.idle;
+        let peer = Peer::new(self.alloc, talk, channel, idle.is_some(), self.time);
+        if self.peers.insert(client, peer).is_ok() {
+            self.came = next;
+            self.turns.list(client);
+            note_look(&mut self.turns, &self.peers, client, self.time, idle);
+        }
+    }
+
+    // Asks who may have something to do, and begins a round.
+    fn poll(&mut self)
+        ensures moved { Moved T.Talk (places C.Channel A.Attend self.old) (places C.Channel A.Attend self.new) }
+        ensures waiting { self.new.waiting.items ≡ self.old.waiting.items }
+        ensures limits { self.new.limits ≡ self.old.limits }
+        ensures looks { self.new.looks ≡ self.old.looks }
+    {
+        self.note_time();
+        self.ask();
+        self.note_time();
+    }
+
+    // Asks who may have something to do, and waits for it where nobody has something at once.
+    fn ask(&mut self)
+        ensures moved { Moved T.Talk (places C.Channel A.Attend self.old) (places C.Channel A.Attend self.new) }
+        ensures waiting { self.new.waiting.items ≡ self.old.waiting.items }
+        ensures limits { self.new.limits ≡ self.old.limits }
+        ensures looks { self.new.looks ≡ self.old.looks }
+    {
+        self.turns.looks.note_asked(self.time);
+        let until = self.first_waits_until();
+        let within = self.turns.within(until, self.time);
+        let comes = self.attend.wait(&mut self.turns.woken, within);
+        self.turns.begin(comes, until, self.time);
+    }
+
+    // A client waits from now on for so long as it may.
+    fn hold(&mut self, client: u32)
+        ensures moved { Moved T.Talk (places C.Channel A.Attend self.old) (places C.Channel A.Attend self.new) }
+        ensures waiting { self.new.waiting.items ≡ self.old.waiting.items }
+        ensures limits { self.new.limits ≡ self.old.limits }
+        ensures looks { self.new.looks ≡ self.old.looks }
+    {
+        self.note_time();
+        self.hold_until(client);
+    }
+
+    // A client waits for so long as it may, if it does not wait yet.
+    fn hold_until(&mut self, client: u32)
+        ensures moved { Moved T.Talk (places C.Channel A.Attend self.old) (places C.Channel A.Attend self.new) }
+        ensures waiting { self.new.waiting.items ≡ self.old.waiting.items }
+        ensures limits { self.new.limits ≡ self.old.limits }
+        ensures looks { self.new.looks ≡ self.old.looks }
+    {
+        let wait = self.limits.wait.unwrap_or(Duration::ZERO);
+        hold(&mut self.peers, client, self.time.saturating_add(wait));
+        list_owed(&mut self.turns, &self.peers, client);
+    }
+
+    // The conversation with a client wants its end, since an allocation has failed.
+    fn give_up(&mut self, client: u32)
+        requires { (w : TheWant) × (wanted T.Talk (places C.Channel A.Attend self.old client) ≡ Some w) }
+        ensures moved { Moved T.Talk (places C.Channel A.Attend self.old) (places C.Channel A.Attend self.new) }
+        ensures waiting { self.new.waiting.items ≡ self.old.waiting.items }
+        ensures limits { self.new.limits ≡ self.old.limits }
+        ensures looks { self.new.looks ≡ self.old.looks }
+        ensures wants { wanted T.Talk (places C.Channel A.Attend self.new client) ≡ Some TheWant.OutOfMemory }
+    {
+        give_up(&mut self.peers, client);
+        list_owed(&mut self.turns, &self.peers, client);
+    }
+
+    // Until when the first waits that does.
+    fn first_waits_until(&self) -> Option<Duration> {
+        let client = first(&self.waiting)?;
+        self.peers.get(&client)?.waits_until()
+    }
+}
+
+impl<T: Talk + Drop, C: Channel + Drop, A: Attend<C>, F: TalkMaker<T>> ServedClients<T>
+    for PolledClients<T, C, A, F> {
+    ghost use Rattle.std.specs.Prelude.{◌≡◌, ℕ, [], ◌∷◌, Some};
+
+    ghost at = { λ x c. places C.Channel A.Attend x c };
+
+    ghost waiting = { λ x. x.waiting.items };
+
+    ghost expected = { λ x. Some x.limits.connections };
+
+    ghost refusals = { λ x. x.refusals };
+
+    ghost looks = { λ x. x.looks };
+
+    ghost learns = { λ x moment c r y. (w : TheWant) × (wanted T.Talk (places C.Channel A.Attend x c) ≡ Some w) × FitsWant w r
+        × Passes T.Talk (places C.Channel A.Attend x c) (learnt w r ∷ []) (places C.Channel A.Attend y c) };
+
+    ghost has_waited = { λ x c. HasWaited x.limits.wait (get nat_eq x.peers c) };
+
+    fn next(&mut self, stopped: bool) -> Next {
+        'looking: while self.looks < u64::MAX {
+            self.looks += 1;
+            if let Some(next) = self.look(stopped) {
+                return next;
+            }
+        }
+        Next::Ended(Finish::LookLimit)
+    }
+
+    fn want(&self, client: u32) -> &Want {
+        self.peers.get(&client).unwrap().want()
+    }
+
+    fn learn<M: Machine>(&mut self, _machine: &M, client: u32, reply: Reply) {
+        take_out(&mut self.waiting, client);
+        self.turns.note_change();
+        teach(&mut self.peers, client, reply);
+        list_owed(&mut self.turns, &self.peers, client);
+    }
+
+    fn hold_back(&mut self, client: u32) {
+        match put_last(&mut self.waiting, client) {
+            Ok(()) => self.hold(client),
+            Err(_) => self.give_up(client),
+        }
+    }
+
+    fn is_behind(&self, client: u32) -> bool {
+        is_behind(&self.waiting, client)
+    }
+
+    fn may_wait_no_more(&self, client: u32) -> bool {
+        match self.limits.wait {
+            None => true,
+            Some(_) => has_waited(&self.peers, client),
+        }
+    }
+
+    fn close(&mut self, client: u32) {
+        take_out(&mut self.waiting, client);
+        self.turns.note_change();
+        let peer = self.peers.swap_remove(&client).unwrap();
+        self.attend.close(client, peer.into_channel());
+    }
+}

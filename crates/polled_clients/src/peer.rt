@@ -1,0 +1,500 @@
+//! A client that is there: the conversation with it, and its connection.
+
+ghost use Rattle.std.specs.Prelude.{◌≡◌, ◌≤◌, ◌+◌, ◌++◌, ℕ, Bool, List, [], ◌∷◌, length, drop, vec_len, vec_capacity, true, false, Option, Some, None, IfSome};
+ghost use Rattle.channels.specs.Comings.{HasJustCome};
+ghost use Rattle.talks.specs.Wants.{FitsWant, learnt};
+ghost use Rattle.talks.specs.Conversations.{IsNew, unless_ended};
+ghost use Rattle.talks.specs.declared.want.Want.{Want as TheWant};
+ghost use Rattle.polled_clients.specs.Peers.{conversation_of, Goes, MayEnd, HasNeed};
+
+use crate::held::{drop_front, keep};
+use crate::need::{Need, is_end, is_late_end, is_message, is_out_of_memory, is_question, is_step};
+use crate::times::{after, earlier, is_past};
+use channels::behind::behind;
+use channels::channel::{Channel, Received};
+use channels::send_queue::{SendQueue, Sending};
+use std::alloc::Global;
+use std::time::Duration;
+use talks::clients::Why;
+use talks::talk::{MessageFront, Talk};
+use talks::want::{Reply, Want};
+
+/// How many bytes are read at once, at most.
+const READ_SIZE: usize = 8_192;
+
+/// So many bytes that have not gone out, and nothing more is read of a client, and no step made.
+const QUEUE_SIZE: usize = 65_536;
+
+/// How many seconds later it goes out what a conversation says before an end that is late.
+const LATE_SECONDS: u64 = 1;
+
+/// A client that is there.
+#[derive(Drop)]
+pub struct Peer<T, C> {
+    talk: T,
+    channel: C,
+    // What has come of it, of which the first bytes were heard.
+    held: Vec<u8>,
+    heard: usize,
+    queue: SendQueue,
+    limited: bool,
+    why: Option<Why>,
+    // Whether the last read found that nothing has come.
+    is_quiet: bool,
+    // Whether the last write found that nothing is taken.
+    is_blocked: bool,
+    // Whether it has passed a limit.
+    is_over: bool,
+    // When it last had a turn, or its limits were looked at.
+    time: Duration,
+    // Whether bytes have come of it or gone out to it since its limits were looked at, and when they
+    // had for the last time, or something was to be done for it.
+    has_moved: bool,
+    active: Duration,
+    // Until when what was said before a late end does not go out.
+    late_until: Option<Duration>,
+    // Until when its step waits, while it does, and whether that is over.
+    waits_until: Option<Duration>,
+    has_waited: bool,
+}
+
+impl<T: Talk, C: Channel> Peer<T, C> {
+    /// A client that has just come. `limited` tells whether a limit may end it.
+    pub fn new(alloc: Global, talk: T, channel: C, limited: bool, now: Duration) -> Peer<T, C>
+        ensures { (bytes : Option (List ℕ)) → T.starts talk → HasJustCome C.Channel bytes channel → IsNew T.Talk bytes (conversation_of C.Channel result) }
+    {
+        Peer {
+            talk,
+            channel,
+            held: Vec::new(alloc),
+            heard: 0,
+            queue: SendQueue::new(alloc),
+            limited,
+            why: None,
+            is_quiet: false,
+            is_blocked: false,
+            is_over: false,
+            time: now,
+            has_moved: true,
+            active: now,
+            late_until: None,
+            waits_until: None,
+            has_waited: false,
+        }
+    }
+
+    /// Takes its turn: does what there is to do for it, or gives out its step that has waited.
+    pub fn take_turn(&mut self, offered: Option<Duration>, stopped: bool, now: Duration) -> Need
+        ensures goes { Goes T.Talk C.Channel self.old [] self.new }
+        ensures need { HasNeed T.Talk C.Channel stopped result self.new }
+    {
+        self.time = now;
+        match offered {
+            Some(asked) => self.offer(asked),
+            None => self.attend(stopped),
+        }
+    }
+
+    // Does what there is to do for the client, and tells what it has to do with the machine.
+    fn attend(&mut self, stopped: bool) -> Need
+        ensures goes { Goes T.Talk C.Channel self.old [] self.new }
+        ensures need { HasNeed T.Talk C.Channel stopped result self.new }
+    {
+        match self.why {
+            Some(why) => {
+                if self.has_cause(why, stopped) {
+                    return Need::Left(why);
+                }
+                Need::Nothing
+            }
+            None => self.proceed(stopped),
+        }
+    }
+
+    // Does what there is to do for a client whose connection has not ended.
+    fn proceed(&mut self, stopped: bool) -> Need
+        requires { self.old.why ≡ None }
+        ensures goes { Goes T.Talk C.Channel self.old [] self.new }
+        ensures need { HasNeed T.Talk C.Channel stopped result self.new }
+    {
+        self.send_if_due();
+        match self.cause(stopped) {
+            Some(why) => {
+                self.why = Some(why);
+                Need::Left(why)
+            }
+            None => self.advance(stopped),
+        }
+    }
+
+    // Tells what it wants of the machine, and reads and hears it first where it wants a message.
+    fn advance(&mut self, stopped: bool) -> Need
+        requires { self.old.why ≡ None }
+        ensures goes { Goes T.Talk C.Channel self.old [] self.new }
+        ensures need { HasNeed T.Talk C.Channel stopped result self.new }
+    {
+        if self.is_held_up(stopped) {
+            return Need::Nothing;
+        }
+        if is_message(self.talk.want()) {
+            return self.listen(stopped);
+        }
+        self.need()
+    }
+
+    // Hears a message, and tells what it wants of the machine then.
+    fn listen(&mut self, stopped: bool) -> Need
+        requires wants { T.wants self.old.talk ≡ TheWant.Message }
+        requires running { self.old.why ≡ None }
+        ensures goes { Goes T.Talk C.Channel self.old [] self.new }
+        ensures need { HasNeed T.Talk C.Channel stopped result self.new }
+    {
+        self.hear_next();
+        self.need()
+    }
+
+    // Whether nothing is to be done for it but to send, as once the machine has stopped.
+    fn is_held_up(&self, stopped: bool) -> bool {
+        stopped || self.waits_until.is_some() || self.queue.len() >= QUEUE_SIZE
+    }
+
+    // Gives out its step that has waited. Its time is over where that was so when it was asked who had
+    // sent something, since what others sent before that is answered.
+    fn offer(&mut self, asked: Duration) -> Need
+        ensures goes { Goes T.Talk C.Channel self.old [] self.new }
+        ensures need { (stopped : Bool) → HasNeed T.Talk C.Channel stopped result self.new }
+    {
+        self.has_waited = is_past(self.waits_until, asked);
+        if self.why.is_some() {
+            return Need::Nothing;
+        }
+        self.need()
+    }
+
+    /// Its step waits until then.
+    pub fn hold(&mut self, until: Duration)
+        ensures { conversation_of C.Channel self.new ≡ conversation_of C.Channel self.old }
+    {
+        if self.waits_until.is_none() {
+            self.waits_until = Some(until);
+        }
+    }
+
+    /// Until when its step waits, while it does.
+    pub fn waits_until(&self) -> Option<Duration> {
+        self.waits_until
+    }
+
+    /// Whether its step has waited as long as it may.
+    pub fn has_waited(&self) -> bool
+        ensures { result ≡ self.now.has_waited }
+    {
+        self.has_waited
+    }
+
+    // What it wants of the machine.
+    fn need(&self) -> Need
+        requires { self.now.why ≡ None }
+        ensures { (stopped : Bool) → HasNeed T.Talk C.Channel stopped result self.now }
+    {
+        if is_step(self.talk.want()) {
+            return Need::Step;
+        }
+        if is_question(self.talk.want()) {
+            return Need::Question;
+        }
+        Need::Nothing
+    }
+
+    // Lets go out what its connection takes now, unless that is to go out later.
+    fn send_if_due(&mut self)
+        ensures goes { Goes T.Talk C.Channel self.old [] self.new }
+        ensures why { self.new.why ≡ self.old.why }
+    {
+        self.note_late_end();
+        if !self.is_late() {
+            self.send();
+        }
+    }
+
+    // Where it wants a late end, what was said goes out a second after that was seen.
+    fn note_late_end(&mut self)
+        ensures conversation { conversation_of C.Channel self.new ≡ conversation_of C.Channel self.old }
+        ensures why { self.new.why ≡ self.old.why }
+    {
+        if self.late_until.is_none() && is_late_end(self.talk.want()) {
+            self.late_until = after(self.time, Some(Duration::from_secs(LATE_SECONDS)));
+        }
+    }
+
+    // Whether what was said is to go out later.
+    fn is_late(&self) -> bool {
+        self.late_until.is_some() && !is_past(self.late_until, self.time)
+    }
+
+    // Lets go out what its connection takes now.
+    fn send(&mut self)
+        ensures goes { Goes T.Talk C.Channel self.old [] self.new }
+        ensures why { self.new.why ≡ self.old.why }
+    {
+        match self.queue.send(&mut self.channel) {
+            Sending::Waits | Sending::Failed => self.is_blocked = true,
+            Sending::Moves => self.has_moved = true,
+            Sending::Done => {}
+        }
+    }
+
+    // Hears the message at the front, and reads first where none is whole.
+    fn hear_next(&mut self)
+        requires wants { T.wants self.old.talk ≡ TheWant.Message }
+        requires running { self.old.why ≡ None }
+        ensures goes { Goes T.Talk C.Channel self.old [] self.new }
+        ensures why { self.new.why ≡ None }
+    {
+        if self.has_no_front() && !self.is_quiet {
+            self.receive_and_hear();
+        } else {
+            self.hear();
+        }
+    }
+
+    // Reads what has come, and hears the message at the front.
+    fn receive_and_hear(&mut self)
+        requires { self.old.why ≡ None }
+        ensures goes { Goes T.Talk C.Channel self.old [] self.new }
+        ensures why { self.new.why ≡ None }
+    {
+        self.receive();
+        if is_message(self.talk.want()) {
+            self.hear();
+        }
+    }
+
+    // Whether no message stands at the front, neither a whole nor a bad one.
+    fn has_no_front(&self) -> bool
+        ensures { result ≡ true → T.front self.now.talk (drop self.now.heard self.now.held.items) ≡ MessageFront.Nothing }
+    {
+        matches!(
+            self.talk.front(behind(&self.held, self.heard)),
+            MessageFront::Nothing
+        )
+    }
+
+    // Makes room, and reads what has come.
+    fn receive(&mut self)
+        requires { self.old.why ≡ None }
+        ensures goes { Goes T.Talk C.Channel self.old [] self.new }
+        ensures why { self.new.why ≡ None }
+    {
+        drop_front(&mut self.held, self.heard);
+        self.heard = 0;
+        match self.held.reserve(READ_SIZE) {
+            Ok(()) => self.read(),
+            Err(_) => self.talk.give_up(),
+        }
+    }
+
+    // Reads what has come.
+    fn read(&mut self)
+        requires room { vec_len self.old.held + 8192 ≤ vec_capacity self.old.held }
+        requires heard { self.old.heard ≡ 0 }
+        requires running { self.old.why ≡ None }
+        ensures goes { Goes T.Talk C.Channel self.old [] self.new }
+        ensures why { self.new.why ≡ None }
+    {
+        let mut buffer = [0; READ_SIZE];
+        match self.channel.receive(&mut buffer) {
+            Received::Bytes(count) => {
+                self.has_moved = true;
+                keep(&mut self.held, &buffer[..count]);
+            }
+            Received::Nothing | Received::End | Received::Failed => self.is_quiet = true,
+        }
+    }
+
+    // Hears what stands at the front.
+    fn hear(&mut self)
+        requires wants { T.wants self.old.talk ≡ TheWant.Message }
+        requires running { self.old.why ≡ None }
+        ensures goes { Goes T.Talk C.Channel self.old [] self.new }
+        ensures why { self.new.why ≡ None }
+    {
+        match self.talk.front(behind(&self.held, self.heard)) {
+            MessageFront::Whole(size) => self.take_message(size),
+            MessageFront::Bad => self.spoil(),
+            MessageFront::Nothing => {}
+        }
+    }
+
+    // Hears the message of so many bytes that stands at the front.
+    fn take_message(&mut self, size: usize)
+        requires wants { T.wants self.old.talk ≡ TheWant.Message }
+        requires whole { T.front self.old.talk (drop self.old.heard self.old.held.items) ≡ MessageFront.Whole size }
+        requires running { self.old.why ≡ None }
+        ensures goes { Goes T.Talk C.Channel self.old [] self.new }
+        ensures why { self.new.why ≡ None }
+    {
+        let message = &behind(&self.held, self.heard)[..size];
+        match self.talk.hear(message, &mut self.queue.said) {
+            Ok(()) => self.heard += size,
+            Err(_) => {}
+        }
+    }
+
+    // Learns that a bad message stands at the front.
+    fn spoil(&mut self)
+        requires wants { T.wants self.old.talk ≡ TheWant.Message }
+        requires bad { T.front self.old.talk (drop self.old.heard self.old.held.items) ≡ MessageFront.Bad }
+        requires running { self.old.why ≡ None }
+        ensures goes { Goes T.Talk C.Channel self.old [] self.new }
+        ensures why { self.new.why ≡ None }
+    {
+        match self.talk.spoil(&mut self.queue.said) {
+            Ok(()) => {}
+            Err(_) => {}
+        }
+    }
+
+    /// Learns what it wanted.
+    pub fn learn(&mut self, reply: Reply)
+        requires running { self.old.why ≡ None }
+        requires fits { FitsWant (T.wants self.old.talk) reply }
+        ensures { Goes T.Talk C.Channel self.old (learnt (T.wants self.old.talk) reply ∷ []) self.new }
+    {
+        self.waits_until = None;
+        self.has_waited = false;
+        match self.talk.learn(reply, &mut self.queue.said) {
+            Ok(()) => {}
+            Err(_) => {}
+        }
+    }
+
+    /// What it wants.
+    pub fn want(&self) -> &Want
+        ensures { result.now ≡ T.wants self.now.talk }
+    {
+        self.talk.want()
+    }
+
+    /// Its conversation wants its end, since an allocation has failed.
+    pub fn give_up(&mut self)
+        requires { self.old.why ≡ None }
+        ensures goes { Goes T.Talk C.Channel self.old [] self.new }
+        ensures wants { unless_ended self.new.why (T.wants self.new.talk) ≡ Some TheWant.OutOfMemory }
+    {
+        self.talk.give_up();
+    }
+
+    // Why its connection is to end, if it is.
+    fn cause(&self, stopped: bool) -> Option<Why>
+        ensures { IfSome result (λ w. MayEnd T.Talk C.Channel stopped self.now w) }
+    {
+        if self.has_cause(Why::Failed, stopped) {
+            return Some(Why::Failed);
+        }
+        if self.has_cause(Why::Memory, stopped) {
+            return Some(Why::Memory);
+        }
+        if self.has_cause(Why::Finished, stopped) {
+            return Some(Why::Finished);
+        }
+        if !self.can_send() && self.has_cause(Why::Stopped, stopped) {
+            return Some(Why::Stopped);
+        }
+        if self.has_cause(Why::Limit, stopped) {
+            return Some(Why::Limit);
+        }
+        if self.has_cause(Why::Input, stopped) {
+            return Some(Why::Input);
+        }
+        None
+    }
+
+    // Whether its connection is to end for this.
+    fn has_cause(&self, why: Why, stopped: bool) -> bool
+        ensures { result ≡ true → MayEnd T.Talk C.Channel stopped self.now why }
+    {
+        match why {
+            Why::Input => {
+                is_message(self.talk.want())
+                    && self.has_no_front()
+                    && self.channel.has_ended()
+                    && self.queue.is_empty()
+            }
+            Why::Finished => is_end(self.talk.want()) && self.queue.is_empty(),
+            Why::Failed => self.channel.has_failed(),
+            Why::Limit => self.limited && self.is_over,
+            Why::Memory => is_out_of_memory(self.talk.want()),
+            Why::Stopped => stopped,
+        }
+    }
+
+    // Whether bytes are to go out, which its connection may take.
+    fn can_send(&self) -> bool {
+        !self.is_blocked && !self.queue.is_empty() && !self.is_late()
+    }
+
+    /// Whether there is something to do for it at once.
+    pub fn owes(&self) -> bool {
+        if self.why.is_some() || self.cause(false).is_some() {
+            return true;
+        }
+        if self.can_send() {
+            return true;
+        }
+        if self.is_held_up(false) {
+            return false;
+        }
+        let want = self.talk.want();
+        is_step(want)
+            || is_question(want)
+            || (is_message(want) && !(self.is_quiet && self.has_no_front()))
+    }
+
+    /// Looks at its limits. It was read since it was `asked` who had sent something: so it is over
+    /// for who was silent so long before that, while it was waited for.
+    pub fn look_after(&mut self, asked: Duration, now: Duration, idle: Option<Duration>)
+        ensures { conversation_of C.Channel self.new ≡ conversation_of C.Channel self.old }
+    {
+        if self.why.is_some() {
+            return;
+        }
+        self.time = now;
+        if self.has_moved || self.waits_until.is_some() || self.owes() {
+            self.has_moved = false;
+            self.active = now;
+        }
+        self.is_over = is_past(after(self.active, idle), asked);
+    }
+
+    /// When its limits are to be looked at, if they are.
+    pub fn next_look(&self, idle: Option<Duration>) -> Option<Duration> {
+        earlier(after(self.active, idle), self.late_until())
+    }
+
+    /// Until when what was said does not go out, where that is late.
+    pub fn late_until(&self) -> Option<Duration> {
+        if self.is_late() {
+            self.late_until
+        } else {
+            None
+        }
+    }
+
+    /// Something may have come of it, or may go out to it.
+    pub fn rouse(&mut self)
+        ensures { conversation_of C.Channel self.new ≡ conversation_of C.Channel self.old }
+    {
+        self.is_quiet = false;
+        self.is_blocked = false;
+    }
+
+    /// Its connection.
+    pub fn into_channel(self) -> C
+    where
+        T: Drop,
+        ensures { result ≡ self.channel }
+    {
+        self.channel
+    }
+}
