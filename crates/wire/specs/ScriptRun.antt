@@ -151,9 +151,17 @@ pub record RunsLines {S X K : Type 0} (Reads : ReadingRelation) (state : S → S
 
 -- ---- a script
 
+-- a script ends as its lines did, and the sink stays as they left it
+abbrev pub EndsLikeLines : {K : Type 0} → Ghosts K → ScriptEnd → K → ScriptEnd → K → Type 0
+EndsLikeLines k ending told e after = (e ≡ ending) × (k.failures after ≡ k.failures told) × k.stays told after
+
+-- the sink failed after the lines, and this is all that has changed of it
+abbrev pub EndsBySink : {K : Type 0} → Ghosts K → K → ScriptEnd → K → Type 0
+EndsBySink k told e after = (e ≡ end.Writer) × Rose (k.failures told) (k.failures after) × k.fails told after
+
 -- a script ends as its lines did, or the sink failed after them
 abbrev pub EndsAsLines : {K : Type 0} → Ghosts K → ScriptEnd → K → ScriptEnd → K → Type 0
-EndsAsLines k ending told e after = (e ≡ ending) ⊎ ((e ≡ end.Writer) × Rose (k.failures told) (k.failures after))
+EndsAsLines k ending told e after = EndsLikeLines k ending told e after ⊎ EndsBySink k told e after
 
 -- its lines were run, then the sessions that are open were closed, and the script ended as its lines did, or the sink failed at last
 pub record IsScriptRun {S X K : Type 0} (Reads : ReadingRelation) (state : S → StoreState) (k : Ghosts K) (old : Server S X) (lines : List (List ℕ)) (before : K) (e : ScriptEnd) (new : Server S X) (after : K) : Type 0 where

@@ -1,6 +1,6 @@
 //! Answers in frames, to a writer.
 
-ghost use Rattle.std.specs.Prelude.{◌≡◌, ◌⊎◌, ℕ, None, refl, OnOk, OnErr};
+ghost use Rattle.std.specs.Prelude.{◌≡◌, ◌⊎◌, ℕ, ⊤, None, refl, OnOk, OnErr};
 ghost use Rattle.std.specs.Io.KnownBytes.{Appends};
 ghost use Rattle.sql_types.specs.declared.answer.Answer.{Answer as TheAnswer};
 ghost use Rattle.wire.specs.AnswerFrames.{answer_frames};
@@ -126,6 +126,10 @@ impl<W: Write> Sink for FrameSink<W> {
     ghost spelled = { λ session answer. answer_frames session (answer_text answer) };
 
     ghost failures = { λ k. k.failures };
+
+    ghost stays = { λ k l. ⊤ };
+
+    ghost fails = { λ k l. ⊤ };
 
     fn tell<S: Store>(&mut self, _store: &S, session: u32, answer: &Answer) -> io::Result<()> {
         let result = self.put(session, answer);

@@ -47,6 +47,10 @@ impl Sink for Recorder {
 
     ghost failures = { λ k. k.failures };
 
+    ghost stays = { λ k l. l.numbers.items ≡ k.numbers.items };
+
+    ghost fails = { λ k l. l.numbers.items ≡ k.numbers.items };
+
     fn tell<S: Store>(&mut self, store: &S, _session: u32, _answer: &Answer) -> io::Result<()> {
         match self.numbers.push(store.number()) {
             Ok(()) => Ok(()),

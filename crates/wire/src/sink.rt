@@ -29,6 +29,12 @@ pub trait Sink {
     /// How many calls have failed, up to 2^64 - 1.
     ghost failures: { Self → ℕ };
 
+    /// What a call that tells no answer leaves as it was.
+    ghost stays: { Self → Self → Type 0 };
+
+    /// What such a call leaves that fails.
+    ghost fails: { Self → Self → Type 0 };
+
     /// Tells an answer to a session. An error: it was not taken whole, which is counted.
     fn tell<S: Store>(&mut self, store: &S, session: u32, answer: &Answer) -> io::Result<()>
         ensures told { OnOk result (tells self.old (S.state store.now) session answer.now self.new) }

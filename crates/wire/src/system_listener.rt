@@ -1,5 +1,7 @@
 //! Listeners of the system: ports of this machine, and sockets that have a name in its files.
 
+ghost use Rattle.std.specs.Prelude.{◌≡◌};
+
 use crate::frame_sink::FrameSink;
 use crate::input::CountedReader;
 use crate::listen::Listen;
@@ -95,6 +97,13 @@ impl<'r, R, L: Accept + Drop> SystemListener<'r, R, L> {
             idle,
             failures: 0,
         }
+    }
+
+    /// What the connections come to.
+    pub fn listener(&self) -> &L
+        ensures { result.now ≡ self.now.listener }
+    {
+        &self.listener
     }
 }
 

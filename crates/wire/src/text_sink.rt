@@ -1,6 +1,6 @@
 //! Answers as text, to a writer.
 
-ghost use Rattle.std.specs.Prelude.{◌≡◌, ℕ, refl, OnOk};
+ghost use Rattle.std.specs.Prelude.{◌≡◌, ℕ, ⊤, refl, OnErr, OnOk};
 ghost use Rattle.std.specs.Io.KnownBytes.{Appends, Keeps};
 ghost use Rattle.sql_types.specs.declared.answer.Answer.{Answer as TheAnswer};
 ghost use Rattle.wire.specs.AnswerText.{answer_text};
@@ -22,12 +22,16 @@ pub trait TakesText: Sink {
     /// Takes a text that answers no event. An error: it was not taken whole, which is counted.
     fn print(&mut self, text: &str) -> io::Result<()>
         ensures taken { OnOk result (Appends (Self.held self.old) (Self.held self.new) text.now) }
+        ensures stays { OnOk result (Self.stays self.old self.new) }
+        ensures fails { OnErr result (Self.fails self.old self.new) }
         ensures counts { CountsFailure result (Self.failures self.old) (Self.failures self.new) };
 
     /// Lets all go out that was taken. An error: not all has, which is counted.
     fn finish(&mut self) -> io::Result<()>
         ensures kept { Keeps (Self.held self.old) (Self.held self.new) }
         ensures finished { OnOk result (finished self.new) }
+        ensures stays { OnOk result (Self.stays self.old self.new) }
+        ensures fails { OnErr result (Self.fails self.old self.new) }
         ensures counts { CountsFailure result (Self.failures self.old) (Self.failures self.new) };
 
     /// Of an answer it takes the text.
@@ -74,6 +78,10 @@ impl<W: Write> Sink for TextSink<W> {
     ghost spelled = { λ session answer. answer_text answer };
 
     ghost failures = { λ k. ⟦<CountedWriter<W> as Output>⟧.failures k.output };
+
+    ghost stays = { λ k l. ⊤ };
+
+    ghost fails = { λ k l. ⊤ };
 
     fn tell<S: Store>(&mut self, _store: &S, _session: u32, answer: &Answer) -> io::Result<()> {
         write_answer(answer, &mut self.output)

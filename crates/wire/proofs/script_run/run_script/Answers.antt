@@ -13,7 +13,7 @@ returns-in_default-clause-runs g c = record {
       c.run_text-end.ensures.runs.ran within
       );
   kept = c.in_default.ensures.kept;
-  ends = inr (refl, c.in_default.ensures.counts);
+  ends = inr (refl, c.in_default.ensures.counts, c.in_default.ensures.fails);
 }
 
 pub returns-in_default-clause-left : goal.returns-in_default-clause-left
@@ -33,7 +33,7 @@ returns-clause-runs g c = record {
       c.run_text-end.ensures.runs.ran within
       );
   kept = c.in-Ok.ensures.kept;
-  ends = inl refl;
+  ends = inl (refl, c.in-Ok.ensures.counts, c.in-Ok.ensures.stays);
 }
 
 pub returns-clause-left : goal.returns-clause-left
