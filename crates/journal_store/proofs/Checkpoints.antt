@@ -44,6 +44,13 @@ full_where reserve Memory changes before after old new is commits = absurd cc
 full_where reserve Device changes before after old new is commits = absurd cc
 full_where reserve Number changes before after old new is commits = absurd cc
 
+-- and its root is as it was
+pub full_root : {D : Type 0} {g : Ghosts D} (reserve : Reserve) (fault : StoreFault) (changes : Changes) (before after : Contents) (old new : CowPages D g) → fault ≡ Full → CommitsBatch reserve changes (Err fault) before after old new → root_of new ≡ root_of old
+full_root reserve Full changes before after old new is commits = commits.outcome.1.root
+full_root reserve Memory changes before after old new is commits = absurd cc
+full_root reserve Device changes before after old new is commits = absurd cc
+full_root reserve Number changes before after old new is commits = absurd cc
+
 -- where no more is said of the present than what a stop may leave, time that passes is a run
 pub passes_leaves : {X : Type 0} (P : X → Type 0) (old new : Timeline X) → IsPresent old → Implies old.left P → Passes P old new → LeavesOnly P old new
 passes_leaves P old new present here passes = record {

@@ -1,6 +1,7 @@
 -- Commits of a store on a device to pages without a journal.
-use Rattle.std.proofs.Common.{◌≡◌, ◌/◌, ◌⊎◌, inl, inr, ℕ, false, Option, Some, Result, Ok, Err, refl, sym, ap, subst, ◌∙◌, arith}
-use Rattle.std.specs.Prelude.{IfErr}
+use Rattle.std.proofs.Common.{◌≡◌, ◌≢◌, ◌/◌, ◌⊎◌, ◌+◌, inl, inr, ℕ, false, Option, Some, Result, Ok, Err, refl, sym, ap, subst, ◌∙◌, arith}
+use Rattle.std.proofs.lemmas.Bool.{cases_Bool}
+use Rattle.std.specs.Prelude.{IfErr, OnOk}
 use Rattle.sector_device.specs.Timeline.{LeavesOnly, IsPresent, read_by, weakened}
 use Rattle.sector_device.proofs.Runs.{lifted}
 use Rattle.sector_device.specs.Device.{DeviceState, Image, timeline}
@@ -19,10 +20,11 @@ use Rattle.kv_store.specs.Batches.{CommitsBatch, IsTakenBack}
 use Rattle.kv_store.specs.Contents.{HasContentsWith, LeavesContents, is_journaled}
 use Rattle.kv_store.specs.ContentLaws.{same_parts}
 use Rattle.kv_store.specs.PageStore.{pages_of, store_state as pages_state}
-use Rattle.kv_store.specs.TreeStore.{CommitsWhole, IsStill, pages_of as tree_pages}
+use Rattle.kv_store.specs.TreeStore.{CommitsWhole, CountsCommit, IsStill, pages_of as tree_pages}
 use Rattle.journal_store.specs.ImageLaws.{has_plain, read_has}
 use Rattle.journal_store.specs.declared.device_stores.DeviceStore.{DeviceStore}
 use Rattle.journal_store.specs.declared.device_stores.DeviceStore.TheVariants.{Pages}
+use Rattle.journal_store.specs.DeviceCommits.{CommitsOn}
 use Rattle.journal_store.specs.DeviceImages.{HasContents, IsReadAs, records_on}
 use Rattle.journal_store.specs.DeviceStores.{store_state}
 use Rattle.journal_store.specs.DeviceStoreLaws.{sectors_are, settled_on}
@@ -144,6 +146,22 @@ module _ {D : Type 0} {g : Ghosts D} (present : (device : D) → (g.state device
     closed = commits.closed;
     still = λ sound had. still_on (still had).1 (commits.still sound had);
   }
+
+  -- where the contents change, the number rises
+  pub pages_rise : (reserve : Reserve) (changes : Changes) (changed : Contents → Contents) (result : Result (Unit {0}) StoreFault) → CommitsWhole reserve changes changed result s.tree t.tree → IsStill result s.tree t.tree
+      → (pages_state s).sound → before ≢ changed before → OnOk result ((pages_state t).number ≡ (pages_state s).number + 1)
+  pages_rise reserve changes changed (Ok x) whole still sound differ = elim (cases_Bool s.tree.has_failed) [
+    | inl had ↦ absurd (let bad : Ok tt ≡ Err Device = (still had).0 in cc)
+    | inr works ↦ (whole works before (sound.works works)).outcome.rises differ
+  ]
+  pages_rise reserve changes changed (Err fault) whole still sound differ = tt
+
+  -- what the commit does of this kind
+  pub kind_in_pages : (x : DeviceStore D g) → x ≡ Pages s → (reserve : Reserve) (changes : Changes) (changed : Contents → Contents) (result : Result (Unit {0}) StoreFault)
+      → CommitsWhole reserve changes changed result s.tree t.tree → CountsCommit result s.tree t.tree → IsStill result s.tree t.tree → CommitsOn reserve changes changed result x (Pages t)
+  kind_in_pages x is reserve changes changed result whole counts still =
+      subst (λ (y : DeviceStore D g). CommitsOn reserve changes changed result y (Pages t)) (sym is)
+      (record { whole = whole; rises = λ sound differ. pages_rise reserve changes changed result whole still sound differ; counts = counts; still = still })
 
   -- of the store on a device, where it is this one
   pub commits_in_pages : (x : DeviceStore D g) → x ≡ Pages s → (reserve : Reserve) (changes : Changes) (changed : Contents → Contents) (result : Result (Unit {0}) StoreFault) → Commits result (changed before) (pages_state s) (pages_state t)

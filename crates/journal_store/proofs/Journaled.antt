@@ -3,16 +3,19 @@ use Rattle.std.proofs.Common.{◌≡◌, ℕ, Bool, Option, Result, sym, subst}
 use Rattle.sector_device.specs.Timeline.{read_by}
 use Rattle.sector_device.specs.Device.{timeline}
 use Rattle.sector_device.specs.declared.device.Device.{Ghosts}
-use Rattle.store.specs.Records.{Record, Records}
+use Rattle.store.specs.Records.{Record, Records, Changes}
 use Rattle.store.specs.Steps.{Goes}
 use Rattle.store.specs.Store.{Contents, StoreState, Reads, Commits, stored}
 use Rattle.store.specs.declared.fault.StoreFault.{StoreFault}
+use Rattle.kv_store.specs.declared.reserve.Reserve.{Reserve}
 use Rattle.kv_store.specs.TreeStore.{pages_of as tree_pages}
 use Rattle.journal_store.specs.declared.stores.JournalStore.{JournalStore}
 use Rattle.journal_store.specs.Stores.{device_under, journal_state}
 use Rattle.journal_store.specs.Reads.{KeepsJournal}
 use Rattle.journal_store.specs.declared.device_stores.DeviceStore.{DeviceStore}
 use Rattle.journal_store.specs.declared.device_stores.DeviceStore.TheVariants.{Journaled}
+use Rattle.journal_store.specs.Commits.{CommitsInJournal}
+use Rattle.journal_store.specs.DeviceCommits.{CommitsOn}
 use Rattle.journal_store.specs.DeviceImages.{IsReadAs}
 use Rattle.journal_store.specs.DeviceReads.{OnlyLooksInto}
 use Rattle.journal_store.specs.DeviceStores.{store_state}
@@ -50,3 +53,6 @@ module _ {D : Type 0} {g : Ghosts D} where
     commits_in_journal changed result commits =
         subst (λ (y : DeviceStore D g). Commits result (changed (stored (store_state y))) (store_state y) (store_state (Journaled t))) (sym is)
         (as_states (λ old new. Commits result (changed (stored (journal_state s))) old new) s t commits)
+
+    pub kind_in_journal : (reserve : Reserve) (changes : Changes) (changed : Contents → Contents) (result : Result (Unit {0}) StoreFault) → CommitsInJournal changes result s t → CommitsOn reserve changes changed result x (Journaled t)
+    kind_in_journal reserve changes changed result commits = subst (λ (y : DeviceStore D g). CommitsOn reserve changes changed result y (Journaled t)) (sym is) commits

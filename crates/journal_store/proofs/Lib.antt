@@ -4,6 +4,7 @@ pub mod Reading
 pub mod Records
 pub mod Checkpoints
 pub mod InTurn
+pub mod Rooms
 pub mod Opened
 pub mod Replaying
 pub mod Counted

@@ -7,6 +7,7 @@ pub mod StoreLaws
 pub mod Reads
 pub mod Opening
 pub mod Room
+pub mod Commits
 pub mod Encoded
 pub mod Formatting
 pub mod Clearing
@@ -14,6 +15,7 @@ pub mod DeviceImages
 pub mod DeviceStores
 pub mod DeviceReads
 pub mod DeviceStoreLaws
+pub mod DeviceCommits
 pub mod DeviceOpening
 pub mod Beginning
 pub mod Emptying

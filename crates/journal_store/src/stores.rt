@@ -6,7 +6,7 @@ ghost use Rattle.kv_store.specs.TreeStore.{pages_of};
 
 use crate::devices::JournalDevice;
 use crate::room::reserve_with;
-use journal::write_sectors;
+use journal::{PART_SIZE, write_sectors};
 use kv_store::{Reserve, TreeStore};
 use sector_device::Device;
 use std::alloc::Global;
@@ -85,7 +85,7 @@ impl<D: Device> JournalStore<D> {
 }
 
 impl<D: JournalDevice> JournalStore<D> {
-    ghost use Rattle.std.specs.Prelude.{[], Err, false, OnOk};
+    ghost use Rattle.std.specs.Prelude.{[], ◌≢◌, Err, false, OnOk, OnErr};
     ghost use Rattle.sector_device.specs.Device.{KeepsHistory};
     ghost use Rattle.kv_store.specs.Batches.{HadNoRoom};
     ghost use Rattle.store.specs.Records.{Records, Changes, IsOrdered, applied};
@@ -98,23 +98,27 @@ impl<D: JournalDevice> JournalStore<D> {
     ghost use Rattle.journal_store.specs.Stores.{journal_state, end_of_records, root_number, base_of, device_under, IsSoundJournal};
 
     /// Commits a batch as the record of the next number, whose parts have these bytes, with one sync. A stop at any moment
-    /// leaves the contents before it or those after it, and from `Ok` on those after it alone. It is for a batch for which, and
-    /// for what waits, the free pages are enough, so that what waits can be committed to them by itself. Memory: an allocation
-    /// failed, and nothing was written. Device: the device failed.
+    /// leaves the contents before it or those after it, and from `Ok` on those after it alone. It is for a batch with which no
+    /// more changes wait than the free pages are counted to be enough for (`HasRoomFor`); that what waits can then be committed
+    /// to them by itself is not proved. Memory: an allocation failed, and nothing was written. Device: the device failed.
     pub fn append(&mut self, batch: Batch, number: u64, bytes: &[u8]) -> Result<(), StoreFault>
         requires works { (journal_state self.old).has_failed ≡ false }
         requires next { number ≡ (journal_state self.old).number + 1 }
         requires spells { Spells bytes.now batch }
-        requires some { 1 ≤ length bytes.now / 488 }
-        requires fits { end_of_records self.old + length bytes.now / 488 ≤ 6 }
+        requires some { 1 ≤ length bytes.now / PART_SIZE }
+        requires fits { end_of_records self.old + length bytes.now / PART_SIZE ≤ JOURNAL_ROOM }
         requires pages { HasRoomFor (changes_in self.old.waiting + length batch) self.old }
-        ensures { Commits result (changed_by_batch batch (stored (journal_state self.old)))
+        ensures commits { Commits result (changed_by_batch batch (stored (journal_state self.old)))
             (journal_state self.old) (journal_state self.new) }
+        ensures never_full { result ≢ Err StoreFault.Full }
+        ensures record { OnOk result ((root_number self.new ≡ root_number self.old) × (self.new.top ≡ number)) }
     {
         let root = self.store.number();
         let Ok(sectors) = write_sectors(self.alloc, root, number, bytes) else {
             return Err(StoreFault::Memory);
         };
+        // The batch waits before its record is written: for this memory may be refused, which is answered while nothing is on the
+        // device. Should the write fail, the store has failed, and what waits is never read again.
         let Ok(()) = self.waiting.record(batch) else {
             return Err(StoreFault::Memory);
         };
@@ -137,7 +141,10 @@ impl<D: JournalDevice> JournalStore<D> {
         ensures anew { OnOk result (root_number self.new ≡ root_number self.old + 1) }
         ensures top { self.new.top ≡ self.old.top }
         ensures cleared { OnOk result (self.new.waiting ≡ []) }
+        ensures waits { OnErr result (self.new.waiting ≡ self.old.waiting) }
         ensures history { KeepsHistory (device_under self.old) (device_under self.new) }
+        ensures root { IsSoundJournal self.old → result ≡ Err StoreFault.Full
+            → root_number self.new ≡ root_number self.old }
         ensures room { IsSoundJournal self.old → result ≡ Err StoreFault.Full
             → HadNoRoom reserve joined.now (base_of self.old).records (pages_of self.old.store) }
         ensures spares { IsSoundJournal self.old
@@ -167,7 +174,10 @@ impl<D: JournalDevice> JournalStore<D> {
         ensures anew { OnOk result (root_number self.new ≡ root_number self.old + 1) }
         ensures top { self.new.top ≡ self.old.top }
         ensures cleared { OnOk result (self.new.waiting ≡ []) }
+        ensures waits { OnErr result (self.new.waiting ≡ self.old.waiting) }
         ensures history { KeepsHistory (device_under self.old) (device_under self.new) }
+        ensures root { IsSoundJournal self.old → result ≡ Err StoreFault.Full
+            → root_number self.new ≡ root_number self.old }
         ensures room { IsSoundJournal self.old → result ≡ Err StoreFault.Full
             → HadNoRoomFor batch.now self.old }
         ensures spares { IsSoundJournal self.old → OnOk result (KeepsReserve (reserve_for batch.now)

@@ -67,8 +67,8 @@ fn take_cell(
     Ok(Some(beside(left, right)))
 }
 
-/// How many free pages a join leaves alone where so many changes are still to be made: each takes one for its leaf, where it
-/// splits none. So joins take no page that these changes need.
+/// How many free pages a join leaves alone where so many changes are still to be made: one for the leaf of each, and 64 besides. A
+/// change that splits nodes takes more than one, so a join may take a page that one of these changes needs: no contract bounds that.
 pub(crate) fn pages_to_spare(changes: usize) -> u32 {
     RESERVED_PAGES + changes.min(MAX_PAGES as usize) as u32
 }

@@ -13,7 +13,11 @@ returns-then-has_failed g c =
     record {
       commits = refused_closed g.met.D.Device.only_now c.args.self.now _ failed;
       empty = λ none works. absurd (false≢true (sym works ∙ failed));
-      still = λ had. (refl, refl);
+      journal = record {
+        room = λ sound full. absurd cc;
+        rises = λ sound some. tt;
+        still = λ had. (refl, refl);
+      };
     }
 
 pub returns-then-is_empty : goal.returns-then-is_empty
@@ -24,14 +28,22 @@ returns-then-is_empty g c =
     record {
       commits = subst (λ (cs : Changes). Commits (Ok tt) (changed_by_batch cs (stored (journal_state s))) (journal_state s) (journal_state s)) (sym none) (committed_nothing g.met.D.Device.only_now s (stored (journal_state s)) works);
       empty = λ none worked. (refl, refl);
-      still = λ had. absurd (false≢true (sym works ∙ had));
+      journal = record {
+        room = λ sound full. absurd cc;
+        rises = λ sound some. absurd (some none);
+        still = λ had. absurd (false≢true (sym works ∙ had));
+      };
     }
 
 pub returns : goal.returns
 returns g c =
     let works = sym c.has_failed.ensures ∙ c.if-has_failed.false in
     record {
-      commits = c.commit_some.ensures;
+      commits = c.commit_some.ensures.commits;
       empty = λ none worked. absurd (false≢true (sym c.if-is_empty.false ∙ c.is_empty.ensures.1 none));
-      still = λ had. absurd (false≢true (sym works ∙ had));
+      journal = record {
+        room = c.commit_some.ensures.room;
+        rises = λ sound some. c.commit_some.ensures.rises sound;
+        still = λ had. absurd (false≢true (sym works ∙ had));
+      };
     }
