@@ -32,7 +32,8 @@ use Rattle.row_codec.proofs.Zero.{same_parts, zero_after}
 use Rattle.abstract_database.specs.Lists.{Among}
 use Rattle.abstract_database.specs.Whole.{Each}
 use Rattle.key_ranges.specs.declared.range.KeyRange.{KeyRange}
-use Rattle.key_ranges.specs.declared.range.KeyRange.TheVariants.{Span}
+use Rattle.key_ranges.specs.declared.range.KeyRange.TheVariants.{Span, Several}
+use Rattle.key_ranges.specs.Spans.{Spans, AreOrderedSpans}
 use Rattle.key_ranges.specs.Ranges.{is_in}
 use Rattle.key_ranges.proofs.Conditions.{same_number}
 use Rattle.key_ranges.proofs.Records.{found_range}
@@ -42,7 +43,7 @@ use Rattle.table_rows.specs.declared.target.Target.{Target}
 use Rattle.table_rows.specs.Ranged.{records_found, FindsRows}
 use Rattle.table_rows.proofs.KeyOrder.{found_rise}
 use Rattle.executor.specs.declared.found_order.SharedCell.{SharedCell}
-use Rattle.executor.specs.FoundOrder.{BeginAlike, ComparesAs, GoesOnBetween, HaveOnePrefix, IsInsideIfAny, IsOrderOf, MayBeFound}
+use Rattle.executor.specs.FoundOrder.{BeginAlike, ComparesAs, GoesOnBetween, HaveOnePrefix, IsInsideIfAny, IsOrderOf, MayBeFound, IsInside}
 
 -- ---- keys with one front
 
@@ -251,10 +252,23 @@ goes_in_span table range start stop s t ranged is one row may =
     (subst (λ (r : KeyRange). is_in r (row_prefix table.id ++ row_key table.columns.now row) ≡ true) is
     (subst (λ (r : Option (Bor KeyRange)). IsInsideIfAny table.id table.columns.now r row) ranged may.inside))
 
-pub order_in_span : (table : Target) (range : Bor KeyRange) (start stop s t found : List ℕ) → table.range ≡ Some range → range.now ≡ Span start stop → IsLayout table.columns.now → HaveOnePrefix start stop s t
+-- the keys of these rows are in the span, or in the one around several
+pub inside_span : (table : Target) (range : Bor KeyRange) (start stop : List ℕ) → table.range ≡ Some range → range.now ≡ Span start stop → IsInside table start stop
+inside_span table range start stop ranged is row may =
+    subst (λ (r : KeyRange). is_in r (row_prefix table.id ++ row_key table.columns.now row) ≡ true) is
+    (subst (λ (r : Option (Bor KeyRange)). IsInsideIfAny table.id table.columns.now r row) ranged may.inside)
+
+pub inside_spans : (table : Target) (range : Bor KeyRange) (spans : Spans) (start stop : List ℕ) → table.range ≡ Some range → range.now ≡ Several spans → AreOrderedSpans spans → start ≡ spans.start → stop ≡ spans.stop → IsInside table start stop
+inside_spans table range spans start stop ranged is inside start_is stop_is row may =
+    let key : List ℕ = row_prefix table.id ++ row_key table.columns.now row in
+    let there : is_in (Several spans) key ≡ true =
+    subst (λ (r : KeyRange). is_in r key ≡ true) is (subst (λ (r : Option (Bor KeyRange)). IsInsideIfAny table.id table.columns.now r row) ranged may.inside) in
+    subst (λ (a : List ℕ). is_in (Span a stop) key ≡ true) (sym start_is) (subst (λ (b : List ℕ). is_in (Span spans.start b) key ≡ true) (sym stop_is) (inside.around key there))
+
+pub order_in_span : (table : Target) (start stop s t found : List ℕ) → IsInside table start stop → IsLayout table.columns.now → HaveOnePrefix start stop s t
     → ComparesAs table.columns.now s t table.columns.now.key found → IsOrderOf table found
-order_in_span table range start stop s t found ranged is layout one compares a b of_a of_b =
-    let goes = goes_in_span table range start stop s t ranged is one in
+order_in_span table start stop s t found inside layout one compares a b of_a of_b =
+    let goes = λ (row : Row) (may : MayBeFound table row). goes_behind_prefix table.id table.columns.now start stop s t one row may.fits.columns (inside row may) in
     compares (row_prefix table.id) a b layout.key_not_null (goes a of_a) (goes b of_b)
 
 -- the key is an order of the rows

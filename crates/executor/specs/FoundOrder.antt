@@ -28,6 +28,10 @@ pub record MayBeFound (table : Target) (row : Row) : Type 0 where
   pub fits : FitsTable table.columns.now row
   pub inside : IsInsideIfAny table.id table.columns.now table.range row
 
+-- the keys of the rows that the target may find are between these
+abbrev pub IsInside : Target → List ℕ → List ℕ → Type 0
+IsInside table start stop = (row : Row) → MayBeFound table row → is_inside table.id table.columns.now (Span start stop) row ≡ true
+
 -- rows that the target may find compare by these columns as by the key
 abbrev pub IsOrderOf : Target → List ℕ → Type 0
 IsOrderOf table columns = (a b : Row) → MayBeFound table a → MayBeFound table b → row_cmp table.columns.now.key a b ≡ row_cmp columns a b

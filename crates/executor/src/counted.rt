@@ -1,7 +1,9 @@
 //! `count(*)` over all rows that are found of a table, by their keys.
 ghost use Rattle.std.specs.Prelude.{◌≡◌, IsTrue, IfOk, Ok, length};
 ghost use Rattle.store.specs.StatementError.{ReadsMap};
+ghost use Rattle.store.specs.Records.{entries_where};
 ghost use Rattle.store.specs.Walks.{count_of};
+ghost use Rattle.key_ranges.specs.Spans.{is_in_spans, AreSpansInOrder};
 ghost use Rattle.expressions.specs.Rows.{names_of};
 ghost use Rattle.table_rows.specs.Failures.{Answers};
 ghost use Rattle.table_rows.specs.Ranged.{records_of};
@@ -12,7 +14,7 @@ use crate::known_columns::all_pass;
 use expressions::eval::Users;
 use gathering::collector::count_row;
 use gathering::query::{OutputList, Query};
-use key_ranges::KeyRange;
+use key_ranges::{KeyRange, KeySpan};
 use sql_types::items::Items;
 use sql_types::value::Value;
 use std::alloc::{AllocError, Global};
@@ -75,5 +77,22 @@ fn count_keys<M: Map>(
             let count = records.count_to(start.as_slice(), stop.as_slice(), u64::MAX)?;
             Ok(count)
         }
+        Some(KeyRange::Several(spans)) => count_in_spans(records, spans.as_slice()),
     }
+}
+
+// How many records have keys in spans, up to `u64::MAX`.
+fn count_in_spans<M: Map>(records: &mut M, spans: &[KeySpan]) -> Result<u64, StatementError>
+    requires { AreSpansInOrder spans.now }
+    ensures preserved { M.preserved records.old records.new }
+    ensures reads { ReadsMap result (M.state records.old) (M.state records.new) }
+    ensures counts { (M.state records.old).sound → Answers result
+        (Ok (count_of (entries_where (is_in_spans spans.now) (M.state records.old).map))) }
+{
+    let mut count: u64 = 0;
+    for span in spans {
+        let more = records.count_to(span.start.as_slice(), span.stop.as_slice(), u64::MAX)?;
+        count = count.saturating_add(more);
+    }
+    Ok(count)
 }

@@ -2,7 +2,7 @@
 //! same in all of them.
 ghost use Rattle.std.specs.Prelude.{IfSome};
 ghost use Rattle.sql_ast.specs.Layout.{IsLayout};
-ghost use Rattle.executor.specs.FoundOrder.{BeginAlike, ComparesAs, HaveOnePrefix, IsOrderOf};
+ghost use Rattle.executor.specs.FoundOrder.{BeginAlike, ComparesAs, HaveOnePrefix, IsInside, IsOrderOf};
 
 use gathering::key_order::are_first_of;
 use gathering::query::TypedSortKey;
@@ -15,20 +15,35 @@ use table_rows::Target;
 
 /// Columns in whose order the rows of a target are found, and of which these sort keys are the first if
 /// there are such: all columns of the key, or those behind the first ones that are the same in each
-/// row of the target's range.
+/// row of the target's range, or of the one span around its spans.
 pub(crate) fn order_of_rows<'a>(table: &Target<'a>, keys: &[TypedSortKey]) -> &'a [usize]
     ensures order { IsOrderOf table.now result.now }
     ensures layout { IsLayout table.now.columns.now }
 {
-    let key = table.columns.key();
     match table.range {
         Some(KeyRange::Span { start, stop }) => {
-            match behind_prefix(start.as_slice(), stop.as_slice()) {
-                Some((start, stop)) => order_between(table.columns, key, start, stop, keys),
-                None => key,
-            }
+            order_inside(table, start.as_slice(), stop.as_slice(), keys)
         }
-        _ => key,
+        Some(KeyRange::Several(spans)) => order_inside(table, spans.start(), spans.stop(), keys),
+        _ => table.columns.key(),
+    }
+}
+
+// The same of a target whose rows have keys that go on between `start` and `stop`.
+fn order_inside<'a>(
+    table: &Target<'a>,
+    start: &[u8],
+    stop: &[u8],
+    keys: &[TypedSortKey],
+) -> &'a [usize]
+    requires { IsInside table.now start.now stop.now }
+    ensures order { IsOrderOf table.now result.now }
+    ensures layout { IsLayout table.now.columns.now }
+{
+    let key = table.columns.key();
+    match behind_prefix(start, stop) {
+        Some((start, stop)) => order_between(table.columns, key, start, stop, keys),
+        None => key,
     }
 }
 

@@ -1,6 +1,6 @@
--- Ranges that are merged are in order, and have all keys that they had.
-use Rattle.std.proofs.Common.{◌≡◌, ◌<◌, ℕ, Bool, true, false, ◌&&◌, ◌||◌, if◌then◌else◌, nat_eq, List, [], ◌∷◌, refl, sym, ap, subst, ◌∙◌, arith}
-use Rattle.std.specs.List.{AllByRecursion}
+-- Spans that are merged are in order, and have all keys that they had.
+use Rattle.std.proofs.Common.{◌≡◌, ◌<◌, ◌+◌, ℕ, Some, None, suc, Bool, true, false, not, ◌&&◌, ◌||◌, if◌then◌else◌, nat_eq, List, [], ◌∷◌, refl, sym, ap, subst, ◌∙◌, arith}
+use Rattle.std.specs.List.{insert, prefix_len, AllByRecursion}
 use Rattle.std.proofs.lemmas.Bool.Decides.{nat_tests}
 use Rattle.std.specs.declared.cmp.Ordering.{Ordering}
 use Rattle.std.specs.declared.cmp.Ordering.TheVariants.{Less, Equal, Greater}
@@ -10,12 +10,14 @@ use Rattle.store.specs.Records.{key_cmp, is_from, is_not_less, has_prefix}
 use Rattle.store.specs.Walks.{is_within}
 use Rattle.store.proofs.Changes.{key_trans, same_key, itself, reversed, after}
 use Rattle.store.proofs.Walking.{stays_past}
-use Rattle.key_ranges.specs.declared.range.KeyRange.{KeyRange}
-use Rattle.key_ranges.specs.declared.range.KeyRange.TheVariants.{Point, Span}
 use Rattle.row_codec.specs.Rows.{row_prefix}
-use Rattle.key_ranges.specs.Ranges.{is_in, is_in_any, IsRangeOf, AreInOrder, ComesBefore}
-use Rattle.key_ranges.specs.TableRanges.{first_start, around}
-use Rattle.key_ranges.specs.InOrder.{start_of, stop_of, wider, hull, merged_after, StartFrom, StartsNeverFall, MergedLosesNothing}
+use Rattle.key_ranges.specs.declared.range.KeyRange.{KeyRange}
+use Rattle.key_ranges.specs.declared.range.KeyRange.TheVariants.{Point, Span, Several}
+use Rattle.key_ranges.specs.declared.spans.KeySpan.{KeySpan}
+use Rattle.key_ranges.specs.Ranges.{is_in, IsRangeOf, IsSpanOf}
+use Rattle.key_ranges.specs.Spans.{Spans, is_in_span, is_in_spans, AreSpansInOrder, SpanBefore}
+use Rattle.key_ranges.specs.TableRanges.{around_all, range_of_spans, several, span_of}
+use Rattle.key_ranges.specs.InOrder.{wider, hull, merged, merged_after, put_by_start, by_start, first_start, least_start, widest_stop, StartFrom, StartsNeverFall, MergedLosesNothing, OrderedLosesNothing}
 
 -- ---- numbers
 
@@ -177,7 +179,7 @@ within_second b d k h = ap (λ s. is_within s k) (wider_is b d) ∙ under_is (wi
 from_itself : (k : List ℕ) → is_from k k ≡ true
 from_itself k = ap is_not_less (itself k)
 
-from_trans : (a b k : List ℕ) → is_from a b ≡ true → is_from b k ≡ true → is_from a k ≡ true
+pub from_trans : (a b k : List ℕ) → is_from a b ≡ true → is_from b k ≡ true → is_from a k ≡ true
 from_trans a b k h j = go (key_cmp b a) refl h (key_cmp k b) refl j
   where
     go : (o : Ordering) → o ≡ key_cmp b a → is_not_less o ≡ true → (p : Ordering) → p ≡ key_cmp k b → is_not_less p ≡ true → is_from a k ≡ true
@@ -204,11 +206,11 @@ less_then_from k e l h j = go (key_cmp l e) refl j
     go Equal f i = subst (λ x. key_cmp k x ≡ Less) (sym (same_key l e (sym f))) h
     go Greater f i = key_trans k e l h (reversed l e (sym f))
 
-and_both : (a b : Bool) → (a && b) ≡ true → (a ≡ true) × (b ≡ true)
+pub and_both : (a b : Bool) → (a && b) ≡ true → (a ≡ true) × (b ≡ true)
 and_both true b h = (refl, h)
 and_both false b h = cc
 
-both_and : (a b : Bool) → a ≡ true → b ≡ true → (a && b) ≡ true
+pub both_and : (a b : Bool) → a ≡ true → b ≡ true → (a && b) ≡ true
 both_and a b h k = rw (h, k) refl
 
 eq_only : (o : Ordering) → is_eq o ≡ true → o ≡ Equal
@@ -223,22 +225,27 @@ within_itself k = under_is k k ∙ go k
     go [] = refl
     go (x ∷ k) = let t : nat_cmp x x ≡ Equal = sym (nat_cmp_is x x Equal refl) in rw t (go k)
 
--- a key of a range is from its start on, and within its stop
-bounded : (r : KeyRange) (key : List ℕ) → is_in r key ≡ true → (is_from (start_of r) key ≡ true) × (is_within (stop_of r) key ≡ true)
-bounded (Point point) key h =
+-- a key of a span is from its start on, and within its stop
+bounded : (s : KeySpan) (key : List ℕ) → is_in_span s key ≡ true → (is_from s.start key ≡ true) × (is_within s.stop key ≡ true)
+bounded s key h = and_both (is_from s.start key) (is_within s.stop key) h
+
+-- what is in a range is in its span
+pub in_span_of : (r : KeyRange) (key : List ℕ) → ((s : Spans) → r ≡ Several s → ⊥) → is_in r key ≡ true → is_in_span (span_of r) key ≡ true
+in_span_of (Point point) key one h =
     let same = same_key key point (eq_only (key_cmp key point) h) in
-    (subst (λ x. is_from point x ≡ true) (sym same) (from_itself point), subst (λ x. is_within point x ≡ true) (sym same) (within_itself point))
-bounded (Span start stop) key h = and_both (is_from start key) (is_within stop key) h
+    both_and (is_from point key) (is_within point key) (subst (λ x. is_from point x ≡ true) (sym same) (from_itself point)) (subst (λ x. is_within point x ≡ true) (sym same) (within_itself point))
+in_span_of (Span start stop) key one h = h
+in_span_of (Several s) key one h = absurd (one s refl)
 
-in_hull_first : (r s : KeyRange) (key : List ℕ) → is_in r key ≡ true → is_in (hull r s) key ≡ true
-in_hull_first r s key h = let b = bounded r key h in both_and (is_from (start_of r) key) (is_within (wider (stop_of r) (stop_of s)) key) b.0 (within_first (stop_of r) (stop_of s) key b.1)
+in_hull_first : (r s : KeySpan) (key : List ℕ) → is_in_span r key ≡ true → is_in_span (hull r s) key ≡ true
+in_hull_first r s key h = let b = bounded r key h in both_and (is_from r.start key) (is_within (wider r.stop s.stop) key) b.0 (within_first r.stop s.stop key b.1)
 
-in_hull_second : (r s : KeyRange) (key : List ℕ) → is_from (start_of r) (start_of s) ≡ true → is_in s key ≡ true → is_in (hull r s) key ≡ true
+in_hull_second : (r s : KeySpan) (key : List ℕ) → is_from r.start s.start ≡ true → is_in_span s key ≡ true → is_in_span (hull r s) key ≡ true
 in_hull_second r s key later h =
     let b = bounded s key h in
-    both_and (is_from (start_of r) key) (is_within (wider (stop_of r) (stop_of s)) key) (from_trans (start_of r) (start_of s) key later b.0) (within_second (stop_of r) (stop_of s) key b.1)
+    both_and (is_from r.start key) (is_within (wider r.stop s.stop) key) (from_trans r.start s.start key later b.0) (within_second r.stop s.stop key b.1)
 
--- ---- one range around two
+-- ---- one span around all
 
 not_from : (a b : List ℕ) → is_from a b ≡ false → is_from b a ≡ true
 not_from a b h = go (key_cmp b a) refl h
@@ -262,94 +269,164 @@ from_second a b k h = go (is_from a b) refl
     go true e = from_trans a b k (sym e) h
     go false e = h
 
-pub around_first : (r s : KeyRange) (key : List ℕ) → is_in r key ≡ true → is_in (around r s) key ≡ true
-around_first r s key h =
-    let b = bounded r key h in
-    both_and (is_from (first_start (start_of r) (start_of s)) key) (is_within (wider (stop_of r) (stop_of s)) key) (from_first (start_of r) (start_of s) key b.0) (within_first (stop_of r) (stop_of s) key b.1)
+from_least : (start key : List ℕ) (spans : List KeySpan) → is_from start key ≡ true → is_from (least_start start spans) key ≡ true
+from_least start key [] h = h
+from_least start key (s ∷ ss) h = from_least (first_start start s.start) key ss (from_first start s.start key h)
 
-pub around_second : (r s : KeyRange) (key : List ℕ) → is_in s key ≡ true → is_in (around r s) key ≡ true
-around_second r s key h =
-    let b = bounded s key h in
-    both_and (is_from (first_start (start_of r) (start_of s)) key) (is_within (wider (stop_of r) (stop_of s)) key) (from_second (start_of r) (start_of s) key b.0) (within_second (stop_of r) (stop_of s) key b.1)
+within_widest : (stop key : List ℕ) (spans : List KeySpan) → is_within stop key ≡ true → is_within (widest_stop stop spans) key ≡ true
+within_widest stop key [] h = h
+within_widest stop key (s ∷ ss) h = within_widest (wider stop s.stop) key ss (within_first stop s.stop key h)
 
--- it is of a table where both are
-pub around_prefix : (id : ℕ) (r s : KeyRange) → IsRangeOf id r → IsRangeOf id s → IsRangeOf id (around r s)
-around_prefix id r s of_r of_s = (by_start (is_from (start_of r) (start_of s)), by_stop (has_prefix (stop_of r) (stop_of s)) (has_prefix (stop_of s) (stop_of r) || is_lt (key_cmp (stop_of r) (stop_of s))))
-  where
-    ends : (t : KeyRange) → IsRangeOf id t → (has_prefix (row_prefix id) (start_of t) ≡ true) × (has_prefix (row_prefix id) (stop_of t) ≡ true)
-    ends (Point point) h = (h, h)
-    ends (Span start stop) h = h
-
-    by_start : (t : Bool) → has_prefix (row_prefix id) (if t then start_of r else start_of s) ≡ true
-    by_start true = (ends r of_r).0
-    by_start false = (ends s of_s).0
-
-    by_stop : (p q : Bool) → has_prefix (row_prefix id) (if p then stop_of r else (if q then stop_of s else stop_of r)) ≡ true
-    by_stop true q = (ends r of_r).1
-    by_stop false true = (ends s of_s).1
-    by_stop false false = (ends r of_r).1
-
--- ---- merged ranges
-
-or_left : (a b : Bool) → a ≡ true → (a || b) ≡ true
+pub or_left : (a b : Bool) → a ≡ true → (a || b) ≡ true
 or_left a b h = rw h refl
 
-or_right : (a b : Bool) → b ≡ true → (a || b) ≡ true
+pub or_right : (a b : Bool) → b ≡ true → (a || b) ≡ true
 or_right true b h = refl
 or_right false b h = h
 
-or_cases : {A : Type 0} (a b : Bool) → (a || b) ≡ true → (a ≡ true → A) → (b ≡ true → A) → A
+pub or_cases : {A : Type 0} (a b : Bool) → (a || b) ≡ true → (a ≡ true → A) → (b ≡ true → A) → A
 or_cases true b h first second = first refl
 or_cases false b h first second = second h
 
--- the key of the first range, or of one behind it, is in a merged range
-keeps : (r : KeyRange) (ss : List KeyRange) → StartFrom (start_of r) ss → StartsNeverFall ss → (key : List ℕ) → (is_in r key || is_in_any ss key) ≡ true → is_in_any (merged_after r ss) key ≡ true
+from_any : (start key : List ℕ) (spans : List KeySpan) → is_in_spans spans key ≡ true → is_from (least_start start spans) key ≡ true
+from_any start key [] h = cc
+from_any start key (s ∷ ss) h =
+    or_cases (is_in_span s key) (is_in_spans ss key) h
+    (λ i. from_least (first_start start s.start) key ss (from_second start s.start key (bounded s key i).0))
+    (λ i. from_any (first_start start s.start) key ss i)
+
+within_any : (stop key : List ℕ) (spans : List KeySpan) → is_in_spans spans key ≡ true → is_within (widest_stop stop spans) key ≡ true
+within_any stop key [] h = cc
+within_any stop key (s ∷ ss) h =
+    or_cases (is_in_span s key) (is_in_spans ss key) h
+    (λ i. within_widest (wider stop s.stop) key ss (within_second stop s.stop key (bounded s key i).1))
+    (λ i. within_any (wider stop s.stop) key ss i)
+
+pub inside_all : (spans : List KeySpan) (key : List ℕ) → is_in_spans spans key ≡ true → is_in_span (around_all spans) key ≡ true
+inside_all [] key h = cc
+inside_all (s ∷ ss) key h =
+    let start = or_cases (is_in_span s key) (is_in_spans ss key) h (λ i. from_least s.start key ss (bounded s key i).0) (λ i. from_any s.start key ss i) in
+    let stop = or_cases (is_in_span s key) (is_in_spans ss key) h (λ i. within_widest s.stop key ss (bounded s key i).1) (λ i. within_any s.stop key ss i) in
+    both_and (is_from (least_start s.start ss) key) (is_within (widest_stop s.stop ss) key) start stop
+
+-- ---- in the order of their starts
+
+abbrev starts_before : KeySpan → KeySpan → Bool
+starts_before s t = not (is_from s.start t.start)
+
+put_none : (s : KeySpan) → put_by_start s [] ≡ s ∷ []
+put_none s = refl
+
+pub put_behind : (s t : KeySpan) (ts : List KeySpan) → put_by_start s (t ∷ ts) ≡ (if is_from s.start t.start then s ∷ t ∷ ts else t ∷ put_by_start s ts)
+put_behind s t ts = go (is_from s.start t.start) refl
+  where
+    one_more : (n : ℕ) → 1 + n ≡ suc n
+    one_more n = omega arith
+
+    go : (b : Bool) → b ≡ is_from s.start t.start → put_by_start s (t ∷ ts) ≡ (if b then s ∷ t ∷ ts else t ∷ put_by_start s ts)
+    go true e = ap (λ c. insert (t ∷ ts) (if not c then 1 + prefix_len (starts_before s) ts else 0) s) (sym e)
+    go false e =
+        ap (λ c. insert (t ∷ ts) (if not c then 1 + prefix_len (starts_before s) ts else 0) s) (sym e)
+        ∙ ap (λ n. insert (t ∷ ts) n s) (one_more (prefix_len (starts_before s) ts))
+
+from_put : (start : List ℕ) (s : KeySpan) (ts : List KeySpan) → is_from start s.start ≡ true → StartFrom start ts → StartFrom start (put_by_start s ts)
+from_put start s [] h all = (h, tt)
+from_put start s (t ∷ ts) h all = subst (StartFrom start) (sym (put_behind s t ts)) (go (is_from s.start t.start) (from_put start s ts h all.1))
+  where
+    go : (b : Bool) → StartFrom start (put_by_start s ts) → StartFrom start (if b then s ∷ t ∷ ts else t ∷ put_by_start s ts)
+    go true later = (h, all)
+    go false later = (all.0, later)
+
+from_later : (a b : List ℕ) (ts : List KeySpan) → is_from a b ≡ true → StartFrom b ts → StartFrom a ts
+from_later a b [] h all = tt
+from_later a b (t ∷ ts) h all = (from_trans a b t.start h all.0, from_later a b ts h all.1)
+
+put_never_falls : (s : KeySpan) (ts : List KeySpan) → StartsNeverFall ts → StartsNeverFall (put_by_start s ts)
+put_never_falls s [] falls = (tt, tt)
+put_never_falls s (t ∷ ts) falls = subst StartsNeverFall (sym (put_behind s t ts)) (go (is_from s.start t.start) refl (put_never_falls s ts falls.1))
+  where
+    go : (b : Bool) → b ≡ is_from s.start t.start → StartsNeverFall (put_by_start s ts) → StartsNeverFall (if b then s ∷ t ∷ ts else t ∷ put_by_start s ts)
+    go true e later = ((sym e, from_later s.start t.start ts (sym e) falls.0), falls)
+    go false e later = (from_put t.start s ts (not_from s.start t.start (sym e)) falls.0, later)
+
+pub never_falls : (spans : List KeySpan) → StartsNeverFall (by_start spans)
+never_falls [] = tt
+never_falls (s ∷ ss) = put_never_falls s (by_start ss) (never_falls ss)
+
+put_has : (s : KeySpan) (ts : List KeySpan) (key : List ℕ) → (is_in_span s key || is_in_spans ts key) ≡ true → is_in_spans (put_by_start s ts) key ≡ true
+put_has s [] key h = h
+put_has s (t ∷ ts) key h = ap (λ l. is_in_spans l key) (put_behind s t ts) ∙ go (is_from s.start t.start) (λ i. put_has s ts key i)
+  where
+    go : (b : Bool) → ((is_in_span s key || is_in_spans ts key) ≡ true → is_in_spans (put_by_start s ts) key ≡ true) → is_in_spans (if b then s ∷ t ∷ ts else t ∷ put_by_start s ts) key ≡ true
+    go true later = h
+    go false later = or_cases (is_in_span s key) (is_in_span t key || is_in_spans ts key) h
+        (λ i. or_right (is_in_span t key) (is_in_spans (put_by_start s ts) key) (later (or_left (is_in_span s key) (is_in_spans ts key) i)))
+        (λ i. or_cases (is_in_span t key) (is_in_spans ts key) i
+        (λ j. or_left (is_in_span t key) (is_in_spans (put_by_start s ts) key) j)
+        (λ j. or_right (is_in_span t key) (is_in_spans (put_by_start s ts) key) (later (or_right (is_in_span s key) (is_in_spans ts key) j))))
+
+pub ordered_has : (spans : List KeySpan) (key : List ℕ) → is_in_spans spans key ≡ true → is_in_spans (by_start spans) key ≡ true
+ordered_has [] key h = h
+ordered_has (s ∷ ss) key h =
+    put_has s (by_start ss) key
+    (or_cases (is_in_span s key) (is_in_spans ss key) h (λ i. or_left (is_in_span s key) (is_in_spans (by_start ss) key) i) (λ i. or_right (is_in_span s key) (is_in_spans (by_start ss) key) (ordered_has ss key i)))
+
+pub ordered_loses_nothing : OrderedLosesNothing
+ordered_loses_nothing spans = (never_falls spans, λ key h. ordered_has spans key h)
+
+-- ---- merged
+
+-- the key of the first span, or of one behind it, is in a merged one
+keeps : (r : KeySpan) (ss : List KeySpan) → StartFrom r.start ss → StartsNeverFall ss → (key : List ℕ) → (is_in_span r key || is_in_spans ss key) ≡ true → is_in_spans (merged_after r ss) key ≡ true
 keeps r [] from rest key h = h
 keeps r (s ∷ ss) from rest key h =
-    go (is_within (stop_of r) (start_of s))
+    go (is_within r.stop s.start)
     (λ i. keeps (hull r s) ss from.1 rest.1 key i)
     (λ i. keeps s ss rest.0 rest.1 key i)
   where
-    go : (b : Bool) → ((is_in (hull r s) key || is_in_any ss key) ≡ true → is_in_any (merged_after (hull r s) ss) key ≡ true) → ((is_in s key || is_in_any ss key) ≡ true → is_in_any (merged_after s ss) key ≡ true)
-        → is_in_any (if b then merged_after (hull r s) ss else r ∷ merged_after s ss) key ≡ true
-    go true one apart = one (or_cases (is_in r key) (is_in s key || is_in_any ss key) h
-        (λ i. or_left (is_in (hull r s) key) (is_in_any ss key) (in_hull_first r s key i))
-        (λ i. or_cases (is_in s key) (is_in_any ss key) i
-        (λ j. or_left (is_in (hull r s) key) (is_in_any ss key) (in_hull_second r s key from.0 j))
-        (λ j. or_right (is_in (hull r s) key) (is_in_any ss key) j)))
-    go false one apart = or_cases (is_in r key) (is_in s key || is_in_any ss key) h
-        (λ i. or_left (is_in r key) (is_in_any (merged_after s ss) key) i)
-        (λ i. or_right (is_in r key) (is_in_any (merged_after s ss) key) (apart i))
+    go : (b : Bool) → ((is_in_span (hull r s) key || is_in_spans ss key) ≡ true → is_in_spans (merged_after (hull r s) ss) key ≡ true) → ((is_in_span s key || is_in_spans ss key) ≡ true → is_in_spans (merged_after s ss) key ≡ true)
+        → is_in_spans (if b then merged_after (hull r s) ss else r ∷ merged_after s ss) key ≡ true
+    go true one apart = one (or_cases (is_in_span r key) (is_in_span s key || is_in_spans ss key) h
+        (λ i. or_left (is_in_span (hull r s) key) (is_in_spans ss key) (in_hull_first r s key i))
+        (λ i. or_cases (is_in_span s key) (is_in_spans ss key) i
+        (λ j. or_left (is_in_span (hull r s) key) (is_in_spans ss key) (in_hull_second r s key from.0 j))
+        (λ j. or_right (is_in_span (hull r s) key) (is_in_spans ss key) j)))
+    go false one apart = or_cases (is_in_span r key) (is_in_span s key || is_in_spans ss key) h
+        (λ i. or_left (is_in_span r key) (is_in_spans (merged_after s ss) key) i)
+        (λ i. or_right (is_in_span r key) (is_in_spans (merged_after s ss) key) (apart i))
 
--- all keys of these ranges are from this one on
-abbrev AreFrom : List ℕ → List KeyRange → Type 0
-AreFrom start ranges = AllByRecursion (λ r. (key : List ℕ) → is_in r key ≡ true → is_from start key ≡ true) ranges
+-- all keys of these spans are from this one on
+abbrev AreFrom : List ℕ → List KeySpan → Type 0
+AreFrom start spans = AllByRecursion (λ r. (key : List ℕ) → is_in_span r key ≡ true → is_from start key ≡ true) spans
 
-all_from : (start : List ℕ) (r : KeyRange) (ss : List KeyRange) → is_from start (start_of r) ≡ true → StartFrom start ss → StartFrom (start_of r) ss → StartsNeverFall ss → AreFrom start (merged_after r ss)
-all_from start r [] h from own rest = ((λ key i. from_trans start (start_of r) key h (bounded r key i).0), tt)
+all_from : (start : List ℕ) (r : KeySpan) (ss : List KeySpan) → is_from start r.start ≡ true → StartFrom start ss → StartFrom r.start ss → StartsNeverFall ss → AreFrom start (merged_after r ss)
+all_from start r [] h from own rest = ((λ key i. from_trans start r.start key h (bounded r key i).0), tt)
 all_from start r (s ∷ ss) h from own rest =
-    go (is_within (stop_of r) (start_of s)) (all_from start (hull r s) ss h from.1 own.1 rest.1) (all_from start s ss from.0 from.1 rest.0 rest.1)
+    go (is_within r.stop s.start) (all_from start (hull r s) ss h from.1 own.1 rest.1) (all_from start s ss from.0 from.1 rest.0 rest.1)
   where
     go : (b : Bool) → AreFrom start (merged_after (hull r s) ss) → AreFrom start (merged_after s ss) → AreFrom start (if b then merged_after (hull r s) ss else r ∷ merged_after s ss)
     go true one apart = one
-    go false one apart = ((λ key i. from_trans start (start_of r) key h (bounded r key i).0), apart)
+    go false one apart = ((λ key i. from_trans start r.start key h (bounded r key i).0), apart)
 
-all_behind : (r : KeyRange) (start : List ℕ) (ranges : List KeyRange) → is_within (stop_of r) start ≡ false → AreFrom start ranges → AllByRecursion (ComesBefore r) ranges
+all_behind : (r : KeySpan) (start : List ℕ) (spans : List KeySpan) → is_within r.stop start ≡ false → AreFrom start spans → AllByRecursion (SpanBefore r) spans
 all_behind r start [] out from = tt
 all_behind r start (s ∷ ss) out from =
-    ((λ k l i j. less_then_from k start l (within_before (stop_of r) k start (bounded r k i).1 out) (from.0 l j)), all_behind r start ss out from.1)
+    ((λ k l i j. less_then_from k start l (within_before r.stop k start (bounded r k i).1 out) (from.0 l j)), all_behind r start ss out from.1)
 
-in_order : (r : KeyRange) (ss : List KeyRange) → StartFrom (start_of r) ss → StartsNeverFall ss → AreInOrder (merged_after r ss)
+in_order : (r : KeySpan) (ss : List KeySpan) → StartFrom r.start ss → StartsNeverFall ss → AreSpansInOrder (merged_after r ss)
 in_order r [] from rest = (tt, tt)
 in_order r (s ∷ ss) from rest =
-    go (is_within (stop_of r) (start_of s)) refl (in_order (hull r s) ss from.1 rest.1) (in_order s ss rest.0 rest.1)
-    (all_from (start_of s) s ss (from_itself (start_of s)) rest.0 rest.0 rest.1)
+    go (is_within r.stop s.start) refl (in_order (hull r s) ss from.1 rest.1) (in_order s ss rest.0 rest.1)
+    (all_from s.start s ss (from_itself s.start) rest.0 rest.0 rest.1)
   where
-    go : (b : Bool) → b ≡ is_within (stop_of r) (start_of s) → AreInOrder (merged_after (hull r s) ss) → AreInOrder (merged_after s ss) → AreFrom (start_of s) (merged_after s ss)
-        → AreInOrder (if b then merged_after (hull r s) ss else r ∷ merged_after s ss)
+    go : (b : Bool) → b ≡ is_within r.stop s.start → AreSpansInOrder (merged_after (hull r s) ss) → AreSpansInOrder (merged_after s ss) → AreFrom s.start (merged_after s ss)
+        → AreSpansInOrder (if b then merged_after (hull r s) ss else r ∷ merged_after s ss)
     go true e one apart from_s = one
-    go false e one apart from_s = (all_behind r (start_of s) (merged_after s ss) (sym e) from_s, apart)
+    go false e one apart from_s = (all_behind r s.start (merged_after s ss) (sym e) from_s, apart)
 
 pub merged_loses_nothing : MergedLosesNothing
 merged_loses_nothing [] falls = (tt, λ key h. h)
 merged_loses_nothing (r ∷ rs) falls = (in_order r rs falls.0 falls.1, λ key h. keeps r rs falls.0 falls.1 key h)
+
+pub joined_in_order : (spans : List KeySpan) → AreSpansInOrder (merged (by_start spans))
+joined_in_order spans = (merged_loses_nothing (by_start spans) (never_falls spans)).0

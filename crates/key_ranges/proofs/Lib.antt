@@ -12,4 +12,6 @@ pub mod TableRanges
 pub mod BoxLists
 pub mod BoxFormulas
 pub mod InOrders
+pub mod JoinedRanges
 pub mod Starts
+mod MergedSpans

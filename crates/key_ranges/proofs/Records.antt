@@ -1,5 +1,6 @@
 -- The records in a range are those of the rows inside it.
 use Rattle.std.proofs.Common.{◌≡◌, ℕ, Bool, true, false, ◌&&◌, ◌||◌, if◌then◌else◌, nat_eq, List, [], ◌∷◌, map, filter, option_to_list, refl, sym, ap, subst, ◌∙◌}
+use Rattle.std.specs.List.{AllByRecursion}
 use Rattle.std.specs.declared.cmp.Ordering.{Ordering}
 use Rattle.std.specs.declared.cmp.Ordering.TheVariants.{Less, Equal, Greater}
 use Rattle.std.specs.Ordering.{is_eq, is_lt}
@@ -14,8 +15,10 @@ use Rattle.row_codec.specs.Rows.{row_prefix}
 use Rattle.row_codec.proofs.Layouts.{and_parts}
 use Rattle.stored_database.specs.RecordFormat.{row_record}
 use Rattle.key_ranges.specs.declared.range.KeyRange.{KeyRange}
-use Rattle.key_ranges.specs.declared.range.KeyRange.TheVariants.{Point, Span}
-use Rattle.key_ranges.specs.Ranges.{is_in, is_in_any, is_inside, is_inside_any, records_in, IsRangeOf}
+use Rattle.key_ranges.specs.declared.range.KeyRange.TheVariants.{Point, Span, Several}
+use Rattle.key_ranges.specs.declared.spans.KeySpan.{KeySpan}
+use Rattle.key_ranges.specs.Spans.{is_between, is_in_span, is_in_spans}
+use Rattle.key_ranges.specs.Ranges.{is_in, is_in_any, is_inside, is_inside_any, records_in, IsRangeOf, IsSpanOf}
 use Rattle.key_ranges.specs.Laws.{RangesHoldTheirRows}
 use Rattle.key_ranges.proofs.Conditions.{same_number}
 use Rattle.key_ranges.proofs.Within.{ordered_equal}
@@ -57,6 +60,7 @@ two_tests s t (e ∷ es) = go (s e.0) (two_tests s t es)
 pub found_range : (range : KeyRange) (es : Records) → IsOrdered es → records_in range es ≡ entries_where (is_in range) es
 found_range (Point point) es o = found_point point es o
 found_range (Span start stop) es o = two_tests (is_from start) (is_within stop) es
+found_range (Several several) es o = refl
 
 -- ---- keys in a range are keys of the table
 
@@ -86,9 +90,8 @@ less_test Less h = refl
 less_test Equal h = cc
 less_test Greater h = cc
 
-pub in_table : (id : ℕ) (range : KeyRange) → IsRangeOf id range → (k : List ℕ) → is_in range k ≡ true → has_prefix (row_prefix id) k ≡ true
-in_table id (Point point) of_table k h = subst (λ z. has_prefix (row_prefix id) z ≡ true) (sym (same_key k point (ordered_equal (key_cmp k point) h))) of_table
-in_table id (Span start stop) of_table k h = go (has_prefix stop k) refl parts.1 (has_prefix (row_prefix id) k) refl
+in_span_of : (id : ℕ) (start stop : List ℕ) → (has_prefix (row_prefix id) start ≡ true) × (has_prefix (row_prefix id) stop ≡ true) → (k : List ℕ) → is_between start stop k ≡ true → has_prefix (row_prefix id) k ≡ true
+in_span_of id start stop of_table k h = go (has_prefix stop k) refl parts.1 (has_prefix (row_prefix id) k) refl
   where
     parts : (is_from start k ≡ true) × (is_within stop k ≡ true)
     parts = and_parts (is_from start k) (is_within stop k) h
@@ -100,6 +103,19 @@ in_table id (Span start stop) of_table k h = go (has_prefix stop k) refl parts.1
         let past : has_prefix (row_prefix id) stop ≡ false = past_prefix (row_prefix id) start k of_table.0 parts.0 (sym f) stop (less_test (key_cmp k stop) w) in
         let there : has_prefix (row_prefix id) stop ≡ true = of_table.1 in
         cc
+
+in_spans : (id : ℕ) (spans : List KeySpan) → AllByRecursion (IsSpanOf id) spans → (k : List ℕ) → is_in_spans spans k ≡ true → has_prefix (row_prefix id) k ≡ true
+in_spans id [] of_table k h = cc
+in_spans id (s ∷ spans) of_table k h = go (is_in_span s k) refl h (λ i. in_spans id spans of_table.1 k i)
+  where
+    go : (b : Bool) → b ≡ is_in_span s k → (b || is_in_spans spans k) ≡ true → (is_in_spans spans k ≡ true → has_prefix (row_prefix id) k ≡ true) → has_prefix (row_prefix id) k ≡ true
+    go true e i later = in_span_of id s.start s.stop of_table.0 k (sym e)
+    go false e i later = later i
+
+pub in_table : (id : ℕ) (range : KeyRange) → IsRangeOf id range → (k : List ℕ) → is_in range k ≡ true → has_prefix (row_prefix id) k ≡ true
+in_table id (Point point) of_table k h = subst (λ z. has_prefix (row_prefix id) z ≡ true) (sym (same_key k point (ordered_equal (key_cmp k point) h))) of_table
+in_table id (Several several) of_table k h = in_spans id several.spans of_table k h
+in_table id (Span start stop) of_table k h = in_span_of id start stop of_table k h
 
 -- ---- records of rows
 

@@ -1,7 +1,7 @@
 -- The ranges that a guard and conditions leave of a table lose nothing.
 use Rattle.std.proofs.Common.{◌≡◌, ℕ, Bool, true, false, ◌&&◌, ◌||◌, if◌then◌else◌, nat_eq, bytes_eq, List, [], ◌∷◌, ◌++◌, map, fold, length, Option, Some, None, Ok, append-nil, refl, sym, ap, subst, ◌∙◌}
 use Rattle.std.specs.Prelude.{IfSome}
-use Rattle.std.specs.List.{list_all, list_any}
+use Rattle.std.specs.List.{list_all, list_any, AllByRecursion}
 use Rattle.std.specs.Borrow.{Bor}
 use Rattle.std.specs.declared.cmp.Ordering.{Ordering}
 use Rattle.sql_types.specs.declared.value.Value.{Value}
@@ -28,23 +28,26 @@ use Rattle.store.proofs.HeldItems.{own_prefix}
 use Rattle.guards.specs.declared.guard.Formula.{Formula}
 use Rattle.guards.specs.Guards.{terms, formula_value, guard_value, cells_of, row_guard}
 use Rattle.guards.specs.Truths.{is_met}
+use Rattle.row_codec.specs.Cells.{key_cell}
 use Rattle.row_codec.specs.Rows.{row_prefix}
 use Rattle.row_codec.proofs.Layouts.{and_parts}
 use Rattle.key_ranges.specs.declared.bounds.BoundKind.{BoundKind}
 use Rattle.key_ranges.specs.declared.bounds.BoundKind.TheVariants as kind
-use Rattle.key_ranges.specs.Bounds.{is_key_value, bounds_of}
-use Rattle.key_ranges.specs.Ranges.{IsBehind, is_in, is_inside, is_first_bounded, range_after, range_of, IsRangeOf}
+use Rattle.key_ranges.specs.Bounds.{Bounds, is_key_value, bounds_of}
+use Rattle.key_ranges.specs.Ranges.{IsBehind, is_in, is_inside, is_first_bounded, by_value, range_after, range_of, span_after, IsRangeOf, IsSpanOf}
 use Rattle.key_ranges.specs.Infallible.{is_formula_infallible, are_formulas_infallible, are_infallible}
 use Rattle.stored_database.specs.RecordFormat.{row_record}
 use Rattle.key_ranges.specs.Boxes.{Box, same_kind, allows_in, is_bounded_by, is_in_box, is_in_boxes, both_boxes, boxes_of, AreRolesFor}
 use Rattle.key_ranges.specs.declared.range.KeyRange.{KeyRange}
-use Rattle.key_ranges.specs.declared.range.KeyRange.TheVariants.{Point}
+use Rattle.key_ranges.specs.declared.range.KeyRange.TheVariants.{Point, Span, Several}
+use Rattle.key_ranges.specs.Spans.{Spans, is_in_span, is_in_spans}
 use Rattle.key_ranges.specs.Laws.{IsHarmless}
 use Rattle.key_ranges.specs.BoxCode.{role_names}
-use Rattle.key_ranges.specs.TableRanges.{boxes_of_formula, boxes_of_guard, joined, boxes_of_table, is_tighter, tighter, sets, bounds_of_box, range_of_box, bounds_first, around, ranges_joined, or_else_range, range_of_boxes, range_of_table, have_one_box, plain_range, terms_of, MayLeaveRest, LosesNoRow, TableRangeLosesNothing}
+use Rattle.key_ranges.specs.TableRanges.{boxes_of_formula, boxes_of_guard, joined, boxes_of_table, is_tighter, tighter, sets, bounds_of_box, range_of_box, bounds_first, span_of, spans_of_boxes, ranges_joined, or_else_range, range_of_boxes, range_of_table, have_one_box, plain_range, terms_of, MayLeaveRest, LosesNoRow, TableRangeLosesNothing}
 use Rattle.key_ranges.proofs.Conditions.{IsWithin, same_number}
 use Rattle.key_ranges.proofs.Infallibility.{all_infallible}
-use Rattle.key_ranges.proofs.InOrders.{around_first, around_second, around_prefix}
+use Rattle.key_ranges.proofs.InOrders.{in_span_of}
+use Rattle.key_ranges.proofs.JoinedRanges.{joined_has, joined_of, joined_some}
 use Rattle.key_ranges.proofs.OutsideBoxes.{second_none, false_outside}
 use Rattle.key_ranges.proofs.InfallibleGuards.{formula_there, infallible_guard}
 use Rattle.key_ranges.proofs.Unchanged.{is_true, all_value, cell_there, condition_is, each_value, not_true, outcomes}
@@ -94,17 +97,25 @@ bounds_within row (b ∷ box) there k index v h = go (sets k index b) refl h (λ
 
 -- ---- one range for boxes
 
-module _ (id : ℕ) (layout : Layout) where
-  -- what is in the range that there is, is in the one that comes of it
-  stays_in : (whole : KeyRange) (boxes : List Box) (range : KeyRange) (key : List ℕ) → ranges_joined id layout (Some whole) boxes ≡ Some range → is_in whole key ≡ true → is_in range key ≡ true
-  stays_in whole [] range key h there = let same : whole ≡ range = cc in subst (λ r. is_in r key ≡ true) same there
-  stays_in whole (box ∷ boxes) range key h there =
-      stays_in (around whole (range_of_box id layout box)) boxes range key h (around_first whole (range_of_box id layout box) key there)
+-- a range that bounds leave is not of several spans
+one_span : (bounds : Bounds) (indices front : List ℕ) (s : Spans) → range_after bounds indices front ≡ Several s → ⊥
+one_span bounds [] front s h = cc
+one_span bounds (index ∷ indices) front s h = go (bounds kind.Equal index) (λ v e. one_span bounds indices (front ++ key_cell v) s e) h
+  where
+    go : (o : Option Value) → ((v : Value) → range_after bounds indices (front ++ key_cell v) ≡ Several s → ⊥) → by_value o (λ v. range_after bounds indices (front ++ key_cell v)) (span_after bounds index front) ≡ Several s → ⊥
+    go None later e = cc
+    go (Some v) later e = later v e
 
-  joined_of_table : (whole : KeyRange) (boxes : List Box) (range : KeyRange) → ranges_joined id layout (Some whole) boxes ≡ Some range → IsRangeOf id whole → IsRangeOf id range
-  joined_of_table whole [] range h of = let same : whole ≡ range = cc in subst (λ r. IsRangeOf id r) same of
-  joined_of_table whole (box ∷ boxes) range h of =
-      joined_of_table (around whole (range_of_box id layout box)) boxes range h (around_prefix id whole (range_of_box id layout box) of (range_prefix id (bounds_of_box box) layout.key))
+module _ (id : ℕ) (layout : Layout) where
+  span_of_table : (r : KeyRange) → ((s : Spans) → r ≡ Several s → ⊥) → IsRangeOf id r → IsSpanOf id (span_of r)
+  span_of_table (Point key) one h = (h, h)
+  span_of_table (Span start stop) one h = h
+  span_of_table (Several s) one h = absurd (one s refl)
+
+  spans_of_table : (boxes : List Box) → AllByRecursion (IsSpanOf id) (spans_of_boxes id layout boxes)
+  spans_of_table [] = tt
+  spans_of_table (box ∷ boxes) =
+      (span_of_table (range_of_box id layout box) (λ s e. one_span (bounds_of_box box) layout.key (row_prefix id) s e) (range_prefix id (bounds_of_box box) layout.key), spans_of_table boxes)
 
   module _ (is : IsLayout layout) (row : Row) (fits : FitsTable layout row) where
     abbrev own_key : List ℕ
@@ -113,54 +124,66 @@ module _ (id : ℕ) (layout : Layout) where
     in_box_range : (box : Box) → is_in_box row box ≡ true → is_in (range_of_box id layout box) own_key ≡ true
     in_box_range box e = in_range layout.columns row (bounds_of_box box) fits.columns (bounds_within row box e) layout.key is.key_not_null (row_prefix id)
 
-    outside_joined : (whole : KeyRange) (boxes : List Box) (range : KeyRange) → ranges_joined id layout (Some whole) boxes ≡ Some range → is_in range own_key ≡ false → is_in_boxes row boxes ≡ false
-    outside_joined whole [] range h out = refl
-    outside_joined whole (box ∷ boxes) range h out =
-        go (is_in_box row box) refl (outside_joined (around whole (range_of_box id layout box)) boxes range h out)
+    in_spans : (boxes : List Box) → is_in_boxes row boxes ≡ true → is_in_spans (spans_of_boxes id layout boxes) own_key ≡ true
+    in_spans [] h = cc
+    in_spans (box ∷ boxes) h = go (is_in_box row box) refl h (λ e. in_spans boxes e)
       where
-        go : (b : Bool) → b ≡ is_in_box row box → is_in_boxes row boxes ≡ false → (b || is_in_boxes row boxes) ≡ false
-        go false e later = later
-        go true e later =
-            let there : is_in range own_key ≡ true = stays_in (around whole (range_of_box id layout box)) boxes range own_key h (around_second whole (range_of_box id layout box) own_key (in_box_range box (sym e))) in
-            let wrong : true ≡ false = sym there ∙ out in
-            cc
+        first : Bool
+        first = is_in_span (span_of (range_of_box id layout box)) own_key
 
-    outside_first : (box : Box) (boxes : List Box) (range : KeyRange) → ranges_joined id layout (Some (range_of_box id layout box)) boxes ≡ Some range → is_in range own_key ≡ false → is_in_boxes row (box ∷ boxes) ≡ false
-    outside_first box boxes range h out = go (is_in_box row box) refl (outside_joined (range_of_box id layout box) boxes range h out)
+        go : (b : Bool) → b ≡ is_in_box row box → (b || is_in_boxes row boxes) ≡ true → (is_in_boxes row boxes ≡ true → is_in_spans (spans_of_boxes id layout boxes) own_key ≡ true) → (first || is_in_spans (spans_of_boxes id layout boxes) own_key) ≡ true
+        go true e f later =
+            let here : first ≡ true = in_span_of (range_of_box id layout box) own_key (λ s e. one_span (bounds_of_box box) layout.key (row_prefix id) s e) (in_box_range box (sym e)) in
+            ap (λ c. c || is_in_spans (spans_of_boxes id layout boxes) own_key) here
+        go false e f later = behind first (later f)
+          where
+            behind : (c : Bool) → is_in_spans (spans_of_boxes id layout boxes) own_key ≡ true → (c || is_in_spans (spans_of_boxes id layout boxes) own_key) ≡ true
+            behind true g = refl
+            behind false g = g
+
+    inside_joined : (boxes : List Box) (range : KeyRange) → ranges_joined id layout boxes ≡ Some range → is_in_boxes row boxes ≡ true → is_in range own_key ≡ true
+    inside_joined [] range h there = cc
+    inside_joined (box ∷ []) range h there =
+        let same : range_of_box id layout box ≡ range = cc in
+        subst (λ r. is_in r own_key ≡ true) same (go (is_in_box row box) refl there)
       where
-        go : (b : Bool) → b ≡ is_in_box row box → is_in_boxes row boxes ≡ false → (b || is_in_boxes row boxes) ≡ false
-        go false e later = later
-        go true e later =
-            let there : is_in range own_key ≡ true = stays_in (range_of_box id layout box) boxes range own_key h (in_box_range box (sym e)) in
-            let wrong : true ≡ false = sym there ∙ out in
-            cc
+        go : (b : Bool) → b ≡ is_in_box row box → (b || false) ≡ true → is_in (range_of_box id layout box) own_key ≡ true
+        go true e f = in_box_range box (sym e)
+        go false e f = cc
+    inside_joined (box ∷ other ∷ boxes) range h there = joined_has (spans_of_boxes id layout (box ∷ other ∷ boxes)) range own_key h (in_spans (box ∷ other ∷ boxes) there)
+
+    none_joined : (box : Box) (boxes : List Box) → ranges_joined id layout (box ∷ boxes) ≡ None → ⊥
+    none_joined box [] h = cc
+    none_joined box (other ∷ boxes) h = joined_some (span_of (range_of_box id layout box)) (spans_of_boxes id layout (other ∷ boxes)) h
 
     outside_boxes : (boxes : List Box) (range : KeyRange) → range_of_boxes id layout boxes ≡ Some range → is_inside id layout range row ≡ false → is_in_boxes row boxes ≡ false
     outside_boxes [] range h out = refl
-    outside_boxes (box ∷ boxes) range h out = go (list_all (bounds_first layout) (box ∷ boxes)) (ranges_joined id layout None (box ∷ boxes)) refl h
+    outside_boxes (box ∷ boxes) range h out = go (list_all (bounds_first layout) (box ∷ boxes)) (ranges_joined id layout (box ∷ boxes)) refl h
       where
-        go : (t : Bool) (o : Option KeyRange) → o ≡ ranges_joined id layout None (box ∷ boxes) → (if t then or_else_range o (Some (Point (row_prefix id))) else None) ≡ Some range → is_in_boxes row (box ∷ boxes) ≡ false
+        by_test : (b : Bool) → b ≡ is_in_boxes row (box ∷ boxes) → ranges_joined id layout (box ∷ boxes) ≡ Some range → is_in_boxes row (box ∷ boxes) ≡ false
+        by_test false e f = sym e
+        by_test true e f = let wrong : true ≡ false = sym (inside_joined (box ∷ boxes) range f (sym e)) ∙ out in cc
+
+        go : (t : Bool) (o : Option KeyRange) → o ≡ ranges_joined id layout (box ∷ boxes) → (if t then or_else_range o (Some (Point (row_prefix id))) else None) ≡ Some range → is_in_boxes row (box ∷ boxes) ≡ false
         go false o e f = cc
-        go true None e f = none_lost (range_of_box id layout box) boxes e
-          where
-            none_lost : (whole : KeyRange) (more : List Box) → None ≡ ranges_joined id layout (Some whole) more → is_in_boxes row (box ∷ boxes) ≡ false
-            none_lost whole [] g = cc
-            none_lost whole (b ∷ more) g = none_lost (around whole (range_of_box id layout b)) more g
-        go true (Some r) e f = outside_first box boxes range (sym e ∙ f) out
+        go true None e f = absurd (none_joined box boxes (sym e))
+        go true (Some r) e f = by_test (is_in_boxes row (box ∷ boxes)) refl (sym e ∙ f)
+
+  joined_of_table : (boxes : List Box) (range : KeyRange) → ranges_joined id layout boxes ≡ Some range → IsRangeOf id range
+  joined_of_table [] range h = cc
+  joined_of_table (box ∷ []) range h =
+      let same : range_of_box id layout box ≡ range = cc in subst (λ r. IsRangeOf id r) same (range_prefix id (bounds_of_box box) layout.key)
+  joined_of_table (box ∷ other ∷ boxes) range h = joined_of id (spans_of_boxes id layout (box ∷ other ∷ boxes)) range h (spans_of_table (box ∷ other ∷ boxes))
 
   of_boxes : (boxes : List Box) (range : KeyRange) → range_of_boxes id layout boxes ≡ Some range → IsRangeOf id range
-  of_boxes boxes range h = go (list_all (bounds_first layout) boxes) (ranges_joined id layout None boxes) refl h
+  of_boxes boxes range h = go (list_all (bounds_first layout) boxes) (ranges_joined id layout boxes) refl h
     where
-      by_first : (bs : List Box) (r : KeyRange) → ranges_joined id layout None bs ≡ Some r → IsRangeOf id r
-      by_first [] r e = cc
-      by_first (box ∷ bs) r e = joined_of_table (range_of_box id layout box) bs r e (range_prefix id (bounds_of_box box) layout.key)
-
-      go : (t : Bool) (o : Option KeyRange) → o ≡ ranges_joined id layout None boxes → (if t then or_else_range o (Some (Point (row_prefix id))) else None) ≡ Some range → IsRangeOf id range
+      go : (t : Bool) (o : Option KeyRange) → o ≡ ranges_joined id layout boxes → (if t then or_else_range o (Some (Point (row_prefix id))) else None) ≡ Some range → IsRangeOf id range
       go false o e f = cc
       go true None e f =
           let same : Point (row_prefix id) ≡ range = cc in
           subst (λ r. IsRangeOf id r) same (subst (λ k. has_prefix (row_prefix id) k ≡ true) (append-nil (row_prefix id)) (own_prefix (row_prefix id) []))
-      go true (Some r) e f = by_first boxes range (sym e ∙ f)
+      go true (Some r) e f = joined_of_table boxes range (sym e ∙ f)
 
 -- ---- a guard
 

@@ -1,5 +1,6 @@
 pub mod Bounds
 pub mod Infallible
+pub mod Spans
 pub mod Ranges
 pub mod Laws
 pub mod Examples

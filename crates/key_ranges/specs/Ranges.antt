@@ -13,14 +13,16 @@ use Rattle.expressions.specs.Truths.{yes}
 use Rattle.expressions.specs.Meaning.{UserNames, value_of}
 use Rattle.expressions.specs.Types.{TypedTerm}
 use Rattle.abstract_database.specs.Expressions.{all_of}
-use Rattle.store.specs.Records.{Records, key_cmp, entry_at, is_from, has_prefix}
+use Rattle.store.specs.Records.{Records, key_cmp, entries_where, entry_at, is_from, has_prefix}
 use Rattle.store.specs.Walks.{is_within, span}
 use Rattle.row_codec.specs.Cells.{key_cell}
 use Rattle.row_codec.specs.Rows.{row_prefix}
 use Rattle.stored_database.specs.RecordFormat.{row_record}
 use Rattle.key_ranges.specs.declared.bounds.BoundKind.TheVariants as kind
 use Rattle.key_ranges.specs.declared.range.KeyRange.{KeyRange}
-use Rattle.key_ranges.specs.declared.range.KeyRange.TheVariants.{Point, Span}
+use Rattle.key_ranges.specs.declared.range.KeyRange.TheVariants.{Point, Span, Several}
+use Rattle.key_ranges.specs.declared.spans.KeySpan.{KeySpan}
+use Rattle.key_ranges.specs.Spans.{is_in_spans}
 use Rattle.key_ranges.specs.Bounds.{Bounds, bounds_of}
 use Rattle.key_ranges.specs.Infallible.{are_infallible}
 
@@ -30,11 +32,13 @@ use Rattle.key_ranges.specs.Infallible.{are_infallible}
 abbrev pub is_in : KeyRange → List ℕ → Bool
 is_in (Point point) key = is_eq (key_cmp key point)
 is_in (Span start stop) key = is_from start key && is_within stop key
+is_in (Several several) key = is_in_spans several.spans key
 
 -- what a look-up, or a walk, finds of a range
 abbrev pub records_in : KeyRange → Records → Records
 records_in (Point point) records = option_to_list (entry_at point records)
 records_in (Span start stop) records = span start stop records
+records_in (Several several) records = entries_where (is_in_spans several.spans) records
 
 -- whether the record of a row has a key in a range
 abbrev pub is_inside : ℕ → Layout → KeyRange → Row → Bool
@@ -57,10 +61,15 @@ abbrev pub AreInOrder : List KeyRange → Type 0
 AreInOrder [] = Unit {0}
 AreInOrder (range ∷ ranges) = AllByRecursion (ComesBefore range) ranges × AreInOrder ranges
 
+-- a span of keys of the table of this number alone
+abbrev pub IsSpanOf : ℕ → KeySpan → Type 0
+IsSpanOf id s = (has_prefix (row_prefix id) s.start ≡ true) × (has_prefix (row_prefix id) s.stop ≡ true)
+
 -- keys of the table of this number alone
 abbrev pub IsRangeOf : ℕ → KeyRange → Type 0
 IsRangeOf id (Point point) = has_prefix (row_prefix id) point ≡ true
 IsRangeOf id (Span start stop) = (has_prefix (row_prefix id) start ≡ true) × (has_prefix (row_prefix id) stop ≡ true)
+IsRangeOf id (Several several) = AllByRecursion (IsSpanOf id) several.spans
 
 -- the range has the key of each row that the table may hold and on which all conditions are true, whatever the rows beside it are
 abbrev pub HasKeysOf : ℕ → Layout → ℕ → UserNames → List TypedTerm → KeyRange → Type 0

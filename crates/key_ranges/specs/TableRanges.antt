@@ -12,7 +12,6 @@ use Rattle.sql_ast.specs.Term.{Term, literal, conjunction, disjunction, member_t
 use Rattle.expressions.specs.Meaning.{UserNames}
 use Rattle.expressions.specs.Types.{TypedTerm}
 use Rattle.abstract_database.specs.Guards.{formula}
-use Rattle.store.specs.Records.{is_from}
 use Rattle.guards.specs.declared.guard.Formula.{Formula}
 use Rattle.guards.specs.Guards.{terms, row_guard}
 use Rattle.row_codec.specs.Rows.{row_prefix}
@@ -20,9 +19,10 @@ use Rattle.key_ranges.specs.declared.bounds.BoundKind.{BoundKind}
 use Rattle.key_ranges.specs.declared.bounds.BoundKind.TheVariants as kind
 use Rattle.key_ranges.specs.declared.range.KeyRange.{KeyRange}
 use Rattle.key_ranges.specs.Bounds.{Bounds, is_key_value}
-use Rattle.key_ranges.specs.declared.range.KeyRange.TheVariants.{Point, Span}
+use Rattle.key_ranges.specs.declared.range.KeyRange.TheVariants.{Point, Span, Several}
 use Rattle.key_ranges.specs.Ranges.{range_after, range_of, is_first_bounded, is_inside, IsRangeOf}
-use Rattle.key_ranges.specs.InOrder.{start_of, stop_of, wider}
+use Rattle.key_ranges.specs.declared.spans.KeySpan.{KeySpan}
+use Rattle.key_ranges.specs.InOrder.{by_start, least_start, merged, widest_stop}
 use Rattle.key_ranges.specs.Infallible.{is_formula_infallible, are_formulas_infallible}
 use Rattle.key_ranges.specs.Boxes.{Bound, Box, everything, both_boxes, boxes_of, same_kind, AreRolesFor}
 use Rattle.key_ranges.specs.LeftOut.{OutsideMayBeLeftOut}
@@ -76,30 +76,44 @@ range_of_box id layout box = range_after (bounds_of_box box) layout.key (row_pre
 abbrev pub bounds_first : Layout → Box → Bool
 bounds_first layout box = is_first_bounded (bounds_of_box box) layout.key
 
--- of two starts the one that comes first
-abbrev pub first_start : List ℕ → List ℕ → List ℕ
-first_start a b = if is_from a b then a else b
-
--- one range with the keys of two
-abbrev pub around : KeyRange → KeyRange → KeyRange
-around r s = Span (first_start (start_of r) (start_of s)) (wider (stop_of r) (stop_of s))
-
 abbrev pub or_else_range : Option KeyRange → Option KeyRange → Option KeyRange
 or_else_range (Some range) other = Some range
 or_else_range None other = other
 
-abbrev pub with_range : Option KeyRange → KeyRange → KeyRange
-with_range None r = r
-with_range (Some whole) r = around whole r
+-- a span with the keys of a range
+abbrev pub span_of : KeyRange → KeySpan
+span_of (Point key) = record { start = key; stop = key }
+span_of (Span start stop) = record { start = start; stop = stop }
+span_of (Several s) = record { start = s.start; stop = s.stop }
 
--- one range with the keys of this one, if there is one, and of the ranges of these boxes
-abbrev pub ranges_joined : ℕ → Layout → Option KeyRange → List Box → Option KeyRange
-ranges_joined id layout whole [] = whole
-ranges_joined id layout whole (box ∷ boxes) = ranges_joined id layout (Some (with_range whole (range_of_box id layout box))) boxes
+-- the spans of boxes
+abbrev pub spans_of_boxes : ℕ → Layout → List Box → List KeySpan
+spans_of_boxes id layout boxes = map (λ box. span_of (range_of_box id layout box)) boxes
+
+-- one span around all of these
+abbrev pub around_all : List KeySpan → KeySpan
+around_all [] = record { start = []; stop = [] }
+around_all (s ∷ ss) = record { start = least_start s.start ss; stop = widest_stop s.stop ss }
+
+-- the range of several spans
+abbrev pub several : List KeySpan → KeyRange
+several spans = Several (record { start = (around_all spans).start; stop = (around_all spans).stop; spans = spans })
+
+-- spans as one range, if there are any
+abbrev pub range_of_spans : List KeySpan → Option KeyRange
+range_of_spans [] = None
+range_of_spans (s ∷ []) = Some (Span s.start s.stop)
+range_of_spans (s ∷ t ∷ ss) = Some (several (s ∷ t ∷ ss))
+
+-- the range of boxes: of one box its own, of several those of all in their order, as one where they touch
+abbrev pub ranges_joined : ℕ → Layout → List Box → Option KeyRange
+ranges_joined id layout [] = None
+ranges_joined id layout (box ∷ []) = Some (range_of_box id layout box)
+ranges_joined id layout (box ∷ other ∷ boxes) = range_of_spans (merged (by_start (spans_of_boxes id layout (box ∷ other ∷ boxes))))
 
 -- the range with the keys of all boxes: none where one of them does not bound the first column of the key; a key that no row has where there is no box
 abbrev pub range_of_boxes : ℕ → Layout → List Box → Option KeyRange
-range_of_boxes id layout boxes = if list_all (bounds_first layout) boxes then or_else_range (ranges_joined id layout None boxes) (Some (Point (row_prefix id))) else None
+range_of_boxes id layout boxes = if list_all (bounds_first layout) boxes then or_else_range (ranges_joined id layout boxes) (Some (Point (row_prefix id))) else None
 
 -- whether a condition has one box, which is found without a list: no OR, and no MEMBER OF
 abbrev pub has_one_box : Term ColumnIndex → Bool

@@ -4,12 +4,14 @@ ghost use Rattle.std.specs.List.{list_all};
 ghost use Rattle.expressions.specs.Rows.{names_of};
 ghost use Rattle.sql_ast.specs.Term.{term_of};
 ghost use Rattle.key_ranges.specs.BoxCode.{role_names};
-ghost use Rattle.key_ranges.specs.TableRanges.{bounds_first, have_one_box, has_one_box, plain_range, range_of_boxes, range_of_table, ranges_joined, LosesNoRow};
+ghost use Rattle.key_ranges.specs.InOrder.{by_start, merged};
+ghost use Rattle.key_ranges.specs.TableRanges.{bounds_first, have_one_box, has_one_box, plain_range, range_of_boxes, range_of_spans, range_of_table, ranges_joined, span_of, spans_of_boxes, LosesNoRow};
 
-use crate::around::with_range;
 use crate::boxes::KeyBox;
 use crate::guard_boxes::BoundedTable;
+use crate::merging::{merged, put_by_start, range_of_spans};
 use crate::range::{KeyRange, key_range};
+use crate::spans::KeySpan;
 use expressions::eval::Users;
 use expressions::types::Typed;
 use guards::guard::Formula;
@@ -30,8 +32,9 @@ use std::alloc::{AllocError, Global};
 /// fail bounds nothing, since its refusal has to come. Else a comparison of a column of the key with a
 /// literal, CURRENT_USER or SESSION_USER bounds it, by `=`, `<`, `<=`, `>` or `>=`; MEMBER OF a column
 /// of the key gives a bound for each role; and of an OR each side has a box of its own. Of two lower
-/// bounds the greater counts, of two upper ones the lesser. The range has the keys of all boxes. It is
-/// `None` where a box does not bound the first column of the key.
+/// bounds the greater counts, of two upper ones the lesser. The range has the spans of all boxes, in
+/// their order, and as one where they touch. It is `None` where a box does not bound the first column of
+/// the key.
 #[tactic(auto, using(crate::proofs::TableRanges::safe_range))]
 pub fn table_range(
     alloc: Global,
@@ -155,19 +158,77 @@ fn bound_first(columns: &Columns, boxes: &[KeyBox<'_>]) -> bool
     true
 }
 
-// One range with the keys of all boxes, if there is one.
+// The range of boxes: of one its own, of several the spans of all.
 fn ranges_joined(
     alloc: Global,
     id: u32,
     columns: &Columns,
     boxes: &[KeyBox<'_>],
 ) -> Result<Option<KeyRange>, AllocError>
-    ensures { IfOk result (λ range. range ≡ ranges_joined id columns.now None boxes.now) }
+    ensures { IfOk result (λ range. range ≡ ranges_joined id columns.now boxes.now) }
 {
-    let mut whole = None;
-    for one in boxes {
-        let range = one.range(alloc, id, columns)?;
-        whole = Some(with_range(alloc, whole, range)?);
+    match boxes.split_first() {
+        None => Ok(None),
+        Some((one, others)) => match others.first() {
+            None => {
+                let range = one.range(alloc, id, columns)?;
+                Ok(Some(range))
+            }
+            Some(_) => spans_joined(alloc, id, columns, boxes),
+        },
     }
-    Ok(whole)
+}
+
+// The spans of boxes in their order, as one where they touch.
+fn spans_joined(
+    alloc: Global,
+    id: u32,
+    columns: &Columns,
+    boxes: &[KeyBox<'_>],
+) -> Result<Option<KeyRange>, AllocError>
+    ensures { IfOk result (λ range. range
+        ≡ range_of_spans (merged (by_start (spans_of_boxes id columns.now boxes.now)))) }
+{
+    let spans = spans_by_start(alloc, id, columns, boxes)?;
+    let together = merged(alloc, spans)?;
+    range_of_spans(alloc, together)
+}
+
+// The spans of boxes, none of which starts before one that stands before it.
+fn spans_by_start(
+    alloc: Global,
+    id: u32,
+    columns: &Columns,
+    boxes: &[KeyBox<'_>],
+) -> Result<Vec<KeySpan>, AllocError>
+    ensures { IfOk result (λ spans. spans.items
+        ≡ by_start (spans_of_boxes id columns.now boxes.now)) }
+{
+    match boxes.split_first() {
+        None => Ok(Vec::new(alloc)),
+        Some((one, others)) => {
+            let mut spans = spans_by_start(alloc, id, columns, others)?;
+            let range = one.range(alloc, id, columns)?;
+            put_by_start(&mut spans, span_of(alloc, range)?)?;
+            Ok(spans)
+        }
+    }
+}
+
+// A span with the keys of a range.
+fn span_of(alloc: Global, range: KeyRange) -> Result<KeySpan, AllocError>
+    ensures { IfOk result (λ span. span ≡ span_of range) }
+{
+    match range {
+        KeyRange::Point(key) => {
+            let start = Items::from_vec(Vec::from_slice(alloc, key.as_slice())?);
+            Ok(KeySpan { start, stop: key })
+        }
+        KeyRange::Span { start, stop } => Ok(KeySpan { start, stop }),
+        KeyRange::Several(spans) => {
+            let start = Items::from_vec(Vec::from_slice(alloc, spans.start())?);
+            let stop = Items::from_vec(Vec::from_slice(alloc, spans.stop())?);
+            Ok(KeySpan { start, stop })
+        }
+    }
 }

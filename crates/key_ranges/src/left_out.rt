@@ -1,6 +1,6 @@
 //! Laws of rows that a statement leaves unread: each function does nothing, and its clause is proved.
 ghost use Rattle.key_ranges.specs.Boxes.{BoxesLoseNothing};
-ghost use Rattle.key_ranges.specs.InOrder.{MergedLosesNothing};
+ghost use Rattle.key_ranges.specs.InOrder.{MergedLosesNothing, OrderedLosesNothing};
 ghost use Rattle.key_ranges.specs.LeftOut.{LeftOutBehindLosesNothing, LeftOutLosesNothing, LeftUnchangedIsNotChosen, LeftUnchangedIsNotMet};
 ghost use Rattle.key_ranges.specs.TableRanges.{TableRangeLosesNothing};
 
@@ -34,7 +34,8 @@ pub fn table_range_loses_nothing()
     ensures { TableRangeLosesNothing }
 {}
 
-/// Ranges whose starts never fall, merged where they touch, are in order and have all their keys.
-pub fn merged_ranges_lose_nothing()
-    ensures { MergedLosesNothing }
+/// Spans in the order of their starts, and merged where they touch, are in order and have all their keys.
+pub fn merged_spans_lose_nothing()
+    ensures ordered { OrderedLosesNothing }
+    ensures merged { MergedLosesNothing }
 {}

@@ -2,7 +2,6 @@
 //! the first columns of the key, and that it changes no answer.
 #![tactic(auto)]
 
-mod around;
 mod bounds;
 mod box_ranges;
 mod box_search;
@@ -14,7 +13,9 @@ mod guarded_range;
 mod infallible;
 mod laws;
 mod left_out;
+mod merging;
 mod range;
+mod spans;
 mod voids;
 
 pub use examples::{ranges_of_one_column, ranges_of_two_columns};
@@ -25,6 +26,7 @@ pub use laws::{
 };
 pub use left_out::{
     false_outside_of_boxes, left_out_behind_loses_nothing, left_out_loses_nothing,
-    left_unchanged_is_not_chosen, merged_ranges_lose_nothing, table_range_loses_nothing,
+    left_unchanged_is_not_chosen, merged_spans_lose_nothing, table_range_loses_nothing,
 };
 pub use range::{KeyRange, is_key_bounded, key_range, key_range_behind};
+pub use spans::{KeySpan, KeySpans};

@@ -9,6 +9,7 @@ ghost use Rattle.key_ranges.specs.Ranges.{range_of, range_behind, range_after, s
 
 use crate::bounds::{BoundKind, BoundSearch};
 use crate::infallible::are_infallible;
+use crate::spans::KeySpans;
 use expressions::eval::Users;
 use expressions::types::Typed;
 use row_codec::{push_key_cell, push_row_prefix};
@@ -26,6 +27,8 @@ pub enum KeyRange {
     /// The keys for a walk, as `store::Cursor::between` takes them: from `start` on, up to the last
     /// that comes before `stop` or begins with it.
     Span { start: Items<u8>, stop: Items<u8> },
+    /// The keys for a walk over one span after the other.
+    Several(KeySpans),
 }
 
 // Conditions on the rows of the tables of a statement, all of them true, and the table whose keys

@@ -1,5 +1,5 @@
 -- The front of the records that a walk has found.
-use Rattle.std.proofs.Common.{◌≡◌, ℕ, Bool, true, false, List, [], ◌∷◌, ◌++◌, map, Result, Ok, Err, refl, sym, ap, ◌∙◌, subst, append_assoc, ◌⊎◌, inl, inr}
+use Rattle.std.proofs.Common.{◌≡◌, ℕ, Bool, true, false, List, [], ◌∷◌, ◌++◌, map, Result, Ok, Err, refl, sym, ap, ◌∙◌, subst, append-nil, append_assoc, ◌⊎◌, inl, inr}
 use Rattle.std.specs.List.{AllByRecursion}
 use Rattle.sql_types.specs.Row.{Row}
 use Rattle.sql_ast.specs.Layout.{Layout}
@@ -14,16 +14,9 @@ use Rattle.table_rows.specs.declared.visit.Flow.TheVariants.{Continue, Done}
 use Rattle.table_rows.specs.HeldRows.{AreRecordsOf, SpellsRow}
 use Rattle.store.specs.declared.fault.Fault.TheVariants.{Memory, Device, Damaged}
 use Rattle.store.specs.declared.stop.StatementError.TheVariants.{Refused, Failed}
-use Rattle.table_rows.specs.Visits.{AnswerAfter, Visits, VisitsRecord, VisitsAll, SpellsVisited}
-use Rattle.table_rows.specs.Walked.{WalksFront, Walks}
-use Rattle.table_rows.proofs.Going.{Goes, goes_first, goes_last, goes_on, goes_done, meets, visit_failed, spelled_on, spelled_last, none_left}
-
--- of the records a front was found; behind its rows the same is answered as before all rows
-pub record Walking {A : Type 0} (id : ℕ) (layout : Layout) (records remaining : Records) (old now : AnswerAfter A) : Type 0 where
-  pub front : Records
-  pub parts : records ≡ front ++ remaining
-  pub spelled : AllByRecursion (SpellsRow layout) front
-  pub same : (rows rest : List Row) → AreRecordsOf id layout rows front → old (rows ++ rest) ≡ now rest
+use Rattle.table_rows.specs.Visits.{AnswerAfter, Visits, VisitsRecord, VisitsAll, SpellsVisited, IsDoneOnlyIf}
+use Rattle.table_rows.specs.Walked.{WalksFront, Walks, WalksOn, Walking}
+use Rattle.table_rows.proofs.Going.{none_left}
 
 -- a step finds the first record that is left, or none is
 pub taken : (found : Record → Type 0) (ahead : Records → Type 0) (b : Bool) (left : Records) → b ≡ true → Takes found ahead b left → Takes found ahead true left
@@ -34,11 +27,9 @@ pub none_taken : (found : Record → Type 0) (ahead : Records → Type 0) (b : B
 none_taken found ahead true left ends takes = cc
 none_taken found ahead false left ends takes = takes
 
--- what a walk over records has left of them, and what it has answered of those that it found
-pub record Remains {A : Type 0} (layout : Layout) (records left : Records) (old now : ℕ → AnswerAfter A) : Type 0 where
-  pub going : (id : ℕ) (rows : List Row) → AreRecordsOf id layout rows records → Goes id layout left rows (old id) (now id)
-  pub walked : (id : ℕ) → Walking id layout records left (old id) (now id)
-  pub spelled : AllByRecursion (SpellsRow layout) left → AllByRecursion (SpellsRow layout) records
+pub done_only : (may : Bool) (flow : Flow) → flow ≡ Done → IsDoneOnlyIf may (Ok flow) → may ≡ true
+done_only may Continue e only = cc
+done_only may Done e only = only
 
 -- the rows of a front, the last of them apart
 record Last (id : ℕ) (layout : Layout) (front : Records) (entry : Record) (rows : List Row) : Type 0 where
@@ -119,72 +110,143 @@ module _ (id : ℕ) (layout : Layout) where
       → (row : Row) (rest : List Row) → FitsTable layout row → entry ≡ row_record id layout row → now (row ∷ rest) ≡ last []
   visited_done flow entry now last is visits row rest fits entry_is = subst (λ (f : Flow). Visits (Ok f) row now last) is (visits row fits entry_is) rest
 
-  -- the one record of a key was found, or none
-  pub none_walked : {A : Type 0} (records : Records) (old : AnswerAfter A) → records ≡ [] → WalksFront id layout records old old
-  none_walked records old none = walked_whole records records old old (walking_first records old) none
+  -- ---- walks behind which others may follow
 
-  pub one_walked : {A : Type 0} (flow : Flow) (entry : Record) (records : Records) (old new : AnswerAfter A) → records ≡ entry ∷ [] → SpellsRow layout entry → VisitsRecord id layout entry (Ok flow) old new
-      → WalksFront id layout records old new
-  one_walked Continue entry records old new is spells visits =
-      walked_whole records [] old new (walking_on records records [] entry old old new (walking_first records old) is spells (visited_on Continue entry old new refl visits)) refl
-  one_walked Done entry records old new is spells visits =
-      walked_early records [] old new (walking_on records records [] entry old old (λ rest. new []) (walking_first records old) is spells (visited_done Done entry old new refl visits))
+  pub ended_on : {A : Type 0} (records remaining : Records) (old now : AnswerAfter A) → Walking id layout records remaining old now → remaining ≡ [] → Walking id layout records [] old now
+  ended_on records remaining old now w none = subst (λ (l : Records). Walking id layout records l old now) none w
+
+  pub done_on : {A : Type 0} (records remaining later : Records) (entry : Record) (old now then : AnswerAfter A) (flow : Flow) → Walking id layout records remaining old now → remaining ≡ entry ∷ later → SpellsRow layout entry
+      → flow ≡ Done → VisitsRecord id layout entry (Ok flow) now then → WalksOn id layout records old then (Ok Done)
+  done_on records remaining later entry old now then flow w is spells done visits = (later, walking_on records remaining later entry old now (λ rest. then []) w is spells (visited_done flow entry now then done visits))
 
   -- the visit of a record fails
-  pub walk_failed : {A : Type 0} (records remaining later : Records) (entry : Record) (old now last : AnswerAfter A) (failure : StatementError) → Walking id layout records remaining old now → remaining ≡ entry ∷ later
-      → SpellsVisited layout entry (Err failure) → VisitsRecord id layout entry (Err failure) now last → Walks id layout records old last (Err failure)
-  walk_failed records remaining later entry old now last (Refused code) w is spells visits =
-      walked_early records later old (λ rest. Err code) (walking_on records remaining later entry old now (λ rest. Err code) w is spells (λ row rest fits entry_is. visits row fits entry_is rest))
-  walk_failed records remaining later entry old now last (Failed Memory) w is spells visits = tt
-  walk_failed records remaining later entry old now last (Failed Device) w is spells visits = tt
-  walk_failed records remaining later entry old now last (Failed Damaged) w is spells visits =
+  pub failed_on : {A : Type 0} (records remaining later : Records) (entry : Record) (old now last : AnswerAfter A) (failure : StatementError) → Walking id layout records remaining old now → remaining ≡ entry ∷ later
+      → SpellsVisited layout entry (Err failure) → VisitsRecord id layout entry (Err failure) now last → WalksOn id layout records old last (Err failure)
+  failed_on records remaining later entry old now last (Refused code) w is spells visits =
+      (later, walking_on records remaining later entry old now (λ rest. Err code) w is spells (λ row rest fits entry_is. visits row fits entry_is rest))
+  failed_on records remaining later entry old now last (Failed Memory) w is spells visits = tt
+  failed_on records remaining later entry old now last (Failed Device) w is spells visits = tt
+  failed_on records remaining later entry old now last (Failed Damaged) w is spells visits =
       record { front = w.front; entry = entry; behind = later; parts = w.parts ∙ ap (λ (l : Records). w.front ++ l) is; spelled = w.spelled; damaged = visits }
 
--- ---- walks over all tables that the records may be of
+  -- the one record of a key was found, or none
+  pub none_on : {A : Type 0} (records : Records) (old : AnswerAfter A) → records ≡ [] → Walking id layout records [] old old
+  none_on records old none = ended_on records records old old (walking_first records old) none
 
-pub remains_first : {A : Type 0} (layout : Layout) (records : Records) (old : ℕ → AnswerAfter A) → Remains layout records records old old
-remains_first layout records old = record { going = λ id rows h. goes_first id layout records rows (old id) h; walked = λ id. walking_first id layout records (old id); spelled = λ all. all }
+  pub one_on : {A : Type 0} (flow : Flow) (entry : Record) (records : Records) (old new : AnswerAfter A) → records ≡ entry ∷ [] → SpellsRow layout entry → VisitsRecord id layout entry (Ok flow) old new
+      → WalksOn id layout records old new (Ok flow)
+  one_on Continue entry records old new is spells visits = walking_on records records [] entry old old new (walking_first records old) is spells (visited_on Continue entry old new refl visits)
+  one_on Done entry records old new is spells visits = done_on records records [] entry old old new Done (walking_first records old) is spells refl visits
 
-module _ {A : Type 0} (layout : Layout) (records left : Records) (old now : ℕ → AnswerAfter A) (remains : Remains layout records left old now) where
-  -- the walk ends where nothing is left
-  pub all_visited : left ≡ [] → (id : ℕ) (rows : List Row) → AreRecordsOf id layout rows records → old id rows ≡ now id []
-  all_visited none id rows h = goes_last id layout left rows (old id) (now id) (remains.going id rows h) none
+  pub any_on : {A : Type 0} (r : Result Flow StatementError) (entry : Record) (records : Records) (old new : AnswerAfter A) → records ≡ entry ∷ [] → SpellsVisited layout entry r → VisitsRecord id layout entry r old new
+      → WalksOn id layout records old new r
+  any_on (Ok flow) entry records old new is spells visits = one_on flow entry records old new is spells visits
+  any_on (Err failure) entry records old new is spells visits = failed_on records records [] entry old old new failure (walking_first records old) is spells visits
 
-  pub all_walked : left ≡ [] → (id : ℕ) → WalksFront id layout records (old id) (now id)
-  all_walked none id = walked_whole id layout records left (old id) (now id) (remains.walked id) none
+  -- ---- what such a walk has answered
 
-  pub all_spelled : left ≡ [] → AllByRecursion (SpellsRow layout) records
-  all_spelled none = remains.spelled (spelled_last layout left none)
+  -- rows whose records are those of two lists
+  record Halves (first_part second_part : Records) (rows : List Row) : Type 0 where
+    first : List Row
+    second : List Row
+    rows_are : rows ≡ first ++ second
+    of_first : AreRecordsOf id layout first first_part
+    of_second : AreRecordsOf id layout second second_part
 
-  module _ (entry : Record) (later : Records) (is : left ≡ entry ∷ later) (flow : Flow) (then : ℕ → AnswerAfter A) (visits : (id : ℕ) → VisitsRecord id layout entry (Ok flow) (now id) (then id)) where
-    -- it goes on behind a record
-    pub remains_on : flow ≡ Continue → SpellsRow layout entry → Remains layout records later old then
-    remains_on on spells = record {
-      going = λ id rows h.
-          let met = meets id layout left entry later rows (old id) (now id) (remains.going id rows h) is in
-          goes_on id layout entry later rows (old id) (now id) (then id) met (λ rest. visited_on id layout flow entry (now id) (then id) on (visits id) met.row rest met.fits met.entry_is);
-      walked = λ id. walking_on id layout records left later entry (old id) (now id) (then id) (remains.walked id) is spells (visited_on id layout flow entry (now id) (then id) on (visits id));
-      spelled = λ all. remains.spelled (spelled_on layout left entry later is spells all);
-    }
+  halves : (f g : Records) (rows : List Row) → f ++ g ≡ map (row_record id layout) rows → Each (FitsTable layout) rows → Halves f g rows
+  halves [] g rows e fit = record { first = []; second = rows; rows_are = refl; of_first = record { are = refl; fit = λ x among. absurd among }; of_second = record { are = e; fit = fit } }
+  halves (x ∷ f) g [] e fit = cc
+  halves (x ∷ f) g (row ∷ rows) e fit =
+      let first_is : x ≡ row_record id layout row = cc in
+      let tail_is : f ++ g ≡ map (row_record id layout) rows = cc in
+      let later_fit : Each (FitsTable layout) rows = λ y among. fit y (inr among) in
+      let later = halves f g rows tail_is later_fit in
+      record {
+        first = row ∷ later.first;
+        second = later.second;
+        rows_are = ap (λ (l : List Row). row ∷ l) later.rows_are;
+        of_first = record { are = ap (λ (e : Record). e ∷ f) first_is ∙ ap (λ (l : Records). row_record id layout row ∷ l) later.of_first.are; fit = λ y among. go y among (λ a. later.of_first.fit y a) };
+        of_second = later.of_second;
+      }
+    where
+      go : (y : Row) {Later : Type 0} → (row ≡ y) ⊎ Later → (Later → FitsTable layout y) → FitsTable layout y
+      go y (inl is) later = fit y (inl is)
+      go y (inr among) later = later among
 
-    -- or it is done there
-    pub done_visited : flow ≡ Done → (id : ℕ) (rows : List Row) → AreRecordsOf id layout rows records → old id rows ≡ then id []
-    done_visited done id rows h =
-        let met = meets id layout left entry later rows (old id) (now id) (remains.going id rows h) is in
-        goes_done id layout entry later rows (old id) (now id) (then id) met (λ rest. visited_done id layout flow entry (now id) (then id) done (visits id) met.row rest met.fits met.entry_is)
+  parted : (records front behind : Records) (rows : List Row) → records ≡ front ++ behind → AreRecordsOf id layout rows records → Halves front behind rows
+  parted records front behind rows parts h = halves front behind rows (sym parts ∙ h.are) h.fit
 
-    pub done_walked : flow ≡ Done → SpellsRow layout entry → (id : ℕ) → WalksFront id layout records (old id) (then id)
-    done_walked done spells id =
-        walked_early id layout records later (old id) (then id)
-        (walking_on id layout records left later entry (old id) (now id) (λ rest. then id []) (remains.walked id) is spells (visited_done id layout flow entry (now id) (then id) done (visits id)))
+  pub visited_of : {A : Type 0} (flow : Flow) (records : Records) (old new : AnswerAfter A) (rows : List Row) → AreRecordsOf id layout rows records → WalksOn id layout records old new (Ok flow) → old rows ≡ new []
+  visited_of Continue records old new rows h w =
+      let p = parted records w.front [] rows w.parts h in
+      ap old p.rows_are ∙ w.same p.first p.second p.of_first ∙ ap new (none_left (row_record id layout) p.second p.of_second.are)
+  visited_of Done records old new rows h w = let p = parted records w.1.front w.0 rows w.1.parts h in ap old p.rows_are ∙ w.1.same p.first p.second p.of_first
 
-  -- the visit of a record fails
-  pub failed_visited : (entry : Record) (later : Records) (last : ℕ → AnswerAfter A) (failure : StatementError) → left ≡ entry ∷ later → ((id : ℕ) → VisitsRecord id layout entry (Err failure) (now id) (last id))
-      → (id : ℕ) (rows : List Row) → AreRecordsOf id layout rows records → VisitsAll (Err failure) rows (old id) (last id)
-  failed_visited entry later last failure is visits id rows h =
-      let met = meets id layout left entry later rows (old id) (now id) (remains.going id rows h) is in
-      visit_failed id layout failure entry later rows (old id) (now id) (last id) (last id) met (visits id met.row met.fits met.entry_is)
+  pub failed_of : {A : Type 0} (failure : StatementError) (records : Records) (old new : AnswerAfter A) (rows : List Row) → AreRecordsOf id layout rows records → WalksOn id layout records old new (Err failure) → VisitsAll (Err failure) rows old new
+  failed_of (Refused code) records old new rows h w = let p = parted records w.1.front w.0 rows w.1.parts h in ap old p.rows_are ∙ w.1.same p.first p.second p.of_first
+  failed_of (Failed Memory) records old new rows h w = tt
+  failed_of (Failed Device) records old new rows h w = tt
+  failed_of (Failed Damaged) records old new rows h w =
+      let p = parted records w.front (w.entry ∷ w.behind) rows w.parts h in
+      go p.second p.of_second.are p.of_second.fit
+    where
+      go : (second : List Row) → w.entry ∷ w.behind ≡ map (row_record id layout) second → Each (FitsTable layout) second → ⊥
+      go [] e fit = cc
+      go (row ∷ others) e fit = let is : w.entry ≡ row_record id layout row = cc in w.damaged row (fit row (inl refl)) is
 
-  pub failed_walked : (entry : Record) (later : Records) (last : ℕ → AnswerAfter A) (failure : StatementError) → left ≡ entry ∷ later → SpellsVisited layout entry (Err failure)
-      → ((id : ℕ) → VisitsRecord id layout entry (Err failure) (now id) (last id)) → (id : ℕ) → Walks id layout records (old id) (last id) (Err failure)
-  failed_walked entry later last failure is spells visits id = walk_failed id layout records left later entry (old id) (now id) (last id) failure (remains.walked id) is spells (visits id)
+  pub walked_of : {A : Type 0} (flow : Flow) (records : Records) (old new : AnswerAfter A) → WalksOn id layout records old new (Ok flow) → WalksFront id layout records old new
+  walked_of Continue records old new w = walked_whole records [] old new w refl
+  walked_of Done records old new w = walked_early records w.0 old new w.1
+
+  pub stopped_of : {A : Type 0} (failure : StatementError) (records : Records) (old new : AnswerAfter A) → WalksOn id layout records old new (Err failure) → Walks id layout records old new (Err failure)
+  stopped_of (Refused code) records old new w = walked_early records w.0 old (λ rest. Err code) w.1
+  stopped_of (Failed Memory) records old new w = tt
+  stopped_of (Failed Device) records old new w = tt
+  stopped_of (Failed Damaged) records old new w = w
+
+  pub spelled_of : {A : Type 0} (flow : Flow) (may : Bool) (records : Records) (old new : AnswerAfter A) → may ≡ false → IsDoneOnlyIf may (Ok flow) → WalksOn id layout records old new (Ok flow) → AllByRecursion (SpellsRow layout) records
+  spelled_of Continue may records old new never only w = subst (AllByRecursion (SpellsRow layout)) (sym (w.parts ∙ append-nil w.front)) w.spelled
+  spelled_of Done may records old new never only w = cc
+
+  -- ---- one walk behind another
+
+  all_joined : {X : Type 0} (P : X → Type 0) (xs ys : List X) → AllByRecursion P xs → AllByRecursion P ys → AllByRecursion P (xs ++ ys)
+  all_joined P [] ys a b = b
+  all_joined P (x ∷ xs) ys a b = (a.0, all_joined P xs ys a.1 b)
+
+  joined_parts : (records f g a b rest : Records) → records ≡ f ++ (a ++ b) → a ≡ g ++ rest → records ≡ (f ++ g) ++ (rest ++ b)
+  joined_parts records f g a b rest e i = e ∙ ap (λ (l : Records). f ++ (l ++ b)) i ∙ ap (λ (l : Records). f ++ l) (append_assoc g rest b) ∙ sym (append_assoc f g (rest ++ b))
+
+  pub walking_joined : {A : Type 0} (records a b rest : Records) (old now new : AnswerAfter A) → Walking id layout records (a ++ b) old now → Walking id layout a rest now new → Walking id layout records (rest ++ b) old new
+  walking_joined records a b rest old now new w v = record {
+    front = w.front ++ v.front;
+    parts = joined_parts records w.front v.front a b rest w.parts v.parts;
+    spelled = all_joined (SpellsRow layout) w.front v.front w.spelled v.spelled;
+    same = λ rows more h.
+        let p = halves w.front v.front rows h.are h.fit in
+        ap (λ (l : List Row). old (l ++ more)) p.rows_are
+        ∙ ap old (append_assoc p.first p.second more)
+        ∙ w.same p.first (p.second ++ more) p.of_first
+        ∙ v.same p.second more p.of_second;
+  }
+
+  pub done_behind : {A : Type 0} (records a b : Records) (old now new : AnswerAfter A) (flow : Flow) → flow ≡ Done → Walking id layout records (a ++ b) old now → WalksOn id layout a now new (Ok flow) → WalksOn id layout records old new (Ok Done)
+  done_behind records a b old now new Continue e w v = cc
+  done_behind records a b old now new Done e w v = (v.0 ++ b, walking_joined records a b v.0 old now (λ rest. new []) w v.1)
+
+  pub goes_behind : {A : Type 0} (records a b : Records) (old now new : AnswerAfter A) (flow : Flow) → flow ≡ Continue → Walking id layout records (a ++ b) old now → WalksOn id layout a now new (Ok flow) → Walking id layout records b old new
+  goes_behind records a b old now new Continue e w v = walking_joined records a b [] old now new w v
+  goes_behind records a b old now new Done e w v = cc
+
+  pub stopped_behind : {A : Type 0} (failure : StatementError) (records a b : Records) (old now new : AnswerAfter A) → Walking id layout records (a ++ b) old now → WalksOn id layout a now new (Err failure) → WalksOn id layout records old new (Err failure)
+  stopped_behind (Refused code) records a b old now new w v = (v.0 ++ b, walking_joined records a b v.0 old now (λ rest. Err code) w v.1)
+  stopped_behind (Failed Memory) records a b old now new w v = tt
+  stopped_behind (Failed Device) records a b old now new w v = tt
+  stopped_behind (Failed Damaged) records a b old now new w v = record {
+    front = w.front ++ v.front;
+    entry = v.entry;
+    behind = v.behind ++ b;
+    parts = joined_parts records w.front v.front a b (v.entry ∷ v.behind) w.parts v.parts;
+    spelled = all_joined (SpellsRow layout) w.front v.front w.spelled v.spelled;
+    damaged = v.damaged;
+  }

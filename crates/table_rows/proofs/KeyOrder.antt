@@ -5,7 +5,7 @@ use Rattle.sql_types.specs.Row.{Row}
 use Rattle.sql_ast.specs.Fits.{FitsTable}
 use Rattle.sql_ast.specs.Layout.{Layout, IsLayout}
 use Rattle.sql_ast.specs.Rows.{row_cmp}
-use Rattle.store.specs.Records.{Record, Records, key_cmp, IsBefore, IsOrdered, has_prefix}
+use Rattle.store.specs.Records.{Records, key_cmp, IsBefore, IsOrdered, has_prefix}
 use Rattle.store.proofs.Changes.{ordered_entries_where}
 use Rattle.abstract_database.specs.Lists.{Among, Rising}
 use Rattle.abstract_database.specs.Whole.{Each}

@@ -5,6 +5,7 @@ pub mod Loops
 pub mod Spelled
 pub mod Going
 pub mod Fronts
+pub mod SpanWalks
 pub mod Parts
 pub mod Doubles
 pub mod Putting

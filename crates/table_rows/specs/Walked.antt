@@ -10,7 +10,16 @@ use Rattle.store.specs.declared.stop.StatementError.TheVariants.{Refused, Failed
 use Rattle.store.specs.Records.{Record, Records}
 use Rattle.stored_database.specs.RecordFormat.{row_record}
 use Rattle.table_rows.specs.HeldRows.{AreRecordsOf, SpellsRow}
+use Rattle.table_rows.specs.declared.visit.Flow.{Flow}
+use Rattle.table_rows.specs.declared.visit.Flow.TheVariants.{Continue, Done}
 use Rattle.table_rows.specs.Visits.{AnswerAfter}
+
+-- of records a front was found, each of which spells a row; behind its rows the same is answered as before all rows
+pub record Walking {A : Type 0} (id : ℕ) (layout : Layout) (records remaining : Records) (old now : AnswerAfter A) : Type 0 where
+  pub front : Records
+  pub parts : records ≡ front ++ remaining
+  pub spelled : AllByRecursion (SpellsRow layout) front
+  pub same : (rows rest : List Row) → AreRecordsOf id layout rows front → old (rows ++ rest) ≡ now rest
 
 -- a walk over records that did not fail: it found a front of them, each of which spells a row. Where they are those of rows, it answers what is answered of
 -- these rows, whatever rows follow them; where no record stands behind, no row follows
@@ -37,3 +46,13 @@ Walks id layout records old new (Err (Refused code)) = WalksFront id layout reco
 Walks id layout records old new (Err (Failed Memory)) = Unit {0}
 Walks id layout records old new (Err (Failed Device)) = Unit {0}
 Walks id layout records old new (Err (Failed Damaged)) = FindsDamaged id layout records
+
+-- how far a walk over records came, behind which others may be walked over: to their end; or it is done, or refused, behind those that it found, whatever follows; or it is damaged by a record that it
+-- found
+abbrev pub WalksOn : {A : Type 0} → ℕ → Layout → Records → AnswerAfter A → AnswerAfter A → Result Flow StatementError → Type 0
+WalksOn id layout records old new (Ok Continue) = Walking id layout records [] old new
+WalksOn id layout records old new (Ok Done) = (behind : Records) × Walking id layout records behind old (λ rest. new [])
+WalksOn id layout records old new (Err (Refused code)) = (behind : Records) × Walking id layout records behind old (λ rest. Err code)
+WalksOn id layout records old new (Err (Failed Memory)) = Unit {0}
+WalksOn id layout records old new (Err (Failed Device)) = Unit {0}
+WalksOn id layout records old new (Err (Failed Damaged)) = FindsDamaged id layout records

@@ -1,19 +1,16 @@
 //! A walk over the rows of a table, each read in place.
-ghost use Rattle.std.specs.Prelude.{◌≡◌, ◌++◌, IfOk, OnOk, ℕ, Bool, false, List, map, Result, MatchOption, Some, IfSome, drop};
-ghost use Rattle.std.specs.List.{AllByRecursion};
+ghost use Rattle.std.specs.Prelude.{◌≡◌, ◌++◌, IfOk, ℕ, Bool, List, Result, MatchOption, IfSome, drop};
 ghost use Rattle.sql_types.specs.Row.{Row};
 ghost use Rattle.sql_types.specs.declared.state.SqlState.{SqlState as Code};
 ghost use Rattle.sql_ast.specs.Layout.{Layout};
 ghost use Rattle.sql_ast.specs.Fits.{FitsTable};
 ghost use Rattle.store.specs.Walks.{span};
-ghost use Rattle.abstract_database.specs.Whole.{Each};
 ghost use Rattle.row_codec.specs.Rows.{row_prefix, Spells};
 ghost use Rattle.stored_database.specs.RecordFormat.{row_record};
 ghost use Rattle.store.specs.StatementError.{ReadsMap};
 ghost use Rattle.table_rows.specs.Failures.{ReadsNoMap};
-ghost use Rattle.table_rows.specs.Visits.{VisitsAt, VisitsRecord, VisitsAll, IsDoneOnlyIf, SpellsVisited};
-ghost use Rattle.table_rows.specs.Walked.{Walks};
-ghost use Rattle.table_rows.specs.HeldRows.{AreRecordsOf, SpellsRow};
+ghost use Rattle.table_rows.specs.Visits.{VisitsAt, VisitsRecord, IsDoneOnlyIf, SpellsVisited};
+ghost use Rattle.table_rows.specs.Walked.{WalksOn};
 
 use row_codec::{RowRef, push_row_prefix};
 use sql_ast::columns::Columns;
@@ -64,10 +61,11 @@ pub(crate) fn table_prefix(alloc: Global, id: u32) -> Result<Vec<u8>, AllocError
     Ok(prefix)
 }
 
-/// Visits the rows whose keys are in a span, in the order of the keys, until the visitor is done: from
-/// the key `start` on, up to the last whose key comes before `stop` or begins with it. The map lends
-/// what is visited. A failure ends the walk: the refusal of the first row that is refused; Memory; Device; Damaged, where a
-/// record that is found spells no row that a table of these columns may hold.
+/// Visits the rows whose keys are in a span, in the order of the keys, and says whether the walk goes on
+/// behind them: from the key `start` on, up to the last whose key comes before `stop` or begins with it.
+/// The map lends what is visited. A failure ends the walk: the refusal of the first row that is refused;
+/// Memory; Device; Damaged, where a record that is found spells no row that a table of these columns may
+/// hold.
 #[tactic(auto, using(crate::proofs::Fronts::walking_first))]
 pub(crate) fn visit_rows<M: Map, V: RowVisitor>(
     records: &mut M,
@@ -75,28 +73,23 @@ pub(crate) fn visit_rows<M: Map, V: RowVisitor>(
     stop: &[u8],
     columns: &Columns,
     visitor: &mut V,
-) -> Result<(), StatementError>
+) -> Result<Flow, StatementError>
     ensures preserved { M.preserved records.old records.new }
     ensures reads { ReadsMap result (M.state records.old) (M.state records.new) }
-    ensures visits { (M.state records.old).sound → (id : ℕ) (rows : List Row)
-        → AreRecordsOf id columns.now rows (span start.now stop.now (M.state records.old).map)
-        → VisitsAll result rows (V.after visitor.old id columns.now)
-        (V.after visitor.new id columns.now) }
     ensures walked { (M.state records.old).sound → (id : ℕ)
-        → Walks id columns.now (span start.now stop.now (M.state records.old).map)
+        → WalksOn id columns.now (span start.now stop.now (M.state records.old).map)
         (V.after visitor.old id columns.now) (V.after visitor.new id columns.now) result }
-    ensures spelled { (M.state records.old).sound → V.ends_early ≡ false → OnOk result
-        (AllByRecursion (SpellsRow columns.now) (span start.now stop.now (M.state records.old).map)) }
+    ensures ends { IsDoneOnlyIf V.ends_early result }
 {
     let mut place = records.seek(start)?;
     for _ in 0..u64::MAX {
         if !records.step_within(&mut place, stop)? {
-            return Ok(());
+            return Ok(Flow::Continue);
         }
         let entry = records.entry(&place);
         match visit_record(columns, &entry, visitor)? {
             Flow::Continue => {}
-            Flow::Done => return Ok(()),
+            Flow::Done => return Ok(Flow::Done),
         }
     }
     Err(StatementError::Failed(Fault::Memory))

@@ -106,10 +106,14 @@ fn put_range(out: &mut Told, table: &Source<'_>, range: &Option<KeyRange>) {
     if !out.is_empty() {
         out.put(", ");
     }
-    let keys = match range {
-        Some(KeyRange::Point(_)) => ": one key",
-        Some(KeyRange::Span { .. }) => ": a span of keys",
-        None => ": all keys",
-    };
-    out.put_all(&[table.table.name().as_str(), keys]);
+    out.put(table.table.name().as_str());
+    match range {
+        Some(KeyRange::Point(_)) => out.put(": one key"),
+        Some(KeyRange::Span { .. }) => out.put(": a span of keys"),
+        Some(KeyRange::Several(spans)) => {
+            out.put_number(": ", spans.as_slice().len() as i128);
+            out.put(" spans of keys");
+        }
+        None => out.put(": all keys"),
+    }
 }

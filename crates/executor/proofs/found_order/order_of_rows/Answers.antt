@@ -1,14 +1,16 @@
-use Rattle.std.proofs.Common.{rules, ◌≡◌, ℕ, List, subst}
-use Rattle.executor.specs.FoundOrder.{ComparesAs}
-use Rattle.key_ranges.specs.declared.range.KeyRange.TheVariants.{Span}
-use Rattle.executor.proofs.FoundOrder.{order_in_span}
+use Rattle.std.proofs.Common.{rules, ◌≡◌}
+use Rattle.key_ranges.specs.declared.range.KeyRange.TheVariants.{Span, Several}
+use Rattle.executor.proofs.FoundOrder.{inside_span, inside_spans}
 use Rattle.executor.proofs.found_order.order_of_rows.Goals as goal
 
-pub returns-in-Some-clause-order : goal.returns-in-Some-clause-order
-returns-in-Some-clause-order c =
-    let table = c.args.table.now in
+pub order_inside-requires : goal.order_inside-requires
+order_inside-requires c =
     let start = c.as_slice.result.now in
     let stop = c.as_slice-in-Some-Span.result.now in
-    let compares = subst (λ (key : List ℕ). ComparesAs table.columns.now c.in-Some.start.now c.in-Some.stop.now key c.order_between.result.now) c.key-key.ensures.key c.order_between.ensures in
     let is_span : c.in-Some-Span.field-0.now ≡ Span start stop = search rules in
-    order_in_span table c.in-Some-Span.field-0 start stop c.in-Some.start.now c.in-Some.stop.now c.order_between.result.now c.in-Some-Span.is is_span c.key-key.ensures.layout c.in-Some.ensures compares
+    inside_span c.args.table.now c.in-Some-Span.field-0 start stop c.in-Some-Span.is is_span
+
+pub order_inside-requires-in-Some-Several : goal.order_inside-requires-in-Some-Several
+order_inside-requires-in-Some-Several c =
+    let is_several : c.in-Some-Several.field-0.now ≡ Several c.in-Some-Several.spans = search rules in
+    inside_spans c.args.table.now c.in-Some-Several.field-0 c.in-Some-Several.spans c.start.result.now c.stop.result.now c.in-Some-Several.is is_several c.start.ensures.inside c.start.ensures.start c.stop.ensures.stop

@@ -1,8 +1,8 @@
-use Rattle.std.proofs.Common.{◌≡◌}
+use Rattle.std.proofs.Common.{◌≡◌, ℕ}
 use Rattle.store.specs.Records.{Records}
 use Rattle.store.specs.Store.{OnlyReads}
 use Rattle.store.specs.Walks.{span}
-use Rattle.table_rows.proofs.Fronts.{Remains}
+use Rattle.table_rows.specs.Walked.{Walking}
 use Rattle.table_rows.proofs.part.visit_first_rows.Given as goal
 
 abbrev pub invariant-loop-visited : goal.invariant-loop-visited
@@ -11,5 +11,5 @@ invariant-loop-visited g l = record {
   reads : OnlyReads (g.M.Map.state l.fn.records) (g.M.Map.state l.records);
   works : (g.M.Map.state l.records).has_failed ≡ (g.M.Map.state l.fn.records).has_failed;
   remains : (g.M.Map.state l.fn.records).sound → (left : Records) × g.M.Map.ahead_within l.records l.stop l.place left
-      × Remains l.columns (span l.start l.stop (g.M.Map.state l.fn.records).map) left (λ id. g.V.RowVisitor.after l.fn.visitor id l.columns) (λ id. g.V.RowVisitor.after l.visitor id l.columns);
+      × ((id : ℕ) → Walking id l.columns (span l.start l.stop (g.M.Map.state l.fn.records).map) left (g.V.RowVisitor.after l.fn.visitor id l.columns) (g.V.RowVisitor.after l.visitor id l.columns));
 }

@@ -1,12 +1,12 @@
-use Rattle.std.proofs.Common.{◌∙◌, ℕ, Ok, Err, ap, subst}
+use Rattle.std.proofs.Common.{◌∙◌, ℕ, Ok, Err, subst}
 use Rattle.store.specs.Records.{Record, entries_where, is_from}
 use Rattle.store.specs.Walks.{span}
 use Rattle.store.proofs.Changes.{ordered_entries_where}
 use Rattle.store.proofs.Reading.{reads_joined}
 use Rattle.table_rows.specs.HeldRows.{SpellsRow}
-use Rattle.table_rows.specs.Visits.{VisitsAll, VisitsRecord, SpellsVisited}
-use Rattle.table_rows.specs.Walked.{Walks}
-use Rattle.table_rows.proofs.Fronts.{taken, none_taken, remains_first, remains_on, all_visited, all_walked, all_spelled, done_visited, done_walked, failed_visited, failed_walked}
+use Rattle.table_rows.specs.Visits.{VisitsRecord, SpellsVisited}
+use Rattle.table_rows.specs.Walked.{WalksOn}
+use Rattle.table_rows.proofs.Fronts.{taken, none_taken, walking_first, walking_on, visited_on, ended_on, done_on, failed_on, done_only}
 use Rattle.table_rows.proofs.MapReads.{ended}
 use Rattle.table_rows.proofs.visit.visit_rows.Goals as goal
 
@@ -15,12 +15,11 @@ loop-init g c =
     let goes = c.in_ok-place.ensures.goes in
     let records = (g.M.Map.state c.args.records.now).map in
     let from = is_from c.args.start.now in
-    let old = λ (id : ℕ). g.V.RowVisitor.after c.args.visitor.now id c.args.columns.now in
     record {
       preserved = c.in_ok-place.ensures.preserved;
       reads = goes.only_reads;
       works = goes.failed;
-      remains = λ s. (span c.args.start.now c.args.stop.now records, g.met.M.Map.ahead_cut _ c.args.stop.now _ (entries_where from records) (ordered_entries_where from records (g.met.M.Map.ordered c.args.records.now s)) (goes.answer s), remains_first c.args.columns.now (span c.args.start.now c.args.stop.now records) old);
+      remains = λ s. (span c.args.start.now c.args.stop.now records, g.met.M.Map.ahead_cut _ c.args.stop.now _ (entries_where from records) (ordered_entries_where from records (g.met.M.Map.ordered c.args.records.now s)) (goes.answer s), λ id. walking_first id c.args.columns.now (span c.args.start.now c.args.stop.now records) (g.V.RowVisitor.after c.args.visitor.now id c.args.columns.now));
     }
 
 pub returns-in_err-step_within-clause-preserved : goal.returns-in_err-step_within-clause-preserved
@@ -29,71 +28,11 @@ returns-in_err-step_within-clause-preserved g c = g.M.Map.preserved_joined c.arg
 pub returns-then-not-branch-clause-preserved : goal.returns-then-not-branch-clause-preserved
 returns-then-not-branch-clause-preserved g c = g.M.Map.preserved_joined c.args.records.now c.loop.records c.step_within.new.self c.loop.invariant.preserved c.in_ok-step_within.ensures.preserved
 
-pub returns-then-not-branch-clause-visits : goal.returns-then-not-branch-clause-visits
-returns-then-not-branch-clause-visits g c = λ s id rows h.
-    let left = c.loop.invariant.remains s in
-    all_visited c.args.columns.now _ left.0 _ _ left.2 (none_taken _ _ c.in_ok-step_within.field-0 left.0 c.if-not-branch.true (c.in_ok-step_within.ensures.goes.answer (c.loop.invariant.reads.history.sound s) left.0 left.1)) id rows h
-
-pub returns-then-not-branch-clause-walked : goal.returns-then-not-branch-clause-walked
-returns-then-not-branch-clause-walked g c = λ s id.
-    let left = c.loop.invariant.remains s in
-    all_walked c.args.columns.now _ left.0 _ _ left.2 (none_taken _ _ c.in_ok-step_within.field-0 left.0 c.if-not-branch.true (c.in_ok-step_within.ensures.goes.answer (c.loop.invariant.reads.history.sound s) left.0 left.1)) id
-
-pub returns-then-not-branch-clause-spelled : goal.returns-then-not-branch-clause-spelled
-returns-then-not-branch-clause-spelled g c = λ s early.
-    let left = c.loop.invariant.remains s in
-    all_spelled c.args.columns.now _ left.0 _ _ left.2 (none_taken _ _ c.in_ok-step_within.field-0 left.0 c.if-not-branch.true (c.in_ok-step_within.ensures.goes.answer (c.loop.invariant.reads.history.sound s) left.0 left.1))
-
 pub returns-in_err-visit_record-clause-preserved : goal.returns-in_err-visit_record-clause-preserved
 returns-in_err-visit_record-clause-preserved g c = g.M.Map.preserved_joined c.args.records.now c.loop.records c.step_within.new.self c.loop.invariant.preserved c.in_ok-step_within.ensures.preserved
 
-pub returns-in_err-visit_record-clause-visits : goal.returns-in_err-visit_record-clause-visits
-returns-in_err-visit_record-clause-visits g c = λ s id rows h.
-    let left = c.loop.invariant.remains s in
-    let took = taken _ _ c.in_ok-step_within.field-0 left.0 c.if-not-branch.false (c.in_ok-step_within.ensures.goes.answer (c.loop.invariant.reads.history.sound s) left.0 left.1) in
-    let now = λ (id : ℕ). g.V.RowVisitor.after c.loop.visitor id c.args.columns.now in
-    let last = λ (id : ℕ). g.V.RowVisitor.after c.visit_record.new.visitor id c.args.columns.now in
-    let failure = c.in_err-visit_record.field-0.0 in
-    ended failure (λ r. VisitsAll r rows (g.V.RowVisitor.after c.args.visitor.now id c.args.columns.now) (last id)) c.from_residual-in_err-visit_record.result c.from_residual-in_err-visit_record.ensures.1
-    (failed_visited c.args.columns.now _ left.0 _ now left.2 took.0 took.1 last failure took.2
-    (λ id. subst (λ (e : Record). VisitsRecord id c.args.columns.now e (Err failure) (now id) (last id)) (c.entry-entry.ensures took.0 took.3) (c.in_err-visit_record.ensures.visits id)) id rows h)
-
-pub returns-in_err-visit_record-clause-walked : goal.returns-in_err-visit_record-clause-walked
-returns-in_err-visit_record-clause-walked g c = λ s id.
-    let left = c.loop.invariant.remains s in
-    let took = taken _ _ c.in_ok-step_within.field-0 left.0 c.if-not-branch.false (c.in_ok-step_within.ensures.goes.answer (c.loop.invariant.reads.history.sound s) left.0 left.1) in
-    let now = λ (id : ℕ). g.V.RowVisitor.after c.loop.visitor id c.args.columns.now in
-    let last = λ (id : ℕ). g.V.RowVisitor.after c.visit_record.new.visitor id c.args.columns.now in
-    let failure = c.in_err-visit_record.field-0.0 in
-    ended failure (λ r. Walks id c.args.columns.now (span c.args.start.now c.args.stop.now (g.M.Map.state c.args.records.now).map) (g.V.RowVisitor.after c.args.visitor.now id c.args.columns.now) (last id) r)
-    c.from_residual-in_err-visit_record.result c.from_residual-in_err-visit_record.ensures.1
-    (failed_walked c.args.columns.now _ left.0 _ now left.2 took.0 took.1 last failure took.2
-    (subst (λ (e : Record). SpellsVisited c.args.columns.now e (Err failure)) (c.entry-entry.ensures took.0 took.3) c.in_err-visit_record.ensures.spelled)
-    (λ id. subst (λ (e : Record). VisitsRecord id c.args.columns.now e (Err failure) (now id) (last id)) (c.entry-entry.ensures took.0 took.3) (c.in_err-visit_record.ensures.visits id)) id)
-
 pub returns-in-Done-clause-preserved : goal.returns-in-Done-clause-preserved
 returns-in-Done-clause-preserved g c = g.M.Map.preserved_joined c.args.records.now c.loop.records c.step_within.new.self c.loop.invariant.preserved c.in_ok-step_within.ensures.preserved
-
-pub returns-in-Done-clause-visits : goal.returns-in-Done-clause-visits
-returns-in-Done-clause-visits g c = λ s id rows h.
-    let left = c.loop.invariant.remains s in
-    let took = taken _ _ c.in_ok-step_within.field-0 left.0 c.if-not-branch.false (c.in_ok-step_within.ensures.goes.answer (c.loop.invariant.reads.history.sound s) left.0 left.1) in
-    let now = λ (id : ℕ). g.V.RowVisitor.after c.loop.visitor id c.args.columns.now in
-    let then = λ (id : ℕ). g.V.RowVisitor.after c.visit_record.new.visitor id c.args.columns.now in
-    let flow = c.in_ok-visit_record.field-0 in
-    done_visited c.args.columns.now _ left.0 _ now left.2 took.0 took.1 took.2 flow then
-    (λ id. subst (λ (e : Record). VisitsRecord id c.args.columns.now e (Ok flow) (now id) (then id)) (c.entry-entry.ensures took.0 took.3) (c.in_ok-visit_record.ensures.visits id)) c.in-Done.is id rows h
-
-pub returns-in-Done-clause-walked : goal.returns-in-Done-clause-walked
-returns-in-Done-clause-walked g c = λ s id.
-    let left = c.loop.invariant.remains s in
-    let took = taken _ _ c.in_ok-step_within.field-0 left.0 c.if-not-branch.false (c.in_ok-step_within.ensures.goes.answer (c.loop.invariant.reads.history.sound s) left.0 left.1) in
-    let now = λ (id : ℕ). g.V.RowVisitor.after c.loop.visitor id c.args.columns.now in
-    let then = λ (id : ℕ). g.V.RowVisitor.after c.visit_record.new.visitor id c.args.columns.now in
-    let flow = c.in_ok-visit_record.field-0 in
-    done_walked c.args.columns.now _ left.0 _ now left.2 took.0 took.1 took.2 flow then
-    (λ id. subst (λ (e : Record). VisitsRecord id c.args.columns.now e (Ok flow) (now id) (then id)) (c.entry-entry.ensures took.0 took.3) (c.in_ok-visit_record.ensures.visits id)) c.in-Done.is
-    (subst (SpellsRow c.args.columns.now) (c.entry-entry.ensures took.0 took.3) c.in_ok-visit_record.ensures.spelled) id
 
 pub loop-preserved : goal.loop-preserved
 loop-preserved g c = record {
@@ -108,8 +47,43 @@ loop-preserved g c = record {
       let flow = c.in_ok-visit_record.field-0 in (
         took.1,
         took.4,
-        remains_on c.args.columns.now _ left.0 _ now left.2 took.0 took.1 took.2 flow then
-            (λ id. subst (λ (e : Record). VisitsRecord id c.args.columns.now e (Ok flow) (now id) (then id)) (c.entry-entry.ensures took.0 took.3) (c.in_ok-visit_record.ensures.visits id)) c.in-Continue.is
-            (subst (SpellsRow c.args.columns.now) (c.entry-entry.ensures took.0 took.3) c.in_ok-visit_record.ensures.spelled),
+        λ id. walking_on id c.args.columns.now _ left.0 took.1 took.0 _ (now id) (then id) (left.2 id) took.2
+            (subst (SpellsRow c.args.columns.now) (c.entry-entry.ensures took.0 took.3) c.in_ok-visit_record.ensures.spelled)
+            (visited_on id c.args.columns.now flow took.0 (now id) (then id) c.in-Continue.is
+            (subst (λ (e : Record). VisitsRecord id c.args.columns.now e (Ok flow) (now id) (then id)) (c.entry-entry.ensures took.0 took.3) (c.in_ok-visit_record.ensures.visits id))),
       );
 }
+
+pub returns-then-not-branch-clause-walked : goal.returns-then-not-branch-clause-walked
+returns-then-not-branch-clause-walked g c = λ s id.
+    let left = c.loop.invariant.remains s in
+    ended_on id c.args.columns.now _ left.0 _ _ (left.2 id) (none_taken _ _ c.in_ok-step_within.field-0 left.0 c.if-not-branch.true (c.in_ok-step_within.ensures.goes.answer (c.loop.invariant.reads.history.sound s) left.0 left.1))
+
+pub returns-in_err-visit_record-clause-walked : goal.returns-in_err-visit_record-clause-walked
+returns-in_err-visit_record-clause-walked g c = λ s id.
+    let left = c.loop.invariant.remains s in
+    let took = taken _ _ c.in_ok-step_within.field-0 left.0 c.if-not-branch.false (c.in_ok-step_within.ensures.goes.answer (c.loop.invariant.reads.history.sound s) left.0 left.1) in
+    let old = g.V.RowVisitor.after c.args.visitor.now id c.args.columns.now in
+    let now = g.V.RowVisitor.after c.loop.visitor id c.args.columns.now in
+    let last = g.V.RowVisitor.after c.visit_record.new.visitor id c.args.columns.now in
+    let found = span c.args.start.now c.args.stop.now (g.M.Map.state c.args.records.now).map in
+    let failure = c.in_err-visit_record.field-0.0 in
+    ended failure (λ r. WalksOn id c.args.columns.now found old last r) c.from_residual-in_err-visit_record.result c.from_residual-in_err-visit_record.ensures.1
+    (failed_on id c.args.columns.now found left.0 took.1 took.0 old now last failure (left.2 id) took.2
+    (subst (λ (e : Record). SpellsVisited c.args.columns.now e (Err failure)) (c.entry-entry.ensures took.0 took.3) c.in_err-visit_record.ensures.spelled)
+    (subst (λ (e : Record). VisitsRecord id c.args.columns.now e (Err failure) now last) (c.entry-entry.ensures took.0 took.3) (c.in_err-visit_record.ensures.visits id)))
+
+pub returns-in-Done-clause-walked : goal.returns-in-Done-clause-walked
+returns-in-Done-clause-walked g c = λ s id.
+    let left = c.loop.invariant.remains s in
+    let took = taken _ _ c.in_ok-step_within.field-0 left.0 c.if-not-branch.false (c.in_ok-step_within.ensures.goes.answer (c.loop.invariant.reads.history.sound s) left.0 left.1) in
+    let now = g.V.RowVisitor.after c.loop.visitor id c.args.columns.now in
+    let then = g.V.RowVisitor.after c.visit_record.new.visitor id c.args.columns.now in
+    let flow = c.in_ok-visit_record.field-0 in
+    done_on id c.args.columns.now _ left.0 took.1 took.0 _ now then flow (left.2 id) took.2
+    (subst (SpellsRow c.args.columns.now) (c.entry-entry.ensures took.0 took.3) c.in_ok-visit_record.ensures.spelled)
+    c.in-Done.is
+    (subst (λ (e : Record). VisitsRecord id c.args.columns.now e (Ok flow) now then) (c.entry-entry.ensures took.0 took.3) (c.in_ok-visit_record.ensures.visits id))
+
+pub returns-in-Done-clause-ends : goal.returns-in-Done-clause-ends
+returns-in-Done-clause-ends g c = done_only g.V.RowVisitor.ends_early c.in_ok-visit_record.field-0 c.in-Done.is c.in_ok-visit_record.ensures.ends
