@@ -1,5 +1,5 @@
 -- What is answered in a run is a run of the server with its moments.
-use Rattle.std.proofs.Common.{◌≡◌, ◌∙◌, ℕ, inl, inr, Bool, true, false, Option, List, [], ◌∷◌, ◌++◌, length, refl, sym, ap, subst, arith}
+use Rattle.std.proofs.Common.{◌≡◌, ◌∙◌, ℕ, inl, inr, Bool, true, false, Option, List, [], ◌∷◌, ◌++◌, refl, sym, ap, subst, arith}
 use Rattle.sql_types.specs.declared.answer.Answer.{Answer}
 use Rattle.sql_types.specs.declared.event.Event.{Event}
 use Rattle.store.specs.Store.{StoreState}
@@ -7,7 +7,7 @@ use Rattle.abstract_database.specs.Machine.{Machine}
 use Rattle.abstract_database.specs.Runs.{ReadingRelation, At}
 use Rattle.server.specs.declared.server.Server.{Server}
 use Rattle.server.specs.Standing.{Represents}
-use Rattle.databases.specs.Lives.{StepsAt, RunsAt}
+use Rattle.databases.specs.Lives.{ClientEvent, of_client, all_of_client, StepsAt, RunsAt}
 use Rattle.databases.proofs.Living.{steps_more, steps_run, steps_sound}
 use Rattle.databases.proofs.Joining.{runs_at, runs_joined, runs_none}
 use Rattle.wire.specs.declared.script_run.ScriptEnd.{ScriptEnd}
@@ -38,13 +38,13 @@ module _ {S X : Type 0} (Reads : ReadingRelation) (state : S → StoreState) whe
   ran_then first mid last w these more here ran rest =
       runs_joined Reads state first mid last w these.events more.events these.answers more.answers these.moments more.moments here ran rest
 
-  ran_by_steps : (first last : Server S X) (w : At) (it : Answered) → Stepped first it last → (state first.store).sound → Represents state first w → Ran first w it last
+  pub ran_by_steps : (first last : Server S X) (w : At) (it : Answered) → Stepped first it last → (state first.store).sound → Represents state first w → Ran first w it last
   ran_by_steps first last w it steps sound here = steps_run Reads state first last it.events it.answers it.moments w steps sound here
 
   sound_after : (first last : Server S X) (it : Answered) → Stepped first it last → (state first.store).sound → (state last.store).sound
   sound_after first last it steps sound = steps_sound Reads state first last it.events it.answers it.moments steps sound
 
-  steps_joined : (first mid last : Server S X) (events more : List Event) (told others : List Answer) (moments later : List ℕ) → StepsAt Reads state first events told moments mid
+  steps_joined : (first mid last : Server S X) (events more : List ClientEvent) (told others : List Answer) (moments later : List ℕ) → StepsAt Reads state first events told moments mid
       → StepsAt Reads state mid more others later last → StepsAt Reads state first (events ++ more) (told ++ others) (moments ++ later) last
   steps_joined first mid last [] more [] others [] later steps rest = subst (λ (s : Server S X). StepsAt Reads state s more others later last) steps rest
   steps_joined first mid last (e ∷ events) more (answer ∷ told) others (m ∷ moments) later steps rest =
@@ -61,7 +61,7 @@ module _ {S X : Type 0} (Reads : ReadingRelation) (state : S → StoreState) whe
   closed_stopped old new w is here same = (
     nothing_answered,
     record {
-      events = ap (λ (b : Bool). closing_of b old.sessions.entries) (sym is);
+      events = ap (λ (b : Bool). all_of_client 0 (closing_of b old.sessions.entries)) (sym is);
       answers = ap (λ (b : Bool). closed_of b old.sessions.entries) (sym is);
     },
     subst (λ (s : Server S X). Ran old w nothing_answered s) (sym same) (runs_none Reads state old w here),
@@ -70,10 +70,10 @@ module _ {S X : Type 0} (Reads : ReadingRelation) (state : S → StoreState) whe
   closed_working : (old new : Server S X) (w : At) → old.stopped ≡ false → (state old.store).sound → Represents state old w → Closes Reads state old new → Closed old w new
   closed_working old new w is sound here closes =
       let sessions = w.standing.machine.sessions in
-      let ran = runs_at Reads state old new w (closing_events sessions) (closed_answers sessions) (closes.closed is w here) sound here in (
-        record { events = closing_events sessions; answers = closed_answers sessions; moments = ran.0 },
+      let ran = runs_at Reads state 0 old new w (closing_events sessions) (closed_answers sessions) (closes.closed is w here) sound here in (
+        record { events = all_of_client 0 (closing_events sessions); answers = closed_answers sessions; moments = ran.0 },
         record {
-          events = ap closing_events here.sessions ∙ ap (λ (b : Bool). closing_of b old.sessions.entries) (sym is);
+          events = ap (λ (l : List Event). all_of_client 0 l) (ap closing_events here.sessions ∙ ap (λ (b : Bool). closing_of b old.sessions.entries) (sym is));
           answers = ap closed_answers here.sessions ∙ ap (λ (b : Bool). closed_of b old.sessions.entries) (sym is);
         },
         ran.1,
@@ -87,7 +87,7 @@ module _ {S X : Type 0} (Reads : ReadingRelation) (state : S → StoreState) whe
 
   module _ {K : Type 0} (k : Ghosts K) where
     told_steps : (old new : Server S X) (before after : K) (events : List Event) (told : List Told) → TellsAll Reads state k old before events told new after
-        → StepsAt Reads state old events (answers_of told) (moments_of told) new
+        → StepsAt Reads state old (all_of_client 0 events) (answers_of told) (moments_of told) new
     told_steps old new before after [] [] tells = tells.0
     told_steps old new before after (e ∷ events) (t ∷ told) tells =
         (tells.0, record { history = tells.2.history; steps = tells.2.step; clock = sym tells.2.moment }, told_steps tells.0 new tells.1 after events told tells.3)
@@ -97,11 +97,11 @@ module _ {S X : Type 0} (Reads : ReadingRelation) (state : S → StoreState) whe
     each_steps : (old new : Server S X) (before after : K) (events : List Event) (answers : List Answer) (tells : TellsEach Reads state k old before events answers new after)
         → Stepped old (each_told tells) new
     each_steps old new before after events answers tells =
-        subst (λ (l : List Answer). StepsAt Reads state old events l (moments_of tells.told) new) (sym tells.answers_are) (told_steps old new before after events tells.told tells.all)
+        subst (λ (l : List Answer). StepsAt Reads state old (all_of_client 0 events) l (moments_of tells.told) new) (sym tells.answers_are) (told_steps old new before after events tells.told tells.all)
 
     some_steps : (old new : Server S X) (before after : K) (events : List Event) (tells : TellsSome Reads state k old before events new after) → Stepped old (some_told tells) new
     some_steps old new before after events tells =
-        steps_more Reads state old tells.server new tells.done (answers_of tells.told) (moments_of tells.told) tells.last tells.answer
+        steps_more Reads state old tells.server new (all_of_client 0 tells.done) (answers_of tells.told) (moments_of tells.told) (of_client 0 tells.last) tells.answer
         (told_steps old tells.server before tells.between tells.done tells.told tells.all) tells.breaks.history tells.breaks.step
 
     -- ---- a script

@@ -5,13 +5,12 @@ use Rattle.std.proofs.lemmas.Bool.{cases_lt}
 use Rattle.sector_device.specs.Timeline.{Timeline}
 use Rattle.sql_types.specs.declared.state.SqlState.TheVariants.{IoError}
 use Rattle.sql_types.specs.declared.answer.Answer.{Answer}
-use Rattle.sql_types.specs.declared.event.Event.{Event}
 use Rattle.store.specs.Store.{Contents}
 use Rattle.abstract_database.specs.Database.{Database}
 use Rattle.abstract_database.specs.Machine.{Event as MachineEvent, Machine, Transition, Reading, transition, transition_to, refuses, running_transition}
 use Rattle.abstract_database.specs.Runs.{TheText, ReadingRelation, Counts, Standing, At, IsTransition, IsStep, by_transition, for_memory, for_space, for_number, for_device, IsFoundAt, IsBrought, under_way_after, Happens}
 use Rattle.server.specs.Standing.{event_of, stops_of}
-use Rattle.databases.specs.Lives.{IsFoundLeft, RanAt}
+use Rattle.databases.specs.Lives.{ClientEvent, IsFoundLeft, RanAt}
 use Rattle.databases.specs.Stopping.{IsLeftAt, AreUpTo, AreAfter, StopsIn, between, during}
 
 -- ---- a stopped machine
@@ -78,7 +77,7 @@ within_step {Reads} {m = m} {event = event} under_way (for_device t is may a b f
 
 module _ (Reads : ReadingRelation) (time : Timeline (Option Contents)) where
   -- moments do not go back
-  pub not_before : (moment : ℕ) (end w : At) (events : List Event) (told : List Answer) (moments : List ℕ) → RanAt Reads (stops_of time) w events told moments end
+  pub not_before : (moment : ℕ) (end w : At) (events : List ClientEvent) (told : List Answer) (moments : List ℕ) → RanAt Reads (stops_of time) w events told moments end
       → (index : ℕ) → slice_get moments index ≡ Some moment → w.moment ≤ moment
   not_before moment end w [] [] [] ran index is = let bad : None ≡ Some moment = is in absurd (let no : ⊥ = cc in no)
   not_before moment end w (e ∷ events) (answer ∷ told) (m ∷ moments) ran zero is =
@@ -94,7 +93,7 @@ module _ (Reads : ReadingRelation) (time : Timeline (Option Contents)) where
 
   module _ (stop : ℕ) where
     -- what was answered later is after the stop
-    all_after : (end w : At) (events : List Event) (told : List Answer) (moments : List ℕ) → RanAt Reads (stops_of time) w events told moments end → stop < w.moment → AreAfter stop moments
+    all_after : (end w : At) (events : List ClientEvent) (told : List Answer) (moments : List ℕ) → RanAt Reads (stops_of time) w events told moments end → stop < w.moment → AreAfter stop moments
     all_after end w [] [] [] ran lt = tt
     all_after end w (e ∷ events) (answer ∷ told) (m ∷ moments) ran lt =
         let later = ran.2.later in
@@ -103,13 +102,13 @@ module _ (Reads : ReadingRelation) (time : Timeline (Option Contents)) where
     all_after end w events told moments ran lt = absurd ran
 
     -- an event more was done before
-    one_done : (w nxt : At) (e : Event) (answer : Answer) (m : ℕ) (events : List Event) (told : List Answer) (moments : List ℕ) (next : Standing) → nxt.moment ≡ m → m ≤ stop
-        → Happens Reads (stops_of time) w (event_of 0 e) answer nxt
+    one_done : (w nxt : At) (e : ClientEvent) (answer : Answer) (m : ℕ) (events : List ClientEvent) (told : List Answer) (moments : List ℕ) (next : Standing) → nxt.moment ≡ m → m ≤ stop
+        → Happens Reads (stops_of time) w (event_of e.client e.event) answer nxt
         → StopsIn Reads time nxt stop events told moments next → StopsIn Reads time w stop (e ∷ events) (answer ∷ told) (m ∷ moments) next
     one_done w nxt e answer m events told moments next at up happens it = record {
       done = e ∷ it.done;
       others = it.others;
-      events_are = ap (λ (xs : List Event). e ∷ xs) it.events_are;
+      events_are = ap (λ (xs : List ClientEvent). e ∷ xs) it.events_are;
       answers = answer ∷ it.answers;
       rest = it.rest;
       told_are = ap (λ (xs : List Answer). answer ∷ xs) it.told_are;
@@ -128,7 +127,7 @@ module _ (Reads : ReadingRelation) (time : Timeline (Option Contents)) where
     found_now w now same x left = now x (left w.moment w.moment (omega (arith, same)) (omega (arith, same)))
 
     -- no event was done
-    none_done : (w : At) (events : List Event) (told : List Answer) (moments : List ℕ) → stops_of time w.moment w.moment (IsFoundAt w.standing) → w.moment ≡ stop → AreAfter stop moments
+    none_done : (w : At) (events : List ClientEvent) (told : List Answer) (moments : List ℕ) → stops_of time w.moment w.moment (IsFoundAt w.standing) → w.moment ≡ stop → AreAfter stop moments
         → (next : Standing) × StopsIn Reads time w stop events told moments next × ((x : Option Contents) → IsLeftAt time stop x → IsFoundLeft next x)
     none_done w events told moments now same later = (
       w.standing,
@@ -152,8 +151,8 @@ module _ (Reads : ReadingRelation) (time : Timeline (Option Contents)) where
     )
 
     -- the first event is under way
-    first_under_way : (w nxt : At) (e : Event) (answer : Answer) (m : ℕ) (events : List Event) (told : List Answer) (moments : List ℕ) → nxt.moment ≡ m
-        → Happens Reads (stops_of time) w (event_of 0 e) answer nxt → IsSettled w.standing.under_way w.standing.machine → w.moment < stop → stop < nxt.moment → AreAfter stop (m ∷ moments)
+    first_under_way : (w nxt : At) (e : ClientEvent) (answer : Answer) (m : ℕ) (events : List ClientEvent) (told : List Answer) (moments : List ℕ) → nxt.moment ≡ m
+        → Happens Reads (stops_of time) w (event_of e.client e.event) answer nxt → IsSettled w.standing.under_way w.standing.machine → w.moment < stop → stop < nxt.moment → AreAfter stop (m ∷ moments)
         → (next : Standing) × StopsIn Reads time w stop (e ∷ events) (answer ∷ told) (m ∷ moments) next × ((x : Option Contents) → IsLeftAt time stop x → IsFoundLeft next x)
     first_under_way w nxt e answer m events told moments at happens settled from before later =
         let it = within_step w.standing.under_way happens.step settled in (
@@ -177,7 +176,7 @@ module _ (Reads : ReadingRelation) (time : Timeline (Option Contents)) where
           λ x left. let found = happens.during x (left w.moment nxt.moment (omega (arith, from)) (omega (arith, before))) in (found.0, found.1, (it.1.1 found.0).1 found.2),
         )
 
-    pub stops_in : (end w : At) (events : List Event) (told : List Answer) (moments : List ℕ) → RanAt Reads (stops_of time) w events told moments end
+    pub stops_in : (end w : At) (events : List ClientEvent) (told : List Answer) (moments : List ℕ) → RanAt Reads (stops_of time) w events told moments end
         → stops_of time w.moment w.moment (IsFoundAt w.standing) → IsSettled w.standing.under_way w.standing.machine → w.moment ≤ stop → stop ≤ end.moment
         → (next : Standing) × StopsIn Reads time w stop events told moments next × ((x : Option Contents) → IsLeftAt time stop x → IsFoundLeft next x)
     stops_in end w [] [] [] ran now settled from to =
@@ -201,7 +200,7 @@ module _ (Reads : ReadingRelation) (time : Timeline (Option Contents)) where
 -- ---- which events are done
 
 -- a run has as many moments as events
-as_many : (Reads : ReadingRelation) (time : Timeline (Option Contents)) (end w : At) (events : List Event) (told : List Answer) (moments : List ℕ)
+as_many : (Reads : ReadingRelation) (time : Timeline (Option Contents)) (end w : At) (events : List ClientEvent) (told : List Answer) (moments : List ℕ)
     → RanAt Reads (stops_of time) w events told moments end → length events ≡ length moments
 as_many Reads time end w [] [] [] ran = refl
 as_many Reads time end w (e ∷ events) (answer ∷ told) (m ∷ moments) ran = let rest = as_many Reads time end ran.0 events told moments ran.3 in omega (arith, rest)
@@ -225,7 +224,7 @@ at_place stop moment (m ∷ before) after (suc index) is up later =
     let rest = at_place stop moment before after index is up.1 later in
     (λ le. let lt = rest.0 le in omega (arith, lt), λ lt. rest.1 (omega (arith, lt)))
 
-pub told_is_done : (Reads : ReadingRelation) (time : Timeline (Option Contents)) (begin : At) (stop : ℕ) (events : List Event) (told : List Answer) (moments : List ℕ) (next : Standing)
+pub told_is_done : (Reads : ReadingRelation) (time : Timeline (Option Contents)) (begin : At) (stop : ℕ) (events : List ClientEvent) (told : List Answer) (moments : List ℕ) (next : Standing)
     (stops : StopsIn Reads time begin stop events told moments next) (index moment : ℕ) → slice_get moments index ≡ Some moment → (moment ≤ stop) ↔ (index < length stops.done)
 told_is_done Reads time begin stop events told moments next stops index moment is =
     let many : length stops.done ≡ length stops.before = as_many Reads time stops.here begin stops.done stops.answers stops.before stops.ran in
@@ -233,7 +232,7 @@ told_is_done Reads time begin stop events told moments next stops index moment i
     let both = at_place stop moment stops.before stops.after index here stops.ended stops.not_ended in
     (λ le. let lt = both.0 le in omega (arith, many, lt), λ lt. both.1 (omega (arith, many, lt)))
 
-pub told_is_not_done : (Reads : ReadingRelation) (time : Timeline (Option Contents)) (begin : At) (stop : ℕ) (events : List Event) (told : List Answer) (moments : List ℕ) (next : Standing)
+pub told_is_not_done : (Reads : ReadingRelation) (time : Timeline (Option Contents)) (begin : At) (stop : ℕ) (events : List ClientEvent) (told : List Answer) (moments : List ℕ) (next : Standing)
     (stops : StopsIn Reads time begin stop events told moments next) (index moment : ℕ) → slice_get moments index ≡ Some moment → stop < moment → length stops.done ≤ index
 told_is_not_done Reads time begin stop events told moments next stops index moment is later =
     ⊎_elim

@@ -2,7 +2,7 @@
 use Rattle.std.proofs.Common.{◌∙◌, ◌≡◌, ◌⊎◌, ◌≤◌, ℕ, ⊎_elim, false, List, Option, Some, refl, sym, subst, arith}
 use Rattle.storage_sizes.specs.declared.record_format.RecordFormat.{RecordFormat}
 use Rattle.storage_sizes.specs.declared.record_format.RecordFormat.TheVariants.{V1, V2}
-use Rattle.sector_device.specs.Timeline.{LeavesOnly, IsPresent, read_by, weakened}
+use Rattle.sector_device.specs.Timeline.{LeavesOnly, IsPresent, weakened}
 use Rattle.sector_device.specs.Device.{DeviceState, IsLeft, timeline}
 use Rattle.sector_device.specs.declared.device.Device.{Ghosts}
 use Rattle.store.specs.Records.{Records}
@@ -31,7 +31,16 @@ use Rattle.databases.specs.declared.database.Opened.{Opened}
 use Rattle.databases.specs.Answered.{Answered, IsLived, IsOfEach, IsOfScript, LivesFrom}
 use Rattle.databases.specs.Databases.{HoldsDatabase, LeavesAsBefore, LeavesDatabase, records_on}
 use Rattle.databases.specs.Openings.{IsOpenedOn, OpensAs, state_under}
-use Rattle.databases.proofs.Answering.{Ran, connections_ran, script_ran}
+use Rattle.talks.specs.Turns.{Turn, TakesTurns}
+use Rattle.talks.specs.declared.talk.Talk.{Ghosts as TalkGhosts}
+use Rattle.talks.specs.declared.clients.ServedClients.{Ghosts as ClientsGhosts}
+use Rattle.served_machine.specs.declared.machine.ServedMachine.{ServedMachine}
+use Rattle.served_machine.specs.Machines.{machine_of}
+use Rattle.served_clients.specs.Spelled.{of_turns}
+use Rattle.served_clients.proofs.Stepping.{turns as all_turns}
+use Rattle.databases.specs.Clients.{IsOfTurns, of_taken}
+use Rattle.databases.proofs.Answering.{Ran, Stepped, connections_ran, ran_by_steps, script_ran}
+use Rattle.databases.proofs.Serving.{taken_steps}
 use Rattle.databases.proofs.DeviceOpening.{none_open}
 
 -- records mean one database
@@ -123,7 +132,7 @@ module _ {D : Type 0} {g : Ghosts D} (present : (device : D) → (g.state device
       } in
       (life, counted end ran.0 sound (ends_at store_state end ran.0 ran.1))
 
--- ---- scripts and connections
+-- ---- scripts, connections and clients
 
 module _ {D : Type 0} {g : Ghosts D} (present : (device : D) → (g.state device).faithful → IsPresent (timeline (g.state device)))
     (content_left : (device : D) → (g.state device).faithful → IsLeft (g.state device) (g.state device).content) (one : MeanOne)
@@ -153,3 +162,21 @@ module _ {D : Type 0} {g : Ghosts D} (present : (device : D) → (g.state device
         lived present content_left one Reads device opened is faithful standing found ran.0 last (history.sound within.0)
             (subst (λ (s : Server (DeviceStore D g) X). Ran Reads store_state s begin ran.0 last) (sym same) ran.2),
       )
+
+module _ {D : Type 0} {g : Ghosts D} (present : (device : D) → (g.state device).faithful → IsPresent (timeline (g.state device)))
+    (content_left : (device : D) → (g.state device).faithful → IsLeft (g.state device) (g.state device).content) (one : MeanOne)
+    {X : Type 0} (Reads : ReadingRelation) (server last : Server (DeviceStore D g) X) where
+  pub clients_life : {T C : Type 0} (t : TalkGhosts T) (c : ClientsGhosts C T) (begin end : ServedMachine (DeviceStore D g) X) (before after : C) (turns : List Turn)
+      → begin.server ≡ server → end.server ≡ last → KeepsHistory (store_state server.store) (store_state last.store)
+      → (took : TakesTurns (machine_of Reads store_state) t c begin before turns end after) → LivesFrom g Reads server (IsOfTurns Reads store_state t c begin before turns end after took) (state_under last)
+  clients_life t c begin end before after turns begins ends history took device opened same is faithful standing found =
+      let it = of_taken (of_turns Reads store_state t c begin before turns end after took) in
+      let start = at_start (store_state opened.server.store) is.database in
+      let first : begin.server ≡ opened.server = begins ∙ sym same in
+      let steps : Stepped Reads store_state opened.server it last =
+      subst (λ (s : Server (DeviceStore D g) X). Stepped Reads store_state s it last) first
+      (subst (λ (s : Server (DeviceStore D g) X). Stepped Reads store_state begin.server it s) ends
+      (taken_steps Reads store_state begin.server end.server (of_turns Reads store_state t c begin before turns end after took) (all_turns Reads store_state t c begin before turns end after took))) in
+      let ran = ran_by_steps Reads store_state opened.server last start it steps is.sound is.represents in
+      let sound = history.sound (subst (λ (s : Server (DeviceStore D g) X). (store_state s.store).sound) same is.sound) in
+      (it, refl, lived present content_left one Reads device opened is faithful standing found it last sound ran)

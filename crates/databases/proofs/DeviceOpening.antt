@@ -1,17 +1,14 @@
 -- What opening a database on a device comes to, by what opening its store and its server come to.
-use Rattle.std.proofs.Common.{◌≡◌, ◌≢◌, ◌⊎◌, ◌≤◌, ◌+◌, ◌/◌, ◌^◌, ◌-◌, ℕ, inl, inr, false, Option, Some, Ok, Err, refl, ap, sym, subst, ◌∙◌, arith}
-use Rattle.std.proofs.lemmas.Bool.{cases_lt, false≢true}
+use Rattle.std.proofs.Common.{◌≡◌, ◌≢◌, ◌⊎◌, ◌≤◌, ◌+◌, ◌/◌, ℕ, inl, inr, false, Option, Some, Ok, Err, refl, ap, sym, subst, ◌∙◌, arith}
 use Rattle.storage_sizes.specs.declared.record_format.RecordFormat.{RecordFormat}
 use Rattle.storage_sizes.specs.declared.record_format.RecordFormat.TheVariants.{V1, V2}
-use Rattle.sector_device.specs.Timeline.{LeavesOnly, IsPresent, read_by, joined, weakened}
-use Rattle.sector_device.specs.Device.{DeviceState, IsLeft, HasFailed, timeline}
+use Rattle.sector_device.specs.Timeline.{LeavesOnly, IsPresent, read_by}
+use Rattle.sector_device.specs.Device.{DeviceState, timeline}
 use Rattle.sector_device.specs.declared.device.Device.{Ghosts}
-use Rattle.sector_device.proofs.Runs.{lifted}
 use Rattle.store.specs.declared.fault.Fault.TheVariants as read
 use Rattle.store.specs.declared.fault.StoreFault.TheVariants as commit
-use Rattle.store.specs.Store.{Contents, stored, KeepsHistory, OnlyReads, IsUnchanged, HasDeviceCause}
+use Rattle.store.specs.Store.{Contents, stored, KeepsHistory, OnlyReads, IsUnchanged}
 use Rattle.cow_pages.specs.declared.open.OpenFault.{OpenFault as PagesFault}
-use Rattle.cow_pages.specs.Held.{KeepsContent}
 use Rattle.journal_store.specs.declared.device_stores.DeviceStore.{DeviceStore}
 use Rattle.kv_store.specs.ContentLaws.{same_parts}
 use Rattle.journal_store.specs.ImageLaws.{one_contents}
@@ -23,7 +20,7 @@ use Rattle.journal_store.specs.DeviceStores.{state_under, store_state}
 use Rattle.journal_store.proofs.Since.{history_since, content_since}
 use Rattle.abstract_database.specs.Database.{Database}
 use Rattle.server.specs.declared.server.Server.{Server}
-use Rattle.server.specs.Standing.{Stands, Means, at_start}
+use Rattle.server.specs.Standing.{Stands, at_start}
 use Rattle.recovery.specs.declared.fault.OpeningFault.{OpeningFault}
 use Rattle.recovery.specs.declared.fault.OpeningFault.TheVariants.{Read, Commit}
 use Rattle.recovery.specs.Openings.{IsOpened as IsServerOpened, IsNumberAfter, HasOpeningCause, KeepsDatabase, OnlyLooks, failed_after_opening}
@@ -32,7 +29,7 @@ use Rattle.databases.specs.declared.database.Opened.{Opened}
 use Rattle.databases.specs.OnDevice.{IsOfDevice}
 use Rattle.databases.proofs.Opening.{device_of_pages, failed_for, leaves_database, reading_leaves}
 use Rattle.databases.specs.declared.fault.DatabaseFault.TheVariants.{Pages, Records}
-use Rattle.databases.specs.Databases.{records_on, HoldsDatabase, HoldsFirstSpelling, IsUnwritten, LeavesAsBefore, LeavesDatabase}
+use Rattle.databases.specs.Databases.{records_on, HoldsDatabase, HoldsFirstSpelling, IsUnwritten, LeavesAsBefore}
 use Rattle.databases.specs.Openings.{IsMigrated, IsOfMigration, IsOnlyRead, IsOpenedOn, IsRefused, IsTriedOn, IsUntried, OpensAs, StandsIn, is_first}
 
 -- a device of which nothing was written leaves records that might have been left before

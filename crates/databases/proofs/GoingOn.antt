@@ -5,7 +5,6 @@ use Rattle.std.proofs.lemmas.Bool.{cases_lt}
 use Rattle.sector_device.specs.Timeline.{Timeline}
 use Rattle.sector_device.specs.declared.device.Device.{Ghosts}
 use Rattle.sql_types.specs.declared.answer.Answer.{Answer}
-use Rattle.sql_types.specs.declared.event.Event.{Event}
 use Rattle.cow_pages.specs.declared.open.OpenFault.TheVariants as pages
 use Rattle.store.specs.declared.fault.Fault.TheVariants as read
 use Rattle.store.specs.Store.{Contents}
@@ -13,7 +12,7 @@ use Rattle.abstract_database.specs.Runs.{ReadingRelation, Standing}
 use Rattle.databases.specs.declared.fault.DatabaseFault.{DatabaseFault}
 use Rattle.databases.specs.declared.fault.DatabaseFault.TheVariants.{Pages, Records}
 use Rattle.recovery.specs.declared.fault.OpeningFault.TheVariants.{Read, Commit}
-use Rattle.databases.specs.Lives.{IsFoundLeft, IsLife, IsNoLife}
+use Rattle.databases.specs.Lives.{ClientEvent, IsFoundLeft, IsLife, IsNoLife}
 use Rattle.databases.specs.OnDevice.{records_on, LivesOn}
 use Rattle.databases.specs.Stopping.{is_left_by, IsWithin, StopsAt, IsDoneAt}
 use Rattle.databases.specs.Following.{Life, ArePromised, AreStopped, LeadsOn, GoOn}
@@ -21,7 +20,7 @@ use Rattle.databases.proofs.Cutting.{not_before, stops_in, told_is_done}
 
 module _ (Reads : ReadingRelation) (last : Standing) (old new : Timeline (Option Contents)) where
   -- where a stop of a life leads, and what it leaves
-  pub stopped_at : (events : List Event) (told : List Answer) (moments : List ℕ) (life : IsLife Reads last events told moments old new) (stop : Option ℕ) → IsWithin stop old new
+  pub stopped_at : (events : List ClientEvent) (told : List Answer) (moments : List ℕ) (life : IsLife Reads last events told moments old new) (stop : Option ℕ) → IsWithin stop old new
       → (next : Standing) × StopsAt last life stop next × ((x : Option Contents) → is_left_by stop new x → IsFoundLeft next x)
   stopped_at events told moments life None within = (life.end.standing, refl, life.leaves)
   stopped_at events told moments life (Some stop) within =
@@ -40,7 +39,7 @@ module _ (Reads : ReadingRelation) (last : Standing) (old new : Timeline (Option
   none_at none (Some moment) within x left = none.each x (left old.moment new.moment within.0 within.1)
 
 -- what was told up to the stop is done
-pub told_done : (Reads : ReadingRelation) (last : Standing) (old new : Timeline (Option Contents)) (events : List Event) (told : List Answer) (moments : List ℕ)
+pub told_done : (Reads : ReadingRelation) (last : Standing) (old new : Timeline (Option Contents)) (events : List ClientEvent) (told : List Answer) (moments : List ℕ)
     (life : IsLife Reads last events told moments old new) (stop : ℕ) (next : Standing) → StopsAt last life (Some stop) next
     → (index moment : ℕ) → slice_get moments index ≡ Some moment → moment ≤ stop → IsDoneAt life stop index next
 told_done Reads last old new events told moments life stop next (inl opening) index moment is up =

@@ -6,6 +6,8 @@ pub mod Living
 pub mod NewDatabaseMade
 pub mod Opening
 pub mod Answering
+pub mod Serving
+pub mod Leaving
 pub mod DeviceGoingOn
 pub mod DeviceLiving
 mod Made

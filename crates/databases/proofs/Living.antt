@@ -1,5 +1,5 @@
 -- What a life over a store leaves, from its opening to its end.
-use Rattle.std.proofs.Common.{◌≡◌, ◌∙◌, ◌≤◌, ℕ, inl, inr, ⊎_elim, Bool, true, false, List, [], ◌∷◌, ◌++◌, Option, Some, Result, Ok, Err, IfErr, refl, sym, subst, arith}
+use Rattle.std.proofs.Common.{◌≡◌, ◌∙◌, ◌≤◌, ℕ, inl, inr, ⊎_elim, Bool, true, false, List, [], ◌∷◌, ◌++◌, Option, Some, Result, Ok, Err, IfErr, refl, sym, ap, subst, arith}
 use Rattle.sector_device.specs.Timeline.{Timeline, LeavesOnly, IsPresent, weakened}
 use Rattle.sql_types.specs.declared.answer.Answer.{Answer}
 use Rattle.sql_types.specs.declared.event.Event.{Event}
@@ -18,7 +18,18 @@ use Rattle.recovery.specs.declared.fault.OpeningFault.{OpeningFault}
 use Rattle.recovery.specs.declared.fault.OpeningFault.TheVariants.{Read, Commit}
 use Rattle.recovery.specs.Openings.{HasOpeningCause, HasLooked, IsNumberAfter, KeepsDatabase, OnlyLooks}
 use Rattle.recovery.proofs.Outcomes.{looking_without_memory}
-use Rattle.databases.specs.Lives.{IsFoundLeft, LeavesFound, up_to, IsStepAt, StepsAt, RunsAt, standing_over, IsNoLife, BeginsAt, EndsAt, IsLifeOver, IsServed, Lives, IsRefused, Answers}
+use Rattle.databases.specs.Lives.{ClientEvent, of_client, all_of_client, IsFoundLeft, LeavesFound, up_to, IsStepAt, StepsAt, RunsAt, standing_over, IsNoLife, BeginsAt, EndsAt, IsLifeOver, IsServed, Lives, IsRefused, Answers}
+
+-- ---- events of clients
+
+-- some events of a client, and then more
+all_joined : (client : ℕ) (events more : List Event) → all_of_client client (events ++ more) ≡ all_of_client client events ++ all_of_client client more
+all_joined client [] more = refl
+all_joined client (e ∷ events) more = ap (λ (l : List ClientEvent). of_client client e ∷ l) (all_joined client events more)
+
+-- and then one more
+pub all_and_one : (client : ℕ) (events all : List Event) (e : Event) → all ≡ events ++ e ∷ [] → all_of_client client all ≡ all_of_client client events ++ of_client client e ∷ []
+all_and_one client events all e is = ap (λ (l : List Event). all_of_client client l) is ∙ all_joined client events (e ∷ [])
 
 -- ---- steps, one after the other
 
@@ -36,8 +47,8 @@ happens_past Reads t u w next e answer past le happens = record {
 
 module _ {S X : Type 0} (Reads : ReadingRelation) (state : S → StoreState) where
   -- one step more
-  pub steps_more : (first mid new : Server S X) (events : List Event) (told : List Answer) (moments : List ℕ) (e : Event) (answer : Answer)
-      → StepsAt Reads state first events told moments mid → KeepsHistory (state mid.store) (state new.store) → Steps Reads state 0 mid e answer new
+  pub steps_more : (first mid new : Server S X) (events : List ClientEvent) (told : List Answer) (moments : List ℕ) (e : ClientEvent) (answer : Answer)
+      → StepsAt Reads state first events told moments mid → KeepsHistory (state mid.store) (state new.store) → Steps Reads state e.client mid e.event answer new
       → StepsAt Reads state first (events ++ e ∷ []) (told ++ answer ∷ []) (moments ++ (state new.store).time.moment ∷ []) new
   steps_more first mid new [] [] [] e answer steps history more =
       (new, subst (λ (s : Server S X). IsStepAt Reads state s e answer (state new.store).time.moment new) steps (record { history = history; steps = more; clock = refl }), refl)
@@ -46,14 +57,14 @@ module _ {S X : Type 0} (Reads : ReadingRelation) (state : S → StoreState) whe
   steps_more first mid new events told moments e answer steps history more = absurd steps
 
   -- a store stays sound
-  pub steps_sound : (first last : Server S X) (events : List Event) (told : List Answer) (moments : List ℕ) → StepsAt Reads state first events told moments last
+  pub steps_sound : (first last : Server S X) (events : List ClientEvent) (told : List Answer) (moments : List ℕ) → StepsAt Reads state first events told moments last
       → (state first.store).sound → (state last.store).sound
   steps_sound first last [] [] [] steps sound = subst (λ (s : Server S X). (state s.store).sound) (sym steps) sound
   steps_sound first last (e ∷ events) (answer ∷ told) (m ∷ moments) steps sound = steps_sound steps.0 last events told moments steps.2 (steps.1.history.sound sound)
   steps_sound first last events told moments steps sound = absurd steps
 
   -- steps from where a server stands are a run with their moments
-  pub steps_run : (first last : Server S X) (events : List Event) (told : List Answer) (moments : List ℕ) (w : At) → StepsAt Reads state first events told moments last
+  pub steps_run : (first last : Server S X) (events : List ClientEvent) (told : List Answer) (moments : List ℕ) (w : At) → StepsAt Reads state first events told moments last
       → (state first.store).sound → Represents state first w → RunsAt Reads state first w events told moments last
   steps_run first last [] [] [] w steps sound here = (
     w,
@@ -73,7 +84,7 @@ module _ {S X : Type 0} (Reads : ReadingRelation) (state : S → StoreState) whe
         (
           now.0,
           clock ∙ steps.1.clock,
-          happens_past Reads (state mid.store).time (state last.store).time w now.0 (event_of 0 e) answer rest.3 (omega (arith, clock)) now.2,
+          happens_past Reads (state mid.store).time (state last.store).time w now.0 (event_of e.client e.event) answer rest.3 (omega (arith, clock)) now.2,
           rest.2,
         ),
         λ a b x le stop. now.3 a b x le (rest.3 a b x (omega (arith, le, clock, began, later)) stop),
@@ -133,7 +144,7 @@ begun_over : (db : Database) (old mid new : Timeline (Option Contents)) → Leav
 begun_over db old mid new leaves past present x stop = (db, leaves.now x (present x (past mid.moment mid.moment x (omega arith) stop)), inl refl)
 
 -- a server was opened over the database that the last life may have left, and answered
-pub lived : {S X : Type 0} (Reads : ReadingRelation) (state : S → StoreState) (last : Standing) (old : StoreState) (server : Server S X) (db : Database) (events : List Event)
+pub lived : {S X : Type 0} (Reads : ReadingRelation) (state : S → StoreState) (last : Standing) (old : StoreState) (server : Server S X) (db : Database) (events : List ClientEvent)
     (before after : List Answer) (store : S) (result : Result (Unit {0}) OpeningFault)
     → ((s : S) (x : Option Contents) → (state s).sound → (state s).has_failed ≡ false → (state s).time.left x → x ≡ Some (stored (state s)))
     → (state server.store).sound → KeepsHistory old (state server.store) → IsNumberAfter old.record_format old.number (state server.store).number
@@ -175,7 +186,7 @@ lived Reads state last old server db events before after store (Err (Read read.D
 lived Reads state last old server db events before after store (Err (Commit fault)) settled sound history number leaves present found here answers = absurd answers
 
 -- no server was opened
-pub not_opened : {S : Type 0} (X : Type 0) (Reads : ReadingRelation) (state : S → StoreState) (last : Standing) (old : StoreState) (mid : S) (db : Database) (events : List Event) (told : List Answer) (fault : OpeningFault)
+pub not_opened : {S : Type 0} (X : Type 0) (Reads : ReadingRelation) (state : S → StoreState) (last : Standing) (old : StoreState) (mid : S) (db : Database) (events : List ClientEvent) (told : List Answer) (fault : OpeningFault)
     → KeepsDatabase db (Err fault) old (state mid) → IsFoundAt last db → HasOpeningCause fault old (state mid) → (fault ≡ Read read.Damaged → ⊥) → Lives X Reads state last events told told old mid (Err fault)
 not_opened X Reads state last old mid db events told (Read read.Memory) keeps found cause sound = (refl, stays last db found old.time (state mid).time keeps.during)
 not_opened X Reads state last old mid db events told (Read read.Device) keeps found cause sound = (refl, stays last db found old.time (state mid).time keeps.during)
@@ -205,7 +216,7 @@ no_memory_refused old mid looked keeps = record {
   cause = λ sound. tt;
 }
 
-pub answered_refused : {S X : Type 0} (Reads : ReadingRelation) (state : S → StoreState) (old : StoreState) (server : Server S X) (events : List Event)
+pub answered_refused : {S X : Type 0} (Reads : ReadingRelation) (state : S → StoreState) (old : StoreState) (server : Server S X) (events : List ClientEvent)
     (before after : List Answer) (store : S) (result : Result (Unit {0}) OpeningFault)
     → (OnlyLooks old.record_format (Ok tt) → HasLooked (Ok tt) old (state server.store))
     → (old.sound → old.has_failed ≡ false → (db : Database) → Stands (stored old) db → KeepsDatabase db (Ok tt) old (state server.store))
@@ -218,7 +229,7 @@ answered_refused Reads state old server events before after store (Err (Read rea
 answered_refused Reads state old server events before after store (Err (Commit fault)) looked keeps answers = absurd answers
 
 -- so what the opening left alone is left alone
-pub answered_preserved : {S X : Type 0} (Reads : ReadingRelation) (state : S → StoreState) (old : StoreState) (server : Server S X) (events : List Event)
+pub answered_preserved : {S X : Type 0} (Reads : ReadingRelation) (state : S → StoreState) (old : StoreState) (server : Server S X) (events : List ClientEvent)
     (before after : List Answer) (store : S) (result : Result (Unit {0}) OpeningFault) (IsLeftAlone : S → Type 0) → (OnlyLooks old.record_format (Ok tt) → IsLeftAlone server.store)
     → Answers Reads state server events before after store result → IfErr result (λ fault. OnlyLooks old.record_format (Err fault) → IsLeftAlone store)
 answered_preserved Reads state old server events before after store (Ok x) IsLeftAlone is answers = tt
@@ -229,7 +240,7 @@ answered_preserved Reads state old server events before after store (Err (Read r
 answered_preserved Reads state old server events before after store (Err (Commit fault)) IsLeftAlone is answers = absurd answers
 
 -- and there are no answers
-pub nothing_answered : {S X : Type 0} (Reads : ReadingRelation) (state : S → StoreState) (server : Server S X) (events : List Event)
+pub nothing_answered : {S X : Type 0} (Reads : ReadingRelation) (state : S → StoreState) (server : Server S X) (events : List ClientEvent)
     (before after : List Answer) (store : S) (result : Result (Unit {0}) OpeningFault)
     → Answers Reads state server events before after store result → IfErr result (λ fault. after ≡ before)
 nothing_answered Reads state server events before after store (Ok x) answers = tt

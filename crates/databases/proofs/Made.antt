@@ -1,7 +1,7 @@
 -- A store whose one record is that of an administrator stands for a new database, with a journal or without.
 use Rattle.std.proofs.Common.{◌≡◌, ◌⊎◌, ◌/◌, ℕ, Bool, true, false, Some, Result, Ok, Err, inl, inr, refl, sym, subst, arith}
 use Rattle.sector_device.specs.Timeline.{weakened}
-use Rattle.sector_device.specs.Device.{DeviceState, Image, IsLeft, timeline}
+use Rattle.sector_device.specs.Device.{DeviceState, Image, timeline}
 use Rattle.sector_device.specs.declared.device.Device.{Ghosts}
 use Rattle.cow_pages.specs.Image.{first_fault, is_size}
 use Rattle.cow_pages.specs.declared.open.OpenFault.{OpenFault}

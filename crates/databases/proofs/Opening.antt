@@ -1,12 +1,11 @@
 -- What a life on a device leaves, by what it leaves of the store.
-use Rattle.std.proofs.Common.{if◌then◌else◌, ◌≡◌, ◌⊎◌, ◌≤◌, ◌/◌, ◌^◌, ◌-◌, inl, inr, Bool, true, false, ℕ, List, Option, Some, None, Result, Ok, Err, IfErr, refl, sym, ap, subst, ◌∙◌, arith}
+use Rattle.std.proofs.Common.{if◌then◌else◌, ◌≡◌, ◌⊎◌, ◌≤◌, ◌/◌, ◌^◌, ◌-◌, inl, inr, Bool, true, false, ℕ, List, Option, Some, None, Result, Ok, Err, IfErr, refl, sym, subst, ◌∙◌, arith}
 use Rattle.std.proofs.lemmas.Bool.{cases_lt, false≢true}
 use Rattle.sector_device.specs.Timeline.{Timeline, LeavesOnly, IsPresent, joined, weakened, read_by}
 use Rattle.sector_device.specs.Device.{Image, DeviceState, IsLeft, HasFailed, timeline}
 use Rattle.sector_device.specs.Device.{KeepsHistory as DeviceHistory}
 use Rattle.sector_device.proofs.Runs.{lifted}
 use Rattle.sql_types.specs.declared.answer.Answer.{Answer}
-use Rattle.sql_types.specs.declared.event.Event.{Event}
 use Rattle.store.specs.declared.fault.Fault.TheVariants as read
 use Rattle.store.specs.declared.fault.StoreFault.TheVariants as commit
 use Rattle.store.specs.Store.{StoreState, Contents, stored, KeepsHistory, OnlyReads, Rose, HasDeviceCause}
@@ -31,7 +30,7 @@ use Rattle.recovery.specs.declared.fault.OpeningFault.TheVariants.{Read, Commit}
 use Rattle.recovery.specs.Openings.{AreOfFirst, HasLooked, HasOpeningCause, IsNumberAfter, KeepsDatabase, OnlyLooks}
 use Rattle.databases.specs.declared.fault.DatabaseFault.{DatabaseFault}
 use Rattle.databases.specs.declared.fault.DatabaseFault.TheVariants.{Pages, Records}
-use Rattle.databases.specs.Lives.{IsFoundLeft, LeavesFound, up_to, IsLife, IsNoLife, BeginsAt, EndsAt, IsLifeOver, Lives, IsRefused}
+use Rattle.databases.specs.Lives.{ClientEvent, IsFoundLeft, LeavesFound, up_to, IsLife, IsNoLife, BeginsAt, EndsAt, IsLifeOver, Lives, IsRefused}
 use Rattle.databases.specs.OnDevice.{records_on, IsOfDevice, life_result_of, IsNumberOf, AreCountedOn, HoldsFirstSpelling}
 use Rattle.databases.specs.OnDevice.{IsLifeOn, IsServedOn, LivesOn, AreRefused, IsOnlyRead, LeavesDatabase, IsNotBegun, IsRefusedOn}
 
@@ -84,7 +83,7 @@ module _ {D : Type 0} {g : Ghosts D} (old : DeviceState) (store left : DeviceSto
         last_faults = ends.counts.faults;
       }
 
-  module _ (Reads : ReadingRelation) (last : Standing) (events : List Event) (before after : List Answer) where
+  module _ (Reads : ReadingRelation) (last : Standing) (events : List ClientEvent) (before after : List Answer) where
     -- a life that began later
     began_later : (mid later : Timeline (Option Contents)) (told : List Answer) (moments : List ℕ) → LeavesOnly (IsFoundLeft last) (records_on old) mid
         → IsLife Reads last events told moments mid later → IsLife Reads last events told moments (records_on old) later
@@ -212,7 +211,7 @@ content_after present old store left (Err why) opened faithful nothing = λ look
 
 -- ---- a life lived, by what it leaves of the store
 
-module _ {D : Type 0} {g : Ghosts D} (device : D) (store left : DeviceStore D g) (Reads : ReadingRelation) (last : Standing) (events : List Event) (before after : List Answer) where
+module _ {D : Type 0} {g : Ghosts D} (device : D) (store left : DeviceStore D g) (Reads : ReadingRelation) (last : Standing) (events : List ClientEvent) (before after : List Answer) where
   abbrev was : DeviceState
   was = g.state device
 
@@ -282,7 +281,7 @@ leaves_same : (last : Standing) (d e : DeviceState) → LeavesFound last (record
 leaves_same last d e found keeps same =
     subst (λ (n : ℕ). LeavesOnly (IsFoundLeft last) (records_on d) (read_by (IsReadAs (n / 8)) (timeline e))) (sym same) (opening_leaves last d e found keeps)
 
-pub refused_on : {D : Type 0} (g : Ghosts D) (X : Type 0) (Reads : ReadingRelation) (last : Standing) (events : List Event) (told : List Answer) (d e : D) (fault : OpenFault)
+pub refused_on : {D : Type 0} (g : Ghosts D) (X : Type 0) (Reads : ReadingRelation) (last : Standing) (events : List ClientEvent) (told : List Answer) (d e : D) (fault : OpenFault)
     → IsLeft (g.state d) (g.state d).content → LeavesFound last (records_on (g.state d)) → KeepsContent (g.state d) (g.state e) → (g.state e).sectors ≡ (g.state d).sectors → IsNamedFor fault (g.state d)
     → LivesOn g X Reads last events told told d e (Err (Pages fault))
 refused_on g X Reads last events told d e Memory content found keeps same named =

@@ -10,7 +10,7 @@ use Rattle.store.specs.Store.{StoreState}
 use Rattle.journal_store.specs.declared.device_stores.DeviceStore.{DeviceStore}
 use Rattle.abstract_database.specs.Runs.{ReadingRelation, Standing}
 use Rattle.server.specs.declared.server.Server.{Server}
-use Rattle.databases.specs.Lives.{LeavesFound}
+use Rattle.databases.specs.Lives.{ClientEvent, of_client, all_of_client, LeavesFound}
 use Rattle.databases.specs.OnDevice.{records_on, IsLifeOn}
 use Rattle.wire.specs.declared.script_run.ScriptEnd.{ScriptEnd}
 use Rattle.wire.specs.declared.script_run.ScriptEnd.TheVariants as script
@@ -29,9 +29,9 @@ use Rattle.databases.specs.Openings.{IsOpenedOn}
 
 -- ---- events that were answered
 
--- events, one after the other, the answer to each, and the moment at which it was there
+-- events of clients, one after the other, the answer to each, and the moment at which it was there
 pub record Answered : Type 0 where
-  pub events : List Event
+  pub events : List ClientEvent
   pub answers : List Answer
   pub moments : List ℕ
 
@@ -50,12 +50,12 @@ moments_of (t ∷ told) = t.moment ∷ moments_of told
 module _ {S X K : Type 0} {Reads : ReadingRelation} {state : S → StoreState} {k : SinkGhosts K} where
   -- each answer was told
   abbrev pub each_told : {old new : Server S X} {before after : K} {events : List Event} {answers : List Answer} → TellsEach Reads state k old before events answers new after → Answered
-  each_told {events = events} {answers = answers} tells = record { events = events; answers = answers; moments = moments_of tells.told }
+  each_told {events = events} {answers = answers} tells = record { events = all_of_client 0 events; answers = answers; moments = moments_of tells.told }
 
   -- each but the last: the telling of that one failed, once its event had been carried out
   abbrev pub some_told : {old new : Server S X} {before after : K} {events : List Event} → TellsSome Reads state k old before events new after → Answered
   some_told {new = new} tells = record {
-    events = tells.done ++ tells.last ∷ [];
+    events = all_of_client 0 tells.done ++ of_client 0 tells.last ∷ [];
     answers = answers_of tells.told ++ tells.answer ∷ [];
     moments = moments_of tells.told ++ (state new.store).time.moment ∷ [];
   }
@@ -74,7 +74,7 @@ closed_of false sessions = closed_answers sessions
 
 -- the sessions that this server has left open were closed, and nothing else was done
 pub record ClosesAll {S X : Type 0} (server : Server S X) (it : Answered) : Type 0 where
-  pub events : it.events ≡ closing_of server.stopped server.sessions.entries
+  pub events : it.events ≡ all_of_client 0 (closing_of server.stopped server.sessions.entries)
   pub answers : it.answers ≡ closed_of server.stopped server.sessions.entries
 
 -- ---- a script

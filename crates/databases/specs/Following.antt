@@ -3,11 +3,10 @@ use Rattle.std.specs.Prelude.{◌≡◌, ℕ, List, [], ◌∷◌, ◌++◌, Opt
 use Rattle.sector_device.specs.Device.{DeviceState}
 use Rattle.sector_device.specs.declared.device.Device.{Ghosts}
 use Rattle.sql_types.specs.declared.answer.Answer.{Answer}
-use Rattle.sql_types.specs.declared.event.Event.{Event}
 use Rattle.store.specs.Store.{Contents}
 use Rattle.abstract_database.specs.Runs.{ReadingRelation, Standing}
 use Rattle.databases.specs.declared.fault.DatabaseFault.{DatabaseFault}
-use Rattle.databases.specs.Lives.{IsNoLife}
+use Rattle.databases.specs.Lives.{ClientEvent, IsNoLife}
 use Rattle.databases.specs.OnDevice.{records_on, IsLifeOn, IsServedOn, PromisesLife}
 use Rattle.databases.specs.Stopping.{is_left_by, IsWithin, StopsAt}
 
@@ -16,7 +15,7 @@ use Rattle.databases.specs.Stopping.{is_left_by, IsWithin, StopsAt}
 pub record Life (D : Type 0) : Type 0 where
   pub begin : D
   pub end : D
-  pub events : List Event
+  pub events : List ClientEvent
   pub before : List Answer
   pub after : List Answer
   pub result : Result (Unit {0}) DatabaseFault

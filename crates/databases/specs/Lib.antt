@@ -4,6 +4,7 @@ pub mod NewDatabase
 pub mod OnDevice
 pub mod Stopping
 pub mod Answered
+pub mod Clients
 pub mod Databases
 pub mod DeviceFollowing
 pub mod Making

@@ -4,7 +4,6 @@ use Rattle.sector_device.specs.Timeline.{LeavesOnly}
 use Rattle.sector_device.specs.Device.{DeviceState, HasFailed}
 use Rattle.sector_device.specs.declared.device.Device.{Ghosts}
 use Rattle.sql_types.specs.declared.answer.Answer.{Answer}
-use Rattle.sql_types.specs.declared.event.Event.{Event}
 use Rattle.store.specs.Store.{Contents}
 use Rattle.cow_pages.specs.declared.open.OpenFault.{OpenFault}
 use Rattle.cow_pages.specs.declared.open.OpenFault.TheVariants as pages
@@ -24,7 +23,7 @@ use Rattle.recovery.specs.declared.fault.OpeningFault.TheVariants.{Read, Commit}
 use Rattle.recovery.specs.Openings.{AreOfFirst, IsNumberAfter, OnlyLooks}
 use Rattle.databases.specs.declared.fault.DatabaseFault.{DatabaseFault}
 use Rattle.databases.specs.declared.fault.DatabaseFault.TheVariants.{Pages, Records}
-use Rattle.databases.specs.Lives.{LeavesFound, IsLife, IsNoLife, IsServed}
+use Rattle.databases.specs.Lives.{ClientEvent, LeavesFound, IsLife, IsNoLife, IsServed}
 
 -- the fault says that the device failed
 abbrev pub IsOfDevice : DatabaseFault → Type 0
@@ -62,18 +61,18 @@ pub record AreCountedOn (old new : DeviceState) (begin end : At) : Type 0 where
   pub last_faults : end.counts.faults ≡ new.failures
 
 -- a life by what a device leaves and by what is known of the counts
-abbrev pub IsLifeOn : ReadingRelation → Standing → List Event → List Answer → List ℕ → DeviceState → DeviceState → Type 0
+abbrev pub IsLifeOn : ReadingRelation → Standing → List ClientEvent → List Answer → List ℕ → DeviceState → DeviceState → Type 0
 IsLifeOn Reads last events told moments old new = (life : IsLife Reads last events told moments (records_on old) (records_on new)) × AreCountedOn old new life.begin life.end
 
 -- a server over a store on the device made a step for each of the events, at its moment by the store's clock, and this is the device then
-pub record IsServedOn {D : Type 0} (g : Ghosts D) (X : Type 0) (Reads : ReadingRelation) (begin : At) (events : List Event) (told : List Answer) (moments : List ℕ) (new : D) : Type 0 where
+pub record IsServedOn {D : Type 0} (g : Ghosts D) (X : Type 0) (Reads : ReadingRelation) (begin : At) (events : List ClientEvent) (told : List Answer) (moments : List ℕ) (new : D) : Type 0 where
   pub store : DeviceStore D g
   pub served : IsServed X Reads store_state begin events told moments store
   pub device : new ≡ device_of store
 
 -- A life was lived by a server, and its answers, each given at its moment, were added; or none was lived, for want of memory, for the
 -- device, or for its size, or since contents of record format 1 were not committed in record format 2.
-abbrev pub LivesOn : {D : Type 0} (g : Ghosts D) (X : Type 0) → ReadingRelation → Standing → List Event → List Answer → List Answer → D → D → Result (Unit {0}) DatabaseFault → Type 0
+abbrev pub LivesOn : {D : Type 0} (g : Ghosts D) (X : Type 0) → ReadingRelation → Standing → List ClientEvent → List Answer → List Answer → D → D → Result (Unit {0}) DatabaseFault → Type 0
 LivesOn g X Reads last events before after old new (Ok x) = (told : List Answer) × (moments : List ℕ) × (after ≡ before ++ told)
     × ((is : IsLifeOn Reads last events told moments (g.state old) (g.state new)) × IsServedOn g X Reads is.0.begin events told moments new)
 LivesOn g X Reads last events before after old new (Err (Pages pages.Memory)) = (after ≡ before) × IsNoLife last (records_on (g.state old)) (records_on (g.state new))
@@ -89,7 +88,7 @@ LivesOn g X Reads last events before after old new (Err (Records (Commit fault))
     HoldsFirstSpelling (g.state old) × (after ≡ before) × IsNoLife last (records_on (g.state old)) (records_on (g.state new))
 
 -- what a life on a faithful device promises: it goes on from wherever the last one may have left the device
-abbrev pub PromisesLife : {D : Type 0} (g : Ghosts D) (X : Type 0) → ReadingRelation → List Event → List Answer → List Answer → D → D → Result (Unit {0}) DatabaseFault → Type 0
+abbrev pub PromisesLife : {D : Type 0} (g : Ghosts D) (X : Type 0) → ReadingRelation → List ClientEvent → List Answer → List Answer → D → D → Result (Unit {0}) DatabaseFault → Type 0
 PromisesLife g X Reads events before after old new result =
     (g.state old).faithful → (last : Standing) → LeavesFound last (records_on (g.state old)) → LivesOn g X Reads last events before after old new result
 

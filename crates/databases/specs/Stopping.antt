@@ -2,13 +2,12 @@
 use Rattle.std.specs.Prelude.{◌≡◌, ◌≢◌, ◌⊎◌, ◌≤◌, ◌<◌, ◌↔◌, ℕ, List, [], ◌∷◌, ◌++◌, length, Option, None, Some}
 use Rattle.sector_device.specs.Timeline.{Timeline}
 use Rattle.sql_types.specs.declared.answer.Answer.{Answer}
-use Rattle.sql_types.specs.declared.event.Event.{Event}
 use Rattle.store.specs.Store.{Contents}
 use Rattle.abstract_database.specs.Database.{Database}
 use Rattle.abstract_database.specs.Machine.{Event as MachineEvent}
 use Rattle.abstract_database.specs.Runs.{TheText, ReadingRelation, Standing, At, IsFoundAt, IsBrought, Happens}
 use Rattle.server.specs.Standing.{Means, event_of, stops_of}
-use Rattle.databases.specs.Lives.{RanAt, IsLife}
+use Rattle.databases.specs.Lives.{ClientEvent, RanAt, IsLife}
 
 -- ---- what a stop leaves
 
@@ -45,11 +44,11 @@ AreAfter stop (moment ∷ moments) = (stop < moment) × AreAfter stop moments
 -- Where a stop leads that came here or later, before the first of the other events was answered. At the very moment at which the last
 -- event was answered nothing is under way: the next life goes on from here alone. Later the first of the others is under way: the
 -- next life goes on from here, or from what that event would bring, and from nothing else.
-pub data GoesOnFrom (Reads : ReadingRelation) (time : Timeline (Option Contents)) (stop : ℕ) (here : At) (others : List Event) (rest : List Answer) (after : List ℕ) (next : Standing) : Type 0 where
+pub data GoesOnFrom (Reads : ReadingRelation) (time : Timeline (Option Contents)) (stop : ℕ) (here : At) (others : List ClientEvent) (rest : List Answer) (after : List ℕ) (next : Standing) : Type 0 where
   between : here.moment ≡ stop → next ≡ here.standing → GoesOnFrom Reads time stop here others rest after next
-  during : (event : Event) (events : List Event) (answer : Answer) (told : List Answer) (following : At) (moments : List ℕ)
+  during : (event : ClientEvent) (events : List ClientEvent) (answer : Answer) (told : List Answer) (following : At) (moments : List ℕ)
       → others ≡ event ∷ events → rest ≡ answer ∷ told → after ≡ following.moment ∷ moments
-      → (happens : Happens Reads (stops_of time) here (event_of 0 event) answer following)
+      → (happens : Happens Reads (stops_of time) here (event_of event.client event.event) answer following)
       → here.moment < stop
       → next.machine ≡ here.standing.machine
       → ((db : Database) → IsFoundAt next db ↔ (IsFoundAt here.standing db ⊎ IsBrought happens.step db))
@@ -57,9 +56,9 @@ pub data GoesOnFrom (Reads : ReadingRelation) (time : Timeline (Option Contents)
 
 -- A stop among events. Done are those whose answers were given up to the moment of the stop, and no others; of the others the first
 -- was under way, if any was.
-pub record StopsIn (Reads : ReadingRelation) (time : Timeline (Option Contents)) (begin : At) (stop : ℕ) (events : List Event) (told : List Answer) (moments : List ℕ) (next : Standing) : Type 0 where
-  pub done : List Event
-  pub others : List Event
+pub record StopsIn (Reads : ReadingRelation) (time : Timeline (Option Contents)) (begin : At) (stop : ℕ) (events : List ClientEvent) (told : List Answer) (moments : List ℕ) (next : Standing) : Type 0 where
+  pub done : List ClientEvent
+  pub others : List ClientEvent
   pub events_are : events ≡ done ++ others
   pub answers : List Answer
   pub rest : List Answer
@@ -74,7 +73,7 @@ pub record StopsIn (Reads : ReadingRelation) (time : Timeline (Option Contents))
   pub leads : GoesOnFrom Reads time stop here others rest after next
 
 -- a stop before the life begins leaves what the last life may have left, and any other stops its events
-abbrev pub StopsAt : {Reads : ReadingRelation} (last : Standing) {events : List Event} {told : List Answer} {moments : List ℕ} {old new : Timeline (Option Contents)}
+abbrev pub StopsAt : {Reads : ReadingRelation} (last : Standing) {events : List ClientEvent} {told : List Answer} {moments : List ℕ} {old new : Timeline (Option Contents)}
     → IsLife Reads last events told moments old new → Option ℕ → Standing → Type 0
 StopsAt last life None next = next ≡ life.end.standing
 StopsAt {Reads} last {events} {told} {moments} {new = new} life (Some stop) next =
@@ -82,7 +81,7 @@ StopsAt {Reads} last {events} {told} {moments} {new = new} life (Some stop) next
     ⊎ ((life.begin.moment ≤ stop) × StopsIn Reads new life.begin stop events told moments next)
 
 -- the stop came after the life began, and the event at this place was done then
-abbrev pub IsDoneAt : {Reads : ReadingRelation} {last : Standing} {events : List Event} {told : List Answer} {moments : List ℕ} {old new : Timeline (Option Contents)}
+abbrev pub IsDoneAt : {Reads : ReadingRelation} {last : Standing} {events : List ClientEvent} {told : List Answer} {moments : List ℕ} {old new : Timeline (Option Contents)}
     → IsLife Reads last events told moments old new → ℕ → ℕ → Standing → Type 0
 IsDoneAt {Reads} {events = events} {told = told} {moments = moments} {new = new} life stop index next =
     (stops : StopsIn Reads new life.begin stop events told moments next) × (index < length stops.done)

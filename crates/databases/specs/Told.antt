@@ -18,8 +18,16 @@ use Rattle.wire.specs.declared.connection.End.TheVariants as connection
 use Rattle.wire.specs.Connection.{AnswersUntaken, InputState, IsServed}
 use Rattle.wire.specs.Listening.{Listening}
 use Rattle.wire.specs.Listener.{Connection, ServesEach}
+use Rattle.databases.specs.Lives.{ClientEvent}
 use Rattle.databases.specs.Answered.{Answered, IsOfEach}
-use Rattle.databases.specs.DeviceFollowing.{Did, ran_script, served_connections, opened_none, IsAnsweredIn}
+use Rattle.databases.specs.DeviceFollowing.{Did, ran_script, served_connections, served_clients, opened_none, IsAnsweredIn}
+use Rattle.talks.specs.declared.want.Reply.TheVariants as reply
+use Rattle.talks.specs.declared.talk.Talk.{Ghosts as TalkGhosts}
+use Rattle.talks.specs.declared.clients.ServedClients.{Ghosts as ClientsGhosts}
+use Rattle.talks.specs.Turns.{Exchange, Turn, TakesTurns}
+use Rattle.served_machine.specs.declared.machine.ServedMachine.{ServedMachine}
+use Rattle.served_machine.specs.Machines.{machine_of}
+use Rattle.served_clients.specs.Told.{IsTold as IsToldOf}
 
 module _ {S X K : Type 0} (Reads : ReadingRelation) (state : S → StoreState) (k : SinkGhosts K) where
   -- the answers to the events of a script that were told
@@ -52,12 +60,28 @@ module _ {S X K : Type 0} (Reads : ReadingRelation) (state : S → StoreState) (
       (slice_get (told_in_bytes old each.2.served.server c.input c.left c.taken c.closed c.end each.2.served.served) place ≡ Some t)
       ⊎ ((later : ℕ) × (place ≡ length is.0.moments + later) × IsToldInEach rest each.0 new each.1 after each.3 is.1 is.4 later t)
 
+-- this client was told this answer, at this moment, and it has this place among all that the server gave
+abbrev pub IsToldToClient : {S X T C : Type 0} (Reads : ReadingRelation) (state : S → StoreState) (t : TalkGhosts T) (k : ClientsGhosts C T)
+    (old : ServedMachine S X) (before : C) (turns : List Turn) (new : ServedMachine S X) (after : C) → TakesTurns (machine_of Reads state) t k old before turns new after → ℕ → ℕ → Told → Type 0
+IsToldToClient Reads state t k old before turns new after took client place told = (exchange : Exchange) × (exchange.client ≡ client)
+    × IsToldOf Reads state t k old before turns new after took exchange told.moment place
+    × (exchange.reply ≡ reply.Answer told.answer)
+
+-- at this place stands an event of this client, with this answer
+pub record IsOwnAnswer (it : Answered) (client place : ℕ) (answer : Answer) : Type 0 where
+  pub event : ClientEvent
+  pub there : slice_get it.events place ≡ Some event
+  pub own : event.client ≡ client
+  pub answered : slice_get it.answers place ≡ Some answer
+
 -- this answer of a run was told, and has this place among all that were answered in it
-abbrev pub IsTold : {D : Type 0} {g : Ghosts D} {X K M : Type 0} {k : SinkGhosts K} {m : SinkGhosts M} {Reads : ReadingRelation} {begin end : D}
-    (did : Did g X k m Reads begin end) (it : Answered) → IsAnsweredIn did it → ℕ → Told → Type 0
-IsTold {k = k} {Reads = Reads} (ran_script opened is script before ending after runs) it answered place t =
+abbrev pub IsTold : {D : Type 0} {g : Ghosts D} {X K M T C : Type 0} {k : SinkGhosts K} {m : SinkGhosts M} {t : TalkGhosts T} {c : ClientsGhosts C T} {Reads : ReadingRelation} {begin end : D}
+    (did : Did g X k m t c Reads begin end) (it : Answered) → IsAnsweredIn did it → ℕ → Told → Type 0
+IsTold {k = k} {Reads = Reads} (ran_script opened is script before ending after runs) it answered place told =
     let run = runs.ran in
-    slice_get (told_in_lines Reads store_state k opened.server run.server before run.told run.ran.events run.ran.answers run.ending run.ran.tells) place ≡ Some t
-IsTold {m = m} {Reads = Reads} (served_connections opened is asked before ending after serves) it answered place t =
-    IsToldInEach Reads store_state m serves.serves.connections opened.server serves.last before serves.serves.between serves.serves.each it answered place t
-IsTold (opened_none fault refused) it answered place t = ⊥
+    slice_get (told_in_lines Reads store_state k opened.server run.server before run.told run.ran.events run.ran.answers run.ending run.ran.tells) place ≡ Some told
+IsTold {m = m} {Reads = Reads} (served_connections opened is asked before ending after serves) it answered place told =
+    IsToldInEach Reads store_state m serves.serves.connections opened.server serves.last before serves.serves.between serves.serves.each it answered place told
+IsTold {t = t} {c = c} {Reads = Reads} (served_clients opened is before ending after serves) it answered place told =
+    (client : ℕ) × IsToldToClient Reads store_state t c serves.first before serves.serves.turns serves.last after serves.serves.took client place told
+IsTold (opened_none fault refused) it answered place told = ⊥

@@ -14,12 +14,14 @@ mod runs;
 mod stopping;
 
 pub use database::{Opened, open_database};
-pub use device_following::{each_call_may_be_the_last, runs_follow_stops, told_answers_stay};
+pub use device_following::{
+    clients_are_told_their_own, each_call_may_be_the_last, runs_follow_stops, told_answers_stay,
+};
 pub use fault::DatabaseFault;
 pub use following::lives_follow_stops;
 pub use making::make_database;
 pub use new_database::a_stop_leaves_none_or_the_new_one;
 pub use on_device::live;
 pub use over_store::live_over;
-pub use runs::{run_script_on, serve_database};
+pub use runs::{run_script_on, serve_clients_on, serve_database};
 pub use stopping::{either_may_be_left, steps_run_at_moments, told_answers_are_done};

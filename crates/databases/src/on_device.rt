@@ -1,6 +1,7 @@
 //! One life of a database on a device.
 
 ghost use Rattle.std.specs.Prelude.{◌≡◌, IfErr, OnErr};
+ghost use Rattle.databases.specs.Lives.{all_of_client};
 ghost use Rattle.databases.specs.OnDevice.{life_result_of, PromisesLife, IsRefusedOn};
 ghost use Rattle.databases.specs.NewDatabase.{IsNone, IsRefusedAsNone};
 
@@ -39,7 +40,7 @@ pub fn live<D: JournalDevice, X: EventHandler + Drop>(
     answers: &mut Vec<Answer>,
 ) -> (D, Result<(), DatabaseFault>)
     ensures faithful { (D.state device).faithful → (D.state result.0).faithful }
-    ensures lives { PromisesLife D.Device X X.Reads events.now answers.old.items
+    ensures lives { PromisesLife D.Device X X.Reads (all_of_client 0 events.now) answers.old.items
         answers.new.items device result.0 result.1 }
     ensures refused { (D.state device).faithful → IfErr result.1
         (λ fault. IsRefusedOn fault (D.state device) (D.state result.0)) }

@@ -5,7 +5,7 @@ ghost use Rattle.sql_types.specs.declared.answer.Answer.{Answer as TheAnswer};
 ghost use Rattle.store.specs.Store.{KeepsHistory, stored};
 ghost use Rattle.abstract_database.specs.Runs.{Standing};
 ghost use Rattle.recovery.specs.Openings.{OnlyLooks};
-ghost use Rattle.databases.specs.Lives.{IsFoundLeft, Lives, IsRefused, StepsAt, Answers};
+ghost use Rattle.databases.specs.Lives.{all_of_client, IsFoundLeft, Lives, IsRefused, StepsAt, Answers};
 
 use recovery::{OpeningFault, Refused, open};
 use server::decide::EventHandler;
@@ -42,7 +42,7 @@ pub fn live_over<S: Store, X: EventHandler + Drop>(
     ensures history { KeepsHistory (S.state store) (S.state result.0) }
     ensures lives { (S.state store).sound → (S.state store).has_failed ≡ false → (s : Standing)
         → IsFoundLeft s (Some (stored (S.state store)))
-        → Lives X X.Reads S.state s events.now answers.old.items answers.new.items
+        → Lives X X.Reads S.state s (all_of_client 0 events.now) answers.old.items answers.new.items
         (S.state store) result.0 result.1 }
     ensures refused { IfErr result.1
         (λ fault. IsRefused fault (S.state store) (S.state result.0)) }
@@ -66,7 +66,7 @@ fn answer_events<S: Store, X: EventHandler + Drop>(
     answers: &mut Vec<Answer>,
 ) -> (S, Result<(), OpeningFault>)
     ensures history { KeepsHistory (S.state server.store) (S.state result.0) }
-    ensures answers { Answers X.Reads S.state server events.now answers.old.items answers.new.items
+    ensures answers { Answers X.Reads S.state server (all_of_client 0 events.now) answers.old.items answers.new.items
         result.0 result.1 }
 {
     let mut server = server;
@@ -88,7 +88,7 @@ fn step_by_step<S: Store, X: EventHandler>(
     ensures history { KeepsHistory (S.state server.old.store) (S.state server.new.store) }
     ensures ok { OnOk result ((told : List TheAnswer) × (moments : List ℕ)
         × (answers.new.items ≡ answers.old.items ++ told)
-        × StepsAt X.Reads S.state server.old events.now told moments server.new) }
+        × StepsAt X.Reads S.state server.old (all_of_client 0 events.now) told moments server.new) }
     ensures err { OnErr result ((server.new ≡ server.old)
         × (answers.new.items ≡ answers.old.items)) }
 {

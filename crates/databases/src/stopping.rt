@@ -2,13 +2,12 @@
 
 ghost use Rattle.std.specs.Prelude.{◌≡◌, ◌≤◌, ◌<◌, ℕ, List, Some, length, slice_get};
 ghost use Rattle.sql_types.specs.declared.answer.Answer.{Answer};
-ghost use Rattle.sql_types.specs.declared.event.Event.{Event};
 ghost use Rattle.sector_device.specs.HistoryDevice.{history_device_state};
 ghost use Rattle.abstract_database.specs.Machine.{Event as MachineEvent};
 ghost use Rattle.abstract_database.specs.Runs.{Standing, At, TheText};
 ghost use Rattle.server.specs.declared.server.Server.{Server};
 ghost use Rattle.server.specs.Standing.{Represents};
-ghost use Rattle.databases.specs.Lives.{StepsAt, RunsAt};
+ghost use Rattle.databases.specs.Lives.{ClientEvent, StepsAt, RunsAt};
 ghost use Rattle.databases.specs.OnDevice.{records_on, IsLifeOn};
 ghost use Rattle.databases.specs.Stopping.{StopsAt, StopsIn, IsDoneAt, Changes, LeavesOneAtEach};
 ghost use Rattle.databases.specs.Following.{Life};
@@ -21,7 +20,7 @@ use stored_database::one_database;
 /// Steps of a server from where it stands are a run of the session machine, and the moment of each
 /// answer is the one at which the store's clock stood after the step.
 pub fn steps_run_at_moments<S: Store, X: EventHandler>()
-    ensures { (first last : Server S X) (events : List Event) (told : List Answer)
+    ensures { (first last : Server S X) (events : List ClientEvent) (told : List Answer)
         (moments : List ℕ) (w : At) → StepsAt X.Reads S.state first events told moments last
         → (S.state first.store).sound → Represents S.state first w
         → RunsAt X.Reads S.state first w events told moments last }

@@ -1,12 +1,16 @@
 //! A listener in memory.
 
 ghost use Rattle.std.specs.Prelude.{◌≡◌, [], Some, IfOk};
+ghost use Rattle.channels.specs.Channels.{KeepsAll};
 ghost use Rattle.systems.specs.Clients.{coming_lines, closed_lines};
 ghost use Rattle.wire.specs.Listening.{Listening};
 
+use channels::attend::{Attend, Taken};
+use channels::memory::{MemAttend, MemChannel};
 use std::alloc::{AllocError, Global};
 use std::collections::VecDeque;
 use std::io::ErrorKind;
+use std::time::Duration;
 use std::{io, mem};
 use wire::frame_sink::FrameSink;
 use wire::input::{CountedReader, Input};
@@ -52,13 +56,14 @@ impl Input for MemReader {
 }
 
 /// Clients that come one after the other, with nothing in place of each that cannot be taken, and
-/// those that were closed.
+/// those that were closed. Beside them, clients that come once it is polled.
 #[derive(Drop)]
 pub struct MemListener {
     alloc: Global,
     coming: VecDeque<Option<MemReader>>,
     closed: Clients,
     failures: u64,
+    polled: MemAttend,
 }
 
 impl MemListener {
@@ -72,7 +77,50 @@ impl MemListener {
             coming,
             closed: Clients::Nobody,
             failures: 0,
+            polled: MemAttend::new(alloc, Vec::new(alloc), 0),
         }
+    }
+
+    /// These clients come once it is polled, and none of them was closed.
+    pub fn of_polled(alloc: Global, polled: MemAttend) -> MemListener
+        ensures coming { KeepsAll (⟦<MemAttend as Attend<MemChannel>>⟧.coming polled)
+            (⟦<MemListener as Attend<MemChannel>>⟧.coming result) }
+        ensures closed { KeepsAll (⟦<MemAttend as Attend<MemChannel>>⟧.closed polled)
+            (⟦<MemListener as Attend<MemChannel>>⟧.closed result) }
+    {
+        MemListener {
+            alloc,
+            coming: VecDeque::new(alloc),
+            closed: Clients::Nobody,
+            failures: 0,
+            polled,
+        }
+    }
+}
+
+impl Attend<MemChannel> for MemListener {
+    ghost coming = { λ listener. ⟦<MemAttend as Attend<MemChannel>>⟧.coming listener.polled };
+
+    ghost closed = { λ listener. ⟦<MemAttend as Attend<MemChannel>>⟧.closed listener.polled };
+
+    fn take(&mut self, client: u32) -> Taken<MemChannel> {
+        self.polled.take(client)
+    }
+
+    fn turn_away(&mut self, bytes: &[u8]) -> Taken<()> {
+        self.polled.turn_away(bytes)
+    }
+
+    fn wait(&mut self, clients: &mut Vec<u32>, within: Option<Duration>) -> bool {
+        self.polled.wait(clients, within)
+    }
+
+    fn now(&mut self) -> Duration {
+        self.polled.now()
+    }
+
+    fn close(&mut self, client: u32, channel: MemChannel) {
+        self.polled.close(client, channel);
     }
 }
 

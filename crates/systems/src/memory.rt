@@ -11,6 +11,7 @@ use crate::fault::{OpenPathFault, TextFault};
 use crate::listener::MemListener;
 use crate::place::ListenPlace;
 use crate::system::System;
+use channels::memory::MemChannel;
 use sector_device::{FileFault, HistoryDevice, SystemCause, Unwatched, WriteProtected};
 use std::alloc::Global;
 use std::time::Duration;
@@ -61,6 +62,8 @@ impl System for MemSystem<WriteProtected<HistoryDevice>> {
     ghost use Rattle.systems.specs.MemoryLaws.{no_device_in, no_text_in};
 
     type Device = WriteProtected<HistoryDevice>;
+
+    type Channel = MemChannel;
 
     type Listener = MemListener;
 
@@ -227,6 +230,10 @@ impl System for MemSystem<WriteProtected<HistoryDevice>> {
                 self.listener = Some(listener);
             }
         }
+    }
+
+    fn poll(&mut self, _listener: &mut MemListener) -> Result<(), SystemCause> {
+        Ok(())
     }
 
     ghost faithful_devices = { λ system path device faithful has. tt };

@@ -1,12 +1,15 @@
 //! What names the files and the places of a program: those of a machine, or a few in memory.
 
 ghost use Rattle.std.specs.Prelude.{◌≡◌, ◌≢◌, None, ◌≤◌, ◌*◌, ℕ, List, IfOk, IfErr, OnOk, OnErr};
+ghost use Rattle.channels.specs.Channels.{KeepsAll};
 ghost use Rattle.systems.specs.Places.{ThePlace, the_place, IsOfKind, IsBoundFor};
 ghost use Rattle.systems.specs.Systems.{At, Absent, SystemState, HasDevice, IsHeldFrom, IsOpen, IsOpenFor, IsReadable, IsReading, MayOpen, IsNamed, IsUnnamed, HasText, Hears, IsBound, Rose, IsSame, IsSameBut, IsSameButAt, IsSameButBoth, HoldsZeros};
 
 use crate::access::Access;
 use crate::fault::{OpenPathFault, TextFault};
 use crate::place::ListenPlace;
+use channels::attend::Attend;
+use channels::channel::Channel;
 use journal_store::JournalDevice;
 use sector_device::{CopyProgress, Device, FileFault, SystemCause};
 use std::alloc::Global;
@@ -22,8 +25,12 @@ pub trait System {
     /// What the path of a database names. It has room for a journal.
     type Device: JournalDevice + Drop;
 
-    /// What the place of a server names.
-    type Listener: Listen + Drop;
+    /// A connection to a listener of which no call waits.
+    type Channel: Channel + Drop;
+
+    /// What the place of a server names: it gives connections, one after the other, each of which may
+    /// wait; or, once it is polled, some of which none does.
+    type Listener: Listen + Attend<Self::Channel> + Drop;
 
     /// What is told how far a copy is.
     type CopyProgress: CopyProgress + Drop;
@@ -196,6 +203,15 @@ pub trait System {
             → Hears (state self.new) (the_place place.entry) listener }
         ensures others { (state self.old).faithful
             → IsSameButAt (the_place place.entry) (state self.old) (state self.new) };
+
+    /// Makes a listener one of which no call waits. An error: the system does not.
+    fn poll(&mut self, listener: &mut Self::Listener) -> Result<(), SystemCause>
+        ensures coming { KeepsAll (Self.Listener.coming listener.old) (Self.Listener.coming listener.new) }
+        ensures closed { KeepsAll (Self.Listener.closed listener.old) (Self.Listener.closed listener.new) }
+        ensures listening { Self.Listener.listening listener.new ≡ Self.Listener.listening listener.old }
+        ensures counts { (state self.old).failures ≤ (state self.new).failures }
+        ensures cause { OnErr result (Rose (state self.old).failures (state self.new).failures) }
+        ensures same { (state self.old).faithful → IsSame (state self.old) (state self.new) };
 
     /// The devices of a faithful system are faithful.
     ghost faithful_devices: { (system : Self) (path : List ℕ) (device : Self.Device)

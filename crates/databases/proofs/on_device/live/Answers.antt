@@ -3,6 +3,7 @@ use Rattle.store.specs.Store.{stored}
 use Rattle.journal_store.specs.DeviceReads.{faithful_under}
 use Rattle.journal_store.specs.DeviceStores.{device_of, store_state}
 use Rattle.cow_pages.specs.Image.{first_fault}
+use Rattle.databases.specs.Lives.{all_of_client}
 use Rattle.databases.specs.OnDevice.{life_result_of, IsRefusedOn}
 use Rattle.databases.proofs.Opening.{not_opened_on, lived_on, refused_on, refused_over, content_after, unanswered_as}
 use Rattle.databases.proofs.NewDatabaseMade.{no_fault_is_none, refused_as_none}
@@ -18,13 +19,13 @@ returns-in-Ok-clause-lives g c = λ faithful last found.
     let left = c.live_over-store.result.0 in
     let lives = c.live_over-store.ensures.lives holds.sound opened.has_not_failed last here in
     let sound = c.live_over-store.ensures.history.sound holds.sound in
-    lived_on device store left g.X.EventHandler.Reads last c.args.events.now c.args.answers.now.items c.live_over-store.new.answers.items g.row.X.Denot c.live_over-store.result.1
+    lived_on device store left g.X.EventHandler.Reads last (all_of_client 0 c.args.events.now) c.args.answers.now.items c.live_over-store.new.answers.items g.row.X.Denot c.live_over-store.result.1
     c.life_result.result c.into_device.result c.life_result.ensures c.into_device.ensures opened faithful sound
     (λ s lt. g.met.D.Device.content_left (device_of left) s (faithful_under left sound) lt) found lives
 
 pub returns-in-Err-clause-lives : goal.returns-in-Err-clause-lives
 returns-in-Err-clause-lives g c = λ faithful last found.
-    refused_on g.D.Device g.row.X.Denot g.X.EventHandler.Reads last c.args.events.now c.args.answers.now.items c.args.device c.in-Err.device c.in-Err.fault
+    refused_on g.D.Device g.row.X.Denot g.X.EventHandler.Reads last (all_of_client 0 c.args.events.now) c.args.answers.now.items c.args.device c.in-Err.device c.in-Err.fault
     (λ s lt. g.met.D.Device.content_left c.args.device s faithful lt) found
     (c.in-Err.ensures.content faithful) c.in-Err.ensures.history.sectors (c.in-Err.ensures.named faithful)
 
