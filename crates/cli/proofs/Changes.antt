@@ -72,6 +72,15 @@ module _ {D L : Type 0} where
     listeners = λ place other. second.listeners place other ∙ first.listeners place other;
   }
 
+  pub at_then_same : (changed : ThePlace) (a b c : SystemState D L) → IsSameButAt changed a b → IsSame b c → IsSameButAt changed a c
+  at_then_same changed a b c first second = record {
+    faithful = λ is. second.faithful (first.faithful is);
+    devices = λ path. second.devices path ∙ first.devices path;
+    texts = λ path. second.texts path ∙ first.texts path;
+    names = λ path other. second.names path ∙ first.names path other;
+    listeners = λ place other. second.listeners place ∙ first.listeners place other;
+  }
+
   -- what was opened and then closed
   pub closed_again : (g : Ghosts D) (path : List ℕ) (device left : D) (old mid new : SystemState D L) → HasDevice old path device → IsOpen mid path → IsSameBut path old mid
       → (mid.faithful → IsOpen mid path → HasDevice new path left) → (mid.faithful → IsSameBut path mid new) → old.faithful → ChangesDevice g old path device left new

@@ -78,6 +78,7 @@ module _ (words : TheWords) (name : TheWord) (rows : List Row) (fits : fault_of 
   order_asks (order.RunMemory admin script on) has = (has.0, has.1, gives_of _ has.2, has.3, has.4)
   order_asks (order.Serve file port connections idle) has = (has.0, has.1, has.2, gives_of _ has.3, has.4, has.5, has.6)
   order_asks (order.ServeSocket file socket connections idle) has = (has.0, has.1, gives_of _ has.2, has.3, has.4, has.5)
+  order_asks (order.ServeClients file place many) has = (has.0, has.1, gives_of _ has.2, has.3, has.4)
   order_asks (order.Check file) has = gives_of _ has
   order_asks (order.Describe file role json) has = (gives_of _ has.0, has.1)
   order_asks order.Help has = absurd has
@@ -87,6 +88,7 @@ module _ (words : TheWords) (name : TheWord) (rows : List Row) (fits : fault_of 
   pub order_refuses : (u : UsageFault) → IsUnfit (GivesAs name rows) u → Refuses words u
   order_refuses usage.Form none = (fits, λ given gives. none given (given_as given gives))
   order_refuses usage.Serving none = (fits, λ given gives. none given (given_as given gives))
+  order_refuses usage.ServingClients none = (fits, λ given gives. none given (given_as given gives))
   order_refuses (usage.Number option word) unfit = (unfit.0, gives_of _ unfit.1, unfit.2, unfit.3)
   order_refuses (usage.Path path) unfit = (unfit.0, gives_of _ unfit.1, unfit.2, unfit.3)
   order_refuses (usage.Name named) unfit = (unfit.0, gives_of _ unfit.1, unfit.2, unfit.3)
@@ -110,6 +112,7 @@ asks_by words e (Ok (order.Run file script on)) kinds read = absurd read
 asks_by words e (Ok (order.RunMemory admin script on)) kinds read = absurd read
 asks_by words e (Ok (order.Serve file port connections idle)) kinds read = absurd read
 asks_by words e (Ok (order.ServeSocket file socket connections idle)) kinds read = absurd read
+asks_by words e (Ok (order.ServeClients file place many)) kinds read = absurd read
 asks_by words e (Ok (order.Check file)) kinds read = absurd read
 asks_by words e (Ok (order.Describe file role json)) kinds read = absurd read
 asks_by words e (Err u) kinds read = tt
@@ -120,6 +123,7 @@ refuses_by words e (Err (usage.Grammar mistake)) kinds read =
     subst (λ f. Refuses words (usage.Grammar f)) (sym read.0) (read.1, among words e kinds read.1.not_memory)
 refuses_by words e (Err usage.Form) kinds read = absurd read
 refuses_by words e (Err usage.Serving) kinds read = absurd read
+refuses_by words e (Err usage.ServingClients) kinds read = absurd read
 refuses_by words e (Err (usage.Number option word)) kinds read = absurd read
 refuses_by words e (Err (usage.Path path)) kinds read = absurd read
 refuses_by words e (Err (usage.Name name)) kinds read = absurd read

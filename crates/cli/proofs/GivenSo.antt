@@ -21,6 +21,7 @@ module _ (G : Given → Type 0) (words : Given) (gives : G words) where
   ordered_so (order.RunMemory admin script on) has = (has.0, has.1, so _ has.2, has.3, has.4)
   ordered_so (order.Serve file port connections idle) has = (has.0, has.1, has.2, so _ has.3, has.4, has.5, has.6)
   ordered_so (order.ServeSocket file socket connections idle) has = (has.0, has.1, so _ has.2, has.3, has.4, has.5)
+  ordered_so (order.ServeClients file place many) has = (has.0, has.1, so _ has.2, has.3, has.4)
   ordered_so (order.Check file) has = so _ has
   ordered_so (order.Describe file role json) has = (so _ has.0, has.1)
   ordered_so order.Help has = absurd has
@@ -29,6 +30,7 @@ module _ (G : Given → Type 0) (words : Given) (gives : G words) where
   pub unfit_so : (u : UsageFault) → IsUnfit (λ given. given ≡ words) u → IsUnfit G u
   unfit_so usage.Form none = absurd (none words refl)
   unfit_so usage.Serving none = absurd (none words refl)
+  unfit_so usage.ServingClients none = absurd (none words refl)
   unfit_so (usage.Number option word) unfit = (unfit.0, so _ unfit.1, unfit.2, unfit.3)
   unfit_so (usage.Path path) unfit = (unfit.0, so _ unfit.1, unfit.2, unfit.3)
   unfit_so (usage.Name named) unfit = (unfit.0, so _ unfit.1, unfit.2, unfit.3)
@@ -48,6 +50,7 @@ no_number_so option given word is (usage.Number asked wrong) none =
     (given, refl, ap (λ o. number_in o given) none.0 ∙ is ∙ none.1, subst (λ o. NoNumberFor o wrong.now) (sym none.0) none.2)
 no_number_so option given word is usage.Form none = absurd none
 no_number_so option given word is usage.Serving none = absurd none
+no_number_so option given word is usage.ServingClients none = absurd none
 no_number_so option given word is (usage.Path path) none = absurd none
 no_number_so option given word is (usage.Name name) none = absurd none
 no_number_so option given word is (usage.Switch named) none = absurd none

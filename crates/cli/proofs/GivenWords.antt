@@ -6,7 +6,7 @@ use Rattle.clap.specs.Words.{Row, first_of, first_value, one_of, one_text, rows_
 use Rattle.clap.proofs.WalkLemmas.{first_value-rows, one_text-rows}
 use Rattle.clap.specs.declared.parser.matches.Found.{Found}
 use Rattle.sql_types.specs.Name.{IsName}
-use Rattle.cli.specs.CommandLine.{TheWord, Given, Format, Copy, Journal, Run, RunMemory, Serve, ServeSocket, Check, Describe, HasWords, GivesAs, IsFlag, IsRoleName, lent_word}
+use Rattle.cli.specs.CommandLine.{TheWord, Given, Format, Copy, Journal, Run, RunMemory, Serve, ServeSocket, ServeClients, GivenPlace, AtPort, AtSocket, GivenCounts, Check, Describe, HasPlaceWord, HasWords, GivesAs, IsFlag, IsRoleName, lent_word}
 
 module _ (f : Found) (id : List ℕ) (r : Option (Bor (List ℕ))) (got : option_map (λ s. s.now) r ≡ first_value f id) where
   -- what a getter gives is the word that the rows have
@@ -43,6 +43,21 @@ module _ (f : Found) (id : List ℕ) (r : Option (Bor (List ℕ))) (got : option
 
   pub none_word : is_some r ≡ false → first_of id (rows_of f) ≡ None
   none_word lacks = got_none f id r got (no_such r lacks)
+
+-- what is given is not left out
+pub not_both : (o : Option TheWord) (word : TheWord) → o ≡ None → o ≡ Some word → ⊥
+not_both o word none some =
+    let bad : None ≡ Some word = sym none ∙ some in
+    cc
+
+-- neither a port nor a socket is no place, and both are none
+pub no_place : (rows : List Row) (place : GivenPlace) → first_of (codes "port") rows ≡ None → first_of (codes "socket") rows ≡ None → HasPlaceWord rows place → ⊥
+no_place rows (AtPort port) no_port no_socket has = not_both _ port no_port has.0
+no_place rows (AtSocket socket) no_port no_socket has = not_both _ socket no_socket has.1
+
+pub two_places : (rows : List Row) (place : GivenPlace) (port : TheWord) → first_of (codes "port") rows ≡ Some port → (first_of (codes "socket") rows ≡ None → ⊥) → HasPlaceWord rows place → ⊥
+two_places rows (AtPort other) port has_port has_socket has = has_socket has.1
+two_places rows (AtSocket socket) port has_port has_socket has = not_both _ port has.0 has_port
 
 -- what a getter gives of a flag is whether it is given
 pub flag_so : (f : Found) (id : List ℕ) (given : Bool) → (one_text f id ≡ None → given ≡ false) → (one_text f id ≡ Some (codes "true") → given ≡ true) → (one_text f id ≡ Some (codes "false") → given ≡ false)
@@ -84,6 +99,7 @@ no_format rows lacks (Run file script stop explain) gives = other_name _ _ gives
 no_format rows lacks (RunMemory admin script stop explain) gives = other_name _ _ gives.named (λ e. omega (arith, e))
 no_format rows lacks (Serve file port connections idle) gives = other_name _ _ gives.named (λ e. omega (arith, e))
 no_format rows lacks (ServeSocket file socket connections idle) gives = other_name _ _ gives.named (λ e. omega (arith, e))
+no_format rows lacks (ServeClients file place counts) gives = other_name _ _ gives.named (λ e. omega (arith, e))
 no_format rows lacks (Check file) gives = other_name _ _ gives.named (λ e. omega (arith, e))
 no_format rows lacks (Describe file role json) gives = other_name _ _ gives.named (λ e. omega (arith, e))
 
@@ -95,19 +111,21 @@ no_run rows fewer lacks (Run file script stop explain) gives = fewer file script
 no_run rows fewer lacks (RunMemory admin script stop explain) gives = lacks admin script stop explain gives.words
 no_run rows fewer lacks (Serve file port connections idle) gives = other_name _ _ gives.named (λ e. omega (arith, e))
 no_run rows fewer lacks (ServeSocket file socket connections idle) gives = other_name _ _ gives.named (λ e. omega (arith, e))
+no_run rows fewer lacks (ServeClients file place counts) gives = other_name _ _ gives.named (λ e. omega (arith, e))
 no_run rows fewer lacks (Check file) gives = other_name _ _ gives.named (λ e. omega (arith, e))
 no_run rows fewer lacks (Describe file role json) gives = other_name _ _ gives.named (λ e. omega (arith, e))
 
-pub no_serve : (rows : List Row) → ((file port connections : TheWord) (idle : Option TheWord) → HasWords rows (Serve file port connections idle) → ⊥) → ((file socket connections : TheWord) (idle : Option TheWord) → HasWords rows (ServeSocket file socket connections idle) → ⊥) → (given : Given) → GivesAs (codes "serve") rows given → ⊥
-no_serve rows port socket (Format file pages admin journal) gives = other_name _ _ gives.named (λ e. omega (arith, e))
-no_serve rows port socket (Copy file new pages journal) gives = other_name _ _ gives.named (λ e. omega (arith, e))
-no_serve rows port socket (Journal file state) gives = other_name _ _ gives.named (λ e. omega (arith, e))
-no_serve rows port socket (Run file script stop explain) gives = other_name _ _ gives.named (λ e. omega (arith, e))
-no_serve rows port socket (RunMemory admin script stop explain) gives = other_name _ _ gives.named (λ e. omega (arith, e))
-no_serve rows port socket (Serve file number connections idle) gives = port file number connections idle gives.words
-no_serve rows port socket (ServeSocket file path connections idle) gives = socket file path connections idle gives.words
-no_serve rows port socket (Check file) gives = other_name _ _ gives.named (λ e. omega (arith, e))
-no_serve rows port socket (Describe file role json) gives = other_name _ _ gives.named (λ e. omega (arith, e))
+pub no_serve : (rows : List Row) → ((file port connections : TheWord) (idle : Option TheWord) → HasWords rows (Serve file port connections idle) → ⊥) → ((file socket connections : TheWord) (idle : Option TheWord) → HasWords rows (ServeSocket file socket connections idle) → ⊥) → ((file : TheWord) (place : GivenPlace) (counts : GivenCounts) → HasWords rows (ServeClients file place counts) → ⊥) → (given : Given) → GivesAs (codes "serve") rows given → ⊥
+no_serve rows port socket many (Format file pages admin journal) gives = other_name _ _ gives.named (λ e. omega (arith, e))
+no_serve rows port socket many (Copy file new pages journal) gives = other_name _ _ gives.named (λ e. omega (arith, e))
+no_serve rows port socket many (Journal file state) gives = other_name _ _ gives.named (λ e. omega (arith, e))
+no_serve rows port socket many (Run file script stop explain) gives = other_name _ _ gives.named (λ e. omega (arith, e))
+no_serve rows port socket many (RunMemory admin script stop explain) gives = other_name _ _ gives.named (λ e. omega (arith, e))
+no_serve rows port socket many (Serve file number connections idle) gives = port file number connections idle gives.words
+no_serve rows port socket many (ServeSocket file path connections idle) gives = socket file path connections idle gives.words
+no_serve rows port socket many (ServeClients file place counts) gives = many file place counts gives.words
+no_serve rows port socket many (Check file) gives = other_name _ _ gives.named (λ e. omega (arith, e))
+no_serve rows port socket many (Describe file role json) gives = other_name _ _ gives.named (λ e. omega (arith, e))
 
 pub no_check : (rows : List Row) → ((file : TheWord) → HasWords rows (Check file) → ⊥) → (given : Given) → GivesAs (codes "check") rows given → ⊥
 no_check rows lacks (Format file pages admin journal) gives = other_name _ _ gives.named (λ e. omega (arith, e))
@@ -117,6 +135,7 @@ no_check rows lacks (Run file script stop explain) gives = other_name _ _ gives.
 no_check rows lacks (RunMemory admin script stop explain) gives = other_name _ _ gives.named (λ e. omega (arith, e))
 no_check rows lacks (Serve file port connections idle) gives = other_name _ _ gives.named (λ e. omega (arith, e))
 no_check rows lacks (ServeSocket file socket connections idle) gives = other_name _ _ gives.named (λ e. omega (arith, e))
+no_check rows lacks (ServeClients file place counts) gives = other_name _ _ gives.named (λ e. omega (arith, e))
 no_check rows lacks (Check file) gives = lacks file gives.words
 no_check rows lacks (Describe file role json) gives = other_name _ _ gives.named (λ e. omega (arith, e))
 
@@ -128,6 +147,7 @@ no_describe rows lacks (Run file script stop explain) gives = other_name _ _ giv
 no_describe rows lacks (RunMemory admin script stop explain) gives = other_name _ _ gives.named (λ e. omega (arith, e))
 no_describe rows lacks (Serve file port connections idle) gives = other_name _ _ gives.named (λ e. omega (arith, e))
 no_describe rows lacks (ServeSocket file socket connections idle) gives = other_name _ _ gives.named (λ e. omega (arith, e))
+no_describe rows lacks (ServeClients file place counts) gives = other_name _ _ gives.named (λ e. omega (arith, e))
 no_describe rows lacks (Check file) gives = other_name _ _ gives.named (λ e. omega (arith, e))
 no_describe rows lacks (Describe file role json) gives = lacks file role json gives.words
 
@@ -139,6 +159,7 @@ no_copy rows lacks (Run file script stop explain) gives = other_name _ _ gives.n
 no_copy rows lacks (RunMemory admin script stop explain) gives = other_name _ _ gives.named (λ e. omega (arith, e))
 no_copy rows lacks (Serve file port connections idle) gives = other_name _ _ gives.named (λ e. omega (arith, e))
 no_copy rows lacks (ServeSocket file socket connections idle) gives = other_name _ _ gives.named (λ e. omega (arith, e))
+no_copy rows lacks (ServeClients file place counts) gives = other_name _ _ gives.named (λ e. omega (arith, e))
 no_copy rows lacks (Check file) gives = other_second _ _ gives.named (λ e. omega (arith, e))
 no_copy rows lacks (Describe file role json) gives = other_name _ _ gives.named (λ e. omega (arith, e))
 
@@ -150,5 +171,6 @@ no_journal rows lacks (Run file script stop explain) gives = other_name _ _ give
 no_journal rows lacks (RunMemory admin script stop explain) gives = other_name _ _ gives.named (λ e. omega (arith, e))
 no_journal rows lacks (Serve file port connections idle) gives = other_name _ _ gives.named (λ e. omega (arith, e))
 no_journal rows lacks (ServeSocket file socket connections idle) gives = other_name _ _ gives.named (λ e. omega (arith, e))
+no_journal rows lacks (ServeClients file place counts) gives = other_name _ _ gives.named (λ e. omega (arith, e))
 no_journal rows lacks (Check file) gives = other_name _ _ gives.named (λ e. omega (arith, e))
 no_journal rows lacks (Describe file role json) gives = other_name _ _ gives.named (λ e. omega (arith, e))

@@ -6,11 +6,14 @@ mod Blank
 pub mod Changes
 mod Copied
 mod Served
+mod ServedClients
+mod ServingOrders
 mod OnlyRead
 mod Switched
 mod Taken
 mod Earlier
 mod ExplainedEarlier
+mod RefusedRuns
 mod EventLines
 pub mod Lasting
 pub mod Machine

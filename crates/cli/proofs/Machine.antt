@@ -113,7 +113,7 @@ ends_at e ending lines count (inr writer) ends = subst (λ z. EndsAfter lines co
 
 -- a script ends as its lines did, or by its sink
 ends_so : {K : Type 0} (k : SinkGhosts K) (ending : ScriptEnd) (told : K) (e : ScriptEnd) (after : K) → EndsAsLines k ending told e after → (e ≡ ending) ⊎ (e ≡ end.Writer)
-ends_so k ending told e after (inl same) = inl same
+ends_so k ending told e after (inl same) = inl same.0
 ends_so k ending told e after (inr failed) = inr failed.0
 
 module _ {X : Type 0} (Reads : ReadingRelation) (admin : TheName) where

@@ -20,6 +20,32 @@ use Rattle.cli.specs.Migrations.{TellsMigration}
 use Rattle.cli.specs.Serving.{ChangesBoth, IsBoundBetween, IsNotBound, ServesAs, ServesAt, ServesOn}
 use Rattle.cli.proofs.Changes.{but_then_same, closed_again, rose_between}
 
+-- ---- a file and a place
+
+module _ {D L X : Type 0} (g : Ghosts D) (old mid end new : SystemState D L) (path : List ℕ) (place : ListenPlace) (opened : Opened D X g) (at : IsOpenedAt g old path opened mid) where
+  -- the device and the listener, from before the opening to after the closing
+  pub both_changed : (bound : ListenPlace) (listener ended : L) (left : D) → IsBoundBetween mid place bound listener ended end → (end.faithful → IsOpen end path → HasDevice new path left)
+      → (end.faithful → IsSameBut path end new) → old.faithful → ChangesBoth old path (the_place bound) at.device left listener ended new
+  both_changed bound listener ended left between closed closing is =
+      let opening = at.others is in
+      let at_mid = opening.faithful is in
+      let bound_so = between.others at_mid in
+      let at_end = bound_so.faithful at_mid in
+      let last = closing at_end in
+      record {
+        opened = at.named is;
+        closed = closed at_end (bound_so.devices path ∙ at.is_open is);
+        heard = sym (opening.listeners (the_place bound)) ∙ between.heard at_mid;
+        unbound = last.listeners (the_place bound) ∙ between.unbound at_mid;
+        others = record {
+          faithful = λ faithful. last.faithful (bound_so.faithful (opening.faithful faithful));
+          devices = λ p other. last.devices p other ∙ bound_so.devices p ∙ opening.devices p other;
+          texts = λ p other. last.texts p other ∙ bound_so.texts p ∙ opening.texts p other;
+          names = λ p other no_socket. last.names p other ∙ bound_so.names p no_socket ∙ opening.names p other;
+          listeners = λ p other. last.listeners p ∙ bound_so.listeners p other ∙ opening.listeners p;
+        };
+      }
+
 -- ---- at a place that was bound
 
 module _ {D L X C : Type 0} (g : Ghosts D) (c : SinkGhosts C) (Reads : ReadingRelation) (listening : L → Option Listening) (old new : SystemState D L) (place bound : ListenPlace) (asked : ℕ) (server : Server (DeviceStore D g) X) (before after : Known)
@@ -51,29 +77,6 @@ module _ {D L X C : Type 0} (g : Ghosts D) (c : SinkGhosts C) (Reads : ReadingRe
 
 module _ (X : Type 0) {D L C : Type 0} (g : Ghosts D) (c : SinkGhosts C) (Reads : ReadingRelation) (listening : L → Option Listening) (old mid end new : SystemState D L) (path : List ℕ) (place : ListenPlace) (asked : ℕ) (told : Bool) (before noted after : Known)
     (opened : Opened D X g) (at : IsOpenedAt g old path opened mid) (tells : TellsMigration opened.was_migrated path told before noted) where
-  -- the device and the listener, from before the opening to after the closing
-  both_changed : (bound : ListenPlace) (listener ended : L) (left : D) → IsBoundBetween mid place bound listener ended end → (end.faithful → IsOpen end path → HasDevice new path left)
-      → (end.faithful → IsSameBut path end new) → old.faithful → ChangesBoth old path (the_place bound) at.device left listener ended new
-  both_changed bound listener ended left between closed closing is =
-      let opening = at.others is in
-      let at_mid = opening.faithful is in
-      let bound_so = between.others at_mid in
-      let at_end = bound_so.faithful at_mid in
-      let last = closing at_end in
-      record {
-        opened = at.named is;
-        closed = closed at_end (bound_so.devices path ∙ at.is_open is);
-        heard = sym (opening.listeners (the_place bound)) ∙ between.heard at_mid;
-        unbound = last.listeners (the_place bound) ∙ between.unbound at_mid;
-        others = record {
-          faithful = λ faithful. last.faithful (bound_so.faithful (opening.faithful faithful));
-          devices = λ p other. last.devices p other ∙ bound_so.devices p ∙ opening.devices p other;
-          texts = λ p other. last.texts p other ∙ bound_so.texts p ∙ opening.texts p other;
-          names = λ p other no_socket. last.names p other ∙ bound_so.names p no_socket ∙ opening.names p other;
-          listeners = λ p other. last.listeners p ∙ bound_so.listeners p other ∙ opening.listeners p;
-        };
-      }
-
   -- the device, where the place was not bound
   device_changed : (left : D) → IsNotBound g c Reads listening mid place asked opened.server noted left end after → (end.faithful → IsOpen end path → HasDevice new path left) → (end.faithful → IsSameBut path end new)
       → old.faithful → ChangesDevice g old path at.device (device_under opened.server) new
@@ -96,7 +99,7 @@ module _ (X : Type 0) {D L C : Type 0} (g : Ghosts D) (c : SinkGhosts C) (Reads 
     ended = it.ended;
     left = left;
     serves = it.serves;
-    changes = both_changed it.bound it.listener it.ended left it.between closed closing;
+    changes = both_changed g old mid end new path place opened at it.bound it.listener it.ended left it.between closed closing;
   }
   served_so (Err (Net cause)) left closed closing counts it = record {
     file = record {
@@ -117,7 +120,7 @@ module _ (X : Type 0) {D L C : Type 0} (g : Ghosts D) (c : SinkGhosts C) (Reads 
     listener = it.listener;
     ended = it.ended;
     none_taken = it.none_taken;
-    changes = λ is. subst (λ (d : D). ChangesBoth old path (the_place it.bound) at.device d it.listener it.ended new) it.left_is (both_changed it.bound it.listener it.ended left it.between closed closing is);
+    changes = λ is. subst (λ (d : D). ChangesBoth old path (the_place it.bound) at.device d it.listener it.ended new) it.left_is (both_changed g old mid end new path place opened at it.bound it.listener it.ended left it.between closed closing is);
   }
   served_so (Err Exists) left closed closing counts it = absurd it
   served_so (Err InUse) left closed closing counts it = absurd it

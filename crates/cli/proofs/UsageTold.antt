@@ -24,6 +24,7 @@ pub usage_told : {A E : Type 0} (command : Option CommandName) (called : List â„
 usage_told command called (usage.Grammar e) written told before after other is so appends = (refl, tt)
 usage_told command called usage.Form written told before after other is so appends = (refl, told_of command called (usage_reason usage.Form) written told before after is so appends)
 usage_told command called usage.Serving written told before after other is so appends = (refl, told_of command called (usage_reason usage.Serving) written told before after is so appends)
+usage_told command called usage.ServingClients written told before after other is so appends = (refl, told_of command called (usage_reason usage.ServingClients) written told before after is so appends)
 usage_told command called (usage.Number option word) written told before after other is so appends = (refl, told_of command called (usage_reason (usage.Number option word)) written told before after is so appends)
 usage_told command called (usage.Path path) written told before after other is so appends = (refl, told_of command called (usage_reason (usage.Path path)) written told before after is so appends)
 usage_told command called (usage.Name name) written told before after other is so appends = (refl, told_of command called (usage_reason (usage.Name name)) written told before after is so appends)

@@ -12,10 +12,14 @@ use Rattle.cli.specs.declared.command.Invocation.TheVariants as order
 use Rattle.cli.specs.declared.command.UsageFault.{UsageFault}
 use Rattle.cli.specs.declared.command.UsageFault.TheVariants as usage
 use Rattle.cli.specs.declared.number.NumberOption.{NumberOption}
-use Rattle.cli.specs.declared.number.NumberOption.TheVariants.{Pages, Port, Connections, Idle}
+use Rattle.cli.specs.declared.number.NumberOption.TheVariants.{Pages, Port, Connections, Idle, Clients, Wait}
 use Rattle.cli.specs.CommandGrammar.{program_app}
 use Rattle.cli.specs.Numbers.{IsNumberFor, NoNumberFor}
 use Rattle.cli.specs.declared.refusals.OnRefusal.{OnRefusal}
+use Rattle.cli.specs.declared.serve_clients.ManyClients.{ManyClients}
+use Rattle.cli.specs.declared.serve_words.CountWords.{CountWords}
+use Rattle.systems.specs.declared.place.ListenPlace.{ListenPlace}
+use Rattle.systems.specs.declared.place.ListenPlace.TheVariants.{Port as APort, Socket as ASocket}
 use Rattle.cli.specs.Refusals.{at_refusal}
 
 abbrev pub TheWord : Type 0
@@ -34,6 +38,21 @@ lent_word word = option_map (λ w. w.now) word
 
 -- ---- what the words say
 
+-- the word for a place
+pub data GivenPlace : Type 0 where
+  AtPort : TheWord → GivenPlace
+  AtSocket : TheWord → GivenPlace
+
+-- the words for the numbers of a server of many clients
+pub record GivenCounts : Type 0 where
+  pub clients : TheWord
+  pub connections : Option TheWord
+  pub wait : Option TheWord
+  pub idle : Option TheWord
+
+abbrev pub given_counts : CountWords → GivenCounts
+given_counts words = record { clients = words.clients.now; connections = lent_word words.connections; wait = lent_word words.wait; idle = lent_word words.idle }
+
 -- the words that a command is given
 pub data Given : Type 0 where
   Format : (file pages admin : TheWord) (journal : Bool) → Given
@@ -43,6 +62,7 @@ pub data Given : Type 0 where
   RunMemory : (admin script : TheWord) (stop explain : Bool) → Given
   Serve : (file port connections : TheWord) (idle : Option TheWord) → Given
   ServeSocket : (file socket connections : TheWord) (idle : Option TheWord) → Given
+  ServeClients : (file : TheWord) (place : GivenPlace) (counts : GivenCounts) → Given
   Check : (file : TheWord) → Given
   Describe : (file : TheWord) (role : Option TheWord) (json : Bool) → Given
 
@@ -54,6 +74,7 @@ command_of (Run file script stop explain) = codes "run"
 command_of (RunMemory admin script stop explain) = codes "run"
 command_of (Serve file port connections idle) = codes "serve"
 command_of (ServeSocket file socket connections idle) = codes "serve"
+command_of (ServeClients file place counts) = codes "serve"
 command_of (Check file) = codes "check"
 command_of (Describe file role json) = codes "describe"
 
@@ -71,6 +92,22 @@ AreRunFlags rows stop explain = IsFlag (one_of (codes "stop") rows) stop × IsFl
 abbrev pub IsAtRefusal : List Row → OnRefusal → Type 0
 IsAtRefusal rows on = (stop explain : Bool) × AreRunFlags rows stop explain × (on ≡ at_refusal stop explain)
 
+-- `serve` has no word of a server of many clients
+abbrev pub HasNoClients : List Row → Type 0
+HasNoClients rows = (first_of (codes "clients") rows ≡ None) × (first_of (codes "wait") rows ≡ None)
+
+-- it has a port, or a socket
+abbrev pub HasPlaceWord : List Row → GivenPlace → Type 0
+HasPlaceWord rows (AtPort port) = (first_of (codes "port") rows ≡ Some port) × (first_of (codes "socket") rows ≡ None)
+HasPlaceWord rows (AtSocket socket) = (first_of (codes "port") rows ≡ None) × (first_of (codes "socket") rows ≡ Some socket)
+
+-- it has the numbers of a server of many clients
+pub record HasCounts (rows : List Row) (counts : GivenCounts) : Type 0 where
+  pub clients : first_of (codes "clients") rows ≡ Some counts.clients
+  pub connections : first_of (codes "connections") rows ≡ counts.connections
+  pub wait : first_of (codes "wait") rows ≡ counts.wait
+  pub idle : first_of (codes "idle") rows ≡ counts.idle
+
 -- the words stand where the command takes them: `format` and `copy` have `--journal` or not; `run` has two words without `--memory`, and one with it;
 -- `serve` has a port or a socket, and `--idle` or not; `describe` has a role or none, and `--json` or not
 abbrev pub HasWords : List Row → Given → Type 0
@@ -79,8 +116,9 @@ HasWords rows (Copy file new pages journal) = (first_of (codes "file") rows ≡ 
 HasWords rows (Journal file state) = (first_of (codes "file") rows ≡ Some file) × (first_of (codes "state") rows ≡ Some state)
 HasWords rows (Run file script stop explain) = (first_of (codes "memory") rows ≡ None) × (first_of (codes "first") rows ≡ Some file) × (first_of (codes "second") rows ≡ Some script) × AreRunFlags rows stop explain
 HasWords rows (RunMemory admin script stop explain) = (first_of (codes "memory") rows ≡ Some admin) × (first_of (codes "first") rows ≡ Some script) × (first_of (codes "second") rows ≡ None) × AreRunFlags rows stop explain
-HasWords rows (Serve file port connections idle) = (first_of (codes "file") rows ≡ Some file) × (first_of (codes "port") rows ≡ Some port) × (first_of (codes "socket") rows ≡ None) × (first_of (codes "connections") rows ≡ Some connections) × (first_of (codes "idle") rows ≡ idle)
-HasWords rows (ServeSocket file socket connections idle) = (first_of (codes "file") rows ≡ Some file) × (first_of (codes "port") rows ≡ None) × (first_of (codes "socket") rows ≡ Some socket) × (first_of (codes "connections") rows ≡ Some connections) × (first_of (codes "idle") rows ≡ idle)
+HasWords rows (Serve file port connections idle) = (first_of (codes "file") rows ≡ Some file) × (first_of (codes "port") rows ≡ Some port) × (first_of (codes "socket") rows ≡ None) × (first_of (codes "connections") rows ≡ Some connections) × (first_of (codes "idle") rows ≡ idle) × HasNoClients rows
+HasWords rows (ServeSocket file socket connections idle) = (first_of (codes "file") rows ≡ Some file) × (first_of (codes "port") rows ≡ None) × (first_of (codes "socket") rows ≡ Some socket) × (first_of (codes "connections") rows ≡ Some connections) × (first_of (codes "idle") rows ≡ idle) × HasNoClients rows
+HasWords rows (ServeClients file place counts) = (first_of (codes "file") rows ≡ Some file) × HasPlaceWord rows place × HasCounts rows counts
 HasWords rows (Check file) = first_of (codes "file") rows ≡ Some file
 HasWords rows (Describe file role json) = (first_of (codes "file") rows ≡ Some file) × (first_of (codes "role") rows ≡ role) × IsFlag (one_of (codes "json") rows) json
 
@@ -112,12 +150,34 @@ abbrev pub switch_word : Bool → TheWord
 switch_word true = codes "on"
 switch_word false = codes "off"
 
--- the limit, where one is given
+-- the number of an option, where one is given
+abbrev pub IsSomeNumber : NumberOption → Option TheWord → Option ℕ → Type 0
+IsSomeNumber option None None = Unit {0}
+IsSomeNumber option (Some word) (Some number) = IsNumberFor option word number
+IsSomeNumber option None (Some number) = ⊥
+IsSomeNumber option (Some word) None = ⊥
+
 abbrev pub IsIdleFor : Option TheWord → Option ℕ → Type 0
-IsIdleFor None None = Unit {0}
-IsIdleFor (Some word) (Some seconds) = IsNumberFor Idle word seconds
-IsIdleFor None (Some seconds) = ⊥
-IsIdleFor (Some word) None = ⊥
+IsIdleFor = IsSomeNumber Idle
+
+-- how long a statement may wait: not at all, where nothing is given
+abbrev pub IsWaitFor : Option TheWord → ℕ → Type 0
+IsWaitFor None seconds = seconds ≡ 0
+IsWaitFor (Some word) seconds = IsNumberFor Wait word seconds
+
+-- the numbers of a server of many clients
+pub record AreCountsGiven (counts : GivenCounts) (many : ManyClients) : Type 0 where
+  pub at_once : IsNumberFor Clients counts.clients many.at_once
+  pub connections : IsSomeNumber Connections counts.connections many.connections
+  pub wait : IsWaitFor counts.wait many.wait
+  pub idle : IsSomeNumber Idle counts.idle many.idle
+
+-- the place where a server listens: a port of this number, or a path that the system takes for a socket's
+abbrev pub IsPlaceFor : GivenPlace → ListenPlace → Type 0
+IsPlaceFor (AtPort word) (APort port) = IsNumberFor Port word port
+IsPlaceFor (AtSocket word) (ASocket path) = (word ≡ path.now) × IsSocketPath path.now
+IsPlaceFor (AtPort word) (ASocket path) = ⊥
+IsPlaceFor (AtSocket word) (APort port) = ⊥
 
 -- the role, where one is given: a name that a role can have
 abbrev pub IsRoleName : Option TheWord → Type 0
@@ -134,6 +194,7 @@ IsOrdered G (order.Run file script on) = (stop explain : Bool) × G (Run file.no
 IsOrdered G (order.RunMemory admin script on) = (stop explain : Bool) × G (RunMemory admin.now script.now stop explain) × (on ≡ at_refusal stop explain) × IsName admin.now
 IsOrdered G (order.Serve file port connections idle) = (number count : TheWord) × (limit : Option TheWord) × G (Serve file.now number count limit) × IsNumberFor Port number port × IsNumberFor Connections count connections × IsIdleFor limit idle
 IsOrdered G (order.ServeSocket file socket connections idle) = (count : TheWord) × (limit : Option TheWord) × G (ServeSocket file.now socket.now count limit) × IsSocketPath socket.now × IsNumberFor Connections count connections × IsIdleFor limit idle
+IsOrdered G (order.ServeClients file place many) = (at : GivenPlace) × (counts : GivenCounts) × G (ServeClients file.now at counts) × IsPlaceFor at place × AreCountsGiven counts many
 IsOrdered G (order.Check file) = G (Check file.now)
 IsOrdered G (order.Describe file role json) = G (Describe file.now (lent_word role) json) × IsRoleName (lent_word role)
 IsOrdered G order.Help = ⊥
@@ -156,11 +217,19 @@ name_in _ = None
 
 abbrev pub path_in : Given → Option TheWord
 path_in (ServeSocket file socket connections idle) = Some socket
+path_in (ServeClients file (AtSocket socket) counts) = Some socket
 path_in _ = None
 
 abbrev pub switch_in : Given → Option TheWord
 switch_in (Journal file state) = Some state
 switch_in _ = None
+
+abbrev pub count_in : NumberOption → GivenCounts → Option TheWord
+count_in Clients counts = Some counts.clients
+count_in Connections counts = counts.connections
+count_in Wait counts = counts.wait
+count_in Idle counts = counts.idle
+count_in _ counts = None
 
 abbrev pub number_in : NumberOption → Given → Option TheWord
 number_in Pages (Format file pages admin journal) = Some pages
@@ -170,6 +239,8 @@ number_in Connections (Serve file port connections idle) = Some connections
 number_in Connections (ServeSocket file socket connections idle) = Some connections
 number_in Idle (Serve file port connections idle) = idle
 number_in Idle (ServeSocket file socket connections idle) = idle
+number_in Port (ServeClients file (AtPort port) counts) = Some port
+number_in option (ServeClients file place counts) = count_in option counts
 number_in _ _ = None
 
 -- a word that switches nothing on or off
@@ -181,6 +252,7 @@ pub record IsNoSwitch (word : TheWord) : Type 0 where
 abbrev pub IsUnfit : (Given → Type 0) → UsageFault → Type 0
 IsUnfit G usage.Form = (given : Given) → G given → ⊥
 IsUnfit G usage.Serving = (given : Given) → G given → ⊥
+IsUnfit G usage.ServingClients = (given : Given) → G given → ⊥
 IsUnfit G (usage.Number option word) = (given : Given) × G given × (number_in option given ≡ Some word.now) × NoNumberFor option word.now
 IsUnfit G (usage.Path path) = (given : Given) × G given × (path_in given ≡ Some path.now) × (IsSocketPath path.now → ⊥)
 IsUnfit G (usage.Name name) = (given : Given) × G given × (name_in given ≡ Some name.now) × (IsName name.now → ⊥)
@@ -191,6 +263,11 @@ IsUnfit G _ = ⊥
 abbrev pub IsNoNumber : NumberOption → Option TheWord → UsageFault → Type 0
 IsNoNumber asked given (usage.Number option word) = (option ≡ asked) × (given ≡ Some word.now) × NoNumberFor asked word.now
 IsNoNumber asked given _ = ⊥
+
+-- one of the words for numbers gives none
+abbrev pub IsNoCount : GivenCounts → UsageFault → Type 0
+IsNoCount counts (usage.Number option word) = (count_in option counts ≡ Some word.now) × NoNumberFor option word.now
+IsNoCount counts _ = ⊥
 
 -- the error is neither refused memory nor a request for help or the version
 pub record IsMistake (e : Error) : Type 0 where
@@ -207,6 +284,7 @@ abbrev pub Refuses : TheWords → UsageFault → Type 0
 Refuses words (usage.Grammar e) = IsMistake e × EndsReading (kind_of e) words
 Refuses words usage.Form = HasWrongForm words
 Refuses words usage.Serving = HasWrongForm words
+Refuses words usage.ServingClients = HasWrongForm words
 Refuses words usage.Memory = Unit {0}
 Refuses words u = IsUnfit (Gives words) u
 

@@ -49,13 +49,17 @@ pub record KeepsScript {K E : Type 0} (before after : Explainer K E) : Type 0 wh
   pub lines : after.lines ≡ before.lines
   pub stops : after.stops ≡ before.stops
 
--- nothing but why it ended, and how often it failed, has changed
-pub record IsSameButEnded {K E : Type 0} (before after : Explainer K E) : Type 0 where
+-- and nothing more was told
+pub record TellsNothing {K E : Type 0} (before after : Explainer K E) : Type 0 where
   pub keeps : KeepsScript before after
-  pub out : after.out ≡ before.out
   pub err : after.err ≡ before.err
   pub read : after.read ≡ before.read
   pub told : after.told ≡ before.told
+
+-- nothing but why it ended, and how often it failed, has changed
+pub record IsSameButEnded {K E : Type 0} (before after : Explainer K E) : Type 0 where
+  pub out : after.out ≡ before.out
+  pub silent : TellsNothing before after
 
 -- what there is to tell of an event with this answer, as of the line that was read last, was told
 pub record TellsOfLine {K E : Type 0} (contents : E → Known) (before : Explainer K E) (answer : Answer) (after : Explainer K E) : Type 0 where
@@ -90,9 +94,8 @@ module _ {K E : Type 0} (k : SinkGhosts K) (contents : E → Known) where
 
   -- the answer was not taken, and nothing was told of it
   pub record IsNotTaken (before : Explainer K E) (s : StoreState) (session : ℕ) (answer : Answer) (after : Explainer K E) : Type 0 where
-    pub keeps : KeepsScript before after
     pub broken : k.breaks before.out s session answer after.out
-    pub silent : after.err ≡ before.err
+    pub silent : TellsNothing before after
     pub refused : after.refused ≡ false
 
   -- it is the first refusal, at which the script is to end
@@ -105,6 +108,18 @@ module _ {K E : Type 0} (k : SinkGhosts K) (contents : E → Known) where
   abbrev pub BreaksOff : Explainer K E → StoreState → ℕ → Answer → Explainer K E → Type 0
   BreaksOff before s session answer after = IsNotTaken before s session answer after ⊎ IsFirstRefusal before s session answer after
 
+  -- a call that tells no answer has used what takes the answers alone
+  pub record Stays (before after : Explainer K E) : Type 0 where
+    pub out : k.stays before.out after.out
+    pub silent : TellsNothing before after
+    pub refused : after.refused ≡ before.refused
+
+  -- what takes the answers failed then, and this is why the script ended
+  pub record EndsByOut (before after : Explainer K E) : Type 0 where
+    pub out : k.fails before.out after.out
+    pub silent : TellsNothing before after
+    pub refused : after.refused ≡ false
+
   -- what is said of it as a sink
   abbrev pub explaining : SinkGhosts (Explainer K E)
   explaining = record {
@@ -113,4 +128,6 @@ module _ {K E : Type 0} (k : SinkGhosts K) (contents : E → Known) where
     held = λ x. k.held x.out;
     spelled = k.spelled;
     failures = λ x. x.failures;
+    stays = Stays;
+    fails = EndsByOut;
   }

@@ -12,6 +12,7 @@ pub mod Formatting
 pub mod Migrations
 pub mod Reading
 pub mod Serving
+pub mod ServingClients
 pub mod Switching
 pub mod CopyCommand
 pub mod Describing
@@ -25,4 +26,5 @@ pub mod CommandNames
 pub mod ScriptNotes
 pub mod ExplainedRuns
 pub mod Explaining
+pub mod EndedRuns
 pub mod Refusals

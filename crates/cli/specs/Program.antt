@@ -9,6 +9,7 @@ use Rattle.wire.specs.ScriptRun.{Known}
 use Rattle.sector_device.specs.declared.device.Device.{Ghosts}
 use Rattle.wire.specs.declared.script_run.ScriptEnd.{ScriptEnd}
 use Rattle.wire.specs.declared.listener.Served.{Served}
+use Rattle.wire.specs.declared.listener.Served.TheVariants as served
 use Rattle.wire.specs.Listening.{Listening}
 use Rattle.cli.specs.declared.command.Invocation.{Invocation}
 use Rattle.cli.specs.declared.command.Invocation.TheVariants as order
@@ -39,6 +40,14 @@ use Rattle.cli.specs.Describing.{Describes}
 use Rattle.cli.specs.Printing.{EndsBy, IsPrinted, Prints}
 use Rattle.cli.specs.Running.{RunsOverNew}
 use Rattle.cli.specs.ScriptNotes.{HasToldNotes}
+use Rattle.channels.specs.declared.attend.Attend.{Ghosts as AttendGhosts}
+use Rattle.talks.specs.declared.talk.Talk.{Ghosts as TalkGhosts}
+use Rattle.talks.specs.declared.clients.ServedClients.{Ghosts as ClientsGhosts}
+use Rattle.talks.specs.declared.clients.Finish.TheVariants as finish
+use Rattle.talks.specs.declared.serving.ServeEnd.{ServeEnd}
+use Rattle.talks.specs.declared.serving.ServeEnd.TheVariants as clients
+use Rattle.cli.specs.declared.serve_clients.ManyClients.{ManyClients}
+use Rattle.cli.specs.ServingClients.{ServesClientsFile}
 use Rattle.cli.specs.Script.{IsReadAt, Source, ill_encoded}
 use Rattle.cli.specs.JournalCommand.{Switches}
 
@@ -207,12 +216,31 @@ pub record Serves (X : Type 0) {D L C : Type 0} (g : Ghosts D) (c : SinkGhosts C
   pub serves : ServesFile X g c Reads listening old path place connections err_before end new heard
   pub ends : ExitsAfter end.told (server_subject file place end.outcome) (ending_of_server end.outcome) exit heard err_after
 
+-- how a server of many clients ended: where as many turns were taken, or looks, as there are numbers, as one that has served all
+abbrev pub served_by : ServeEnd → Served
+served_by (clients.Ended finish.Done) = served.Done
+served_by (clients.Ended finish.Stopped) = served.Stopped
+served_by (clients.Ended finish.Net) = served.Net
+served_by (clients.Ended finish.LookLimit) = served.Done
+served_by clients.TurnLimit = served.Done
+
+abbrev pub outcome_of_clients : Result ServeEnd CommandFault → Result Served CommandFault
+outcome_of_clients (Ok end) = Ok (served_by end)
+outcome_of_clients (Err f) = Err f
+
+-- many clients at once were served at a place over the database in a file, or why they were not was told; that the file was migrated was told, where it was
+pub record ServesMany (X : Type 0) {D L C T P : Type 0} (g : Ghosts D) (a : AttendGhosts L C) (t : TalkGhosts T) (p : ClientsGhosts P T) (Reads : ReadingRelation) (old : SystemState D L) (file : Subject) (path : List ℕ) (place : ListenPlace) (many : ManyClients) (exit : Exit) (new : SystemState D L) (err_before err_after : Known) : Type 0 where
+  pub end : CommandEnd ServeEnd
+  pub heard : Known
+  pub serves : ServesClientsFile X g a t p Reads old path place many err_before end new heard
+  pub ends : ExitsAfter end.told (server_subject file place (outcome_of_clients end.outcome)) (ending_of_server (outcome_of_clients end.outcome)) exit heard err_after
+
 -- ---- what a command does
 
 -- `X` decides events, `g` is what is said of the devices of files, `k` of the sink that takes answers, `c` of the sinks of connections,
--- `listening` of listeners and `state` of systems. The script that was named was run over the database that was named, or why not was told; a
+-- `listening` of listeners, `a` of those that are polled, `t` of conversations, `p` of clients that come to such a listener, and `state` of systems. The script that was named was run over the database that was named, or why not was told; a
 -- database in a file was made, copied, checked, described or served, or its journal was turned on or off; or a text was printed
-module _ (X : Type 0) {D L K C S : Type 0} (g : Ghosts D) (k : SinkGhosts K) (c : SinkGhosts C) (Reads : ReadingRelation) (listening : L → Option Listening) (state : S → SystemState D L) (old : SystemState D L) where
+module _ (X : Type 0) {D L K C S H T P : Type 0} (g : Ghosts D) (k : SinkGhosts K) (c : SinkGhosts C) (a : AttendGhosts L H) (t : TalkGhosts T) (p : ClientsGhosts P T) (Reads : ReadingRelation) (listening : L → Option Listening) (state : S → SystemState D L) (old : SystemState D L) where
   abbrev pub IsPerformed : Invocation → Exit → SystemState D L → K → K → Known → Known → Type 0
   IsPerformed (order.Format file pages admin journal) exit new out_before out_after err_before err_after =
       DoesFormat g k old (subject.Named file) file.now pages admin.now journal exit new out_before out_after err_before err_after
@@ -228,6 +256,8 @@ module _ (X : Type 0) {D L K C S : Type 0} (g : Ghosts D) (k : SinkGhosts K) (c 
       Serves X g c Reads listening old (subject.Named file) file.now (Port port) connections exit new err_before err_after × (out_after ≡ out_before)
   IsPerformed (order.ServeSocket file socket connections idle) exit new out_before out_after err_before err_after =
       Serves X g c Reads listening old (subject.Named file) file.now (Socket socket) connections exit new err_before err_after × (out_after ≡ out_before)
+  IsPerformed (order.ServeClients file place many) exit new out_before out_after err_before err_after =
+      ServesMany X g a t p Reads old (subject.Named file) file.now place many exit new err_before err_after × (out_after ≡ out_before)
   IsPerformed (order.Check file) exit new out_before out_after err_before err_after =
       Checks X g old (subject.Named file) file.now exit new (k.held out_before) (k.held out_after) err_before err_after
   IsPerformed (order.Describe file role json) exit new out_before out_after err_before err_after =

@@ -26,6 +26,7 @@ abbrev pub usage_reason : UsageFault → Option (List ℕ)
 usage_reason (usage.Grammar e) = None
 usage_reason usage.Form = Some (codes "run takes FILE SCRIPT, or --memory NAME SCRIPT")
 usage_reason usage.Serving = Some (codes "serve takes FILE, either --port P or --socket PATH, and --connections K")
+usage_reason usage.ServingClients = Some (codes "serve --clients N takes FILE, and either --port P or --socket PATH")
 usage_reason (usage.Number option word) = Some (number_reason option word.now)
 usage_reason (usage.Path path) = Some (path_reason path.now)
 usage_reason (usage.Name name) = Some (name_reason name.now)

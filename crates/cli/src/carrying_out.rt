@@ -7,11 +7,17 @@ use crate::ending::Performed;
 use crate::explained_runs::explain;
 use crate::program::perform;
 use crate::refusals::explained_run;
+use crate::serve_clients::FrameTalks;
+use channels::attend::Attend;
+use frame_talks::frame_talk::FrameTalk;
+use polled_clients::clients::PolledClients;
 use sector_device::Device;
 use server::decide::EventHandler;
 use std::alloc::Global;
 use std::io::Write;
 use systems::System;
+use talks::clients::ServedClients;
+use talks::talk::Talk;
 use wire::listen::Listen;
 use wire::sink::Sink;
 use wire::text_sink::TakesText;
@@ -27,7 +33,10 @@ pub fn carry_out<Y: System, X: EventHandler + Drop, K: TakesText + Drop, E: Writ
     out: K,
     err: E,
 ) -> Performed<K, E>
-    ensures { IsCarriedOut X Y.Device.Device K.Sink Y.Listener.Sink.Sink E.contents X.Reads
+    ensures { IsCarriedOut X Y.Device.Device K.Sink Y.Listener.Sink.Sink Y.Listener.Attend
+        ⟦<FrameTalk as Talk>⟧
+        ⟦<PolledClients<FrameTalk, Y::Channel, Y::Listener, FrameTalks> as ServedClients<FrameTalk>>⟧
+        E.contents X.Reads
         Y.Listener.listening Y.state (Y.state system.old) order.now out err (Y.state system.new)
         result }
 {

@@ -12,11 +12,14 @@ use crate::error_reason::ErrorReason;
 use crate::grammar::program_command;
 use crate::number::NumberOption;
 use crate::refusals::{OnRefusal, at_refusal};
+use crate::serve_clients::ManyClients;
+use crate::serve_words::read_serve;
 use clap::ArgMatches;
 use clap::error::{Error, ErrorKind};
 use sql_types::name::MAX_NAME_LENGTH;
 use std::alloc::Global;
 use std::fmt;
+use systems::ListenPlace;
 
 /// What a command line asks for. Words are as they were given; numbers are in the range of their
 /// option.
@@ -75,6 +78,14 @@ pub enum Invocation<'a> {
         connections: u32,
         idle: Option<u32>,
     },
+    /// `serve FILE --port P --clients N` or `serve FILE --socket PATH --clients N`: serves so many clients
+    /// at once, with `--connections K` so many in all. With `--wait SECONDS` a statement may wait for the
+    /// writer lock, and with `--idle SECONDS` a client ends that sends nothing for so long.
+    ServeClients {
+        file: &'a str,
+        place: ListenPlace<'a>,
+        many: ManyClients,
+    },
     /// `check FILE`: opens the database in FILE, and says whether it is whole.
     Check {
         file: &'a str,
@@ -102,6 +113,8 @@ pub enum UsageFault<'a> {
     /// The words after `serve` are not FILE, either `--port` P or `--socket` PATH, and `--connections`
     /// K.
     Serving,
+    /// Beside `--clients` N the words after `serve` are not FILE, and either `--port` P or `--socket` PATH.
+    ServingClients,
     /// The word for a number is no decimal number in the range of its option.
     Number { option: NumberOption, word: &'a str },
     /// PATH of a socket is empty or has over 107 bytes.
@@ -129,6 +142,12 @@ impl fmt::Display for UsageFault<'_> {
                     "serve takes FILE, either --port P or --socket PATH, and --connections K"
                 )
             }
+            UsageFault::ServingClients => {
+                write!(
+                    f,
+                    "serve --clients N takes FILE, and either --port P or --socket PATH"
+                )
+            }
             UsageFault::Number { option, word } => write!(f, "{option}, not '{word}'"),
             UsageFault::Path(path) => {
                 write!(f, "'{path}' cannot name a socket: PATH has 1 to 107 bytes")
@@ -151,7 +170,7 @@ impl fmt::Display for UsageFault<'_> {
 /// The order that the words after the program's name give, as `clap` reads them: one of the commands
 /// `format`, `copy`, `journal`, `run`, `serve`, `check` and `describe` with its words and options, each given
 /// once; or a flag for help or the version. Words that give none are refused: by `Grammar`, `Form`, `Serving`,
-/// `Number`, `Path`, `Name` or `Switch`.
+/// `ServingClients`, `Number`, `Path`, `Name` or `Switch`.
 /// `Memory` may come of any words.
 pub fn read_command<'a>(
     alloc: Global,
@@ -323,91 +342,8 @@ fn read_run<'a>(given: &ArgMatches<'a>) -> Result<Invocation<'a>, UsageFault<'a>
     })
 }
 
-/// The order that the words after `serve` give.
-fn read_serve<'a>(given: &ArgMatches<'a>) -> Result<Invocation<'a>, UsageFault<'a>>
-    ensures asked { IfOk result (IsOrdered (GivesAs (codes "serve") (rows_of (found_of given.now)))) }
-    ensures refused { IfErr result (IsUnfit (GivesAs (codes "serve") (rows_of (found_of given.now)))) }
-{
-    let Some(file) = given.get_str("file") else {
-        return Err(UsageFault::Serving);
-    };
-    let Some(count) = given.get_str("connections") else {
-        return Err(UsageFault::Serving);
-    };
-    let limit = given.get_str("idle");
-    let Some(port) = given.get_str("port") else {
-        let Some(socket) = given.get_str("socket") else {
-            return Err(UsageFault::Serving);
-        };
-        return serve_on_socket(file, socket, count, limit);
-    };
-    if given.get_str("socket").is_some() {
-        return Err(UsageFault::Serving);
-    }
-    serve_on_port(file, port, count, limit)
-}
-
-/// The order to serve so many connections on a port.
-fn serve_on_port<'a>(
-    file: &'a str,
-    port_word: &'a str,
-    count_word: &'a str,
-    limit: Option<&'a str>,
-) -> Result<Invocation<'a>, UsageFault<'a>>
-    ensures asked { IfOk result (IsOrdered (λ given. given
-        ≡ Serve file.now port_word.now count_word.now (lent_word limit.entry))) }
-    ensures refused { IfErr result (IsUnfit (λ given. given
-        ≡ Serve file.now port_word.now count_word.now (lent_word limit.entry))) }
-{
-    let port = read_number(NumberOption::Port, port_word)?;
-    let connections = read_number(NumberOption::Connections, count_word)?;
-    let idle = read_limit(limit)?;
-    Ok(Invocation::Serve {
-        file,
-        port: port as u16,
-        connections,
-        idle,
-    })
-}
-
-/// The order to serve so many connections on a socket.
-fn serve_on_socket<'a>(
-    file: &'a str,
-    socket: &'a str,
-    count_word: &'a str,
-    limit: Option<&'a str>,
-) -> Result<Invocation<'a>, UsageFault<'a>>
-    ensures asked { IfOk result (IsOrdered (λ given. given
-        ≡ ServeSocket file.now socket.now count_word.now (lent_word limit.entry))) }
-    ensures refused { IfErr result (IsUnfit (λ given. given
-        ≡ ServeSocket file.now socket.now count_word.now (lent_word limit.entry))) }
-{
-    if !is_socket_path(socket) {
-        return Err(UsageFault::Path(socket));
-    }
-    let connections = read_number(NumberOption::Connections, count_word)?;
-    let idle = read_limit(limit)?;
-    Ok(Invocation::ServeSocket {
-        file,
-        socket,
-        connections,
-        idle,
-    })
-}
-
-/// The seconds of `--idle`, where its word is given.
-fn read_limit<'a>(limit: Option<&'a str>) -> Result<Option<u32>, UsageFault<'a>>
-    ensures read { IfOk result (IsIdleFor (lent_word limit.entry)) }
-    ensures refused { IfErr result (IsNoNumber Idle (lent_word limit.entry)) }
-{
-    match limit {
-        None => Ok(None),
-        Some(word) => Ok(Some(read_number(NumberOption::Idle, word)?)),
-    }
-}
-
 /// The number that a word gives to an option.
-fn read_number<'a>(option: NumberOption, word: &'a str) -> Result<u32, UsageFault<'a>>
+pub(crate) fn read_number<'a>(option: NumberOption, word: &'a str) -> Result<u32, UsageFault<'a>>
     ensures read { IfOk result (IsNumberFor option word.now) }
     ensures refused { IfErr result (IsNoNumber option (Some word.now)) }
 {

@@ -3,7 +3,7 @@
 ghost use Rattle.std.specs.Prelude.{◌≡◌, ◌+◌, drop, true, false};
 ghost use Rattle.wire.specs.Counts.{Rose};
 ghost use Rattle.wire.specs.SessionNames.{texts_of};
-ghost use Rattle.cli.specs.Explaining.{BreaksOff, Explains, IsSameButEnded, IsStatementOf, SaysOf, is_skipped, lent_text, line_at, through_event};
+ghost use Rattle.cli.specs.Explaining.{BreaksOff, EndsByOut, Explains, IsSameButEnded, IsStatementOf, SaysOf, Stays, is_skipped, lent_text, line_at, through_event};
 
 use crate::refusals::ends_at;
 use diagnostics::events::{EventLine, tell_event};
@@ -73,6 +73,10 @@ impl<K: TakesText, E: Write> Sink for Explainer<'_, K, E> {
     ghost spelled = { λ session answer. K.spelled session answer };
 
     ghost failures = { λ k. k.failures };
+
+    ghost stays = { λ k l. Stays K.Sink E.contents k l };
+
+    ghost fails = { λ k l. EndsByOut K.Sink E.contents k l };
 
     fn tell<S: Store>(&mut self, store: &S, session: u32, answer: &Answer) -> io::Result<()> {
         if let Err(error) = self.out.tell(store, session, answer) {

@@ -6,11 +6,18 @@ ghost use Rattle.cli.specs.CarryingOut.{IsCarriedOut};
 use crate::carrying_out::carry_out;
 use crate::command::Invocation;
 use crate::ending::Performed;
+use crate::serve_clients::FrameTalks;
+use channels::attend::Attend;
+use channels::memory::MemChannel;
+use frame_talks::frame_talk::FrameTalk;
+use polled_clients::clients::PolledClients;
 use sector_device::{Device, HistoryDevice, WriteProtected};
 use server::decide::EventHandler;
 use std::alloc::Global;
 use std::io::Write;
 use systems::{MemListener, MemSystem};
+use talks::clients::ServedClients;
+use talks::talk::Talk;
 use wire::frame_sink::FrameSink;
 use wire::listen::Listen;
 use wire::sink::Sink;
@@ -28,7 +35,9 @@ pub fn carry_out_in_memory<X: EventHandler + Drop, K: TakesText + Drop, E: Write
 ) -> Performed<K, E>
     ensures faithful { (system_state system.old).faithful }
     ensures carried_out { IsCarriedOut X ⟦<WriteProtected<HistoryDevice> as Device>⟧ K.Sink
-        ⟦<FrameSink<Vec<u8>> as Sink>⟧ E.contents X.Reads ⟦<MemListener as Listen>⟧.listening
+        ⟦<FrameSink<Vec<u8>> as Sink>⟧ ⟦<MemListener as Attend<MemChannel>>⟧ ⟦<FrameTalk as Talk>⟧
+        ⟦<PolledClients<FrameTalk, MemChannel, MemListener, FrameTalks> as ServedClients<FrameTalk>>⟧
+        E.contents X.Reads ⟦<MemListener as Listen>⟧.listening
         system_state (system_state system.old) order.now out err (system_state system.new) result }
 {
     carry_out(system, alloc, handler, order, out, err)

@@ -32,6 +32,8 @@ pub mod runs;
 mod script;
 pub mod script_note;
 mod serve;
+pub mod serve_clients;
+mod serve_words;
 mod switching;
 pub mod texts;
 pub mod usage;

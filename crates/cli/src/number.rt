@@ -16,6 +16,10 @@ pub enum NumberOption {
     Connections,
     /// `--idle SECONDS`: how long a connection may send nothing, in seconds, 1 to 86,400.
     Idle,
+    /// `--clients N`: how many clients are served at once, 1 to 1,000.
+    Clients,
+    /// `--wait SECONDS`: how long a statement may wait for the writer lock, in seconds, 0 to 86,400.
+    Wait,
 }
 
 impl NumberOption {
@@ -25,7 +29,11 @@ impl NumberOption {
     {
         match self {
             NumberOption::Pages => 64,
-            NumberOption::Port | NumberOption::Connections | NumberOption::Idle => 1,
+            NumberOption::Port
+            | NumberOption::Connections
+            | NumberOption::Idle
+            | NumberOption::Clients => 1,
+            NumberOption::Wait => 0,
         }
     }
 
@@ -36,7 +44,8 @@ impl NumberOption {
         match self {
             NumberOption::Pages => 65_536,
             NumberOption::Port | NumberOption::Connections => 65_535,
-            NumberOption::Idle => 86_400,
+            NumberOption::Idle | NumberOption::Wait => 86_400,
+            NumberOption::Clients => 1_000,
         }
     }
 
@@ -70,6 +79,13 @@ impl fmt::Display for NumberOption {
                 write!(
                     f,
                     "--idle takes a decimal number of seconds from 1 to 86400"
+                )
+            }
+            NumberOption::Clients => write!(f, "--clients takes a decimal number from 1 to 1000"),
+            NumberOption::Wait => {
+                write!(
+                    f,
+                    "--wait takes a decimal number of seconds from 0 to 86400"
                 )
             }
         }

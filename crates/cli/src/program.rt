@@ -1,7 +1,7 @@
 //! What the program does for a command: its output, its messages and its exit status.
 
 ghost use Rattle.std.specs.Prelude.{◌≡◌};
-ghost use Rattle.cli.specs.Program.{ending_of_server, place_subject, server_subject, Checks, DoesFormat, Formats, IsAnswered, IsPerformed, Serves};
+ghost use Rattle.cli.specs.Program.{ending_of_server, place_subject, server_subject, Checks, DoesFormat, Formats, IsAnswered, IsPerformed, Serves, ServesMany, outcome_of_clients};
 
 use crate::command::{Invocation, UsageFault, is_name};
 use crate::command_name::CommandName;
@@ -16,8 +16,12 @@ use crate::printing::{print_for, print_text};
 use crate::run::check_file;
 use crate::runs::{run_over_file, run_read_in_memory};
 use crate::serve::{Limits, serve_file};
+use crate::serve_clients::{FrameTalks, ManyClients, serve_clients_file};
 use crate::texts::{HELP, VERSION};
 use crate::usage::report_usage;
+use channels::attend::Attend;
+use frame_talks::frame_talk::FrameTalk;
+use polled_clients::clients::PolledClients;
 use sector_device::Device;
 use server::decide::EventHandler;
 use sql_types::name::Name;
@@ -25,6 +29,9 @@ use std::alloc::Global;
 use std::io::Write;
 use std::time::Duration;
 use systems::{ListenPlace, System};
+use talks::clients::{Finish, ServedClients};
+use talks::serving::ServeEnd;
+use talks::talk::Talk;
 use wire::listen::Listen;
 use wire::listener::Served;
 use wire::sink::Sink;
@@ -73,8 +80,10 @@ pub fn perform<Y: System, X: EventHandler + Drop, K: TakesText, E: Write>(
     out: &mut K,
     err: &mut E,
 ) -> Exit
-    ensures { IsPerformed X Y.Device.Device K.Sink Y.Listener.Sink.Sink X.Reads Y.Listener.listening
-        Y.state (Y.state system.old) order.now result (Y.state system.new) out.old out.new
+    ensures { IsPerformed X Y.Device.Device K.Sink Y.Listener.Sink.Sink Y.Listener.Attend
+        ⟦<FrameTalk as Talk>⟧
+        ⟦<PolledClients<FrameTalk, Y::Channel, Y::Listener, FrameTalks> as ServedClients<FrameTalk>>⟧
+        X.Reads Y.Listener.listening Y.state (Y.state system.old) order.now result (Y.state system.new) out.old out.new
         (E.contents err.old) (E.contents err.new) }
 {
     match order {
@@ -129,6 +138,9 @@ pub fn perform<Y: System, X: EventHandler + Drop, K: TakesText, E: Write>(
             limits(*connections, *idle),
             err,
         ),
+        Invocation::ServeClients { file, place, many } => {
+            serve_many(system, alloc, handler, *file, *place, *many, err)
+        }
         Invocation::Check { file } => check(system, alloc, handler, *file, out, err),
         Invocation::Describe { file, role, json } => {
             describe(system, alloc, *file, *role, *json, out, err)
@@ -230,6 +242,43 @@ fn serve<Y: System, X: EventHandler + Drop, E: Write>(
     let CommandEnd { outcome, told } = serve_file(system, alloc, handler, file, place, limits, err);
     let about = subject_of_server(outcome, file, place);
     exit_after(told, end_of_server(outcome), about, err)
+}
+
+// Serves many clients at once at a place over the database in a file, and tells how that ended.
+fn serve_many<Y: System, X: EventHandler + Drop, E: Write>(
+    system: &mut Y,
+    alloc: Global,
+    handler: X,
+    file: &str,
+    place: ListenPlace<'_>,
+    many: ManyClients,
+    err: &mut E,
+) -> Exit
+    ensures { ServesMany X Y.Device.Device Y.Listener.Attend ⟦<FrameTalk as Talk>⟧
+        ⟦<PolledClients<FrameTalk, Y::Channel, Y::Listener, FrameTalks> as ServedClients<FrameTalk>>⟧
+        X.Reads (Y.state system.old) (Subject.Named file.entry) file.now place.entry many
+        result (Y.state system.new) (E.contents err.old) (E.contents err.new) }
+{
+    let CommandEnd { outcome, told } = serve_clients_file(
+        system, alloc, handler, file, place, many, err,
+    );
+    let outcome = outcome_of_clients(outcome);
+    let about = subject_of_server(outcome, file, place);
+    exit_after(told, end_of_server(outcome), about, err)
+}
+
+// How a server of many clients ended.
+fn outcome_of_clients(outcome: Result<ServeEnd, CommandFault>) -> Result<Served, CommandFault>
+    ensures { result ≡ outcome_of_clients outcome }
+{
+    match outcome {
+        Ok(ServeEnd::Ended(Finish::Stopped)) => Ok(Served::Stopped),
+        Ok(ServeEnd::Ended(Finish::Net)) => Ok(Served::Net),
+        Ok(ServeEnd::Ended(Finish::Done | Finish::LookLimit) | ServeEnd::TurnLimit) => {
+            Ok(Served::Done)
+        }
+        Err(fault) => Err(fault),
+    }
 }
 
 // How a server over a file ended.

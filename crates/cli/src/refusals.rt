@@ -1,11 +1,16 @@
 //! What `run` does at a refusal.
 
 ghost use Rattle.std.specs.Prelude.{◌≡◌};
+ghost use Rattle.cli.specs.EndedRuns.{RefusalsEndRuns};
 ghost use Rattle.cli.specs.Refusals.{at_refusal, ends_at, explained, explained_run};
 
 use crate::command::Invocation;
+use server::decide::EventHandler;
 use sql_types::answer::Answer;
 use sql_types::state::SqlState;
+use std::io::Write;
+use store::Store;
+use wire::text_sink::TakesText;
 
 /// What `run` does at an event that is refused.
 #[derive(Clone, Copy, Debug, PartialEq, Eq)]
@@ -100,3 +105,10 @@ pub(crate) fn ends_at(stops: bool, answer: &Answer) -> bool
         _ => false,
     }
 }
+
+/// A script that ended with status 3 was ended by its last answer: a refusal at which it was to end, where all
+/// answers before it are none. For the sink says at the end that the script ended at a refusal only where
+/// that was so.
+pub fn refusals_end_runs<S: Store, X: EventHandler, K: TakesText, E: Write>()
+    ensures { RefusalsEndRuns X S.state K.Sink E.contents X.Reads }
+{}

@@ -113,7 +113,7 @@ pub fn serve_on<D: JournalDevice + Drop, X: EventHandler + Drop, L: Listen, E: W
 }
 
 // Tells where the server listens.
-fn tell_place<E: Write>(place: ListenPlace<'_>, err: &mut E) -> io::Result<()>
+pub(crate) fn tell_place<E: Write>(place: ListenPlace<'_>, err: &mut E) -> io::Result<()>
     ensures { OnOk result (Appends (E.contents err.old) (E.contents err.new)
         (listening_text place.entry)) }
 {

@@ -152,6 +152,11 @@ fn are_told_to_database(system: &RealSystem<'_, HostRuntime>, order: &Invocation
             connections: _,
             idle: _,
         }
+        | Invocation::ServeClients {
+            file,
+            place: _,
+            many: _,
+        }
         | Invocation::Check { file }
         | Invocation::Describe {
             file,

@@ -8,6 +8,7 @@ mod new_files;
 mod private_socket;
 mod progress;
 mod real;
+mod real_listener;
 mod socket;
 mod streams;
 

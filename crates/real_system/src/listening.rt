@@ -5,6 +5,7 @@ ghost use Rattle.systems.specs.Places.{the_place, IsOfKind};
 
 use crate::socket::bind_socket;
 use crate::streams::SystemStream;
+use polled_sockets::listeners::PolledListener;
 use std::fs::File;
 use std::io;
 use std::net::{Ipv4Addr, Net, SocketAddr, TcpListener, TcpStream};
@@ -41,6 +42,17 @@ impl PlaceListener {
                 let listener = bind_socket(rt, path)?;
                 Ok((PlaceListener::Socket(listener), place))
             }
+        }
+    }
+}
+
+impl PlaceListener {
+    /// Another handle of the place, which is asked for connections and does not wait for one. From
+    /// then on this one does not wait, either. An error is one of the system.
+    pub(crate) fn polled(&self) -> io::Result<PolledListener> {
+        match self {
+            PlaceListener::Port(listener) => PolledListener::of_port(listener.try_clone()?),
+            PlaceListener::Socket(listener) => PolledListener::of_socket(listener.try_clone()?),
         }
     }
 }

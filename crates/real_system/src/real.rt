@@ -5,8 +5,11 @@ use crate::files::open_file;
 use crate::listening::PlaceListener;
 use crate::new_files::{is_there, make_file, rename_new};
 use crate::progress::PrintedProgress;
+use crate::real_listener::RealListener;
 use crate::socket::remove_made;
 use crate::streams::{Outputs, StandardStreams};
+use polled_sockets::listeners::PolledStream;
+use polled_sockets::streams::SocketChannel;
 use sector_device::{FileDevice, FileFault, SystemCause, SystemFile, WriteProtected};
 use std::alloc::Global;
 use std::fs::File;
@@ -68,7 +71,9 @@ impl<
 
     type Device = WriteProtected<FileDevice<SystemFile>>;
 
-    type Listener = SystemListener<'r, R, PlaceListener>;
+    type Channel = SocketChannel<PolledStream>;
+
+    type Listener = RealListener<'r, R>;
 
     type CopyProgress = PrintedProgress<'r, R>;
 
@@ -174,14 +179,14 @@ impl<
         &mut self,
         place: ListenPlace<'p>,
         idle: Option<Duration>,
-    ) -> Result<(SystemListener<'r, R, PlaceListener>, ListenPlace<'p>), SystemCause> {
+    ) -> Result<(RealListener<'r, R>, ListenPlace<'p>), SystemCause> {
         match PlaceListener::bind(self.rt, place) {
             Ok((listener, bound)) => {
                 if let ListenPlace::Socket(path) = place {
                     self.made = file_at(self.rt, path);
                 }
-                let listener = SystemListener::new(self.rt, self.alloc, listener, idle);
-                Ok((listener, bound))
+                let waiting = SystemListener::new(self.rt, self.alloc, listener, idle);
+                Ok((RealListener::new(waiting), bound))
             }
             Err(error) => {
                 self.failures = self.failures.saturating_add(1);
@@ -190,9 +195,19 @@ impl<
         }
     }
 
-    fn unbind(&mut self, place: ListenPlace<'_>, _listener: SystemListener<'r, R, PlaceListener>) {
+    fn unbind(&mut self, place: ListenPlace<'_>, _listener: RealListener<'r, R>) {
         if let ListenPlace::Socket(path) = place {
             remove_made(self.rt, path, self.made);
+        }
+    }
+
+    fn poll(&mut self, listener: &mut RealListener<'r, R>) -> Result<(), SystemCause> {
+        match listener.poll(self.rt, self.alloc) {
+            Ok(()) => Ok(()),
+            Err(error) => {
+                self.failures = self.failures.saturating_add(1);
+                Err(SystemCause::of(&error))
+            }
         }
     }
 

@@ -9,10 +9,10 @@
 
 use crate::device_images::DeviceImage;
 use crate::events::events_of;
+use crate::stops::answered_events::text_answered;
 use crate::stops::fault::TestFault;
 use crate::stops::images::Image;
 use crate::stops::servers::{CACHE_PAGES, find_on, open_and_end, open_device};
-use crate::stops::talks::text_answered;
 use std::alloc::{AllocError, Global};
 use std::io;
 

@@ -25,6 +25,7 @@
 //!
 //! A line tells each disagreement. A part of the tests is the same in each run.
 
+pub mod answered_events;
 mod bad_frames;
 mod choices;
 mod commits;
@@ -37,7 +38,6 @@ mod parts;
 mod places;
 mod scripts;
 pub mod servers;
-pub mod talks;
 mod tallies;
 mod work;
 

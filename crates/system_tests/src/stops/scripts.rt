@@ -1,11 +1,11 @@
 //! Scripts: their events, what a server in memory answers to them, and what it then holds.
 
 use crate::servers::open_server;
+use crate::stops::answered_events::AnsweredEvents;
 use crate::stops::fault::TestFault;
 use crate::stops::servers::{
     CACHE_PAGES, DeviceServer, find_and_commit, find_on, open_device, records_of,
 };
-use crate::stops::talks::AnsweredEvents;
 use crate::stores::new_in_memory;
 use sector_device::MemDevice;
 use std::alloc::Global;

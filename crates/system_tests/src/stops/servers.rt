@@ -2,9 +2,9 @@
 //! says. The functions that open servers and call them have no contract, so that the tests are checked without those of a server.
 
 use crate::servers::{ServerOver, open_server, try_server};
+use crate::stops::answered_events::AnsweredEvents;
 use crate::stops::fault::TestFault;
 use crate::stops::kinds::Kind;
-use crate::stops::talks::AnsweredEvents;
 use crate::stops::work::Attempt;
 use crate::stores::{SMALL_PAGES, new_device};
 use journal_store::{DeviceStore, MAX_CACHE_PAGES};

@@ -2,7 +2,7 @@ use Rattle.std.proofs.Common.{◌≡◌, Some, refl}
 use Rattle.cli.specs.declared.number.NumberOption.TheVariants.{Connections, Idle}
 use Rattle.cli.specs.CommandLine.{ServeSocket, IsUnfit, lent_word}
 use Rattle.cli.proofs.GivenSo.{handed_on, no_number_so}
-use Rattle.cli.proofs.command.serve_on_socket.Goals as goal
+use Rattle.cli.proofs.serve_words.serve_on_socket.Goals as goal
 
 pub returns-in_err-connections-clause-refused : goal.returns-in_err-connections-clause-refused
 returns-in_err-connections-clause-refused c =

@@ -2,7 +2,7 @@ use Rattle.std.proofs.Common.{◌≡◌, Some, refl}
 use Rattle.cli.specs.declared.number.NumberOption.TheVariants.{Connections, Idle, Port}
 use Rattle.cli.specs.CommandLine.{Serve, IsUnfit, lent_word}
 use Rattle.cli.proofs.GivenSo.{handed_on, no_number_so}
-use Rattle.cli.proofs.command.serve_on_port.Goals as goal
+use Rattle.cli.proofs.serve_words.serve_on_port.Goals as goal
 
 pub returns-in_err-port-clause-refused : goal.returns-in_err-port-clause-refused
 returns-in_err-port-clause-refused c =

@@ -1,0 +1,201 @@
+//! A server of many clients at once at a place of a system, over a database in a file.
+
+ghost use Rattle.std.specs.Prelude.{◌≡◌, IfOk};
+ghost use Rattle.cli.specs.ServingClients.{asked_wait, crowded_said, AreLimits, IsLimitOf, ServesClientsAt, ServesClientsFile, ServesClientsOn};
+
+use crate::fault::CommandFault;
+use crate::opened::{CommandEnd, open_database_in, tell_migration};
+use crate::serve::tell_place;
+use channels::attend::Attend;
+use channels::channel::Channel;
+use databases::serve_clients_on;
+use frame_talks::frame_talk::FrameTalk;
+use frame_talks::said::say_answer;
+use journal_store::{DeviceStore, JournalDevice};
+use polled_clients::clients::{ClientLimits, PolledClients, TalkMaker};
+use sector_device::Device;
+use server::decide::EventHandler;
+use server::server::Server;
+use sql_types::answer::Answer;
+use sql_types::state::SqlState;
+use std::alloc::{AllocError, Global};
+use std::io::Write;
+use std::time::Duration;
+use systems::{ListenPlace, System};
+use talks::clients::ServedClients;
+use talks::serving::ServeEnd;
+use talks::talk::Talk;
+
+/// What a server of many clients at once serves.
+#[derive(Clone, Copy, PartialEq, Eq)]
+pub struct ManyClients {
+    /// How many are served at once, 1 to 1,000.
+    pub at_once: u32,
+    /// How many are served in all, 1 to 65,535. `None`: until the server is ended.
+    pub connections: Option<u32>,
+    /// How many seconds a statement may wait for the writer lock, up to 86,400. 0: it does not wait.
+    pub wait: u32,
+    /// After how many seconds one ends that sends nothing, or takes nothing of an answer, 1 to 86,400.
+    /// `None`: for ever.
+    pub idle: Option<u32>,
+}
+
+impl ManyClients {
+    // The same, as the clients take it.
+    fn limits(self) -> ClientLimits
+        ensures { AreLimits self result }
+    {
+        ClientLimits {
+            connections: self.connections.unwrap_or(u32::MAX),
+            at_once: self.at_once as usize,
+            wait: limit_of(asked_wait(self.wait)),
+            idle: limit_of(self.idle),
+        }
+    }
+}
+
+// How many seconds one may wait: for 0 it does not.
+fn asked_wait(seconds: u32) -> Option<u32>
+    ensures { result ≡ asked_wait seconds }
+{
+    if seconds == 0 { None } else { Some(seconds) }
+}
+
+// A limit of so many seconds, where there is one.
+fn limit_of(seconds: Option<u32>) -> Option<Duration>
+    ensures { IsLimitOf seconds result }
+{
+    match seconds {
+        Some(seconds) => Some(Duration::from_secs(u64::from(seconds))),
+        None => None,
+    }
+}
+
+/// Conversations of frames, one for each client that comes.
+#[derive(Drop)]
+pub struct FrameTalks {
+    alloc: Global,
+}
+
+impl TalkMaker<FrameTalk> for FrameTalks {
+    fn make(&self) -> Result<FrameTalk, AllocError> {
+        Ok(FrameTalk::new(self.alloc))
+    }
+}
+
+/// Serves many clients at once, which come to a place of the system, over the database in the file at
+/// `path`, whose events `handler` decides. Each speaks in frames, as at `serve_file`, and is told its
+/// own answers alone. Who comes while as many are served at once as may be is told so, and closed.
+/// `err` is told as at `serve_file`. However it ends, the place is given up and the file is closed.
+///
+/// It ends once as many clients came as are served in all, and each of them has gone; once the server
+/// has stopped and each has gone; and where none can be taken any more.
+///
+/// The faults are first those of `check_file`, and then `Net`, where the place is not bound or the
+/// system does not tell who comes there; `Memory`; and `Output`, where `err` fails. Nobody was taken
+/// then.
+pub fn serve_clients_file<Y: System, X: EventHandler + Drop, E: Write>(
+    system: &mut Y,
+    alloc: Global,
+    handler: X,
+    path: &str,
+    place: ListenPlace<'_>,
+    many: ManyClients,
+    err: &mut E,
+) -> CommandEnd<ServeEnd>
+    ensures { ServesClientsFile X Y.Device.Device Y.Listener.Attend ⟦<FrameTalk as Talk>⟧
+        ⟦<PolledClients<FrameTalk, Y::Channel, Y::Listener, FrameTalks> as ServedClients<FrameTalk>>⟧
+        X.Reads (Y.state system.old) path.entry.now place.entry many (E.contents err.old) result
+        (Y.state system.new) (E.contents err.new) }
+{
+    let opened = match open_database_in(system, alloc, handler, path) {
+        Ok(opened) => opened,
+        Err(fault) => return CommandEnd::unopened(fault),
+    };
+    let told = tell_migration(opened.was_migrated, path, err);
+    let (left, outcome) = serve_clients_at(system, alloc, opened.server, place, many, err);
+    system.close(path, left);
+    CommandEnd { outcome, told }
+}
+
+// Serves clients at a place, and hands the device back.
+fn serve_clients_at<Y: System, X: EventHandler + Drop, E: Write>(
+    system: &mut Y,
+    alloc: Global,
+    server: Server<DeviceStore<Y::Device>, X>,
+    place: ListenPlace<'_>,
+    many: ManyClients,
+    err: &mut E,
+) -> (Y::Device, Result<ServeEnd, CommandFault>)
+    ensures { ServesClientsAt Y.Device.Device Y.Listener.Attend ⟦<FrameTalk as Talk>⟧
+        ⟦<PolledClients<FrameTalk, Y::Channel, Y::Listener, FrameTalks> as ServedClients<FrameTalk>>⟧
+        X.Reads (Y.state system.old) place.entry many server (E.contents err.old) result.1
+        result.0 (Y.state system.new) (E.contents err.new) }
+{
+    let (mut listener, bound) = match system.bind(place, None) {
+        Ok(bound) => bound,
+        Err(cause) => {
+            let left = server.into_store().into_device();
+            return (left, Err(CommandFault::Net(cause)));
+        }
+    };
+    match system.poll(&mut listener) {
+        Ok(()) => {
+            let (left, outcome, listener) = serve_clients_on_place(
+                alloc, server, listener, bound, many, err,
+            );
+            system.unbind(bound, listener);
+            (left, outcome)
+        }
+        Err(cause) => {
+            system.unbind(bound, listener);
+            let left = server.into_store().into_device();
+            (left, Err(CommandFault::Net(cause)))
+        }
+    }
+}
+
+// Serves the clients that come to a listener that is polled, and hands the device and the listener
+// back. Before the first, `err` is told where the server listens.
+fn serve_clients_on_place<
+    D: JournalDevice + Drop,
+    X: EventHandler + Drop,
+    C: Channel + Drop,
+    L: Attend<C> + Drop,
+    E: Write,
+>(
+    alloc: Global,
+    server: Server<DeviceStore<D>, X>,
+    listener: L,
+    place: ListenPlace<'_>,
+    many: ManyClients,
+    err: &mut E,
+) -> (D, Result<ServeEnd, CommandFault>, L)
+    ensures { ServesClientsOn D.Device L.Attend ⟦<FrameTalk as Talk>⟧
+        ⟦<PolledClients<FrameTalk, C, L, FrameTalks> as ServedClients<FrameTalk>>⟧
+        X.Reads place.entry many server listener (E.contents err.old) result.1 result.0 result.2
+        (E.contents err.new) }
+{
+    let Ok(refusal) = crowded_refusal(alloc) else {
+        let left = server.into_store().into_device();
+        return (left, Err(CommandFault::Memory), listener);
+    };
+    let Ok(()) = tell_place(place, err) else {
+        let left = server.into_store().into_device();
+        return (left, Err(CommandFault::Output), listener);
+    };
+    let maker = FrameTalks { alloc };
+    let mut clients = PolledClients::new(alloc, listener, maker, many.limits(), refusal);
+    let (left, end) = serve_clients_on(alloc, server, &mut clients);
+    (left, Ok(end), clients.into_attend())
+}
+
+// What one is told who comes while as many are served as may be.
+fn crowded_refusal(alloc: Global) -> Result<Vec<u8>, AllocError>
+    ensures { IfOk result (λ said. said.items ≡ crowded_said) }
+{
+    let mut said = Vec::new(alloc);
+    let answer = Answer::Refused(SqlState::TooManyConnections);
+    say_answer(alloc, 0, &answer, &mut said)?;
+    Ok(said)
+}
