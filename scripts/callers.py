@@ -30,9 +30,12 @@ TESTS = {'statement_tests', 'storage_tests', 'feed_tests', 'system_tests', 'data
 # Facts that are proved by what a body does, and what there has to be for such a fact, each with what it says.
 LAWS = {
     'cli::carry_out_in_memory': 'the commands over a system in memory, an instance of `carry_out`',
+    'channels::MemAttend::new': 'there are clients in memory of which all bytes are named',
+    'channels::MemChannel::new': 'the same',
     'databases::live': 'what an opening and a run leave, whenever a stop comes',
     'server::Server::run': 'what `step` does of several events, one after the other',
     'systems::MemListener::new': 'there are clients that the law of systems speaks of',
+    'systems::MemListener::of_polled': 'the same, of clients at once',
     'systems::MemReader::new': 'the same',
     'systems::MemSystem::new': 'there is a faithful system',
     'wire::Recorder::new': 'there is a sink that keeps the store\'s number at each answer',
@@ -40,12 +43,6 @@ LAWS = {
 # What no command calls yet, each with what it is for.
 COMING = {
     'scram::Mock::of_verifier': 'a server that keeps the secret of its mocks in its table of passwords',
-    'talks::serve_clients': 'a server of many clients at once',
-    'server::Server::block_state': 'what a conversation asks between two statements',
-    'server::Session::block_state': 'the same',
-    'server::Server::holder': 'who keeps others waiting',
-    'server::Server::is_locked_out': 'whose statement waits',
-    'server::Server::close_next': 'the end of one client among many',
     'server::Server::step_read': 'a statement that was described before it runs',
     'postgres_texts::refusal_text': "PostgreSQL's protocol",
     'postgres_texts::warning_text': 'the same',

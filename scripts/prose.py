@@ -28,7 +28,7 @@ CRATE_LINES = 40        # of a README.md in crates/
 
 # Names that are gone from the code, each with the one to use.
 RETIRED = {
-    'lists_seen': 'visibility', 'seen_statements': 'sessions', 'execute_seen': 'execute_under', 'decisions::': 'sessions',
+    'seen_statements': 'sessions', 'execute_seen': 'execute_under', 'decisions::': 'sessions',
     'rowoutcome': 'effect', 'rowchanges': 'effect', 'pagebuffer': 'dirty pages', 'lower_root': 'collapse_root', 'settle': 'bind',
     'tightness': 'precedence', 'draft': 'scratch', 'memory_trials': 'memory_tests', r'(?:image|array|store)_trials': 'storage_tests',
     r'grammar_tests|row_trials': 'statement_tests', r'(?:catalogue|definition)_trials|definition_tests': 'statement_tests',

@@ -6,13 +6,16 @@ medium. tests/failing_disk.c does that to one file. Each sync of a run fails in 
 that the file is what the medium has. What was answered by then is there. The library is compiled by `cc`; where there is none this is left
 out, and a line says so. The program is the one in the environment variable GUARDDB; without it nothing is tried.
 """
+import contextlib
 import os
 import shutil
 import subprocess
 import tempfile
+import threading
 import unittest
 
-from program import IS_FAKE, PROGRAM, TESTS, make_database, run
+from program import IS_FAKE, PATIENCE, PROGRAM, TESTS, make_database, run
+import guarddb
 
 COMPILER = shutil.which('cc')
 SETUP = 'open r root\nr: CREATE TABLE t (k BIGINT PRIMARY KEY, x TEXT)\n'
@@ -43,10 +46,14 @@ class FailedSyncs(unittest.TestCase):
         self.assertEqual(run('run', self.db, '/dev/stdin', given=SETUP)[0], 0)
         shutil.copy(self.db, self.medium)
 
+    def disk(self, fails):
+        """What makes a program's file one on such a disk, where this sync fails, or none."""
+        return {'LD_PRELOAD': self.library, 'DISK_FILE': self.db, 'DISK_MEDIUM': self.medium, 'DISK_FAILS': str(fails)}
+
     def run_on_disk(self, script, fails=0):
         """The answers to a script, where this sync fails, or none."""
-        place = {'LD_PRELOAD': self.library, 'DISK_FILE': self.db, 'DISK_MEDIUM': self.medium, 'DISK_FAILS': str(fails)}
-        done = subprocess.run([PROGRAM, 'run', self.db, '/dev/stdin'], input=script.encode(), capture_output=True, env=os.environ | place, check=False)
+        done = subprocess.run([PROGRAM, 'run', self.db, '/dev/stdin'], input=script.encode(), capture_output=True,
+                              env=os.environ | self.disk(fails), check=False)
         return done.stdout.decode().splitlines()
 
     def fail_power(self):
@@ -63,6 +70,43 @@ class FailedSyncs(unittest.TestCase):
     def told(self, answers, first):
         """The keys whose INSERT was answered by ok; the first answer is that of the session."""
         return {first + at for at, answer in enumerate(answers[1:]) if answer == 'ok INSERT 1'}
+
+    def test_of_many_clients(self):
+        """What any of them was answered is there, nobody is answered after the sync that failed, and the server ends."""
+        for journal in (False, True):
+            for fails in (9, 40):
+                with self.subTest(journal=journal, fails=fails):
+                    self.make(journal)
+                    kept = self.served_on_disk(fails)
+                    self.fail_power()
+                    self.assertLess(0, len(kept))
+                    self.assertLessEqual(kept, self.keys())
+
+    def served_on_disk(self, fails, clients=20):
+        """The keys that so many clients at once were told of, where this sync of the server fails."""
+        place, socket_path, kept, refused = self.disk(fails), os.path.join(self.folder, 'at'), set(), []
+        words = ['serve', self.db, '--socket', socket_path, '--clients', str(clients), '--wait', '600']
+        server = subprocess.Popen([PROGRAM, *words], stderr=subprocess.PIPE, text=True, env=os.environ | place)
+        self.assertEqual(server.stderr.readline(), f'guarddb: listening on {socket_path}\n')
+
+        def insert(client):
+            with contextlib.suppress(OSError), guarddb.connect(socket_path, timeout=PATIENCE) as connection:
+                session = connection.open('root')
+                for key in range(client * 100, client * 100 + 20):
+                    try:
+                        session.ask(f"INSERT INTO t VALUES ({key}, '{'x' * 200}')")
+                    except guarddb.Refused as fault:
+                        refused.append(fault.code)
+                        return
+                    kept.add(key)
+        threads = [threading.Thread(target=insert, args=(client,)) for client in range(clients)]
+        for thread in threads:
+            thread.start()
+        for thread in threads:
+            thread.join()
+        _, messages = server.communicate(timeout=PATIENCE)
+        self.assertEqual((server.returncode, messages, set(refused) - {'58030'}), (1, 'guarddb: stopped\n', set()))
+        return kept
 
     def test_what_was_answered_is_there(self):
         """Each sync of a run fails in turn. Then the power fails: at once, or after another run that reads, or that writes."""
