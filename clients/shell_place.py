@@ -76,7 +76,7 @@ def end_by(number):
 
 @contextlib.contextmanager
 def signals_held():
-    """Delays signals that would end the shell, until it knows what it has started, or was given."""
+    """Delays signals that would end the shell, until it knows what it has made or started, or was given, or has taken that away."""
     held = []
     handlers = {number: signal.signal(number, lambda number, _: held.append(number))
                 for number in (signal.SIGINT, signal.SIGTERM, signal.SIGHUP)}
@@ -131,7 +131,8 @@ class Place:
 
     def start(self):
         """Starts the server and connects to it."""
-        self.folder = new_folder()
+        with signals_held():
+            self.folder = new_folder()
         path, messages = os.path.join(self.folder, SOCKET), os.path.join(self.folder, 'messages')
         words = [self.program, 'serve', os.path.abspath(self.name), '--socket', path, '--connections', '1']
         try:
@@ -184,7 +185,8 @@ class Place:
         except subprocess.TimeoutExpired:
             pass
         finally:
-            self.clear_up()
+            with signals_held():
+                self.clear_up()
 
     def clear_up(self):
         if self.server and self.server.poll() is None:
