@@ -4,6 +4,7 @@ import os
 import random
 import signal
 import socket
+import struct
 import subprocess
 import sys
 
@@ -43,6 +44,12 @@ def of_program(lines):
 def make_database(path, pages=256, admin='root', journal=False):
     done = run('format', path, '--pages', str(pages), '--admin', admin, *['--journal'] * journal)
     assert done == (0, 'ok FORMAT\n', ''), done
+
+
+def frame(kind, number, text):
+    """The bytes of a frame."""
+    payload = text.encode()
+    return struct.pack('>IBI', 5 + len(payload), kind, number) + payload
 
 
 def free_port():

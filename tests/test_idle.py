@@ -14,16 +14,11 @@ import tempfile
 import time
 import unittest
 
-from program import IS_FAKE, PATIENCE, PROGRAM, free_port, make_database, run, served
+from program import IS_FAKE, PATIENCE, PROGRAM, frame, free_port, make_database, run, served
 import guarddb
 
 AGAIN = 'guarddb: no connection taken, trying again: '
 ALL = 'SELECT o FROM t'     # answered by 20,000 bytes
-
-
-def frame(kind, number, text):
-    payload = text.encode()
-    return guarddb.HEAD.pack(5 + len(payload), kind, number) + payload
 
 
 BEGIN, BEGUN = frame(guarddb.STATEMENT, 1, 'BEGIN'), frame(guarddb.ANSWER, 1, 'ok BEGIN\n')

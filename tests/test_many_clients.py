@@ -14,7 +14,7 @@ import threading
 import time
 import unittest
 
-from program import PATIENCE, PROGRAM, free_port, make_database, run
+from program import PATIENCE, PROGRAM, frame, free_port, make_database, run
 import guarddb
 
 ROLES = 20
@@ -22,11 +22,6 @@ SETUP = ['open r root', 'r: CREATE TABLE t (o TEXT, k BIGINT, x TEXT, PRIMARY KE
          'r: CREATE POLICY own ON t USING (o = current_user)', 'r: CREATE TABLE free (k BIGINT PRIMARY KEY, x BIGINT)']
 for role in range(ROLES):
     SETUP += [f'r: CREATE ROLE u{role} LOGIN', f'r: GRANT SELECT, INSERT, UPDATE, DELETE ON t TO u{role}', f"r: INSERT INTO t VALUES ('u{role}', 0, 'of u{role}')"]
-
-
-def frame(kind, number, text):
-    payload = text.encode()
-    return guarddb.HEAD.pack(5 + len(payload), kind, number) + payload
 
 
 def spelled(number, text):
