@@ -80,6 +80,16 @@ class ManyClients(unittest.TestCase):
         if faults:
             raise faults[0]
 
+    def is_kept_from_writing(self, session):
+        with self.assertRaises(guarddb.Refused) as refused:
+            session.ask('DELETE FROM free')
+        self.assertEqual(refused.exception.code, '55P03')
+
+    def hold(self, session):
+        """Takes the writer lock by a session."""
+        session.ask('BEGIN')
+        session.ask('DELETE FROM free')
+
     def test_each_is_told_its_own(self):
         """200 clients, each with session 1 of its own role, in pieces of 1 to 7 bytes, by turns."""
         generator = random.Random(1)
@@ -163,32 +173,23 @@ class ManyClients(unittest.TestCase):
             with self.subTest(words), self.served('--clients', 2, '--connections', 2, *words) as place:
                 with self.connect(place) as first, self.connect(place) as second:
                     holder, other = first.open('root'), second.open('root')
-                    holder.ask('BEGIN')
-                    holder.ask('DELETE FROM free')
-                    with self.assertRaises(guarddb.Refused) as refused:
-                        other.ask('DELETE FROM free')
-                    self.assertEqual(refused.exception.code, '55P03')
+                    self.hold(holder)
+                    self.is_kept_from_writing(other)
 
     def test_a_wait_that_is_over(self):
         with self.served('--clients', 2, '--connections', 2, '--wait', 1) as place:
             with self.connect(place) as first, self.connect(place) as second:
                 holder, other = first.open('root'), second.open('root')
-                holder.ask('BEGIN')
-                holder.ask('DELETE FROM free')
+                self.hold(holder)
                 began = time.monotonic()
-                with self.assertRaises(guarddb.Refused) as refused:
-                    other.ask('DELETE FROM free')
-                self.assertEqual(refused.exception.code, '55P03')
+                self.is_kept_from_writing(other)
                 self.assertLessEqual(1, time.monotonic() - began)
 
     def test_within_one_client_nothing_waits(self):
         with self.served('--clients', 2, '--connections', 1, '--wait', 600) as place, self.connect(place) as connection:
             holder, other = connection.open('root'), connection.open('root')
-            holder.ask('BEGIN')
-            holder.ask('DELETE FROM free')
-            with self.assertRaises(guarddb.Refused) as refused:
-                other.ask('DELETE FROM free')
-            self.assertEqual(refused.exception.code, '55P03')
+            self.hold(holder)
+            self.is_kept_from_writing(other)
 
     def test_a_holder_that_goes(self):
         """Its block is rolled back, and who waits goes on."""
