@@ -67,7 +67,7 @@ CODES = {code: Code(name, meaning) for code, name, meaning in (line.split(None, 
 08002 connection_name_in_use        the session is open already
 08003 connection_does_not_exist     the session is not open
 08P01 protocol_violation            bytes that are no frame; over a connection alone
-0LP01 invalid_grant_operation       GRANT OPTION to PUBLIC, or a membership that would make a circle
+0LP01 invalid_grant_operation       GRANT OPTION to PUBLIC, or a membership that would make a cycle
 22003 numeric_value_out_of_range    a number outside BIGINT
 22012 division_by_zero              a divisor of zero
 23502 not_null_violation            a null in a column that is NOT NULL

@@ -59,7 +59,7 @@ class Generated(Script):
         return model.is_super(db, login) or model.is_in(db, login, role)
 
     def holder(self):
-        """The session that holds the write slot, or None."""
+        """The session that holds the writer lock, or None."""
         held = self.server.holder
         return next((name for name, number in self.numbers.items() if held and number == held[0]), None)
 
@@ -140,7 +140,7 @@ class Generated(Script):
         return self.sent_by(statement, may)
 
     def joining(self):
-        """Mostly a GRANT that makes no circle, or a REVOKE of a membership that is there."""
+        """Mostly a GRANT that makes no cycle, or a REVOKE of a membership that is there."""
         kind = 'GRANT' if self.chance(0.45) else 'REVOKE'
         while True:
             statement = self.membership()

@@ -14,7 +14,7 @@ PostgreSQL's state is made the model's, so that one difference does not bring ot
 
 What is written otherwise for PostgreSQL: numbers and users get their types; MEMBER OF, which it has not, is an operator made for
 this; keys are deferrable, so that they are compared at a statement's end; a SELECT gets the order of the keys behind its own, where
-its role may read them. What is not played: events for the write slot (55P03), of sessions that are not open, and of sessions whose
+its role may read them. What is not played: events for the writer lock (55P03), of sessions that are not open, and of sessions whose
 roles are gone, which PostgreSQL has no counterpart of.
 """
 import collections
@@ -389,12 +389,12 @@ def loses_right(event):
 def kinds_of_grants(event, mine, other, changed):
     """Those of GRANT and REVOKE of privileges."""
     yield 'the code of a REVOKE that others depend on', (mine, other) == ('2B000', '2BP01')
-    yield 'a circle of grants', event.kind == 'grant' and other == '0LP01'
+    yield 'a cycle of grants', event.kind == 'grant' and other == '0LP01'
     yield 'nothing that is named may be granted', mine in ('GRANT', 'REVOKE', '0LP01') and other == '42501'
     yield 'an option on the table, and grants on its columns', leaves_more(event, mine) and has_columns_under_the_table(event)
     if not other[:1].isdigit() and changed in ([], ['grants']):
         yield "the owner's own privileges", event.kind == 'revoke' and changed and but_own(event, event.ours) == but_own(event, event.theirs)
-        yield 'a circle of grants', leaves_more(event, mine) and has_circle(event)
+        yield 'a cycle of grants', leaves_more(event, mine) and has_cycle(event)
         yield 'an option that a role has through another', leaves_more(event, mine) and has_option_twice(event)
         yield 'another grantor', any(is_by(event, role) for role in event.db.roles if model.is_in(event.db, event.users[1], role))
 
@@ -424,7 +424,7 @@ def leaves_more(event, mine):
     return but_own(event, event.ours).items() <= but_own(event, event.theirs).items()
 
 
-def has_circle(event):
+def has_cycle(event):
     """Whether grants on the table lead from a role back to it."""
     pairs = {(d[0], d[1]) for d, grantable in event.db.descriptors.items()
              if d[2] == named_by(event) and grantable and d[0] is not model.SYSTEM}
@@ -535,7 +535,7 @@ class Judge:
             self.users.update({number: None for number in self.users if number != event.number or number in self.set_in_block})
             self.set_in_block.discard(event.number)
             connection.sure('BEGIN')
-            changed = self.compare_users(event) + (self.align(event) if event.held_slot else [])
+            changed = self.compare_users(event) + (self.align(event) if event.held_lock else [])
             connection.sure('COMMIT')
         self.count(event, answer_text(answer), answer.message, changed)
 
@@ -631,14 +631,14 @@ class Event:
         self.note, self.ours, self.theirs = '', None, None
         self.db = server.seen(number)
         self.statement = statement
-        self.held_slot = bool(server.holder and server.holder[0] == number)
+        self.held_lock = bool(server.holder and server.holder[0] == number)
         self.reason = self.why_not_played(server, session)
 
     def why_not_played(self, server, session):
         if not session:
             return 'a session that is not open'
         if self.expected == 'refused 55P03':
-            return 'the write slot'
+            return 'the writer lock'
         if self.was_failed or self.kind in ('commit', 'rollback'):
             return None
         db = server.seen(self.number)

@@ -8,7 +8,7 @@ UPDATE and DELETE fail on it. There are two kinds of pairs:
 - one session beside others: one script has events of other sessions between bob's, each of which leaves what his roles see as it was; the
   other script has bob's events alone.
 
-Bob's answers must be the same in both scripts, up to the first event that one alone answers 23505, and that others hold the slot against
+Bob's answers must be the same in both scripts, up to the first event that one alone answers 23505, and that others hold the writer lock against
 (55P03). Policies are of every kind, or FOR ALL without WITH CHECK, or these over columns of the key alone: then there is no exception for
 23505. A third of the pairs is of each. Bob's UPDATE and DELETE read a column where policies are of every kind.
 """

@@ -19,7 +19,7 @@ SESSIONS = {'b1': 'bob', 'b2': 'bob', 'e1': 'bea'}
 OTHERS = ['cid', 'dan', 'ann']
 OTHER_SESSIONS = {'c1': 'cid', 'd1': 'dan', 'a1': 'ann', 'r': 'root'}
 ROLES = LOGINS + OTHERS + ['team', 'staff']
-# Memberships that a world may have, with how often: a role, and who is in it. None of them closes a circle.
+# Memberships that a world may have, with how often: a role, and who is in it. None of them closes a cycle.
 MEMBERSHIPS = [('team', 'bob', 0.4), ('team', 'bea', 0.4), ('staff', 'team', 0.25), ('staff', 'bob', 0.15), ('team', 'cid', 0.15),
                ('cid', 'bob', 0.05), ('bea', 'bob', 0.12), ('staff', 'dan', 0.2), ('ann', 'bea', 0.04)]
 WIDE_SHAPES = SHAPES + [

@@ -73,7 +73,7 @@ SESSIONS = [
     ('b', 'CREATE POLICY q ON t USING (true)', 'refused 42501'), ('b', 'BEGIN', 'ok BEGIN'), ('b', 'SELECT k FROM t', 'rows 1\n1'),
     ('a', 'DROP TABLE t', 'ok DROP TABLE'), ('b', 'SELECT k FROM t', 'refused 42P01'), ('b', 'COMMIT', 'ok ROLLBACK'),
 ]
-# Circles of grants, a role that is dropped under a session, and what fails first. The lines that open sessions are among them.
+# Cycles of grants, a role that is dropped under a session, and what fails first. The lines that open sessions are among them.
 FIRST = [
     ('r', 'CREATE ROLE cid LOGIN', 'ok CREATE ROLE'), ('open c', 'cid', 'ok OPEN'), ('r', 'CREATE ROLE eve LOGIN', 'ok CREATE ROLE'), ('open e', 'eve', 'ok OPEN'),
     ('r', 'DROP ROLE eve', 'ok DROP ROLE'), ('e', 'SELECT 1', 'refused 28000'),

@@ -10,7 +10,7 @@ LOGINS = ['ann', 'bob', 'cid', 'dan']
 ROLES = LOGINS + ['team', 'staff']
 LETTERS = {'ann': 'a', 'bob': 'b', 'cid': 'c', 'dan': 'd'}
 OTHERS = ['cid', 'dan', 'ann']
-# Memberships that a world may have, with how often: a role, and who is in it. None of them closes a circle.
+# Memberships that a world may have, with how often: a role, and who is in it. None of them closes a cycle.
 MEMBERSHIPS = [('team', 'bob', 0.4), ('staff', 'team', 0.3), ('staff', 'bob', 0.2), ('team', 'cid', 0.3), ('cid', 'bob', 0.1),
                ('ann', 'bob', 0.05), ('staff', 'dan', 0.2)]
 SHAPES = [

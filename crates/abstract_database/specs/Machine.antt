@@ -139,7 +139,7 @@ abbrev pub is_held_by_other : ℕ → Option Holder → Bool
 is_held_by_other number None = false
 is_held_by_other number (Some h) = not (h.session == number)
 
--- the slot after the session has given it up, if it was its own
+-- the writer lock after the session has given it up, if it was its own
 abbrev pub released : ℕ → Option Holder → Option Holder
 released number None = None
 released number (Some h) = if h.session == number then None else Some h

@@ -56,11 +56,11 @@ IsRoleOf all name = list_any (is_role_named name) all ≡ true
 abbrev pub IsWholeRole : Role → Type 0
 IsWholeRole role = IsUtf8Name role.name
 
--- both are roles, and the one is not in the other: so no chain of memberships is a circle
+-- both are roles, and the one is not in the other: so no chain of memberships is a cycle
 pub record IsWholeMembership (all : List Role) (memberships : List Membership) (m : Membership) : Type 0 where
   pub role : IsRoleOf all m.role
   pub member : IsRoleOf all m.member
-  pub no_circle : IsIn memberships m.role m.member → ⊥
+  pub no_cycle : IsIn memberships m.role m.member → ⊥
 
 -- ---- tables
 

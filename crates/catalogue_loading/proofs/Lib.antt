@@ -13,7 +13,7 @@ pub mod Lists
 mod CheckedClauses
 mod Supports
 pub mod Differing
-pub mod Circles
+pub mod Cycles
 pub mod Granted
 pub mod Bound
 pub mod Valid

@@ -30,9 +30,9 @@ is_of_roles all m = is_role_of all m.role && is_role_of all m.member
 abbrev pub is_granted_above : TheName → List TheName → Membership → Bool
 is_granted_above role above m = bytes_eq m.role role && has_name m.member above
 
--- the membership is one of this role, which is in its member: a circle
-abbrev pub closes_circle : List Membership → TheName → Membership → Bool
-closes_circle memberships role m = bytes_eq m.role role && is_in memberships role m.member
+-- the membership is one of this role, which is in its member: a cycle
+abbrev pub closes_cycle : List Membership → TheName → Membership → Bool
+closes_cycle memberships role m = bytes_eq m.role role && is_in memberships role m.member
 
 -- ---- privileges
 

@@ -1,7 +1,7 @@
 //! The definitions of a database, read from the records of a store: kind by kind, each record by the
 //! item that it spells.
 //! Whether definitions are those of a whole database: roles are known wherever they are named,
-//! memberships have no circle, tables have numbers of their own, privilege descriptors are supported
+//! memberships have no cycle, tables have numbers of their own, privilege descriptors are supported
 //! and policies are whole. Nothing here reads or writes records.
 //! The definitions of a database, read whole from the records of a store.
 //! The rows of a database in the records of a map: whether each of their records is that of a row

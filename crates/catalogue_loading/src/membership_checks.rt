@@ -1,11 +1,11 @@
-//! Memberships that are those of roles, and have no circle.
+//! Memberships that are those of roles, and have no cycle.
 
 ghost use Rattle.std.specs.Prelude.{◌≡◌, ◌↔◌, ◌<◌, ◌-◌, false, IsTrue, Some, length, slice_get, bytes_eq, IfOk};
 ghost use Rattle.std.specs.List.{list_any, list_all};
 ghost use Rattle.sql_ast.specs.declared.role.Membership.{Membership as TheMembership};
 ghost use Rattle.abstract_database.specs.Roles.{IsIn};
 ghost use Rattle.abstract_database.specs.Whole.{Each, OneOf, IsWholeMembership};
-ghost use Rattle.catalogue_loading.specs.ValidityChecks.{is_of_roles, is_granted_above, closes_circle};
+ghost use Rattle.catalogue_loading.specs.ValidityChecks.{is_of_roles, is_granted_above, closes_cycle};
 
 use catalogue::definitions::Catalogue;
 use role_membership::{Memberships, RoleSet, closure};
@@ -33,7 +33,7 @@ fn has_member_above(memberships: &[Membership], role: &Name, above: &RoleSet<'_>
 /// Whether a role is in one of its members.
 fn is_in_a_member(alloc: Global, memberships: &Memberships, role: &Name) -> Result<bool, AllocError>
     ensures { IfOk result (λ found. found
-        ≡ list_any (closes_circle memberships.now role.now) memberships.now) }
+        ≡ list_any (closes_cycle memberships.now role.now) memberships.now) }
 {
     let above = closure(alloc, memberships, role)?;
     Ok(has_member_above(memberships.as_slice(), role, &above))
@@ -56,9 +56,9 @@ fn is_first_of_role(memberships: &[Membership], index: usize) -> bool
     index == 0 || !have_one_role(&memberships[index - 1], &memberships[index])
 }
 
-/// Whether memberships have a circle: whether one has a role that is in its member. Memberships of
+/// Whether memberships have a cycle: whether one has a role that is in its member. Memberships of
 /// one role that follow each other are looked at once, each time in proportion to all memberships.
-fn have_circle(alloc: Global, memberships: &Memberships) -> Result<bool, AllocError>
+fn have_cycle(alloc: Global, memberships: &Memberships) -> Result<bool, AllocError>
     ensures { IfOk result (λ found. IsTrue found
         ↔ OneOf (λ m. IsIn memberships.now m.role m.member) memberships.now) }
 {
@@ -73,7 +73,7 @@ fn have_circle(alloc: Global, memberships: &Memberships) -> Result<bool, AllocEr
     Ok(false)
 }
 
-/// Whether the memberships are those of roles, and none is in a circle.
+/// Whether the memberships are those of roles, and none is in a cycle.
 pub(crate) fn are_whole_memberships(
     alloc: Global,
     catalogue: &Catalogue,
@@ -85,5 +85,5 @@ pub(crate) fn are_whole_memberships(
     if !are_of_roles(catalogue, memberships.as_slice()) {
         return Ok(false);
     }
-    Ok(!have_circle(alloc, memberships)?)
+    Ok(!have_cycle(alloc, memberships)?)
 }

@@ -9,6 +9,9 @@ use crate::channel::{Channel, Sent};
 use std::alloc::Global;
 use std::mem;
 
+/// A buffer of at most so many bytes is kept once all of it has gone out.
+const KEPT_SIZE: usize = 65_536;
+
 /// How far what was said has gone out.
 #[derive(Clone, Copy, PartialEq, Eq)]
 pub enum Sending {
@@ -60,12 +63,15 @@ impl SendQueue {
             .saturating_add(self.said.len())
     }
 
-    // Where all that was going has gone, what was said since goes next.
+    // Where all that was going has gone, what was said since goes next. A large buffer is given back.
     fn turn_over(&mut self)
         ensures { left self.new.going.items self.new.sent self.new.said.items ≡ left self.old.going.items self.old.sent self.old.said.items }
     {
         if self.sent >= self.going.len() {
             self.going.clear();
+            if self.going.capacity() > KEPT_SIZE {
+                self.going.shrink_to(0);
+            }
             mem::swap(&mut self.going, &mut self.said);
             self.sent = 0;
         }
@@ -87,6 +93,7 @@ impl SendQueue {
         match channel.send(rest) {
             Sent::Bytes(count) => {
                 self.sent += count;
+                self.turn_over();
                 Sending::Moves
             }
             Sent::Nothing => Sending::Waits,

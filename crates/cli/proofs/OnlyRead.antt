@@ -17,7 +17,7 @@ use Rattle.journal_store.proofs.Since.{history_since, content_since}
 use Rattle.stored_database.specs.Definitions.{Definitions}
 use Rattle.transactions.specs.Views.{applied_all}
 use Rattle.catalogue_loading.specs.Found.{Finds}
-use Rattle.recovery.specs.Respelled.{AreRespelling, RespellsFrom}
+use Rattle.recovery.specs.MigrationChanges.{AreMigrating, MigratesRecordsFrom}
 use Rattle.recovery.specs.declared.fault.OpeningFault.TheVariants as opening
 use Rattle.recovery.specs.Openings.{AreOfDatabase}
 use Rattle.recovery.proofs.Reading.{under_lists}
@@ -30,13 +30,13 @@ use Rattle.cli.specs.Reading.{AreDefinitionsOf, HasFault, ReadsOn}
 -- ---- what was read of a store
 
 -- there are no lists where the contents stand for no database
-pub no_lists : (fault : Fault) (contents : Contents) → RespellsFrom contents.record_format (Err fault) contents.records → AreDefinitionsOf contents (Err fault)
+pub no_lists : (fault : Fault) (contents : Contents) → MigratesRecordsFrom contents.record_format (Err fault) contents.records → AreDefinitionsOf contents (Err fault)
 no_lists Memory contents none = tt
 no_lists Device contents none = tt
 no_lists Damaged contents none = none
 
 -- what is found under the lists are the definitions of the contents
-pub found_under : (result : Result Definitions Fault) (contents : Contents) (lists : List Changes) → AreRespelling contents.record_format contents.records lists
+pub found_under : (result : Result Definitions Fault) (contents : Contents) (lists : List Changes) → AreMigrating contents.record_format contents.records lists
     → Finds (AreOfDatabase (applied_all lists contents.records)) result → AreDefinitionsOf contents result
 found_under (Ok d) contents lists are finds = subst (λ (es : Records). AreOfDatabase es d) (under_lists contents.record_format contents.records lists are) finds
 found_under (Err Memory) contents lists are finds = tt

@@ -3,7 +3,7 @@ use Rattle.std.proofs.Common.{◌≡◌, ◌≢◌, ◌∙◌, ℕ, List, refl, 
 use Rattle.std.specs.Prelude.{Err}
 use Rattle.storage_sizes.specs.declared.record_format.RecordFormat.{RecordFormat}
 use Rattle.storage_sizes.specs.declared.record_format.RecordFormat.TheVariants.{V2}
-use Rattle.storage_sizes.specs.Spellings.{current}
+use Rattle.storage_sizes.specs.CurrentRecordFormat.{current}
 use Rattle.store.specs.declared.memory.MemStore.{MemStore}
 use Rattle.store.specs.Memory.{new_state, new_records}
 use Rattle.store.specs.MemoryStore.{memory_store_state}
@@ -13,7 +13,7 @@ use Rattle.abstract_database.specs.Lists.{TheName}
 use Rattle.abstract_database.specs.Database.{Database, new_database}
 use Rattle.abstract_database.specs.Runs.{ReadingRelation}
 use Rattle.stored_database.specs.Records.{StandsFor}
-use Rattle.stored_database.specs.Spellings.{spelled_in_second}
+use Rattle.stored_database.specs.BothRecordFormats.{in_record_format_2}
 use Rattle.server.specs.declared.server.Server.{Server}
 use Rattle.server.specs.Standing.{Represents, at_start}
 use Rattle.recovery.specs.declared.fault.OpeningFault.{OpeningFault}
@@ -48,7 +48,7 @@ memory_alone (Read read.Device) old new looked whole = absurd (no_device old new
 memory_alone (Read read.Damaged) old new looked whole = absurd (whole refl)
 memory_alone (Commit fault) old new looked whole = absurd looked
 
--- a new database is of the second spelling
+-- a new database is in record format 2
 current_is : current ≡ V2
 unfolding current
 current_is = refl
@@ -62,9 +62,9 @@ module _ (X : Type 0) {K : Type 0} (Reads : ReadingRelation) (k : SinkGhosts K) 
   second : (memory_store_state store).record_format ≡ V2
   second = spelled ∙ current_is
 
-  -- its records in the second spelling are those of a new database
-  records_are : spelled_in_second (memory_store_state store).record_format (memory_store_state store).map ≡ new_records admin
-  records_are = ap (λ (s : RecordFormat). spelled_in_second s (memory_store_state store).map) second ∙ holds
+  -- its records in record format 2 are those of a new database
+  records_are : in_record_format_2 (memory_store_state store).record_format (memory_store_state store).map ≡ new_records admin
+  records_are = ap (λ (s : RecordFormat). in_record_format_2 s (memory_store_state store).map) second ∙ holds
 
   looks : (f : OpeningFault) → OnlyLooks (memory_store_state store).record_format (Err f)
   looks f = subst (λ (s : RecordFormat). OnlyLooks s (Err f)) (sym second) tt

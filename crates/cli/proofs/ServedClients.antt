@@ -1,5 +1,5 @@
 -- The clients that were served over the database that was opened, at the place that was asked for.
-use Rattle.std.proofs.Common.{arith, ◌≡◌, ◌≤◌, ◌∙◌, ap, sym, subst, inl, inr, ℕ, Bool, List, Option, Result, Ok, Err}
+use Rattle.std.proofs.Common.{arith, ◌≡◌, ◌≤◌, ◌∙◌, ap, sym, subst, inl, inr, ℕ, Bool, List, Result, Ok, Err}
 use Rattle.sector_device.specs.declared.device.Device.{Ghosts}
 use Rattle.channels.specs.declared.attend.Attend.{Ghosts as AttendGhosts}
 use Rattle.channels.specs.Channels.{KeepsAll}

@@ -10,7 +10,7 @@ use Rattle.systems.specs.Systems.{SystemState}
 use Rattle.abstract_database.specs.Database.{Database}
 use Rattle.stored_database.specs.Definitions.{Definitions}
 use Rattle.stored_database.specs.Records.{Shows}
-use Rattle.stored_database.specs.Spellings.{spelled_in_second, Stands}
+use Rattle.stored_database.specs.BothRecordFormats.{in_record_format_2, Stands}
 use Rattle.databases.specs.declared.fault.DatabaseFault.{DatabaseFault}
 use Rattle.databases.specs.declared.fault.DatabaseFault.TheVariants.{Pages, Records}
 use Rattle.databases.specs.OnDevice.{IsOfDevice}
@@ -25,7 +25,7 @@ use Rattle.cli.specs.Files.{IsNotOpened, ReadsDevice}
 
 -- contents stand for this database with these definitions
 abbrev pub ShowsAs : Contents → Definitions → Database → Type 0
-ShowsAs contents definitions db = Shows (spelled_in_second contents.record_format contents.records) definitions db
+ShowsAs contents definitions db = Shows (in_record_format_2 contents.record_format contents.records) definitions db
 
 -- the definitions of the database that contents stand for, or Damaged where they stand for none
 abbrev pub AreDefinitionsOf : Contents → Result Definitions Fault → Type 0

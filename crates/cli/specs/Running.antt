@@ -15,7 +15,7 @@ use Rattle.abstract_database.specs.Lists.{TheName}
 use Rattle.abstract_database.specs.Database.{Database, new_database}
 use Rattle.abstract_database.specs.Machine.{Event as MachineEvent, Machine, machine_over, transition_to}
 use Rattle.abstract_database.specs.Runs.{TheText, ReadingRelation, IsTransition, MayRunOutOfMemory, RanBy}
-use Rattle.stored_database.specs.Spellings.{Stands}
+use Rattle.stored_database.specs.BothRecordFormats.{Stands}
 use Rattle.server.specs.declared.server.Server.{Server}
 use Rattle.server.specs.Standing.{Represents, at_start, events_of}
 use Rattle.recovery.specs.Openings.{HasLooked, HasOpeningCause, IsOpened, KeepsDatabase, OnlyLooks}
@@ -33,7 +33,7 @@ use Rattle.cli.specs.Faults.{of_records}
 
 -- ---- over a store
 
--- No server was opened, and nothing was told. Records of the second spelling were only read, and damaged ones;
+-- No server was opened, and nothing was told. Records in record format 2 were only read, and damaged ones;
 -- of others a stop leaves the database that was there. Contents that stand for a database are not damaged
 pub record IsNotOpened {S K : Type 0} (state : S → StoreState) (store : S) (before : K) (e : Ending) (left : S) (after : K) : Type 0 where
   pub fault : OpeningFault

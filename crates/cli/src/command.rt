@@ -3,9 +3,8 @@
 ghost use Rattle.std.specs.Prelude.{◌≡◌, ◌↔◌, IsTrue, IfOk, IfErr, Some, codes};
 ghost use Rattle.clap.specs.Words.{found_of, rows_of};
 ghost use Rattle.sql_types.specs.Name.{IsName};
-ghost use Rattle.cli.specs.CommandLine.{IsAtRefusal, Asks, Refuses, Journal, Serve, ServeSocket, GivesAs, IsOrdered, IsUnfit, IsIdleFor, IsNoNumber, IsReadFrom, IsRoleName, IsSocketPath, lent_word, lent_words};
+ghost use Rattle.cli.specs.CommandLine.{IsAtRefusal, Asks, Refuses, Journal, GivesAs, IsOrdered, IsUnfit, IsNoNumber, IsReadFrom, IsSocketPath, lent_words};
 ghost use Rattle.cli.specs.Numbers.{IsNumberFor};
-ghost use Rattle.cli.specs.declared.number.NumberOption.TheVariants.{Idle};
 ghost use Rattle.cli.specs.Usage.{usage_reason};
 
 use crate::error_reason::ErrorReason;

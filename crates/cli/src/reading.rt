@@ -8,7 +8,7 @@ use crate::fault::CommandFault;
 use catalogue::definitions::Catalogue;
 use databases::DatabaseFault;
 use journal_store::{DeviceStore, JournalDevice};
-use recovery::{OpeningFault, read_under, respelled_lists};
+use recovery::{OpeningFault, migration_lists, read_under};
 use sector_device::Device;
 use std::alloc::Global;
 use store::{Fault, Store};
@@ -68,7 +68,7 @@ fn read_store<S: Store>(alloc: Global, store: &mut S) -> Result<Catalogue, Fault
     ensures found { (S.state store.old).sound
         → AreDefinitionsOf (stored (S.state store.old)) result }
 {
-    let lists = match respelled_lists(alloc, store) {
+    let lists = match migration_lists(alloc, store) {
         Ok(lists) => lists,
         Err(fault) => return Err(fault),
     };

@@ -29,8 +29,8 @@ pub struct Run<S> {
 ///
 /// Where no server is opened, nothing is told to `out`: `Fault` is `Memory` where an allocation
 /// failed, `Device` where the device failed, `Damaged` where the records stand for no database, and
-/// `Full` or `Number` where records of the first spelling have no room in the second, or no commit
-/// number. Records of the second spelling were only read then, and so were those that are damaged;
+/// `Full` or `Number` where records in record format 1 have no room in record format 2, or no commit
+/// number. Records in record format 2 were only read then, and so were those that are damaged;
 /// of others a stop leaves the same database. After it `Fault` is `Memory` where an allocation for
 /// the script's lines failed and `Output` where `out` did.
 pub fn run_script_over<S: Store, X: EventHandler + Drop, K: TakesText>(

@@ -2,7 +2,7 @@
 use Rattle.std.proofs.Common.{◌≡◌, ◌≤◌, ◌/◌, ◌%◌, ◌&&◌, ◌||◌, ℕ, inl, inr, true, false, eqb, [], Option, Some, None, Err, refl, sym, ap, subst, ◌∙◌, arith}
 use Rattle.std.proofs.lemmas.Bool.{and_parts, false≢true, leb-true}
 use Rattle.std.specs.Prelude.{nat_le}
-use Rattle.storage_sizes.specs.Spellings.{current}
+use Rattle.storage_sizes.specs.CurrentRecordFormat.{current}
 use Rattle.sector_device.specs.Timeline.{LeavesOnly, IsPresent, joined, read_by}
 use Rattle.sector_device.specs.Device.{DeviceState, Image, HasFailed, IsLeft, timeline, history_joined, history_none}
 use Rattle.sector_device.specs.declared.device.Device.{Ghosts}

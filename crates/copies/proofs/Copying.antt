@@ -3,7 +3,7 @@ use Rattle.std.proofs.Common.{◌≡◌, ◌⊎◌, ◌/◌, ◌^◌, ◌-◌, �
 use Rattle.std.proofs.lemmas.Bool.{cases_lt, false≢true}
 use Rattle.storage_sizes.specs.declared.record_format.RecordFormat.{RecordFormat}
 use Rattle.storage_sizes.specs.declared.record_format.RecordFormat.TheVariants.{V2}
-use Rattle.storage_sizes.specs.Spellings.{current}
+use Rattle.storage_sizes.specs.CurrentRecordFormat.{current}
 use Rattle.sector_device.specs.Device.{DeviceState, Image, HasFailed, IsLeft}
 use Rattle.store.specs.declared.fault.Fault.{Fault}
 use Rattle.store.specs.declared.fault.Fault.TheVariants as read
@@ -21,7 +21,7 @@ use Rattle.journal_store.specs.DeviceStores.{state_under, store_state}
 use Rattle.sector_device.specs.declared.device.Device.{Ghosts}
 use Rattle.abstract_database.specs.Database.{Database}
 use Rattle.stored_database.specs.Records.{StandsFor}
-use Rattle.stored_database.specs.Spellings.{Stands, spelled_in_second}
+use Rattle.stored_database.specs.BothRecordFormats.{Stands, in_record_format_2}
 use Rattle.transactions.specs.Views.{applied_all}
 use Rattle.recovery.specs.Migrated.{in_second}
 use Rattle.copies.specs.RecordCopies.{HasOutsized, behind_mark, whole}
@@ -36,10 +36,10 @@ use Rattle.copies.proofs.Reading.{under_lists}
 
 -- the records of a database, all behind the mark, are in record format 2
 whole_is : ((records : Records) (db : Database) → StandsFor records db → behind_mark records ≡ records) → (contents : Contents) (lists : List Changes) (db : Database) → Stands contents db
-    → applied_all lists contents.records ≡ spelled_in_second contents.record_format contents.records → whole current (applied_all lists contents.records) ≡ in_second contents
+    → applied_all lists contents.records ≡ in_record_format_2 contents.record_format contents.records → whole current (applied_all lists contents.records) ≡ in_second contents
 unfolding current
 whole_is all contents lists db stands is =
-    ap (λ (es : Records). whole V2 es) is ∙ ap (λ (es : Records). let c : Contents = record { record_format = V2; records = es } in c) (all (spelled_in_second contents.record_format contents.records) db stands)
+    ap (λ (es : Records). whole V2 es) is ∙ ap (λ (es : Records). let c : Contents = record { record_format = V2; records = es } in c) (all (in_record_format_2 contents.record_format contents.records) db stands)
 
 pub copies_read : {E : Type 0} (state : E → DeviceState) → ((records : Records) (db : Database) → StandsFor records db → behind_mark records ≡ records) → (contents : Contents) (lists : List Changes)
     (result : Result (Unit {0}) CopyFault) (old new : E) → IsRead contents lists → CopiesTo state (applied_all lists contents.records) result old new → CopiesRead contents state result old new
@@ -54,8 +54,8 @@ pub no_outsized : ((records : Records) (db : Database) → StandsFor records db 
     → (contents : Contents) (lists : List Changes) → IsRead contents lists → HasOutsized (behind_mark (applied_all lists contents.records)) → ⊥
 no_outsized sizes all contents lists is has =
     let same = under_lists contents.record_format contents.records lists is.0 in
-    sizes (spelled_in_second contents.record_format contents.records) is.1 is.2
-    (subst HasOutsized (ap behind_mark same ∙ all (spelled_in_second contents.record_format contents.records) is.1 is.2) has)
+    sizes (in_record_format_2 contents.record_format contents.records) is.1 is.2
+    (subst HasOutsized (ap behind_mark same ∙ all (in_record_format_2 contents.record_format contents.records) is.1 is.2) has)
 
 refused_copy : {E : Type 0} (state : E → DeviceState) (contents : Contents) (fault : CopyFault) (old new : E) → CopiesRead contents state (Err fault) old new → (fault ≡ Read read.Damaged → ⊥)
     → CopiesStore contents state (Err fault) old new

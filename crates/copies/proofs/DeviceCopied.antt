@@ -1,7 +1,7 @@
 -- What is left of a copy to a device.
 use Rattle.std.proofs.Common.{◌≡◌, ◌≤◌, ◌/◌, ◌^◌, ◌-◌, ◌⊎◌, ℕ, inl, inr, false, ◌∷◌, [], Some, Result, Ok, Err, IfErr, refl, sym, ap, subst, ◌∙◌, arith}
 use Rattle.std.proofs.lemmas.Bool.{cases_lt, false≢true}
-use Rattle.storage_sizes.specs.Spellings.{current}
+use Rattle.storage_sizes.specs.CurrentRecordFormat.{current}
 use Rattle.sector_device.specs.Timeline.{LeavesOnly, joined, weakened, read_by}
 use Rattle.sector_device.specs.Device.{DeviceState, Image, HasFailed, IsLeft, timeline}
 use Rattle.sector_device.specs.declared.device.Device.{Ghosts}

@@ -12,7 +12,7 @@ use Rattle.stored_database.specs.Definitions.{Definitions, ids_of}
 use Rattle.stored_database.specs.Entries.{IsRecordSize}
 use Rattle.stored_database.specs.Records.{Shows, StandsFor, is_key_of, is_orphan}
 use Rattle.stored_database.specs.RecordFormat.{descriptor_prefix, policy_prefix}
-use Rattle.stored_database.specs.Spellings.{Means, Stands, spelled_in_second, with_places}
+use Rattle.stored_database.specs.BothRecordFormats.{Means, Stands, in_record_format_2, with_places}
 use Rattle.stored_database.proofs.AllRecords.{KindOf, of_role, of_membership, of_table, of_row, of_descriptor, of_policy, kind_of, none_there}
 use Rattle.stored_database.proofs.Lists.{into_right}
 use Rattle.stored_database.proofs.Prefixes.{front_of}
@@ -34,14 +34,14 @@ marked_none records others db is stands =
     false≢true (sym (none_there (is_orphan ids) records stands.1.defined.no_other mark (subst (λ (es : Records). Among mark es) (sym is) (inl refl))) ∙ orphan_mark ids)
 
 -- the mark is spelled alike in both record formats
-marked_in_second : (record_format : RecordFormat) (records others : Records) → records ≡ mark ∷ others → (more : Records) × (spelled_in_second record_format records ≡ mark ∷ more)
+marked_in_second : (record_format : RecordFormat) (records others : Records) → records ≡ mark ∷ others → (more : Records) × (in_record_format_2 record_format records ≡ mark ∷ more)
 marked_in_second V1 records others is = (with_places others, ap with_places is)
 marked_in_second V2 records others is = (others, is)
 
 pub marked_stands : (contents : Contents) (others : Records) (db : Database) → contents.records ≡ mark ∷ others → Stands contents db → ⊥
 marked_stands contents others db is stands =
     let there = marked_in_second contents.record_format contents.records others is in
-    marked_none (spelled_in_second contents.record_format contents.records) there.0 db there.1 stands
+    marked_none (in_record_format_2 contents.record_format contents.records) there.0 db there.1 stands
 
 pub left_stands : (x : Option Contents) (db : Database) → HasNoneOrMark x → Means x db → ⊥
 left_stands x db (inl none) means = let bad : None ≡ Some means.0 = sym none ∙ means.1 in cc

@@ -9,9 +9,9 @@ use Rattle.cow_pages.specs.declared.open.OpenFault.TheVariants as pages
 use Rattle.cow_pages.specs.Image.{first_fault, is_size}
 use Rattle.journal_store.specs.DeviceOpening.{IsNamedFor}
 use Rattle.abstract_database.specs.Database.{Database}
-use Rattle.stored_database.specs.Spellings.{Stands}
+use Rattle.stored_database.specs.BothRecordFormats.{Stands}
 use Rattle.recovery.specs.Migrated.{in_second}
-use Rattle.recovery.specs.Respelled.{AreRespelling}
+use Rattle.recovery.specs.MigrationChanges.{AreMigrating}
 use Rattle.copies.specs.DeviceCopies.{CopiesAll}
 use Rattle.databases.specs.Databases.{HoldsDatabase, MeansDatabase, MeansNone}
 use Rattle.copies.specs.declared.fault.CopyFault.{CopyFault}
@@ -21,7 +21,7 @@ use Rattle.copies.specs.declared.fault.CopyFault.TheVariants.{Pages, Read}
 
 -- the lists spell the contents in record format 2, in which they stand for a database
 abbrev pub IsRead : Contents → List Changes → Type 0
-IsRead contents lists = AreRespelling contents.record_format contents.records lists × (db : Database) × Stands contents db
+IsRead contents lists = AreMigrating contents.record_format contents.records lists × (db : Database) × Stands contents db
 
 -- the contents stand for a database, and are copied in record format 2, with this answer
 abbrev pub CopiesRead : {E : Type 0} → Contents → (E → DeviceState) → Result (Unit {0}) CopyFault → E → E → Type 0

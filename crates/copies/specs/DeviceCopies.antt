@@ -3,7 +3,7 @@ use Rattle.std.specs.Prelude.{◌≡◌, ◌≤◌, ◌⊎◌, ◌/◌, true, fa
 use Rattle.sector_device.specs.Timeline.{Timeline, LeavesOnly, read_by}
 use Rattle.sector_device.specs.Device.{DeviceState, Image, KeepsHistory, HasFailed, IsLeft, timeline}
 use Rattle.sector_device.specs.declared.device.Device.{Ghosts}
-use Rattle.storage_sizes.specs.Spellings.{current}
+use Rattle.storage_sizes.specs.CurrentRecordFormat.{current}
 use Rattle.store.specs.declared.fault.Fault.TheVariants as read
 use Rattle.store.specs.declared.fault.StoreFault.TheVariants as write
 use Rattle.store.specs.Readers.{HasFaultCause}

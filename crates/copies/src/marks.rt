@@ -5,7 +5,7 @@ ghost use Rattle.store.specs.Records.{Records};
 ghost use Rattle.store.specs.Store.{Contents};
 ghost use Rattle.abstract_database.specs.Database.{Database};
 ghost use Rattle.stored_database.specs.Records.{StandsFor};
-ghost use Rattle.stored_database.specs.Spellings.{Means, Stands};
+ghost use Rattle.stored_database.specs.BothRecordFormats.{Means, Stands};
 ghost use Rattle.copies.specs.RecordCopies.{HasOutsized, IsUnfinished, behind_mark, mark};
 ghost use Rattle.copies.specs.DeviceCopies.{HasNoneOrMark};
 

@@ -4,10 +4,10 @@ ghost use Rattle.std.specs.Prelude.{◌≡◌, IfErr, IfOk};
 ghost use Rattle.store.specs.Readers.{HasRead};
 ghost use Rattle.store.specs.Store.{stored};
 ghost use Rattle.abstract_database.specs.Database.{Database};
-ghost use Rattle.stored_database.specs.Spellings.{Stands};
+ghost use Rattle.stored_database.specs.BothRecordFormats.{Stands};
 ghost use Rattle.copies.specs.DatabaseCopies.{IsRead};
 
-use recovery::{read_under, respelled_lists};
+use recovery::{migration_lists, read_under};
 use sql_types::items::Items;
 use std::alloc::Global;
 use store::{Batch, Fault, Store};
@@ -24,7 +24,7 @@ pub(crate) fn read_source<S: Store>(alloc: Global, store: &mut S) -> Result<Item
     ensures damaged { (S.state store.old).sound → (db : Database)
         → Stands (stored (S.state store.old)) db → IfErr result (λ fault. fault ≡ Fault.Damaged → ⊥) }
 {
-    let lists = match respelled_lists(alloc, store) {
+    let lists = match migration_lists(alloc, store) {
         Ok(lists) => lists,
         Err(fault) => return Err(fault),
     };

@@ -16,6 +16,6 @@ pub mod WhatMemberOfTells
 pub mod HowQueriesAnswer
 pub mod WhichSessionsAreOpen
 pub mod WhatABlockShows
-pub mod WhoHoldsTheSlot
+pub mod WhoHoldsTheLock
 pub mod HowMuchFits
 pub mod WhatMayComeInPlace

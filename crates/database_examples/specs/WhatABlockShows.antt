@@ -249,7 +249,7 @@ row_security_rolls_back = Shows (
     ∷ a (drop "p") gives refused state.UndefinedObject
     ∷ [])
 
--- a session that reads is never refused the slot, and in a block it sees a table go that another session
+-- a session that reads is never refused the writer lock, and in a block it sees a table go that another session
 -- drops
 abbrev pub readers_go_on : Type 0
 readers_go_on = Shows (
@@ -334,7 +334,7 @@ names_of_a_failed_block = Shows (
     ∷ b create_u gives ok tag.CreateTable
     ∷ [])
 
--- eve's session holds the slot with a database in which eve was made, and another one of hers does not: no events lead here,
+-- eve's session holds the writer lock with a database in which eve was made, and another one of hers does not: no events lead here,
 -- since a session is opened for a role that is committed
 abbrev pub eve_is_not_committed : Machine
 eve_is_not_committed = record ready {

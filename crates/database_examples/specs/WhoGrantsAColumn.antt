@@ -95,9 +95,9 @@ column_on_two_legs = Shows (
     ∷ b select_keys gives refused state.InsufficientPrivilege
     ∷ [])
 
--- grants of a column in a circle hold no longer than a chain from the owner does
-abbrev pub circle_of_columns_goes : Type 0
-circle_of_columns_goes = Shows (
+-- grants of a column in a cycle hold no longer than a chain from the owner does
+abbrev pub cycle_of_columns_goes : Type 0
+cycle_of_columns_goes = Shows (
     a (grant_with_option select_on (the_role "bob")) gives ok tag.Grant
     ∷ b (grant_with_option (select_of ("k" ∷ [])) (the_role "cid")) gives ok tag.Grant
     ∷ c (grant_with_option (select_of ("k" ∷ [])) (the_role "bob")) gives ok tag.Grant

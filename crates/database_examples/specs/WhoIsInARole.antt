@@ -79,9 +79,9 @@ administrators_through_a_group = Shows (
     ∷ c select_all gives no_rows
     ∷ [])
 
--- memberships make no circle, of one role, two or three
-abbrev pub no_circle_of_memberships : Type 0
-no_circle_of_memberships = Shows (
+-- memberships make no cycle, of one role, two or three
+abbrev pub no_cycle_of_memberships : Type 0
+no_cycle_of_memberships = Shows (
     r (grant_role "ann" "ann") gives refused state.InvalidGrantOperation
     ∷ r (grant_role "ann" "bob") gives ok tag.GrantRole
     ∷ r (grant_role "bob" "cid") gives ok tag.GrantRole
@@ -157,9 +157,9 @@ missing_roles = Shows (
     ∷ b (set_role "cid") gives refused state.InsufficientPrivilege
     ∷ [])
 
--- who may not grant a role or drop one is refused so before a circle of memberships or a role in use is
-abbrev pub privileges_before_circles : Type 0
-privileges_before_circles = Shows (
+-- who may not grant a role or drop one is refused so before a cycle of memberships or a role in use is
+abbrev pub privileges_before_cycles : Type 0
+privileges_before_cycles = Shows (
     b (grant_role "ann" "ann") gives refused state.InsufficientPrivilege
     ∷ b (drop_role "ann") gives refused state.InsufficientPrivilege
     ∷ r (drop_role "ann") gives refused state.DependentObjects
@@ -252,9 +252,9 @@ admin_option_of_a_group = Shows (
     ∷ b (set_role "team") gives ok tag.Set
     ∷ [])
 
--- a membership that is gone makes no circle any more, and the other way round is one now
-abbrev pub circles_after_a_membership_is_gone : Type 0
-circles_after_a_membership_is_gone = Shows (
+-- a membership that is gone makes no cycle any more, and the other way round is one now
+abbrev pub cycles_after_a_membership_is_gone : Type 0
+cycles_after_a_membership_is_gone = Shows (
     r (grant_role "ann" "bob") gives ok tag.GrantRole
     ∷ r (grant_role "bob" "cid") gives ok tag.GrantRole
     ∷ r (grant_roles ("bob" ∷ "ann" ∷ []) ("dan" ∷ [])) gives ok tag.GrantRole
@@ -264,9 +264,9 @@ circles_after_a_membership_is_gone = Shows (
     ∷ r (grant_role "ann" "bob") gives refused state.InvalidGrantOperation
     ∷ [])
 
--- whoever may not grant a membership is told so, also where it would make a circle
-abbrev pub leave_before_circles : Type 0
-leave_before_circles = Shows (
+-- whoever may not grant a membership is told so, also where it would make a cycle
+abbrev pub leave_before_cycles : Type 0
+leave_before_cycles = Shows (
     a (grant_role "ann" "ann") gives refused state.InsufficientPrivilege
     ∷ r (grant_role_with_admin "ann" "bob") gives ok tag.GrantRole
     ∷ b (grant_role "bob" "ann") gives refused state.InsufficientPrivilege

@@ -8,9 +8,9 @@ use Rattle.abstract_database.specs.Machine.{opens}
 use Rattle.database_examples.specs.Wording.{all_on, can_log_in, create_role, create_u, delete, delete_on, drop_table, everyone, grant, grant_role, grant_roles, grant_with_option, insert_key, insert_on, on, reset_role, revoke, revoke_cascade, revoke_option, revoke_option_cascade, revoke_restrict, revoke_role, select_all, select_all_of_u, select_and_delete, select_and_insert, select_and_update, select_keys, select_on, set_role, the_role, the_roles, these_on, update_on}
 use Rattle.database_examples.specs.Lines.{Shows, a, b, c, d, deleted, e, inserted, no_rows, numbers, ok, r, refused, warning, ◌gives◌}
 
--- ann grants to bob, bob to cid and cid to bob: without the first grant the circle of the others supports nothing
-abbrev pub circle_of_grants_goes : Type 0
-circle_of_grants_goes = Shows (
+-- ann grants to bob, bob to cid and cid to bob: without the first grant the cycle of the others supports nothing
+abbrev pub cycle_of_grants_goes : Type 0
+cycle_of_grants_goes = Shows (
     a (grant_with_option select_on (the_role "bob")) gives ok tag.Grant
     ∷ b (grant_with_option select_on (the_role "cid")) gives ok tag.Grant
     ∷ c (grant_with_option select_on (the_role "bob")) gives ok tag.Grant
@@ -47,7 +47,7 @@ left_out_with_a_warning = Shows (
     ∷ d (grant all_on (the_role "ann")) gives warning warning.PrivilegeNotGranted tag.Grant
     ∷ [])
 
--- no circle of memberships, and no grant option to PUBLIC
+-- no cycle of memberships, and no grant option to PUBLIC
 abbrev pub refused_grants : Type 0
 refused_grants = Shows (
     r (grant_role "ann" "bob") gives ok tag.GrantRole
@@ -408,7 +408,7 @@ owner_as_a_grantee = Shows (
     ∷ b select_keys gives numbers (1 ∷ [])
     ∷ [])
 
--- an option may go back to one from whom it came; the circle goes with the first grant
+-- an option may go back to one from whom it came; the cycle goes with the first grant
 abbrev pub option_given_back_to_the_grantor : Type 0
 option_given_back_to_the_grantor = Shows (
     a (grant_with_option select_on (the_role "bob")) gives ok tag.Grant

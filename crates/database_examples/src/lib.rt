@@ -19,7 +19,7 @@ pub mod what_member_of_tells;
 pub mod which_sessions_are_open;
 pub mod who_grants_a_column;
 pub mod who_has_a_column;
-pub mod who_holds_the_slot;
+pub mod who_holds_the_lock;
 pub mod who_is_in_a_role;
 pub mod who_may_grant;
 pub mod who_may_read;

@@ -98,7 +98,7 @@ pub fn row_security_rolls_back()
     ensures { row_security_rolls_back }
 {}
 
-/// A session that reads is never refused the slot, and in a block it sees a table go that another
+/// A session that reads is never refused the writer lock, and in a block it sees a table go that another
 /// session drops.
 pub fn readers_go_on()
     ensures { readers_go_on }

@@ -1,6 +1,6 @@
 //! GRANT and REVOKE of columns: grant options, chains of grants, warnings, and names.
 
-ghost use Rattle.database_examples.specs.WhoGrantsAColumn.{revoke_on_a_table_takes_columns, column_option_grants_that_column, table_option_grants_columns, columns_do_not_support_the_table, column_on_two_legs, circle_of_columns_goes, cascade_over_columns, option_on_columns_revoked, option_on_the_table_revoked, column_granted_again, grantor_of_each_column, column_holder_takes_by_columns, columns_of_another_grantor_stay, named_and_unsupported, columns_by_the_owner, all_warns_where_no_column_is_granted, column_is_some_privilege, columns_named_twice, missing_columns, delete_takes_no_columns};
+ghost use Rattle.database_examples.specs.WhoGrantsAColumn.{revoke_on_a_table_takes_columns, column_option_grants_that_column, table_option_grants_columns, columns_do_not_support_the_table, column_on_two_legs, cycle_of_columns_goes, cascade_over_columns, option_on_columns_revoked, option_on_the_table_revoked, column_granted_again, grantor_of_each_column, column_holder_takes_by_columns, columns_of_another_grantor_stay, named_and_unsupported, columns_by_the_owner, all_warns_where_no_column_is_granted, column_is_some_privilege, columns_named_twice, missing_columns, delete_takes_no_columns};
 
 /// REVOKE on the table takes what was granted on its columns, and one on columns leaves what was
 /// granted on the table.
@@ -30,9 +30,9 @@ pub fn column_on_two_legs()
     ensures { column_on_two_legs }
 {}
 
-/// Grants of a column in a circle hold no longer than a chain from the owner does.
-pub fn circle_of_columns_goes()
-    ensures { circle_of_columns_goes }
+/// Grants of a column in a cycle hold no longer than a chain from the owner does.
+pub fn cycle_of_columns_goes()
+    ensures { cycle_of_columns_goes }
 {}
 
 /// CASCADE takes what a grant on the table supported on a column, and nothing beside it.

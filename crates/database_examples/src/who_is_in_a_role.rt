@@ -1,6 +1,6 @@
 //! Roles, their memberships, and the role that a session sets.
 
-ghost use Rattle.database_examples.specs.WhoIsInARole.{dropped_roles, admin_option, set_role_is_lost, superuser_memberships, admin_option_revoked, not_its_own_administrator, administrators_through_a_group, no_circle_of_memberships, dropped_role_takes_memberships, roles_in_use, making_roles, superuser_sets_any_role, dropping_oneself, missing_roles, privileges_before_circles, roles_without_login, admin_option_stays, memberships_that_are_not_there, lists_of_memberships_are_whole, plain_members_do_not_grant, administrators_are_equal, admin_option_of_a_group, circles_after_a_membership_is_gone, leave_before_circles, set_role_goes_by_the_login_role, superuser_by_a_set_role, membership_regained, lost_and_regained_under_a_session, role_made_again_is_new, grantors_and_owners_are_in_use, policies_of_a_dropped_table_name_nobody, only_superusers_make_and_drop_roles, dropped_under_a_superuser, what_a_lost_role_may_do};
+ghost use Rattle.database_examples.specs.WhoIsInARole.{dropped_roles, admin_option, set_role_is_lost, superuser_memberships, admin_option_revoked, not_its_own_administrator, administrators_through_a_group, no_cycle_of_memberships, dropped_role_takes_memberships, roles_in_use, making_roles, superuser_sets_any_role, dropping_oneself, missing_roles, privileges_before_cycles, roles_without_login, admin_option_stays, memberships_that_are_not_there, lists_of_memberships_are_whole, plain_members_do_not_grant, administrators_are_equal, admin_option_of_a_group, cycles_after_a_membership_is_gone, leave_before_cycles, set_role_goes_by_the_login_role, superuser_by_a_set_role, membership_regained, lost_and_regained_under_a_session, role_made_again_is_new, grantors_and_owners_are_in_use, policies_of_a_dropped_table_name_nobody, only_superusers_make_and_drop_roles, dropped_under_a_superuser, what_a_lost_role_may_do};
 
 /// A role in use stays, and a session whose login role is gone is refused.
 pub fn dropped_roles()
@@ -37,9 +37,9 @@ pub fn administrators_through_a_group()
     ensures { administrators_through_a_group }
 {}
 
-/// Memberships make no circle, of one role, two or three.
-pub fn no_circle_of_memberships()
-    ensures { no_circle_of_memberships }
+/// Memberships make no cycle, of one role, two or three.
+pub fn no_cycle_of_memberships()
+    ensures { no_cycle_of_memberships }
 {}
 
 /// Memberships go with a dropped role, and do not come back with its name.
@@ -72,9 +72,9 @@ pub fn missing_roles()
     ensures { missing_roles }
 {}
 
-/// Who may not grant or drop a role is refused so before a circle of memberships or a role in use is.
-pub fn privileges_before_circles()
-    ensures { privileges_before_circles }
+/// Who may not grant or drop a role is refused so before a cycle of memberships or a role in use is.
+pub fn privileges_before_cycles()
+    ensures { privileges_before_cycles }
 {}
 
 /// A session is opened for a role with LOGIN, and for none with NOLOGIN or without either.
@@ -113,14 +113,14 @@ pub fn admin_option_of_a_group()
     ensures { admin_option_of_a_group }
 {}
 
-/// A membership that is gone makes no circle any more, and the other way round is one now.
-pub fn circles_after_a_membership_is_gone()
-    ensures { circles_after_a_membership_is_gone }
+/// A membership that is gone makes no cycle any more, and the other way round is one now.
+pub fn cycles_after_a_membership_is_gone()
+    ensures { cycles_after_a_membership_is_gone }
 {}
 
-/// Whoever may not grant a membership is told so, also where it would make a circle.
-pub fn leave_before_circles()
-    ensures { leave_before_circles }
+/// Whoever may not grant a membership is told so, also where it would make a cycle.
+pub fn leave_before_cycles()
+    ensures { leave_before_cycles }
 {}
 
 /// Which roles a session may set goes by its login role, whatever role is set.

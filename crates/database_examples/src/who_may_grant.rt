@@ -1,10 +1,10 @@
 //! GRANT and REVOKE: grant options, chains of grants, and warnings.
 
-ghost use Rattle.database_examples.specs.WhoMayGrant.{circle_of_grants_goes, two_grantors, left_out_with_a_warning, refused_grants, grant_option_revoked, option_stays, revoke_of_nothing, superuser_acts_as_owner, only_the_acting_grantors_grants, second_chain_holds, grant_to_oneself, lost_option_over_a_chain, one_dependent_action_refuses, grants_as_the_group, grants_as_the_least_group, warned_not_refused, no_option_to_public, grants_without_a_privilege, cascade_along_a_chain, diamond_of_grants, grant_without_option_holds_nothing_up, group_is_the_grantor, grantor_of_each_action, own_option_before_a_groups, grantee_joins_the_owner, superuser_under_a_set_role, owner_takes_what_a_superuser_gave, option_that_is_not_there, grantee_takes_its_own_grants_alone, warnings_of_grant, warnings_of_revoke, named_twice_counts_once, owner_as_a_grantee, option_given_back_to_the_grantor, own_grant_depends_too, strangers_neither_grant_nor_revoke, option_for_another_action_or_table, names_of_a_grant};
+ghost use Rattle.database_examples.specs.WhoMayGrant.{cycle_of_grants_goes, two_grantors, left_out_with_a_warning, refused_grants, grant_option_revoked, option_stays, revoke_of_nothing, superuser_acts_as_owner, only_the_acting_grantors_grants, second_chain_holds, grant_to_oneself, lost_option_over_a_chain, one_dependent_action_refuses, grants_as_the_group, grants_as_the_least_group, warned_not_refused, no_option_to_public, grants_without_a_privilege, cascade_along_a_chain, diamond_of_grants, grant_without_option_holds_nothing_up, group_is_the_grantor, grantor_of_each_action, own_option_before_a_groups, grantee_joins_the_owner, superuser_under_a_set_role, owner_takes_what_a_superuser_gave, option_that_is_not_there, grantee_takes_its_own_grants_alone, warnings_of_grant, warnings_of_revoke, named_twice_counts_once, owner_as_a_grantee, option_given_back_to_the_grantor, own_grant_depends_too, strangers_neither_grant_nor_revoke, option_for_another_action_or_table, names_of_a_grant};
 
-/// Ann grants to bob, bob to cid and cid to bob: without the first grant the circle of the others supports nothing.
-pub fn circle_of_grants_goes()
-    ensures { circle_of_grants_goes }
+/// Ann grants to bob, bob to cid and cid to bob: without the first grant the cycle of the others supports nothing.
+pub fn cycle_of_grants_goes()
+    ensures { cycle_of_grants_goes }
 {}
 
 /// What a second grantor gave stays until that grantor takes it.
@@ -17,7 +17,7 @@ pub fn left_out_with_a_warning()
     ensures { left_out_with_a_warning }
 {}
 
-/// A circle of memberships is refused, and so is a grant option to PUBLIC.
+/// A cycle of memberships is refused, and so is a grant option to PUBLIC.
 pub fn refused_grants()
     ensures { refused_grants }
 {}
@@ -172,7 +172,7 @@ pub fn owner_as_a_grantee()
     ensures { owner_as_a_grantee }
 {}
 
-/// An option may go back to one from whom it came; the circle goes with the first grant.
+/// An option may go back to one from whom it came; the cycle goes with the first grant.
 pub fn option_given_back_to_the_grantor()
     ensures { option_given_back_to_the_grantor }
 {}

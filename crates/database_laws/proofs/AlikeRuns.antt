@@ -24,54 +24,54 @@ use Rattle.database_laws.specs.Stages.{apart_from_rows}
 use Rattle.abstract_database.specs.Machine.{Block, Outside, Inside, Failed, Session, Event, executes, Reading, Machine, Holder, Transition, refuses, succeeds, session_of, with_session, users_of, in_block, as_role, with_session_changed, is_held_by_other, released, seen_by, seen, after_refusal, refused, transition_or_refusal, changes_database, is_writing, sets_role, has_failed, keeps_role, may_execute, begin, with_role_set, with_block_ended, commit, rollback, with_changes, applied, where_admitted, execute_of_session, execute_on_database, execute_in, execute, running_transition}
 use Rattle.abstract_database.proofs.ResultLemmas.{require_ok, Every, every_bind, every_ok}
 use Rattle.database_laws.specs.Invariants.{HoldsOfHolder, IsSound}
-use Rattle.database_laws.specs.HiddenRuns.{MayActAs, SameApparentRowsForPairs, ActsWithin, RollsBackWithin, holds_slot, MachinesAlikeForSession, AreSound, answer_to, goes_by_visible, may_unhide, IsException, by_key, by_count, by_definition}
+use Rattle.database_laws.specs.HiddenRuns.{MayActAs, SameApparentRowsForPairs, ActsWithin, RollsBackWithin, holds_lock, MachinesAlikeForSession, AreSound, answer_to, goes_by_visible, may_unhide, IsException, by_key, by_count, by_definition}
 use Rattle.database_laws.proofs.CommitLemmas.{session_there}
 use Rattle.database_laws.proofs.StatementLemmas.{exec_answers, staged, reads_no_rows}
 use Rattle.database_laws.proofs.AllAlikeRows.{EndAll, rows_end}
 use Rattle.database_laws.proofs.AllAlikeDefinitions.{definition_ends, refused_alike}
 
--- ---- what the session sees, by the slot
+-- ---- what the session sees, by the writer lock
 
 pub held_at : (number : ℕ) (h : Holder) (committed : Database) (b : Bool) → (h.session == number) ≡ b → seen_by number (Some h) committed ≡ cond b h.database committed
 held_at number h committed b e = ap (λ (x : Bool). cond x h.database committed) e
 
 module _ (pairs : UserPair → Bool) where
-  -- where both hold the slot, or neither does, other databases may be committed
-  pub seen_where : (number : ℕ) (g h : Option Holder) (old c new f : Database) → holds_slot number g ≡ holds_slot number h → SameApparentRowsForPairs pairs (seen_by number g old) (seen_by number h c) → SameApparentRowsForPairs pairs new f →
+  -- where both hold the writer lock, or neither does, other databases may be committed
+  pub seen_where : (number : ℕ) (g h : Option Holder) (old c new f : Database) → holds_lock number g ≡ holds_lock number h → SameApparentRowsForPairs pairs (seen_by number g old) (seen_by number h c) → SameApparentRowsForPairs pairs new f →
       SameApparentRowsForPairs pairs (seen_by number g new) (seen_by number h f)
   seen_where number None None old c new f same alike next = next
   seen_where number None (Some h) old c new f same alike next = subst (λ (x : Database). SameApparentRowsForPairs pairs new x) (sym (held_at number h f false (sym same))) next
   seen_where number (Some g) None old c new f same alike next = subst (λ (x : Database). SameApparentRowsForPairs pairs x f) (sym (held_at number g new false same)) next
-  seen_where number (Some g) (Some h) old c new f same alike next = by_slot (g.session == number) refl where
-    by_slot : (b : Bool) → (g.session == number) ≡ b → SameApparentRowsForPairs pairs (seen_by number (Some g) new) (seen_by number (Some h) f)
-    by_slot true e =
+  seen_where number (Some g) (Some h) old c new f same alike next = by_lock (g.session == number) refl where
+    by_lock : (b : Bool) → (g.session == number) ≡ b → SameApparentRowsForPairs pairs (seen_by number (Some g) new) (seen_by number (Some h) f)
+    by_lock true e =
         let e' : (h.session == number) ≡ true = sym same ∙ e in
         subst (λ (x : Database). SameApparentRowsForPairs pairs x (seen_by number (Some h) f)) (held_at number g old true e ∙ sym (held_at number g new true e))
         (subst (λ (x : Database). SameApparentRowsForPairs pairs (seen_by number (Some g) old) x) (held_at number h c true e' ∙ sym (held_at number h f true e')) alike)
-    by_slot false e =
+    by_lock false e =
         let e' : (h.session == number) ≡ false = sym same ∙ e in
         subst (λ (x : Database). SameApparentRowsForPairs pairs x (seen_by number (Some h) f)) (sym (held_at number g new false e))
         (subst (λ (x : Database). SameApparentRowsForPairs pairs new x) (sym (held_at number h f false e')) next)
 
--- once it is given up, the committed database is seen, and the slot is not held
-given_up_at : (number : ℕ) (h : Holder) (db : Database) (b : Bool) → (h.session == number) ≡ b → (seen_by number (cond b None (Some h)) db ≡ db) × (holds_slot number (cond b None (Some h)) ≡ false)
+-- once it is given up, the committed database is seen, and the writer lock is not held
+given_up_at : (number : ℕ) (h : Holder) (db : Database) (b : Bool) → (h.session == number) ≡ b → (seen_by number (cond b None (Some h)) db ≡ db) × (holds_lock number (cond b None (Some h)) ≡ false)
 given_up_at number h db true e = (refl, refl)
 given_up_at number h db false e = (held_at number h db false e, e)
 
-given_up : (number : ℕ) (h : Option Holder) (db : Database) → (seen_by number (released number h) db ≡ db) × (holds_slot number (released number h) ≡ false)
+given_up : (number : ℕ) (h : Option Holder) (db : Database) → (seen_by number (released number h) db ≡ db) × (holds_lock number (released number h) ≡ false)
 given_up number None db = (refl, refl)
 given_up number (Some h) db = given_up_at number h db (h.session == number) refl
 
 -- what is seen is sound
 sound_seen : (number : ℕ) (h : Option Holder) (db : Database) → IsSound db → HoldsOfHolder IsSound h → IsSound (seen_by number h db)
 sound_seen number None db n s = n
-sound_seen number (Some h) db n s = by_slot (h.session == number) refl where
-  by_slot : (b : Bool) → (h.session == number) ≡ b → IsSound (seen_by number (Some h) db)
-  by_slot true e = subst IsSound (sym (held_at number h db true e)) s
-  by_slot false e = subst IsSound (sym (held_at number h db false e)) n
+sound_seen number (Some h) db n s = by_lock (h.session == number) refl where
+  by_lock : (b : Bool) → (h.session == number) ≡ b → IsSound (seen_by number (Some h) db)
+  by_lock true e = subst IsSound (sym (held_at number h db true e)) s
+  by_lock false e = subst IsSound (sym (held_at number h db false e)) n
 
-own_slot : (number : ℕ) (db c : Database) → (seen_by number (Some (record { session = number; database = db })) c ≡ db) × (holds_slot number (Some (record { session = number; database = db })) ≡ true)
-own_slot number db c = let e : (number == number) ≡ true = eq-eqb number number refl in (held_at number (record { session = number; database = db }) c true e, e)
+own_lock : (number : ℕ) (db c : Database) → (seen_by number (Some (record { session = number; database = db })) c ≡ db) × (holds_lock number (Some (record { session = number; database = db })) ≡ true)
+own_lock number db c = let e : (number == number) ≡ true = eq-eqb number number refl in (held_at number (record { session = number; database = db }) c true e, e)
 
 -- ---- both machines move alike
 
@@ -97,7 +97,7 @@ module _ (number : ℕ) (pairs : UserPair → Bool) where
     session = there_alike m k s;
     opened_for = acts_after m.sessions s own;
     stopped = st.stopped;
-    slot = st.slot;
+    lock = st.lock;
     committed = st.committed;
     seen = st.seen;
   }
@@ -108,7 +108,7 @@ module _ (number : ℕ) (pairs : UserPair → Bool) where
         session = there_alike m k (in_block Outside (as_role role s));
         opened_for = acts_after m.sessions (in_block Outside (as_role role s)) own;
         stopped = st.stopped;
-        slot = free_d.1 ∙ sym free_e.1;
+        lock = free_d.1 ∙ sym free_e.1;
         committed = are;
         seen = subst (λ (x : Database). SameApparentRowsForPairs pairs x (seen_by number (released number k.holder) e)) (sym free_d.0) (subst (λ (x : Database). SameApparentRowsForPairs pairs d x) (sym free_e.0) are);
       }
@@ -116,18 +116,18 @@ module _ (number : ℕ) (pairs : UserPair → Bool) where
     session = st.session;
     opened_for = st.opened_for;
     stopped = st.stopped;
-    slot = st.slot;
+    lock = st.lock;
     committed = are;
-    seen = seen_where pairs number m.holder k.holder m.committed k.committed d e st.slot st.seen are;
+    seen = seen_where pairs number m.holder k.holder m.committed k.committed d e st.lock st.seen are;
   }
   moved m k st n j (hold d e are) =
-      let on_d = own_slot number d m.committed in
-      let on_e = own_slot number e k.committed in
+      let on_d = own_lock number d m.committed in
+      let on_e = own_lock number e k.committed in
       record {
         session = st.session;
         opened_for = st.opened_for;
         stopped = st.stopped;
-        slot = on_d.1 ∙ sym on_e.1;
+        lock = on_d.1 ∙ sym on_e.1;
         committed = st.committed;
         seen = subst (λ (x : Database). SameApparentRowsForPairs pairs x (seen_by number (Some (record { session = number; database = e })) k.committed)) (sym on_d.0) (subst (λ (x : Database). SameApparentRowsForPairs pairs d x) (sym on_e.0) are);
       }
@@ -191,8 +191,8 @@ module _ (number : ℕ) (pairs : UserPair → Bool) where
       allowed ← require (sets_role x || keeps_role db s) InsufficientPrivilege
       require (not (is_writing x && held)) LockNotAvailable
 
-    abbrev SameSlot : Statement → Type 0
-    SameSlot x = (is_writing x && is_held_by_other number m.holder) ≡ (is_writing x && is_held_by_other number k.holder)
+    abbrev SameLock : Statement → Type 0
+    SameLock x = (is_writing x && is_held_by_other number m.holder) ≡ (is_writing x && is_held_by_other number k.holder)
 
     abbrev may_with : Database → Bool → Statement → Result (Unit {0}) SqlState
     may_with db kept x = do
@@ -201,12 +201,12 @@ module _ (number : ℕ) (pairs : UserPair → Bool) where
       allowed ← require (sets_role x || keeps_role db s) InsufficientPrivilege
       require (not kept) LockNotAvailable
 
-    may_alike : (x : Statement) → SameSlot x → may_execute m number s x ≡ may_execute k number s x
+    may_alike : (x : Statement) → SameLock x → may_execute m number s x ≡ may_execute k number s x
     may_alike x same =
         ap (λ (b : Bool). may_with (seen m number) b x) same
         ∙ ap (λ (db : Database). may_with db (is_writing x && is_held_by_other number k.holder) x) st.seen.definitions
 
-    admitted : (x : Statement) (t u : Result Transition SqlState) → SameSlot x → ((v : Unit {0}) → may_execute m number s x ≡ Ok v → DoAlike t u) → Both (where_admitted m number s x t) (where_admitted k number s x u)
+    admitted : (x : Statement) (t u : Result Transition SqlState) → SameLock x → ((v : Unit {0}) → may_execute m number s x ≡ Ok v → DoAlike t u) → Both (where_admitted m number s x t) (where_admitted k number s x u)
     admitted x t u same h =
         settled (may_execute m number s x >>= λ free. t) (may_execute k number s x >>= λ free. u)
         (subst (λ (r : Result (Unit {0}) SqlState). DoAlike (may_execute m number s x >>= λ free. t) (r >>= λ free. u)) (may_alike x same)
@@ -302,7 +302,7 @@ module _ (number : ℕ) (pairs : UserPair → Bool) where
     ends_both x (Ok a) (Err i) h = h
     ends_both x (Err c) (Ok b) h = h
 
-    database_both : (x : DatabaseStatement) → SameSlot (statement.OnDatabase x) →
+    database_both : (x : DatabaseStatement) → SameLock (statement.OnDatabase x) →
         ((v : Unit {0}) → may_execute m number s (statement.OnDatabase x) ≡ Ok v → EndAll pairs (exec (seen m number) pair x) (exec (seen k number) pair x)) →
         Both (execute_on_database m number s x) (execute_on_database k number s x)
     database_both x same h =
@@ -359,7 +359,7 @@ module _ (number : ℕ) (pairs : UserPair → Bool) where
       abbrev Step : DatabaseStatement → Type 0
       Step x = StepIn (Ok (statement.OnDatabase x))
 
-      not_admitted : (x : DatabaseStatement) → SameSlot (statement.OnDatabase x) → (code : SqlState) → may_execute m number s (statement.OnDatabase x) ≡ Err code → Step x
+      not_admitted : (x : DatabaseStatement) → SameLock (statement.OnDatabase x) → (code : SqlState) → may_execute m number s (statement.OnDatabase x) ≡ Err code → Step x
       not_admitted x same code is = inr (database_both x same (λ v free. let contrary : ◌≡◌ {A = Result (Unit {0}) SqlState} (Err code) (Ok v) = sym is ∙ free in cc))
 
       -- ---- over rows
@@ -383,7 +383,7 @@ module _ (number : ℕ) (pairs : UserPair → Bool) where
       both_refuse : (r q : Result Effect SqlState) (code : SqlState) → r ≡ Err code → q ≡ Err code → EndAll pairs r q
       both_refuse r q code e f = subst (λ (x : Result Effect SqlState). EndAll pairs x q) (sym e) (subst (λ (y : Result Effect SqlState). EndAll pairs (Err code) y) (sym f) refl)
 
-      told_step : (x : RowStatement) → goes_by_visible (seen m number) s.role x ≡ true → SameSlot (statement.OnDatabase (on_database.OverRows x)) → (v : Unit {0}) → may_execute m number s (statement.OnDatabase (on_database.OverRows x)) ≡ Ok v → Step (on_database.OverRows x)
+      told_step : (x : RowStatement) → goes_by_visible (seen m number) s.role x ≡ true → SameLock (statement.OnDatabase (on_database.OverRows x)) → (v : Unit {0}) → may_execute m number s (statement.OnDatabase (on_database.OverRows x)) ≡ Ok v → Step (on_database.OverRows x)
       told_step x told same v free =
           let y = on_database.OverRows x in
           let free_k : may_execute k number s (statement.OnDatabase y) ≡ Ok v = sym (may_alike (statement.OnDatabase y) same) ∙ free in
@@ -420,7 +420,7 @@ module _ (number : ℕ) (pairs : UserPair → Bool) where
           refused_bare (Err i) e = cc
           refused_bare (Ok c) e = cc
 
-      untold_step : (x : RowStatement) → goes_by_visible (seen m number) s.role x ≡ false → SameSlot (statement.OnDatabase (on_database.OverRows x)) →
+      untold_step : (x : RowStatement) → goes_by_visible (seen m number) s.role x ≡ false → SameLock (statement.OnDatabase (on_database.OverRows x)) →
           (r : Result Checked SqlState) → checked (seen m number) (as_seen pair (seen m number)) (on_database.OverRows x) ≡ r → Step (on_database.OverRows x)
       untold_step x told same (Ok c) is = inl (by_count s x c there told is)
       untold_step x told same (Err code) is =
@@ -428,7 +428,7 @@ module _ (number : ℕ) (pairs : UserPair → Bool) where
           let on_m_is : exec (seen m number) pair y ≡ Err code = staged (seen m number) pair y ∙ ap (λ (r : Result Checked SqlState). r >>= performed (seen m number) (as_seen pair (seen m number))) is in
           inr (database_both y same (λ v free. both_refuse (exec (seen m number) pair y) (exec (seen k number) pair y) code on_m_is (unchecked y code is)))
 
-      rows_step : (x : RowStatement) (b : Bool) → goes_by_visible (seen m number) s.role x ≡ b → SameSlot (statement.OnDatabase (on_database.OverRows x)) →
+      rows_step : (x : RowStatement) (b : Bool) → goes_by_visible (seen m number) s.role x ≡ b → SameLock (statement.OnDatabase (on_database.OverRows x)) →
           (r : Result (Unit {0}) SqlState) → may_execute m number s (statement.OnDatabase (on_database.OverRows x)) ≡ r → Step (on_database.OverRows x)
       rows_step x b told same (Err code) is = not_admitted (on_database.OverRows x) same code is
       rows_step x true told same (Ok v) is = told_step x told same v is
@@ -436,14 +436,14 @@ module _ (number : ℕ) (pairs : UserPair → Bool) where
 
       -- ---- definitions
 
-      plain_step : (x : DefiningStatement) → may_unhide x ≡ false → SameSlot (statement.OnDatabase (on_database.Defining x)) → Step (on_database.Defining x)
+      plain_step : (x : DefiningStatement) → may_unhide x ≡ false → SameLock (statement.OnDatabase (on_database.Defining x)) → Step (on_database.Defining x)
       plain_step x told same =
           let y = on_database.Defining x in
           inr (database_both y same (λ u is.
           subst (λ (r : Result Effect SqlState). EndAll pairs (exec (seen m number) pair y) r) (other_exec y)
           (definition_ends pairs (seen m number) (seen k number) st.seen pair (acts_of y u is) x (λ p p-is. told))))
 
-      unhiding_step : (x : DefiningStatement) → may_unhide x ≡ true → SameSlot (statement.OnDatabase (on_database.Defining x)) → (v : Unit {0}) → may_execute m number s (statement.OnDatabase (on_database.Defining x)) ≡ Ok v →
+      unhiding_step : (x : DefiningStatement) → may_unhide x ≡ true → SameLock (statement.OnDatabase (on_database.Defining x)) → (v : Unit {0}) → may_execute m number s (statement.OnDatabase (on_database.Defining x)) ≡ Ok v →
           (r : Result Effect SqlState) → exec (seen m number) pair (on_database.Defining x) ≡ r → Step (on_database.Defining x)
       unhiding_step x told same v free (Err code) is =
           let y = on_database.Defining x in
@@ -455,13 +455,13 @@ module _ (number : ℕ) (pairs : UserPair → Bool) where
           inl (by_definition x told (λ refusal.
           exec_answers (seen m number) pair y p is refusal.0 (sym (answer_of m there on (Ok (statement.OnDatabase y)) ∙ carried_with m y v p free is) ∙ refusal.1)))
 
-      definition_step : (x : DefiningStatement) (b : Bool) → may_unhide x ≡ b → SameSlot (statement.OnDatabase (on_database.Defining x)) →
+      definition_step : (x : DefiningStatement) (b : Bool) → may_unhide x ≡ b → SameLock (statement.OnDatabase (on_database.Defining x)) →
           (r : Result (Unit {0}) SqlState) → may_execute m number s (statement.OnDatabase (on_database.Defining x)) ≡ r → Step (on_database.Defining x)
       definition_step x b told same (Err code) is = not_admitted (on_database.Defining x) same code is
       definition_step x true told same (Ok v) is = unhiding_step x told same v is (exec (seen m number) pair (on_database.Defining x)) refl
       definition_step x false told same (Ok v) is = plain_step x told same
 
-      pub step_in : (reading : Reading) → ((x : Statement) → reading ≡ Ok x → SameSlot x) → ReadsWithin m s reading → StepIn reading
+      pub step_in : (reading : Reading) → ((x : Statement) → reading ≡ Ok x → SameLock x) → ReadsWithin m s reading → StepIn reading
       step_in (Err code) same stays = inr (refused_both code)
       step_in (Ok (statement.OfSession x)) same stays = inr (of_session_both x stays)
       step_in (Ok (statement.OnDatabase (on_database.OverRows x))) same stays =

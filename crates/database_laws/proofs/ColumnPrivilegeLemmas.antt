@@ -60,8 +60,8 @@ one_column a b (inr e) f = e
 one_column a b (inl e) (inl f) = e ∙ sym f
 one_column a b (inl e) (inr f) = sym f
 
-pub circle_column : (p q : Descriptor) → LeadsTo p q → LeadsTo q p → p.column ≡ q.column
-circle_column p q c d = one_column p.column q.column (chain_column p q c) (chain_column q p d)
+pub cycle_column : (p q : Descriptor) → LeadsTo p q → LeadsTo q p → p.column ≡ q.column
+cycle_column p q c d = one_column p.column q.column (chain_column p q c) (chain_column q p d)
 
 -- ---- what ALL names
 

@@ -175,7 +175,7 @@ module _ (m : Machine) (number : ℕ) (s : Session) where
   ended_with t db role = record {
     answer = refl;
     committed = refl;
-    slot = not_held number m.holder;
+    lock = not_held number m.holder;
     session = session_there m.sessions number (in_block Outside (as_role role s));
   }
 

@@ -69,7 +69,7 @@ hide number s m k x told_x there alike on_m on_k not_m not_k = by_stop m.stopped
 
   checks : may_execute m number s (statement.OnDatabase (on_database.OverRows x)) ≡ may_execute k number s (statement.OnDatabase (on_database.OverRows x))
   checks =
-      ap (λ (held : Bool). may_by (seen m number) held s (statement.OnDatabase (on_database.OverRows x))) alike.slot
+      ap (λ (held : Bool). may_by (seen m number) held s (statement.OnDatabase (on_database.OverRows x))) alike.lock
       ∙ ap (λ (db : Database). may_by db (is_held_by_other number k.holder) s (statement.OnDatabase (on_database.OverRows x))) alike.rows.definitions
 
   ends : EndAlikeWithoutKeys (as_seen (users_of s) (seen m number)) (exec (seen m number) (users_of s) (on_database.OverRows x)) (exec (seen k number) (users_of s) (on_database.OverRows x))

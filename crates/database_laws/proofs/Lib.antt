@@ -12,7 +12,7 @@ pub mod HoldingLemmas
 pub mod MemberOf
 pub mod EffectLemmas
 pub mod MachineLemmas
-pub mod SlotLemmas
+pub mod LockLemmas
 pub mod RowLemmas
 pub mod TypeLemmas
 pub mod TableLemmas

@@ -6,7 +6,7 @@ use Rattle.abstract_database.specs.Lists.{TheName}
 use Rattle.abstract_database.specs.Roles.{may_log_in}
 use Rattle.abstract_database.specs.Machine.{client_of, own_sessions, Outside, Session, Machine, refuses, succeeds, session_of, with_session_changed, open_session}
 
--- the committed database, the slot, and whether the machine has stopped, are as before
+-- the committed database, the writer lock, and whether the machine has stopped, are as before
 pub record Same (m after : Machine) : Type 0 where
   pub committed : after.committed ≡ m.committed
   pub holder : after.holder ≡ m.holder

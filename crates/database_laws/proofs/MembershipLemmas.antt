@@ -56,7 +56,7 @@ same_options false b c e f = f
 
 -- ---- GRANT: nothing else
 
--- a step that is not refused for a circle
+-- a step that is not refused for a cycle
 unrefused : (new cur out : List Membership) (b : Bool) → cond b (Err InvalidGrantOperation) (with_memberships new cur) ≡ Ok out → with_memberships new cur ≡ Ok out
 unrefused new cur out true e = cc
 unrefused new cur out false e = e

@@ -163,13 +163,13 @@ module _ (db : Database) (role : TheName) where
 some_inside : (a b : TableOf) → Some a ≡ Some b → a ≡ b
 some_inside a b e = cc
 
-spares_circle : (b : Bool) (r : Result (List Membership) SqlState) → Spares r → Spares (cond b (Err InvalidGrantOperation) r)
-spares_circle true r s e = cc
-spares_circle false r s e = s e
+spares_cycle : (b : Bool) (r : Result (List Membership) SqlState) → Spares r → Spares (cond b (Err InvalidGrantOperation) r)
+spares_cycle true r s e = cc
+spares_cycle false r s e = s e
 
 pub spares_memberships : (ms memberships : List Membership) → Spares (with_memberships ms memberships)
 spares_memberships [] memberships = spares_ok memberships
-spares_memberships (m ∷ ms) memberships = spares_circle (is_in memberships m.role m.member) (with_memberships ms (put membership_cmp raised m memberships)) (spares_memberships ms (put membership_cmp raised m memberships))
+spares_memberships (m ∷ ms) memberships = spares_cycle (is_in memberships m.role m.member) (with_memberships ms (put membership_cmp raised m memberships)) (spares_memberships ms (put membership_cmp raised m memberships))
 
 pub spares_revoked : (cascade : Bool) (set lost : List Descriptor) → Spares (held_or_refused cascade set lost)
 spares_revoked true set lost e = cc

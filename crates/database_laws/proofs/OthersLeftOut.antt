@@ -16,58 +16,58 @@ use Rattle.abstract_database.specs.Machine.{Block, Outside, Inside, Failed, Sess
 use Rattle.abstract_database.proofs.ResultLemmas.{Every, every_bind, every_ok}
 use Rattle.database_laws.specs.Sessions.{number_of}
 use Rattle.database_laws.specs.Worlds.{SameApparentRows}
-use Rattle.database_laws.specs.HiddenRuns.{SameApparentRowsForPairs, holds_slot, MachinesAlikeForSession, after}
+use Rattle.database_laws.specs.HiddenRuns.{SameApparentRowsForPairs, holds_lock, MachinesAlikeForSession, after}
 use Rattle.database_laws.proofs.MachineLemmas.{Same, opened_same}
-use Rattle.database_laws.proofs.SlotLemmas.{transition_preserves}
+use Rattle.database_laws.proofs.LockLemmas.{transition_preserves}
 use Rattle.database_laws.proofs.SessionLemmas.{others_stay}
 use Rattle.database_laws.proofs.AlikeLemmas.{defined_alike}
 use Rattle.database_laws.proofs.AllAlikeRows.{acts_before}
 use Rattle.database_laws.proofs.AlikeRuns.{held_at}
 
--- ---- what an event makes of the slot
+-- ---- what an event makes of the writer lock
 
 -- it stays, it is given up, or it is taken
-pub data SlotAfter (number : ℕ) (old : Option Holder) : Option Holder → Type 0 where
-  kept : SlotAfter number old old
-  freed : SlotAfter number old (released number old)
-  taken : (db : Database) → SlotAfter number old (Some (record { session = number; database = db }))
+pub data LockAfter (number : ℕ) (old : Option Holder) : Option Holder → Type 0 where
+  kept : LockAfter number old old
+  freed : LockAfter number old (released number old)
+  taken : (db : Database) → LockAfter number old (Some (record { session = number; database = db }))
 
 -- whether the machine has stopped does not change
 pub record Turns (m : Machine) (number : ℕ) (t : Transition) : Type 0 where
   pub stopped : t.machine.stopped ≡ m.stopped
-  pub slot : SlotAfter number m.holder t.machine.holder
+  pub lock : LockAfter number m.holder t.machine.holder
 
 stays_so : (m : Machine) (number : ℕ) (t : Transition) → Same m t.machine → Turns m number t
-stays_so m number t s = record { stopped = s.stopped; slot = subst (SlotAfter number m.holder) (sym s.holder) kept }
+stays_so m number t s = record { stopped = s.stopped; lock = subst (LockAfter number m.holder) (sym s.holder) kept }
 
 module _ (m : Machine) (number : ℕ) where
   refused_turns : (s : Session) (code : SqlState) (b : Block) → Turns m number (refuses (after_refusal m number s b) code)
-  refused_turns s code Outside = record { stopped = refl; slot = kept }
-  refused_turns s code (Inside role) = record { stopped = refl; slot = kept }
-  refused_turns s code (Failed role) = record { stopped = refl; slot = kept }
+  refused_turns s code Outside = record { stopped = refl; lock = kept }
+  refused_turns s code (Inside role) = record { stopped = refl; lock = kept }
+  refused_turns s code (Failed role) = record { stopped = refl; lock = kept }
 
   commit_turns : (s : Session) (b : Block) → Turns m number (commit m number s b)
-  commit_turns s Outside = record { stopped = refl; slot = kept }
-  commit_turns s (Inside role) = record { stopped = refl; slot = freed }
-  commit_turns s (Failed role) = record { stopped = refl; slot = freed }
+  commit_turns s Outside = record { stopped = refl; lock = kept }
+  commit_turns s (Inside role) = record { stopped = refl; lock = freed }
+  commit_turns s (Failed role) = record { stopped = refl; lock = freed }
 
   rollback_turns : (s : Session) (b : Block) → Turns m number (rollback m number s b)
-  rollback_turns s Outside = record { stopped = refl; slot = kept }
-  rollback_turns s (Inside role) = record { stopped = refl; slot = freed }
-  rollback_turns s (Failed role) = record { stopped = refl; slot = freed }
+  rollback_turns s Outside = record { stopped = refl; lock = kept }
+  rollback_turns s (Inside role) = record { stopped = refl; lock = freed }
+  rollback_turns s (Failed role) = record { stopped = refl; lock = freed }
 
   begin_turns : (s : Session) (b : Block) → Turns m number (begin m number s b)
-  begin_turns s Outside = record { stopped = refl; slot = kept }
-  begin_turns s (Inside role) = record { stopped = refl; slot = kept }
-  begin_turns s (Failed role) = record { stopped = refl; slot = kept }
+  begin_turns s Outside = record { stopped = refl; lock = kept }
+  begin_turns s (Inside role) = record { stopped = refl; lock = kept }
+  begin_turns s (Failed role) = record { stopped = refl; lock = kept }
 
   applied_turns : (s : Session) (writing : Bool) (e : Effect) (b : Block) → s.block ≡ b → Turns m number (applied m number s writing e)
-  applied_turns s false e b is = record { stopped = refl; slot = kept }
+  applied_turns s false e b is = record { stopped = refl; lock = kept }
   applied_turns s true e b is = subst (λ (x : Block). Turns m number (applied m number (record s { block = x }) true e)) (sym is) (written b) where
     written : (x : Block) → Turns m number (applied m number (record s { block = x }) true e)
-    written Outside = record { stopped = refl; slot = kept }
-    written (Inside role) = record { stopped = refl; slot = taken e.database }
-    written (Failed role) = record { stopped = refl; slot = kept }
+    written Outside = record { stopped = refl; lock = kept }
+    written (Inside role) = record { stopped = refl; lock = taken e.database }
+    written (Failed role) = record { stopped = refl; lock = kept }
 
   settled_turns : (s : Session) (r : Result Transition SqlState) → Every (Turns m number) r → Turns m number (transition_or_refusal m number s r)
   settled_turns s (Ok t) h = h t refl
@@ -82,9 +82,9 @@ module _ (m : Machine) (number : ℕ) where
   of_session_turns s of_session.Begin = admitted_turns s (statement.OfSession of_session.Begin) (Ok (begin m number s s.block)) (every_ok (Turns m number) (begin m number s s.block) (begin_turns s s.block))
   of_session_turns s (of_session.SetRole x) = admitted_turns s (statement.OfSession (of_session.SetRole x)) (with_role_set (seen m number) s x.role >>= λ changed. Ok (succeeds tag.Set (with_session_changed m number changed)))
       (every_bind (Turns m number) (with_role_set (seen m number) s x.role) (λ changed. Ok (succeeds tag.Set (with_session_changed m number changed))) (λ changed is.
-      every_ok (Turns m number) (succeeds tag.Set (with_session_changed m number changed)) (record { stopped = refl; slot = kept })))
+      every_ok (Turns m number) (succeeds tag.Set (with_session_changed m number changed)) (record { stopped = refl; lock = kept })))
   of_session_turns s of_session.ResetRole = admitted_turns s (statement.OfSession of_session.ResetRole) (Ok (succeeds tag.Reset (with_session_changed m number (as_role s.login s))))
-      (every_ok (Turns m number) (succeeds tag.Reset (with_session_changed m number (as_role s.login s))) (record { stopped = refl; slot = kept }))
+      (every_ok (Turns m number) (succeeds tag.Reset (with_session_changed m number (as_role s.login s))) (record { stopped = refl; lock = kept }))
 
   reading_turns : (s : Session) (reading : Reading) → Turns m number (execute_in m number s reading)
   reading_turns s (Err code) = refused_turns s code s.block
@@ -94,12 +94,12 @@ module _ (m : Machine) (number : ℕ) where
       every_ok (Turns m number) (applied m number s (changes_database x) e) (applied_turns s (changes_database x) e s.block refl)))
 
   execute_turns : (reading : Reading) (o : Option Session) → Turns m number (execute m number reading o)
-  execute_turns reading None = record { stopped = refl; slot = kept }
+  execute_turns reading None = record { stopped = refl; lock = kept }
   execute_turns reading (Some s) = reading_turns s reading
 
   close_turns : (o : Option Session) → Turns m number (close_session m number o)
-  close_turns None = record { stopped = refl; slot = kept }
-  close_turns (Some s) = record { stopped = refl; slot = freed }
+  close_turns None = record { stopped = refl; lock = kept }
+  close_turns (Some s) = record { stopped = refl; lock = freed }
 
 running_turns : (m : Machine) (event : Event Reading) → Turns m (number_of event) (running_transition m event)
 running_turns m (opens n l) = stays_so m n (open_session m n l) (opened_same m n l)
@@ -109,7 +109,7 @@ running_turns m (closes n) = close_turns m n (session_of n m.sessions)
 pub turns : (m : Machine) (event : Event Reading) → Turns m (number_of event) (transition m event)
 turns m event = at m.stopped where
   at : (b : Bool) → Turns m (number_of event) (cond b (refuses m IoError) (running_transition m event))
-  at true = record { stopped = refl; slot = kept }
+  at true = record { stopped = refl; lock = kept }
   at false = running_turns m event
 
 -- ---- an event of another session
@@ -123,21 +123,21 @@ other_than number n apart = by (n == number) refl where
   by false e = refl
   by true e = let contrary : true ≡ false = sym (eq-eqb number n (sym (eqb-true n number e))) ∙ apart in cc
 
--- where the session did not hold the slot, it does not after another's event
-not_held_at : (number n : ℕ) (old new : Option Holder) → nat_eq number n ≡ false → holds_slot number old ≡ false → SlotAfter n old new → holds_slot number new ≡ false
+-- where the session did not hold the writer lock, it does not after another's event
+not_held_at : (number n : ℕ) (old new : Option Holder) → nat_eq number n ≡ false → holds_lock number old ≡ false → LockAfter n old new → holds_lock number new ≡ false
 not_held_at number n old new apart free kept = free
 not_held_at number n None new apart free freed = refl
 not_held_at number n (Some h) new apart free freed = by (h.session == n) where
-  by : (b : Bool) → holds_slot number (cond b None (Some h)) ≡ false
+  by : (b : Bool) → holds_lock number (cond b None (Some h)) ≡ false
   by true = refl
   by false = free
 not_held_at number n old new apart free (taken db) = other_than number n apart
 
-seen_free : (number : ℕ) (h : Option Holder) (db : Database) → holds_slot number h ≡ false → seen_by number h db ≡ db
+seen_free : (number : ℕ) (h : Option Holder) (db : Database) → holds_lock number h ≡ false → seen_by number h db ≡ db
 seen_free number None db e = refl
 seen_free number (Some h) db e = held_at number h db false e
 
-holder_is_other : (number n : ℕ) (h : Option Holder) → nat_eq number n ≡ false → holds_slot number h ≡ true → is_held_by_other n h ≡ true
+holder_is_other : (number n : ℕ) (h : Option Holder) → nat_eq number n ≡ false → holds_lock number h ≡ true → is_held_by_other n h ≡ true
 holder_is_other number n None apart own = cc
 holder_is_other number n (Some h) apart own = ap not (not_both number n h.session apart own)
 
@@ -165,27 +165,27 @@ module _ (number : ℕ) (pairs : UserPair → Bool) (m k : Machine) (st : Machin
   session_stays : session_of number (after m event).sessions ≡ session_of number m.sessions
   session_stays = others_stay m event number apart
 
-  slot_and_seen : (b : Bool) → holds_slot number m.holder ≡ b → (holds_slot number (after m event).holder ≡ holds_slot number m.holder) × SameApparentRowsForPairs pairs (seen (after m event) number) (seen k number)
-  slot_and_seen true own =
+  lock_and_seen : (b : Bool) → holds_lock number m.holder ≡ b → (holds_lock number (after m event).holder ≡ holds_lock number m.holder) × SameApparentRowsForPairs pairs (seen (after m event) number) (seen k number)
+  lock_and_seen true own =
       let same = transition_preserves m event (holder_is_other number (number_of event) m.holder apart own) in (
-        ap (holds_slot number) same.1,
+        ap (holds_lock number) same.1,
         subst (λ (x : Database). SameApparentRowsForPairs pairs x (seen k number)) (sym (ap (λ (h : Option Holder). seen_by number h (after m event).committed) same.1 ∙ ap (seen_by number m.holder) same.0)) st.seen,
       )
-  slot_and_seen false own =
-      let free = not_held_at number (number_of event) m.holder (after m event).holder apart own (turns m event).slot in (
+  lock_and_seen false own =
+      let free = not_held_at number (number_of event) m.holder (after m event).holder apart own (turns m event).lock in (
         free ∙ sym own,
         subst (λ (x : Database). SameApparentRowsForPairs pairs x (seen k number)) (sym (seen_free number (after m event).holder (after m event).committed free))
-            (subst (λ (x : Database). SameApparentRowsForPairs pairs (after m event).committed x) (sym (seen_free number k.holder k.committed (sym st.slot ∙ own))) committed_alike),
+            (subst (λ (x : Database). SameApparentRowsForPairs pairs (after m event).committed x) (sym (seen_free number k.holder k.committed (sym st.lock ∙ own))) committed_alike),
       )
 
   pub alike_after_others : MachinesAlikeForSession number pairs (after m event) k
   alike_after_others =
-      let places = slot_and_seen (holds_slot number m.holder) refl in
+      let places = lock_and_seen (holds_lock number m.holder) refl in
       record {
         session = session_stays ∙ st.session;
         opened_for = λ s h. st.opened_for s (sym session_stays ∙ h);
         stopped = (turns m event).stopped ∙ st.stopped;
-        slot = places.0 ∙ st.slot;
+        lock = places.0 ∙ st.lock;
         committed = committed_alike;
         seen = places.1;
       }

@@ -34,14 +34,14 @@ module _ (number : ℕ) (pairs : UserPair → Bool) where
         subst (λ (x : Transition). Alike number pairs m k x (transition k event)) (sym (ap (λ (b : Bool). cond b (refuses m IoError) (running_transition m event)) on ∙ is))
         (subst (λ (x : Transition). Alike number pairs m k t x) (sym (ap (λ (b : Bool). cond b (refuses k IoError) (running_transition k event)) (sym st.stopped ∙ on) ∙ is_k)) both)
 
-    abbrev SameSlot : Reading → Type 0
-    SameSlot reading = (x : Statement) → reading ≡ Ok x → (is_writing x && is_held_by_other number m.holder) ≡ (is_writing x && is_held_by_other number k.holder)
+    abbrev SameLock : Reading → Type 0
+    SameLock reading = (x : Statement) → reading ≡ Ok x → (is_writing x && is_held_by_other number m.holder) ≡ (is_writing x && is_held_by_other number k.holder)
 
     -- where the session sets a role, it is one of the pairs
     abbrev StaysWithin : Reading → Type 0
     StaysWithin reading = (s : Session) → session_of number m.sessions ≡ Some s → ReadsWithin number pairs m s reading
 
-    executed_at : (reading : Reading) → SameSlot reading → StaysWithin reading → m.stopped ≡ false → (o : Option Session) → session_of number m.sessions ≡ o → Step m k (executes number reading)
+    executed_at : (reading : Reading) → SameLock reading → StaysWithin reading → m.stopped ≡ false → (o : Option Session) → session_of number m.sessions ≡ o → Step m k (executes number reading)
     executed_at reading same stays on None there =
         inr (running_both (executes number reading) (refuses m ConnectionDoesNotExist) (refuses k ConnectionDoesNotExist) on
         (ap (λ (p : Option Session). execute m number reading p) there) (ap (λ (p : Option Session). execute k number reading p) (sym st.session ∙ there))
@@ -57,7 +57,7 @@ module _ (number : ℕ) (pairs : UserPair → Bool) where
     by_stop event h true on = inr (stopped_both event on)
     by_stop event h false on = h on
 
-    pub executed : (reading : Reading) → SameSlot reading → StaysWithin reading → Step m k (executes number reading)
+    pub executed : (reading : Reading) → SameLock reading → StaysWithin reading → Step m k (executes number reading)
     executed reading same stays = by_stop (executes number reading) (λ on. executed_at reading same stays on (session_of number m.sessions) refl) m.stopped refl
 
     opened_as : (l : TheName) (a b c : Bool) → (c ≡ true → pairs (as_itself l) ≡ true) → Alike number pairs m k

@@ -16,8 +16,8 @@ use Rattle.abstract_database.specs.Statements.{UserPair}
 use Rattle.abstract_database.specs.Machine.{client_of, own_sessions, Outside, Session, Event, opens, executes, closes, Reading, Machine, Holder, Transition, refuses, succeeds, machine_over, session_of, without_session, with_session_changed, users_of, may_execute, with_role_set, is_held_by_other, released, seen_by, seen, close_session, changes_database, is_writing, execute, execute_in, running_transition, transition}
 use Rattle.abstract_database.proofs.ResultLemmas.{Every}
 use Rattle.database_laws.specs.Sessions.{number_of}
-use Rattle.database_laws.specs.HiddenRuns.{SameApparentRowsForPairs, holds_slot, MachinesAlikeForSession, AreSound, answer_to, after, IsException}
-use Rattle.database_laws.specs.Told.{Tenant, entries_of, AllFor, IsAlikeTo, Act, happens, declares, restarts, follows, is_of, OpensItsOwn, OthersKeepOutOfSight, noticed, by_slot, by_number, by_role, IsExceptionFor, IsRefusedAlike, IsAnsweredAlike, IsToldAlike, all_told, told_apart, told_alike, declared, untold_here, untold_there, what_a_tenant_is_told}
+use Rattle.database_laws.specs.HiddenRuns.{SameApparentRowsForPairs, holds_lock, MachinesAlikeForSession, AreSound, answer_to, after, IsException}
+use Rattle.database_laws.specs.Told.{Tenant, entries_of, AllFor, IsAlikeTo, Act, happens, declares, restarts, follows, is_of, OpensItsOwn, OthersKeepOutOfSight, noticed, by_lock, by_number, by_role, IsExceptionFor, IsRefusedAlike, IsAnsweredAlike, IsToldAlike, all_told, told_apart, told_alike, declared, untold_here, untold_there, what_a_tenant_is_told}
 use Rattle.database_laws.proofs.TenantSessions.{looked, with_other, without_other, with_both, without_both, all_found, after_with, after_without}
 use Rattle.database_laws.proofs.SessionLemmas.{SessionsAfter, all_stay, one_changes, after_reading}
 use Rattle.database_laws.proofs.AlikeRuns.{MoveAlike, stay, change, end, commit_at_once, hold, moved, ReadsWithin, SetsWithin, seen_where}
@@ -63,32 +63,32 @@ module _ (m : Machine) (i : ℕ) where
     by true = refl
     by false = leaves_running event apart
 
--- ---- the slot, given up
+-- ---- the writer lock, given up
 
-held_after : (number i : ℕ) (g : Option Holder) → holds_slot i (released number g) ≡ cond (holds_slot number g) false (holds_slot i g)
+held_after : (number i : ℕ) (g : Option Holder) → holds_lock i (released number g) ≡ cond (holds_lock number g) false (holds_lock i g)
 held_after number i None = refl
 held_after number i (Some h) = by (h.session == number) where
-  by : (b : Bool) → holds_slot i (cond b None (Some h)) ≡ cond b false (h.session == i)
+  by : (b : Bool) → holds_lock i (cond b None (Some h)) ≡ cond b false (h.session == i)
   by true = refl
   by false = refl
 
-slot_after : (number i : ℕ) (g h : Option Holder) → holds_slot number g ≡ holds_slot number h → holds_slot i g ≡ holds_slot i h → holds_slot i (released number g) ≡ holds_slot i (released number h)
-slot_after number i g h own other =
+lock_after : (number i : ℕ) (g h : Option Holder) → holds_lock number g ≡ holds_lock number h → holds_lock i g ≡ holds_lock i h → holds_lock i (released number g) ≡ holds_lock i (released number h)
+lock_after number i g h own other =
     held_after number i g
-    ∙ ap (λ (b : Bool). cond b false (holds_slot i g)) own
-    ∙ ap (λ (b : Bool). cond (holds_slot number h) false b) other
+    ∙ ap (λ (b : Bool). cond b false (holds_lock i g)) own
+    ∙ ap (λ (b : Bool). cond (holds_lock number h) false b) other
     ∙ sym (held_after number i h)
 
-released_at : (number : ℕ) (g : Option Holder) (b : Bool) → holds_slot number g ≡ b → released number g ≡ cond b None g
+released_at : (number : ℕ) (g : Option Holder) (b : Bool) → holds_lock number g ≡ b → released number g ≡ cond b None g
 released_at number None true e = refl
 released_at number None false e = refl
 released_at number (Some h) b e = ap (λ (c : Bool). cond c None (Some h)) e
 
-module _ (pairs : UserPair → Bool) (number i : ℕ) (g h : Option Holder) (c f : Database) (own : holds_slot number g ≡ holds_slot number h)
+module _ (pairs : UserPair → Bool) (number i : ℕ) (g h : Option Holder) (c f : Database) (own : holds_lock number g ≡ holds_lock number h)
     (committed : SameApparentRowsForPairs pairs c f) (sees : SameApparentRowsForPairs pairs (seen_by i g c) (seen_by i h f)) where
   seen_after : SameApparentRowsForPairs pairs (seen_by i (released number g) c) (seen_by i (released number h) f)
-  seen_after = by (holds_slot number g) refl where
-    by : (b : Bool) → holds_slot number g ≡ b → SameApparentRowsForPairs pairs (seen_by i (released number g) c) (seen_by i (released number h) f)
+  seen_after = by (holds_lock number g) refl where
+    by : (b : Bool) → holds_lock number g ≡ b → SameApparentRowsForPairs pairs (seen_by i (released number g) c) (seen_by i (released number h) f)
     by true e =
         subst (λ (o : Option Holder). SameApparentRowsForPairs pairs (seen_by i o c) (seen_by i (released number h) f)) (sym (released_at number g true e))
         (subst (λ (o : Option Holder). SameApparentRowsForPairs pairs c (seen_by i o f)) (sym (released_at number h true (sym own ∙ e))) committed)
@@ -104,7 +104,7 @@ module _ (a : Tenant) where
     session = looked number m.sessions ∙ ap (session_of number) (st.sessions number own) ∙ sym (looked number k.sessions);
     opened_for = λ s h. all_found a.pairs number (entries_of number m.sessions) (st.opened_for number own) s (sym (looked number m.sessions) ∙ h);
     stopped = st.stopped;
-    slot = st.slot number own;
+    lock = st.lock number own;
     committed = st.committed;
     seen = st.seen number own;
   }
@@ -114,7 +114,7 @@ module _ (a : Tenant) where
     sessions = λ i own. sym (st.sessions i own);
     opened_for = λ i own. subst (AllFor a.pairs) (st.sessions i own) (st.opened_for i own);
     stopped = sym st.stopped;
-    slot = λ i own. sym (st.slot i own);
+    lock = λ i own. sym (st.lock i own);
     committed = all_turned a.pairs m.committed k.committed st.committed;
     seen = λ i own. all_turned a.pairs (seen m i) (seen k i) (st.seen i own);
   }
@@ -135,7 +135,7 @@ module _ (a : Tenant) where
         sessions = λ i own. stays i own ∙ st.sessions i own;
         opened_for = λ i own. subst (AllFor a.pairs) (sym (stays i own)) (st.opened_for i own);
         stopped = stops_alike m k st event;
-        slot = λ i own. (each i own).slot;
+        lock = λ i own. (each i own).lock;
         committed = committed_after m k st event hides;
         seen = λ i own. (each i own).seen;
       }
@@ -163,20 +163,20 @@ module _ (a : Tenant) where
     logins_moved n j (commit_at_once d e are) i at = st.opened_for i at
     logins_moved n j (hold d e are) i at = st.opened_for i at
 
-    slot_moved : (n j : Machine) → MoveAlike number a.pairs m k n j → (i : ℕ) → a.sessions i ≡ true → holds_slot i n.holder ≡ holds_slot i j.holder
-    slot_moved n j stay i at = st.slot i at
-    slot_moved n j (change s l) i at = st.slot i at
-    slot_moved n j (end s role d e l are) i at = slot_after number i m.holder k.holder (st.slot number own) (st.slot i at)
-    slot_moved n j (commit_at_once d e are) i at = st.slot i at
-    slot_moved n j (hold d e are) i at = refl
+    lock_moved : (n j : Machine) → MoveAlike number a.pairs m k n j → (i : ℕ) → a.sessions i ≡ true → holds_lock i n.holder ≡ holds_lock i j.holder
+    lock_moved n j stay i at = st.lock i at
+    lock_moved n j (change s l) i at = st.lock i at
+    lock_moved n j (end s role d e l are) i at = lock_after number i m.holder k.holder (st.lock number own) (st.lock i at)
+    lock_moved n j (commit_at_once d e are) i at = st.lock i at
+    lock_moved n j (hold d e are) i at = refl
 
     seen_moved : (n j : Machine) → MoveAlike number a.pairs m k n j → (i : ℕ) → a.sessions i ≡ true → SameApparentRowsForPairs a.pairs (seen n i) (seen j i)
     seen_moved n j stay i at = st.seen i at
     seen_moved n j (change s l) i at = st.seen i at
     seen_moved n j (end s role d e l are) i at =
-        seen_where a.pairs i (released number m.holder) (released number k.holder) m.committed k.committed d e (slot_after number i m.holder k.holder (st.slot number own) (st.slot i at))
-        (seen_after a.pairs number i m.holder k.holder m.committed k.committed (st.slot number own) st.committed (st.seen i at)) are
-    seen_moved n j (commit_at_once d e are) i at = seen_where a.pairs i m.holder k.holder m.committed k.committed d e (st.slot i at) (st.seen i at) are
+        seen_where a.pairs i (released number m.holder) (released number k.holder) m.committed k.committed d e (lock_after number i m.holder k.holder (st.lock number own) (st.lock i at))
+        (seen_after a.pairs number i m.holder k.holder m.committed k.committed (st.lock number own) st.committed (st.seen i at)) are
+    seen_moved n j (commit_at_once d e are) i at = seen_where a.pairs i m.holder k.holder m.committed k.committed d e (st.lock i at) (st.seen i at) are
     seen_moved n j (hold d e are) i at = by (number == i) where
       by : (b : Bool) → SameApparentRowsForPairs a.pairs (cond b d m.committed) (cond b e k.committed)
       by true = are
@@ -189,20 +189,20 @@ module _ (a : Tenant) where
           sessions = entries_moved n j move;
           opened_for = logins_moved n j move;
           stopped = one.stopped;
-          slot = slot_moved n j move;
+          lock = lock_moved n j move;
           committed = one.committed;
           seen = seen_moved n j move;
         }
 
-    -- closed, both give up the slot
+    -- closed, both give up the writer lock
     all_closed : IsAlikeTo a (record m { sessions = without_session number m.sessions; holder = released number m.holder }) (record k { sessions = without_session number k.sessions; holder = released number k.holder })
     all_closed = record {
       sessions = λ i at. without_both number i m.sessions k.sessions (st.sessions i at);
       opened_for = λ i at. after_without a.pairs number i m.sessions (st.opened_for i at);
       stopped = st.stopped;
-      slot = λ i at. slot_after number i m.holder k.holder (st.slot number own) (st.slot i at);
+      lock = λ i at. lock_after number i m.holder k.holder (st.lock number own) (st.lock i at);
       committed = st.committed;
-      seen = λ i at. seen_after a.pairs number i m.holder k.holder m.committed k.committed (st.slot number own) st.committed (st.seen i at);
+      seen = λ i at. seen_after a.pairs number i m.holder k.holder m.committed k.committed (st.lock number own) st.committed (st.seen i at);
     }
 
     closes_at : (o : Option Session) → IsAlikeTo a (close_session m number o).machine (close_session k number o).machine
@@ -222,7 +222,7 @@ module _ (a : Tenant) where
 
   -- restarted, each has what is committed
   restarted : (m k : Machine) → IsAlikeTo a m k → IsAlikeTo a (machine_over m.committed) (machine_over k.committed)
-  restarted m k st = record { sessions = λ i at. refl; opened_for = λ i at. tt; stopped = refl; slot = λ i at. refl; committed = st.committed; seen = λ i at. st.committed }
+  restarted m k st = record { sessions = λ i at. refl; opened_for = λ i at. tt; stopped = refl; lock = λ i at. refl; committed = st.committed; seen = λ i at. st.committed }
 
   pub sound_follows : (m : Machine) (x : Act) → AreSound m → AreSound (follows m x)
   sound_follows m (happens event) on = sound_after m event on
@@ -259,8 +259,8 @@ module _ (a : Tenant) where
     Stays number reading = (s : Session) → session_of number m.sessions ≡ Some s → ReadsWithin number a.pairs m s reading
 
     runs_with : (number : ℕ) → a.sessions number ≡ true → (x : Statement) → Stays number (Ok x) → (is_writing x && is_held_by_other number m.holder) ≡ (is_writing x && is_held_by_other number k.holder) → Told (happens (executes number (Ok x)))
-    runs_with number own x stays slot = of_step number own (executes number (Ok x)) refl (executed number a.pairs m k (for_one m k st number own) on_m on_k (Ok x)
-        (λ y is. subst (λ (z : Statement). (is_writing z && is_held_by_other number m.holder) ≡ (is_writing z && is_held_by_other number k.holder)) (one_of x y is) slot) stays)
+    runs_with number own x stays lock = of_step number own (executes number (Ok x)) refl (executed number a.pairs m k (for_one m k st number own) on_m on_k (Ok x)
+        (λ y is. subst (λ (z : Statement). (is_writing z && is_held_by_other number m.holder) ≡ (is_writing z && is_held_by_other number k.holder)) (one_of x y is) lock) stays)
 
     -- ---- a role that is set is one of the tenant's, or it leaves the tenant
 
@@ -307,7 +307,7 @@ module _ (a : Tenant) where
     told_database number own x true writes = elim (same_or_not (is_held_by_other number m.holder) (is_held_by_other number k.holder)) [
       | inl held ↦ runs_with number own (statement.OnDatabase x) (λ s is. tt) (ap (λ (b : Bool). changes_database x && b) held)
       | inr other ↦ elim (locked_out number a.pairs m k (for_one m k st number own) on_m on_k x writes other) [
-        | inl tells ↦ differs (inr (inl (by_slot (statement.OnDatabase x) writes other tells)))
+        | inl tells ↦ differs (inr (inl (by_lock (statement.OnDatabase x) writes other tells)))
         | inr both ↦ of_step number own (executes number (Ok (statement.OnDatabase x))) refl (inr both)
       ]
     ]

@@ -216,7 +216,7 @@ module _ (Reads : ReadingRelation) (Leave LeaveOther : Stops) (once : ReadsOnce 
     both_stop one here beyond =
         goes (one.1 ∙ sym one.2)
         (subst (λ (z : Machine). IsAlikeTo a z j.standing.machine) (sym here) (subst (λ (z : Machine). IsAlikeTo a (record m { stopped = true }) z) (sym beyond)
-        (record { sessions = st.sessions; opened_for = st.opened_for; stopped = refl; slot = st.slot; committed = st.committed; seen = st.seen })))
+        (record { sessions = st.sessions; opened_for = st.opened_for; stopped = refl; lock = st.lock; committed = st.committed; seen = st.seen })))
         (subst AreSound (sym here) (record { committed = on_w.committed; holder = on_w.holder })) (subst AreSound (sym beyond) (record { committed = on_v.committed; holder = on_v.holder }))
 
     -- the codes of one refusal

@@ -7,28 +7,28 @@ use Rattle.database_laws.specs.Sessions.{number_of}
 use Rattle.database_laws.specs.HiddenRuns.{SameApparentRowsForPairs, AreSound, after}
 use Rattle.database_laws.specs.OutOfSight.{LooksCommitted, IsUnseen}
 use Rattle.database_laws.specs.Told.{Tenant, Act, happens, declares, restarts, follows, OthersHoldOutOfSight, OthersActOutOfSight, OthersKeepOutOfSight, unseen_acts_are_out_of_sight}
-use Rattle.database_laws.proofs.SlotLemmas.{transition_preserves}
-use Rattle.database_laws.proofs.OthersLeftOut.{SlotAfter, kept, freed, taken, turns}
+use Rattle.database_laws.proofs.LockLemmas.{transition_preserves}
+use Rattle.database_laws.proofs.OthersLeftOut.{LockAfter, kept, freed, taken, turns}
 use Rattle.database_laws.proofs.UnseenEvents.{all_same, event_unseen}
 use Rattle.database_laws.proofs.ToldRuns.{sound_follows}
 
--- ---- whose the slot is after an event
+-- ---- whose the writer lock is after an event
 
 not_other : (b : Bool) → not b ≡ false → b ≡ true
 not_other true e = refl
 not_other false e = cc
 
 -- where no other session holds it, the session of the event does, if one does
-slot_is_own : (n : ℕ) (old new : Option Holder) → is_held_by_other n old ≡ false → SlotAfter n old new → (h : Holder) → new ≡ Some h → (h.session == n) ≡ true
-slot_is_own n None new free kept h is = cc
-slot_is_own n (Some g) new free kept h is = subst (λ (x : Holder). (x.session == n) ≡ true) (one_of g h is) (not_other (g.session == n) free)
+lock_is_own : (n : ℕ) (old new : Option Holder) → is_held_by_other n old ≡ false → LockAfter n old new → (h : Holder) → new ≡ Some h → (h.session == n) ≡ true
+lock_is_own n None new free kept h is = cc
+lock_is_own n (Some g) new free kept h is = subst (λ (x : Holder). (x.session == n) ≡ true) (one_of g h is) (not_other (g.session == n) free)
   where
     one_of : (g h : Holder) → ◌≡◌ {A = Option Holder} (Some g) (Some h) → g ≡ h
     one_of g h e = cc
-slot_is_own n None new free freed h is = cc
-slot_is_own n (Some g) new free freed h is =
+lock_is_own n None new free freed h is = cc
+lock_is_own n (Some g) new free freed h is =
     let none : None ≡ Some h = sym (ap (λ (b : Bool). cond b None (Some g)) (not_other (g.session == n) free)) ∙ is in cc
-slot_is_own n old new free (taken db) h is = subst (λ (x : Holder). (x.session == n) ≡ true) (one_of (record { session = n; database = db }) h is) (eq-eqb n n refl)
+lock_is_own n old new free (taken db) h is = subst (λ (x : Holder). (x.session == n) ≡ true) (one_of (record { session = n; database = db }) h is) (eq-eqb n n refl)
   where
     one_of : (g h : Holder) → ◌≡◌ {A = Option Holder} (Some g) (Some h) → g ≡ h
     one_of g h e = cc
@@ -45,7 +45,7 @@ module _ (a : Tenant) (m : Machine) (on : AreSound m) (hold : OthersHoldOutOfSig
       λ h is apart. subst (λ (x : Database). SameApparentRowsForPairs a.pairs x h.database) (sym same.0) (hold h (sym same.1 ∙ is) apart)
 
   is_its : is_held_by_other n m.holder ≡ false → (h : Holder) → (after m event).holder ≡ Some h → (h.session == n) ≡ true
-  is_its free h is = slot_is_own n m.holder (after m event).holder free (turns m event).slot h is
+  is_its free h is = lock_is_own n m.holder (after m event).holder free (turns m event).lock h is
 
   own_keeps : a.sessions n ≡ true → OthersHoldOutOfSight a (after m event)
   own_keeps own = by (is_held_by_other n m.holder) refl where

@@ -31,8 +31,8 @@ use Rattle.abstract_database.proofs.ResultLemmas.{ok_inside}
 use Rattle.database_laws.specs.Invariants.{IsSound}
 use Rattle.database_laws.specs.Worlds.{is_silent, SameApparentRows}
 use Rattle.database_laws.specs.OnePolicy.{HasPoliciesForAll, IsOfKey, SpeaksOfKeys}
-use Rattle.database_laws.specs.HiddenRuns.{MayActAs, SameApparentRowsForPairs, ActsWithin, holds_slot, answer_to, goes_by_visible, TellsAlone, IsException, by_key, by_count, by_definition}
-use Rattle.database_laws.specs.Told.{entries_of, AllFor, IsAlikeTo, IsCrowded, by_slot, by_number, LeavesTenant, by_role}
+use Rattle.database_laws.specs.HiddenRuns.{MayActAs, SameApparentRowsForPairs, ActsWithin, holds_lock, answer_to, goes_by_visible, TellsAlone, IsException, by_key, by_count, by_definition}
+use Rattle.database_laws.specs.Told.{entries_of, AllFor, IsAlikeTo, IsCrowded, by_lock, by_number, LeavesTenant, by_role}
 use Rattle.database_laws.specs.OutOfSight.{IsOfTenants}
 use Rattle.database_laws.specs.TwoTenants.{notes, own_notes, note, with_notes, first, second, ann, bob, by_ann, by_app_for_ann, one_and_two, of_ann, of_ann_by_app, idle, working, as_tenants, as_app, with_bob_before, with_bob_behind, opened_by_ann, ann_asks, with_her_other, PartsHere, MeetThePremises}
 use Rattle.database_laws.proofs.WholeSound.{whole_sound}
@@ -215,7 +215,7 @@ alike_with pairs login is_idle is_working committed held = record {
   sessions = of_both (λ n. entries_of n (with_bob_before login).sessions ≡ entries_of n (with_bob_behind login).sessions) refl refl;
   opened_for = of_both (λ n. AllFor pairs (entries_of n (with_bob_before login).sessions)) (is_idle, tt) (is_working, tt);
   stopped = refl;
-  slot = of_both (λ n. holds_slot n (with_bob_before login).holder ≡ holds_slot n (with_bob_behind login).holder) refl refl;
+  lock = of_both (λ n. holds_lock n (with_bob_before login).holder ≡ holds_lock n (with_bob_behind login).holder) refl refl;
   committed = committed;
   seen = of_both (λ n. SameApparentRowsForPairs pairs (seen (with_bob_before login) n) (seen (with_bob_behind login) n)) committed held;
 }
@@ -270,7 +270,7 @@ no_exception number event is f s (by_count session x c there goes checks) = sele
 no_exception number event is f s (by_definition x unhides refused) = clash (sym is)
 
 no_crowd : (number : ℕ) (event : Event Reading) → is_of_select event ≡ true → IsCrowded number m k event → ⊥
-no_crowd number event is (by_slot x writes other tells) = select_writes_not x is writes
+no_crowd number event is (by_lock x writes other tells) = select_writes_not x is writes
 no_crowd number event is (by_number login other tells) = clash (sym is)
 
 stays_hers : (number : ℕ) (event : Event Reading) → is_of_select event ≡ true → LeavesTenant of_ann number m event → ⊥
@@ -310,7 +310,7 @@ premises_met = record {
     session = refl;
     opened_for = λ s h. subst (ActsWithin by_ann) (some_same s h) idle_acts;
     stopped = refl;
-    slot = refl;
+    lock = refl;
     committed = to_all;
     seen = to_all;
   };

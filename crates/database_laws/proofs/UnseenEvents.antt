@@ -37,7 +37,7 @@ module _ (pairs : UserPair → Bool) where
   all_joined : (d a e : Database) → SameApparentRowsForPairs pairs d a → SameApparentRowsForPairs pairs a e → SameApparentRowsForPairs pairs d e
   all_joined d a e p q = all_back pairs a d e (all_turned d a p) q
 
--- ---- the slot
+-- ---- the writer lock
 
 seen_after_release : (number : ℕ) (h : Option Holder) (db : Database) → seen_by number (released number h) db ≡ db
 seen_after_release number None db = refl

@@ -146,7 +146,7 @@ in_covered : (xs ys : List Membership) → IsCovered xs ys → (r s : TheName) �
 in_covered xs ys f r s is = in_by xs r (λ n. IsIn ys r n) (inl refl)
     (λ x h k. let at = f x h in subst (λ n. IsIn ys r n) at.2 (one_more ys r at.0 (subst (λ n. IsIn ys r n) (sym at.3) k) at.1)) s is
 
--- fewer memberships, or such with other options, make no circle
+-- fewer memberships, or such with other options, make no cycle
 fewer_whole : (all new : List Role) (xs ys : List Membership) → IsCovered xs ys → Each (IsWholeMembership all ys) ys →
     ((m : Membership) → Among m xs → (IsRoleOf all m.role → IsRoleOf new m.role) × (IsRoleOf all m.member → IsRoleOf new m.member)) → Each (IsWholeMembership new xs) xs
 fewer_whole all new xs ys f w still x h =
@@ -155,7 +155,7 @@ fewer_whole all new xs ys f w still x h =
     record {
       role = (still x h).0 (subst (IsRoleOf all) at.2 is.role);
       member = (still x h).1 (subst (IsRoleOf all) at.3 is.member);
-      no_circle = λ c. is.no_circle (subst (λ n. IsIn ys at.0.role n) (sym at.3) (subst (λ n. IsIn ys n x.member) (sym at.2) (in_covered xs ys f x.role x.member c)));
+      no_cycle = λ c. is.no_cycle (subst (λ n. IsIn ys at.0.role n) (sym at.3) (subst (λ n. IsIn ys n x.member) (sym at.2) (in_covered xs ys f x.role x.member c)));
     }
 
 -- ---- one more membership
@@ -182,30 +182,30 @@ in_put : (ms : List Membership) (m : Membership) (r s : TheName) → IsIn (put m
 in_put ms m r s is = in_by (put membership_cmp raised m ms) r (λ n. Through ms m r n) (inl (inl refl))
     (λ x h k. over_put ms m r x (of_put membership_cmp raised m ms x h) k) s is
 
-no_circle_old : (ms : List Membership) (m : Membership) → (IsIn ms m.role m.member → ⊥) → (y : Membership) → Among y ms → (IsIn ms y.role y.member → ⊥) → Through ms m y.role y.member → ⊥
-no_circle_old ms m apart y h none (inl k) = none k
-no_circle_old ms m apart y h none (inr k) = apart (in_trans ms m.role y.role m.member (one_more ms m.role y k.1 h) k.0)
+no_cycle_old : (ms : List Membership) (m : Membership) → (IsIn ms m.role m.member → ⊥) → (y : Membership) → Among y ms → (IsIn ms y.role y.member → ⊥) → Through ms m y.role y.member → ⊥
+no_cycle_old ms m apart y h none (inl k) = none k
+no_cycle_old ms m apart y h none (inr k) = apart (in_trans ms m.role y.role m.member (one_more ms m.role y k.1 h) k.0)
 
-no_circle_new : (ms : List Membership) (m : Membership) → (IsIn ms m.role m.member → ⊥) → Through ms m m.role m.member → ⊥
-no_circle_new ms m apart (inl k) = apart k
-no_circle_new ms m apart (inr k) = apart k.0
+no_cycle_new : (ms : List Membership) (m : Membership) → (IsIn ms m.role m.member → ⊥) → Through ms m m.role m.member → ⊥
+no_cycle_new ms m apart (inl k) = apart k
+no_cycle_new ms m apart (inr k) = apart k.0
 
 module _ (all : List Role) (ms : List Membership) (w : Each (IsWholeMembership all ms) ms) (m : Membership) (role : IsRoleOf all m.role) (member : IsRoleOf all m.member) (apart : IsIn ms m.role m.member → ⊥) where
   put_whole_from : (x : Membership) → PutFrom membership_cmp raised m ms x → IsWholeMembership all (put membership_cmp raised m ms) x
   put_whole_from x (fresh is) = subst (λ (z : Membership). IsWholeMembership all (put membership_cmp raised m ms) z) is (record {
     role = role;
     member = member;
-    no_circle = λ c. no_circle_new ms m apart (in_put ms m m.role m.member c);
+    no_cycle = λ c. no_cycle_new ms m apart (in_put ms m m.role m.member c);
   })
   put_whole_from x (there h) = record {
     role = (w x h).role;
     member = (w x h).member;
-    no_circle = λ c. no_circle_old ms m apart x h (w x h).no_circle (in_put ms m x.role x.member c);
+    no_cycle = λ c. no_cycle_old ms m apart x h (w x h).no_cycle (in_put ms m x.role x.member c);
   }
   put_whole_from x (merged y h e is) = subst (λ (z : Membership). IsWholeMembership all (put membership_cmp raised m ms) z) is (record {
     role = (w y h).role;
     member = (w y h).member;
-    no_circle = λ c. no_circle_old ms m apart y h (w y h).no_circle (in_put ms m y.role y.member c);
+    no_cycle = λ c. no_cycle_old ms m apart y h (w y h).no_cycle (in_put ms m y.role y.member c);
   })
 
   put_whole : Each (IsWholeMembership all (put membership_cmp raised m ms)) (put membership_cmp raised m ms)

@@ -150,7 +150,7 @@ of_app_whole : (role : String) → list_any (is_of_member (codes role)) membersh
 of_app_whole role none other rows there = record {
   role = there;
   member = refl;
-  no_circle = λ in_app. elim in_app [
+  no_cycle = λ in_app. elim in_app [
     | inl same ↦ (let wrong : true ≡ false = sym (same_bytes (codes role) (codes "app") same) ∙ other in cc)
     | inr chain ↦ leads_nowhere (codes role) memberships_of_app none chain.0 chain.1
   ];

@@ -111,11 +111,11 @@ selects_change_nothing = (m : Machine) (number : ℕ) (s : Session) (x : Select)
 
 -- ---- the end of a block
 
--- the block has ended with this answer: this database is committed, the session does not hold the slot, and has this role set
+-- the block has ended with this answer: this database is committed, the session does not hold the writer lock, and has this role set
 pub record HasEnded (number : ℕ) (s : Session) (t : Tag) (db : Database) (role : TheName) (after : Transition) : Type 0 where
   pub answer : after.answer ≡ answer.Done t None None
   pub committed : after.machine.committed ≡ db
-  pub slot : IsHeldBy number after.machine.holder → ⊥
+  pub lock : IsHeldBy number after.machine.holder → ⊥
   pub session : session_of number after.machine.sessions ≡ Some (record { login = s.login; role = role; block = Outside })
 
 -- COMMIT of an open block commits what its session sees

@@ -35,9 +35,9 @@ pub data LeadsTo (p : Descriptor) : Descriptor → Type 0 where
   by_one : (q : Descriptor) → supports p q ≡ true → LeadsTo p q
   by_more : (q r : Descriptor) → LeadsTo p q → supports q r ≡ true → LeadsTo p r
 
--- on a circle of supports all are on the table, or all on one column
-abbrev pub circles_keep_to_one : Type 0
-circles_keep_to_one = (p q : Descriptor) → LeadsTo p q → LeadsTo q p → p.column ≡ q.column
+-- on a cycle of supports all are on the table, or all on one column
+abbrev pub cycles_keep_to_one : Type 0
+cycles_keep_to_one = (p q : Descriptor) → LeadsTo p q → LeadsTo q p → p.column ≡ q.column
 
 -- ---- what ALL names
 

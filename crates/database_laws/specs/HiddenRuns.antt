@@ -38,9 +38,9 @@ pub record SameApparentRowsForPairs (pairs : UserPair → Bool) (d e : Database)
 
 -- ---- machines
 
-abbrev pub holds_slot : ℕ → Option Holder → Bool
-holds_slot number None = false
-holds_slot number (Some h) = h.session == number
+abbrev pub holds_lock : ℕ → Option Holder → Bool
+holds_lock number None = false
+holds_lock number (Some h) = h.session == number
 
 -- both users are this one, as when a session is opened, or its role is reset
 abbrev pub as_itself : TheName → UserPair
@@ -64,11 +64,11 @@ pub record MachinesAlikeForSession (number : ℕ) (pairs : UserPair → Bool) (m
   pub session : session_of number m.sessions ≡ session_of number k.sessions
   pub opened_for : (s : Session) → session_of number m.sessions ≡ Some s → ActsWithin pairs s
   pub stopped : m.stopped ≡ k.stopped
-  pub slot : holds_slot number m.holder ≡ holds_slot number k.holder
+  pub lock : holds_lock number m.holder ≡ holds_lock number k.holder
   pub committed : SameApparentRowsForPairs pairs m.committed k.committed
   pub seen : SameApparentRowsForPairs pairs (seen m number) (seen k number)
 
--- what is committed, and what the holder of the slot has done, is sound
+-- what is committed, and what the holder of the writer lock has done, is sound
 pub record AreSound (m : Machine) : Type 0 where
   pub committed : IsSound m.committed
   pub holder : HoldsOfHolder IsSound m.holder

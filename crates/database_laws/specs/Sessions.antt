@@ -39,12 +39,12 @@ blocks_keep_their_role = (m : Machine) (number : ℕ) (s after : Session) (readi
 
 -- ---- the writer lock
 
--- while a session holds the slot, no event of another changes the committed database, or what the holder has done
+-- while a session holds the writer lock, no event of another changes the committed database, or what the holder has done
 abbrev pub only_the_holder_changes : Type 0
 only_the_holder_changes = (m : Machine) (event : Event Reading) → is_held_by_other (number_of event) m.holder ≡ true →
     ((transition m event).machine.committed ≡ m.committed) × ((transition m event).machine.holder ≡ m.holder)
 
--- a session that does not hold the slot sees the committed database
+-- a session that does not hold the writer lock sees the committed database
 abbrev pub others_see_the_committed : Type 0
 others_see_the_committed = (m : Machine) (number : ℕ) → is_held_by_other number m.holder ≡ true → seen m number ≡ m.committed
 

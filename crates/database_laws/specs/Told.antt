@@ -10,7 +10,7 @@ use Rattle.abstract_database.specs.Statements.{UserPair}
 use Rattle.abstract_database.specs.Machine.{client_of, own_sessions, Holder, Session, Event, opens, executes, closes, Reading, Machine, machine_over, session_of, users_of, may_execute, with_role_set, is_writing, is_held_by_other, seen}
 use Rattle.database_laws.specs.Sessions.{number_of}
 use Rattle.database_laws.specs.OutOfSight.{IsUnseen}
-use Rattle.database_laws.specs.HiddenRuns.{SameApparentRowsForPairs, as_itself, ActsWithin, holds_slot, AreSound, answer_to, after, AreOneRefusal, TellsAlone, IsException}
+use Rattle.database_laws.specs.HiddenRuns.{SameApparentRowsForPairs, as_itself, ActsWithin, holds_lock, AreSound, answer_to, after, AreOneRefusal, TellsAlone, IsException}
 use Rattle.abstract_database.specs.Lists.{TheName}
 
 -- a tenant: the pairs of users as which it acts, each a login role and a role that its sessions set, and the numbers of its sessions,
@@ -30,13 +30,13 @@ AllFor pairs (e ∷ es) = ActsWithin pairs e.1 × AllFor pairs es
 
 -- ---- machines
 
--- over both machines the tenant's sessions are the same, each acts as its pairs alone and holds the slot over both or over none, and
+-- over both machines the tenant's sessions are the same, each acts as its pairs alone and holds the writer lock over both or over none, and
 -- what is committed, and what each of them sees, looks alike to all of the pairs
 pub record IsAlikeTo (a : Tenant) (m k : Machine) : Type 0 where
   pub sessions : (number : ℕ) → a.sessions number ≡ true → entries_of number m.sessions ≡ entries_of number k.sessions
   pub opened_for : (number : ℕ) → a.sessions number ≡ true → AllFor a.pairs (entries_of number m.sessions)
   pub stopped : m.stopped ≡ k.stopped
-  pub slot : (number : ℕ) → a.sessions number ≡ true → holds_slot number m.holder ≡ holds_slot number k.holder
+  pub lock : (number : ℕ) → a.sessions number ≡ true → holds_lock number m.holder ≡ holds_lock number k.holder
   pub committed : SameApparentRowsForPairs a.pairs m.committed k.committed
   pub seen : (number : ℕ) → a.sessions number ≡ true → SameApparentRowsForPairs a.pairs (seen m number) (seen k number)
 
@@ -83,8 +83,8 @@ noticed a acts = filter (is_of a) acts
 
 -- an event that is refused over one of two machines, and not over the other, for what others hold or have open there
 pub data IsCrowded (number : ℕ) (m k : Machine) : Event Reading → Type 0 where
-  -- a write, while a session of another holds the slot over one of the machines alone
-  by_slot : (x : Statement) → is_writing x ≡ true → (is_held_by_other number m.holder ≡ is_held_by_other number k.holder → ⊥) →
+  -- a write, while a session of another holds the writer lock over one of the machines alone
+  by_lock : (x : Statement) → is_writing x ≡ true → (is_held_by_other number m.holder ≡ is_held_by_other number k.holder → ⊥) →
       TellsAlone LockNotAvailable (answer_to m (executes number (Ok x))) (answer_to k (executes number (Ok x))) → IsCrowded number m k (executes number (Ok x))
   -- an opening beside 256 sessions of its client over one of the machines alone
   by_number : (login : TheName) → (nat_le 256 (length (own_sessions (client_of number) m.sessions)) ≡ nat_le 256 (length (own_sessions (client_of number) k.sessions)) → ⊥) →
@@ -135,7 +135,7 @@ what_a_tenant_is_told = (a : Tenant) (m k : Machine) (acts others : List Act) �
 
 -- ---- others that act out of sight
 
--- what another session has done, which holds the write slot, looks to the tenant like what is committed
+-- what another session has done, which holds the writer lock, looks to the tenant like what is committed
 abbrev pub OthersHoldOutOfSight : Tenant → Machine → Type 0
 OthersHoldOutOfSight a m = (h : Holder) → m.holder ≡ Some h → a.sessions h.session ≡ false → SameApparentRowsForPairs a.pairs m.committed h.database
 

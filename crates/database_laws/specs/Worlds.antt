@@ -122,7 +122,7 @@ worlds_agree = (pair : UserPair) (d e : Database) (x : RowStatement) → is_told
 pub record MachinesAlikeForStatement (number : ℕ) (s : Session) (m k : Machine) : Type 0 where
   pub sessions : m.sessions ≡ k.sessions
   pub stopped : m.stopped ≡ k.stopped
-  pub slot : is_held_by_other number m.holder ≡ is_held_by_other number k.holder
+  pub lock : is_held_by_other number m.holder ≡ is_held_by_other number k.holder
   pub rows : SameApparentRows (as_seen (users_of s) (seen m number)) (seen m number) (seen k number)
 
 abbrev pub answer_from : Machine → ℕ → RowStatement → Answer

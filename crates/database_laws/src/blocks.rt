@@ -30,7 +30,7 @@ pub fn committed_at_commits_alone()
 {}
 
 /// COMMIT ends an open block with its changes; COMMIT of a failed block and ROLLBACK without them,
-/// and with the role that was set at BEGIN. The slot is given up.
+/// and with the role that was set at BEGIN. The writer lock is given up.
 pub fn blocks_end()
     ensures commit { commit_commits }
     ensures failed { failed_commit_rolls_back }

@@ -14,7 +14,7 @@ pub fn whole_databases_are_sound()
 {}
 
 /// Each statement that defines roles, memberships, tables, policies or privileges keeps a database
-/// whole: a role that is in use stays, and memberships make no circle; a new table has a layout, and
+/// whole: a role that is in use stays, and memberships make no cycle; a new table has a layout, and
 /// its owner the four descriptors of the system; a policy is for roles, and its conditions are
 /// BOOLEAN over its table; each descriptor is supported, and the system's are the owners' four.
 pub fn definitions_keep_databases_whole()

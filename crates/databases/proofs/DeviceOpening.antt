@@ -29,7 +29,7 @@ use Rattle.databases.specs.declared.database.Opened.{Opened}
 use Rattle.databases.specs.OnDevice.{IsOfDevice}
 use Rattle.databases.proofs.Opening.{device_of_pages, failed_for, leaves_database, reading_leaves}
 use Rattle.databases.specs.declared.fault.DatabaseFault.TheVariants.{Pages, Records}
-use Rattle.databases.specs.Databases.{records_on, HoldsDatabase, HoldsFirstSpelling, IsUnwritten, LeavesAsBefore}
+use Rattle.databases.specs.Databases.{records_on, HoldsDatabase, HoldsRecordFormat1, IsUnwritten, LeavesAsBefore}
 use Rattle.databases.specs.Openings.{IsMigrated, IsOfMigration, IsOnlyRead, IsOpenedOn, IsRefused, IsTriedOn, IsUntried, OpensAs, StandsIn, is_first}
 
 -- a device of which nothing was written leaves records that might have been left before
@@ -70,7 +70,7 @@ module _ {D : Type 0} {g : Ghosts D} (present : (device : D) → (g.state device
 
 module _ {D : Type 0} {g : Ghosts D} (present : (device : D) → (g.state device).faithful → IsPresent (timeline (g.state device))) (d : DeviceState) (s t : DeviceStore D g) (opened : IsStoreOpened d s) (faithful : d.faithful)
     (history : KeepsHistory (store_state s) (store_state t)) where
-  abbrev holds_first : (store_state s).record_format ≡ V1 → HoldsFirstSpelling d
+  abbrev holds_first : (store_state s).record_format ≡ V1 → HoldsRecordFormat1 d
   holds_first first = record { contents = stored (store_state s); has = (opened.holds faithful).contents; first = first }
 
   stands_records : (f : OpeningFault) → HasOpeningCause f (store_state s) (store_state t) → StandsIn (Records f) d

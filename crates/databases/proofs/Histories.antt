@@ -17,7 +17,7 @@ use Rattle.abstract_database.specs.Database.{Database}
 use Rattle.abstract_database.specs.Machine.{Event as MachineEvent, Machine}
 use Rattle.abstract_database.specs.Runs.{TheText, ReadingRelation, Counts, At, IsStep, by_transition, for_memory, for_space, for_number, for_device, IsBrought, under_way_after}
 use Rattle.stored_database.specs.Records.{StandsFor}
-use Rattle.stored_database.specs.Spellings.{spelled_in_second}
+use Rattle.stored_database.specs.BothRecordFormats.{in_record_format_2}
 use Rattle.server.specs.Standing.{Means, Stands}
 use Rattle.databases.specs.OnDevice.{records_on}
 use Rattle.databases.specs.Stopping.{IsLeftAt, Changes, LeavesOneAtEach}
@@ -26,7 +26,7 @@ use Rattle.databases.specs.Stopping.{IsLeftAt, Changes, LeavesOneAtEach}
 pub one_meaning : ((records : Records) (a b : Database) → StandsFor records a → StandsFor records b → a ≡ b) → (x : Option Contents) (a b : Database) → Means x a → Means x b → a ≡ b
 one_meaning one x a b first second =
     let same : second.0 ≡ first.0 = (let p = first.1 in let q = second.1 in let at : Some second.0 ≡ Some first.0 = sym q ∙ p in cc) in
-    one (spelled_in_second first.0.record_format first.0.records) a b first.2 (subst (λ (c : Contents). Stands c b) same second.2)
+    one (in_record_format_2 first.0.record_format first.0.records) a b first.2 (subst (λ (c : Contents). Stands c b) same second.2)
 
 -- an event that ended with nothing under way brought what is committed then
 brought_is : {Reads : ReadingRelation} {old new : Counts} {m : Machine} {event : MachineEvent TheText} {answer : Answer} {after : Machine}

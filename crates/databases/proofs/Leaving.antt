@@ -15,7 +15,7 @@ use Rattle.talks.specs.declared.clients.Finish.TheVariants as finish
 use Rattle.talks.specs.declared.serving.ServeEnd.{ServeEnd}
 use Rattle.talks.specs.declared.serving.ServeEnd.TheVariants as served
 use Rattle.talks.specs.Wants.{Learnt, learnt, own}
-use Rattle.talks.specs.Conversations.{Place, awaited, there, gone, IsAwaited, IsGone, Passes}
+use Rattle.talks.specs.Conversations.{ClientState, awaited, there, gone, IsAwaited, IsGone, Passes}
 use Rattle.talks.specs.Turns.{Exchange, Turn, steps, asks, waits, leaves, ends, WasLetGo, learnt_of, learnt_of_all, learnt_in, own_learnt, Steps, TakesTurn, TakesTurns}
 use Rattle.talks.specs.Serving.{EndedAs, ServesClients}
 use Rattle.served_machine.specs.declared.machine.ServedMachine.{ServedMachine}
@@ -48,14 +48,14 @@ own_is_learnt c x is =
 
 -- ---- who is not there
 
-awaited_learnt_none : {T : Type 0} (t : TalkGhosts T) (a b : Place T) (xs : List Learnt) → Passes t a xs b → IsAwaited b → xs ≡ []
+awaited_learnt_none : {T : Type 0} (t : TalkGhosts T) (a b : ClientState T) (xs : List Learnt) → Passes t a xs b → IsAwaited b → xs ≡ []
 awaited_learnt_none t (awaited bytes) (awaited left) xs passes is = passes.0
 awaited_learnt_none t (there x) (awaited left) xs passes is = absurd passes
 awaited_learnt_none t (gone sent) (awaited left) xs passes is = absurd passes
 awaited_learnt_none t a (there y) xs passes is = absurd is
 awaited_learnt_none t a (gone sent) xs passes is = absurd is
 
-gone_learnt_none : {T : Type 0} (t : TalkGhosts T) (a b : Place T) (xs : List Learnt) → Passes t a xs b → IsGone a → xs ≡ []
+gone_learnt_none : {T : Type 0} (t : TalkGhosts T) (a b : ClientState T) (xs : List Learnt) → Passes t a xs b → IsGone a → xs ≡ []
 gone_learnt_none t (gone old) (awaited left) xs passes is = absurd passes
 gone_learnt_none t (gone old) (there y) xs passes is = absurd passes
 gone_learnt_none t (gone old) (gone sent) xs passes is = passes.0

@@ -10,7 +10,7 @@ use Rattle.abstract_database.specs.Database.{Database}
 use Rattle.abstract_database.specs.Machine.{Event as MachineEvent}
 use Rattle.abstract_database.specs.Runs.{TheText, ReadingRelation, Standing, IsFoundAt, At, Happens}
 use Rattle.stored_database.specs.Records.{Shows}
-use Rattle.stored_database.specs.Spellings.{spelled_in_second}
+use Rattle.stored_database.specs.BothRecordFormats.{in_record_format_2}
 use Rattle.server.specs.declared.server.Server.{Server}
 use Rattle.server.specs.Standing.{Means, Stands, AreCounts, Represents, at_start, event_of, stops_of}
 use Rattle.server.specs.Runs.{Steps, KeepsPast}
@@ -105,7 +105,7 @@ leaves_found state server w settled here true is x left = here.left is x left
 leaves_found state server w settled here false is x left =
     let works = (here.works is).1 in
     let db = w.standing.machine.committed in
-    let shows = subst (λ (s : _). Shows (spelled_in_second s (state server.store).map) server.catalogue db) (sym works.second) works.committed in
+    let shows = subst (λ (s : _). Shows (in_record_format_2 s (state server.store).map) server.catalogue db) (sym works.second) works.committed in
     (db, (stored (state server.store), settled x works.unfailed left, (server.catalogue, shows)), inl refl)
 
 -- a server that stands here ends here

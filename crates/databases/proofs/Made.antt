@@ -6,7 +6,7 @@ use Rattle.sector_device.specs.declared.device.Device.{Ghosts}
 use Rattle.cow_pages.specs.Image.{first_fault, is_size}
 use Rattle.cow_pages.specs.declared.open.OpenFault.{OpenFault}
 use Rattle.cow_pages.specs.declared.open.OpenFault.TheVariants.{WrongSize, NotADatabase, Damaged, Device, Memory}
-use Rattle.storage_sizes.specs.Spellings.{current}
+use Rattle.storage_sizes.specs.CurrentRecordFormat.{current}
 use Rattle.store.specs.Memory.{admin_record, new_records}
 use Rattle.kv_store.specs.Numbered.{HasContentsUnder}
 use Rattle.kv_store.specs.Formatting.{HasFirst, WritesStore, IsMade as IsStoreMade}

@@ -31,7 +31,7 @@ use Rattle.recovery.specs.Openings.{AreOfFirst, HasLooked, HasOpeningCause, IsNu
 use Rattle.databases.specs.declared.fault.DatabaseFault.{DatabaseFault}
 use Rattle.databases.specs.declared.fault.DatabaseFault.TheVariants.{Pages, Records}
 use Rattle.databases.specs.Lives.{ClientEvent, IsFoundLeft, LeavesFound, up_to, IsLife, IsNoLife, BeginsAt, EndsAt, IsLifeOver, Lives, IsRefused}
-use Rattle.databases.specs.OnDevice.{records_on, IsOfDevice, life_result_of, IsNumberOf, AreCountedOn, HoldsFirstSpelling}
+use Rattle.databases.specs.OnDevice.{records_on, IsOfDevice, life_result_of, IsNumberOf, AreCountedOn, HoldsRecordFormat1}
 use Rattle.databases.specs.OnDevice.{IsLifeOn, IsServedOn, LivesOn, AreRefused, IsOnlyRead, LeavesDatabase, IsNotBegun, IsRefusedOn}
 
 -- what was only read leaves what was left
@@ -113,7 +113,7 @@ module _ {D : Type 0} {g : Ghosts D} (old : DeviceState) (store left : DeviceSto
     none_on first none = joined (IsFoundLeft last) (records_on old) (store_state store).time (store_state left).time first none
 
     -- the content is what the store contained
-    of_first : IsOpened old store → old.faithful → AreOfFirst (stored (store_state store)) → HoldsFirstSpelling old
+    of_first : IsOpened old store → old.faithful → AreOfFirst (stored (store_state store)) → HoldsRecordFormat1 old
     of_first opened faithful first = (stored (store_state store), (opened.holds faithful).contents, first)
 
   -- ---- no life over its records

@@ -32,7 +32,7 @@ abbrev pub HoldsDatabase : DeviceState → Database → Type 0
 HoldsDatabase d db = MeansDatabase (d.sectors / 8) d.content db
 
 -- the device holds contents of record format 1
-pub record HoldsFirstSpelling (d : DeviceState) : Type 0 where
+pub record HoldsRecordFormat1 (d : DeviceState) : Type 0 where
   pub contents : Contents
   pub has : HasContents (d.sectors / 8) contents d.content
   pub first : contents.record_format ≡ V1

@@ -1,6 +1,6 @@
 -- What making a new database on a device does.
 use Rattle.std.specs.Prelude.{◌≡◌, ◌⊎◌, ◌/◌, ℕ, Bool, true, false, Some, Result, Ok, Err}
-use Rattle.storage_sizes.specs.Spellings.{current}
+use Rattle.storage_sizes.specs.CurrentRecordFormat.{current}
 use Rattle.sector_device.specs.Timeline.{LeavesOnly}
 use Rattle.sector_device.specs.Device.{DeviceState, Image, KeepsHistory, KeepsSize, HasFailed, IsLeft, IsSynced, timeline}
 use Rattle.sector_device.specs.declared.device.Device.{Ghosts}

@@ -48,8 +48,8 @@ abbrev pub IsFirstNumberOf : DeviceState → ℕ → Type 0
 IsFirstNumberOf d number = (contents : Contents) × (has : HasContents (d.sectors / 8) contents d.content) × IsNumberAfter contents.record_format has.number number
 
 -- what the content stands for is of record format 1
-abbrev pub HoldsFirstSpelling : DeviceState → Type 0
-HoldsFirstSpelling d = (contents : Contents) × HasContents (d.sectors / 8) contents d.content × AreOfFirst contents
+abbrev pub HoldsRecordFormat1 : DeviceState → Type 0
+HoldsRecordFormat1 d = (contents : Contents) × HasContents (d.sectors / 8) contents d.content × AreOfFirst contents
 
 -- What is known of the counts before the first event and after the last. The numbers are those of the content that the device
 -- had and, unless the machine has stopped, of the one that it has now; the device itself counts its failures. How often the
@@ -85,7 +85,7 @@ LivesOn g X Reads last events before after old new (Err (Records (Read read.Memo
 LivesOn g X Reads last events before after old new (Err (Records (Read read.Device))) = (after ≡ before) × IsNoLife last (records_on (g.state old)) (records_on (g.state new))
 LivesOn g X Reads last events before after old new (Err (Records (Read read.Damaged))) = ⊥
 LivesOn g X Reads last events before after old new (Err (Records (Commit fault))) =
-    HoldsFirstSpelling (g.state old) × (after ≡ before) × IsNoLife last (records_on (g.state old)) (records_on (g.state new))
+    HoldsRecordFormat1 (g.state old) × (after ≡ before) × IsNoLife last (records_on (g.state old)) (records_on (g.state new))
 
 -- what a life on a faithful device promises: it goes on from wherever the last one may have left the device
 abbrev pub PromisesLife : {D : Type 0} (g : Ghosts D) (X : Type 0) → ReadingRelation → List ClientEvent → List Answer → List Answer → D → D → Result (Unit {0}) DatabaseFault → Type 0

@@ -19,7 +19,7 @@ use Rattle.databases.specs.declared.fault.DatabaseFault.TheVariants.{Pages, Reco
 use Rattle.databases.specs.OnDevice.{IsOfDevice}
 use Rattle.recovery.specs.declared.fault.OpeningFault.TheVariants.{Read, Commit}
 use Rattle.databases.specs.declared.database.Opened.{Opened}
-use Rattle.databases.specs.Databases.{HoldsDatabase, HoldsFirstSpelling, IsUnwritten, KeepsRecords, LeavesAsBefore, LeavesDatabase, MeansNone, records_on}
+use Rattle.databases.specs.Databases.{HoldsDatabase, HoldsRecordFormat1, IsUnwritten, KeepsRecords, LeavesAsBefore, LeavesDatabase, MeansNone, records_on}
 
 -- the device below a server
 abbrev pub device_under : {D : Type 0} {g : Ghosts D} {X : Type 0} → Server (DeviceStore D g) X → D
@@ -75,8 +75,8 @@ StandsIn (Pages fault) d = IsNamedFor fault d
 StandsIn (Records (Read read.Memory)) d = IsNamedFor pages.Memory d
 StandsIn (Records (Read read.Device)) d = Unit {0}
 StandsIn (Records (Read read.Damaged)) d = MeansNone (d.sectors / 8) d.content
-StandsIn (Records (Commit commit.Number)) d = (holds : HoldsFirstSpelling d) × (holds.has.number ≡ 2 ^ 64 - 1)
-StandsIn (Records (Commit fault)) d = HoldsFirstSpelling d
+StandsIn (Records (Commit commit.Number)) d = (holds : HoldsRecordFormat1 d) × (holds.has.number ≡ 2 ^ 64 - 1)
+StandsIn (Records (Commit fault)) d = HoldsRecordFormat1 d
 
 -- a fault that a migration may have
 abbrev pub IsOfMigration : DatabaseFault → Type 0
@@ -89,7 +89,7 @@ IsOfMigration (Records (Commit fault)) = Unit {0}
 -- The migration of records of record format 1 was tried: the database that the device held stayed, at every moment; and unless
 -- the device failed, a stop now leaves the contents that it held, and nothing else
 pub record IsTriedOn (fault : DatabaseFault) (d e : DeviceState) : Type 0 where
-  pub holds : HoldsFirstSpelling d
+  pub holds : HoldsRecordFormat1 d
   pub of_migration : IsOfMigration fault
   pub leaves : (db : Database) → HoldsDatabase d db → LeavesDatabase db d e
   pub unchanged : (IsOfDevice fault → ⊥) → (x : Option Contents) → (records_on e).left x → x ≡ Some holds.contents

@@ -54,7 +54,7 @@ pub fn open_database<D: JournalDevice, X: EventHandler + Drop>(
         Ok(store) => store,
         Err((device, fault)) => return Err((device, DatabaseFault::Pages(fault))),
     };
-    let was_migrated = is_first_spelling(store.record_format());
+    let was_migrated = is_record_format_1(store.record_format());
     match open(alloc, store, handler) {
         Ok(server) => Ok(Opened {
             server,
@@ -68,7 +68,7 @@ pub fn open_database<D: JournalDevice, X: EventHandler + Drop>(
 }
 
 // Whether records spelled so are migrated.
-fn is_first_spelling(record_format: RecordFormat) -> bool
+fn is_record_format_1(record_format: RecordFormat) -> bool
     ensures { result ≡ is_first record_format }
 {
     match record_format {

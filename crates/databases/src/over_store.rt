@@ -28,7 +28,7 @@ use stored_database::one_database;
 /// After an error no event was answered. A store of record format 2 was then only read, and so
 /// was one whose contents stand for no database: what its reads leave alone is as it was, unless
 /// the store had failed before. A stop leaves of any other the database that was there, in either
-/// spelling, at every moment. `Device`: the store had failed, or it counted a failure: the device
+/// record format, at every moment. `Device`: the store had failed, or it counted a failure: the device
 /// failed, or what it gave was none of the store's. `Damaged`: the contents stand for no database.
 /// `Full`, `Number`: no room, or no commit number, is left for the contents in record format 2.
 /// All faults of a commit come only where they are of the first.

@@ -13,7 +13,7 @@ ghost use Rattle.diagnostics.specs.Marks.{marked};
 
 use crate::aliases::{TakenAlias, first_alias};
 use crate::left_out::left_out;
-use crate::marks::blanks;
+use crate::marks::spaces;
 use crate::meanings::refusal_meaning;
 use sql_lexer::lexer;
 use sql_lexer::token::Token;
@@ -146,8 +146,8 @@ fn write_mark<E: Write>(alloc: Global, text: &str, place: usize, err: &mut E) ->
         (marked text.now place) }
 {
     let (before, _) = text.as_bytes().split_at(place);
-    match blanks(alloc, before) {
-        Ok(blanks) => writeln!(err, "    {text}\n    {blanks}^").is_ok(),
+    match spaces(alloc, before) {
+        Ok(spaces) => writeln!(err, "    {text}\n    {spaces}^").is_ok(),
         Err(_) => false,
     }
 }

@@ -1,21 +1,21 @@
 //! What stands before a mark below a text.
 
 ghost use Rattle.std.specs.Prelude.{◌≡◌, IfOk, string_bytes};
-ghost use Rattle.diagnostics.specs.Marks.{blanks};
+ghost use Rattle.diagnostics.specs.Marks.{spaces};
 
 use std::alloc::{AllocError, Global};
 
-/// As many blanks as a text has characters, and a tab for each tab.
-pub(crate) fn blanks(alloc: Global, text: &[u8]) -> Result<String, AllocError>
-    ensures { IfOk result (λ it. string_bytes it ≡ blanks text.now) }
+/// As many spaces as a text has characters, and a tab for each tab.
+pub(crate) fn spaces(alloc: Global, text: &[u8]) -> Result<String, AllocError>
+    ensures { IfOk result (λ it. string_bytes it ≡ spaces text.now) }
 {
-    let mut blanks = String::new(alloc);
+    let mut spaces = String::new(alloc);
     for byte in text {
         if *byte == b'\t' {
-            blanks.push('\t')?;
+            spaces.push('\t')?;
         } else if *byte < 128 || *byte >= 192 {
-            blanks.push(' ')?;
+            spaces.push(' ')?;
         }
     }
-    Ok(blanks)
+    Ok(spaces)
 }

@@ -25,7 +25,7 @@ pub fn refusal_meaning(state: SqlState) -> &'static str
             "a right is missing; the set role is gone or not allowed any more; or a new row that a policy refuses"
         }
         SqlState::InvalidGrantOperation => {
-            "GRANT OPTION to PUBLIC, or a membership that would make a circle"
+            "GRANT OPTION to PUBLIC, or a membership that would make a cycle"
         }
         SqlState::DependentPrivileges => "a REVOKE without CASCADE of what other grants depend on",
         SqlState::DependentObjects => "a role that is in use",

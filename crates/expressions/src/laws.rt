@@ -15,28 +15,28 @@ ghost use Rattle.sql_ast.specs.declared.expression.Operation.TheVariants as oper
 ghost use Rattle.sql_ast.specs.Term.{Term, conjunction, disjunction, negation};
 ghost use Rattle.expressions.specs.Operators.{compared, arithmetic, calculated, and_value, or_value, not_value};
 ghost use Rattle.expressions.specs.Meaning.{UserNames, value_of};
-ghost use Rattle.expressions.specs.Truths.{yes, no, unknown, HasRow};
+ghost use Rattle.expressions.specs.Truths.{true_value, false_value, null, HasRow};
 ghost use Rattle.expressions.specs.Types.{type_of_value};
 
 /// The truth table of AND (SQL:2016 Foundation, 6.39).
 pub fn truth_table_of_and()
-    ensures yes { HasRow and_value yes yes no unknown }
-    ensures no { HasRow and_value no no no no }
-    ensures unknown { HasRow and_value unknown unknown no unknown }
+    ensures true_value { HasRow and_value true_value true_value false_value null }
+    ensures false_value { HasRow and_value false_value false_value false_value false_value }
+    ensures null { HasRow and_value null null false_value null }
 {}
 
 /// The truth table of OR (SQL:2016 Foundation, 6.39).
 pub fn truth_table_of_or()
-    ensures yes { HasRow or_value yes yes yes yes }
-    ensures no { HasRow or_value no yes no unknown }
-    ensures unknown { HasRow or_value unknown yes unknown unknown }
+    ensures true_value { HasRow or_value true_value true_value true_value true_value }
+    ensures false_value { HasRow or_value false_value true_value false_value null }
+    ensures null { HasRow or_value null true_value null null }
 {}
 
 /// The truth table of NOT (SQL:2016 Foundation, 6.39).
 pub fn truth_table_of_not()
-    ensures yes { not_value yes ≡ no }
-    ensures no { not_value no ≡ yes }
-    ensures unknown { not_value unknown ≡ unknown }
+    ensures true_value { not_value true_value ≡ false_value }
+    ensures false_value { not_value false_value ≡ true_value }
+    ensures null { not_value null ≡ null }
 {}
 
 /// De Morgan's laws: of values, and of expressions on every row, failures too.
@@ -55,9 +55,9 @@ pub fn de_morgan<C>()
 /// so does the whole.
 pub fn left_decides<C>()
     ensures and_no { (cell : C → Value) (users : UserNames) (a b : Term C)
-        → value_of cell users a ≡ Ok no → value_of cell users (conjunction a b) ≡ Ok no }
+        → value_of cell users a ≡ Ok false_value → value_of cell users (conjunction a b) ≡ Ok false_value }
     ensures or_yes { (cell : C → Value) (users : UserNames) (a b : Term C)
-        → value_of cell users a ≡ Ok yes → value_of cell users (disjunction a b) ≡ Ok yes }
+        → value_of cell users a ≡ Ok true_value → value_of cell users (disjunction a b) ≡ Ok true_value }
     ensures and_fails { (cell : C → Value) (users : UserNames) (a b : Term C) (code : SqlState)
         → value_of cell users a ≡ Err code → value_of cell users (conjunction a b) ≡ Err code }
     ensures or_fails { (cell : C → Value) (users : UserNames) (a b : Term C) (code : SqlState)
@@ -66,10 +66,10 @@ pub fn left_decides<C>()
 
 /// A comparison and an operation beside a null are null, a division of null by zero too.
 pub fn null_operands()
-    ensures compared_left { (op : Comparison) (x : Value) → compared op unknown x ≡ unknown }
-    ensures compared_right { (op : Comparison) (x : Value) → compared op x unknown ≡ unknown }
-    ensures calculated_left { (op : Operation) (x : Value) → calculated op unknown x ≡ Ok unknown }
-    ensures calculated_right { (op : Operation) (x : Value) → calculated op x unknown ≡ Ok unknown }
+    ensures compared_left { (op : Comparison) (x : Value) → compared op null x ≡ null }
+    ensures compared_right { (op : Comparison) (x : Value) → compared op x null ≡ null }
+    ensures calculated_left { (op : Operation) (x : Value) → calculated op null x ≡ Ok null }
+    ensures calculated_right { (op : Operation) (x : Value) → calculated op x null ≡ Ok null }
 {}
 
 /// Quotient times divisor plus remainder is the dividend, and a remainder is less than its divisor,

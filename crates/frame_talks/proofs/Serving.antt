@@ -9,7 +9,7 @@ use Rattle.wire.specs.Frame.{NextFrame, incomplete, bad, whole, next_frame}
 use Rattle.wire.specs.Stream.{ending, Spells}
 use Rattle.wire.proofs.NextFrames.{whole_alone}
 use Rattle.talks.specs.Wants.{Learnt, learnt, FitsWant}
-use Rattle.talks.specs.Conversations.{Heard, stays, hears, spoils, learns, loses, breaks}
+use Rattle.talks.specs.Conversations.{Heard, stays, hears, rejects, learns, loses, breaks}
 use Rattle.talks.specs.declared.talk.Talk.{Ghosts}
 use Rattle.talks.specs.declared.talk.MessageFront.TheVariants.{Nothing, Whole, Bad}
 use Rattle.talks.specs.declared.want.Want.{Want}
@@ -103,9 +103,9 @@ step_hears A xs said bytes w v e n saying (listens is it) wants at none then = a
 step_hears A xs said bytes w v e n saying (asks d is it) wants at none then = is_message d (sym wants ∙ is)
 step_hears A xs said bytes w v e n saying (ends is front it) wants at none then = let wrong : want.Message ≡ want.End false = sym wants ∙ is in cc
 
-step_spoils : (A : List ℕ) (xs : List Learnt) (said bytes : List ℕ) (w v : Want) (saying : List ℕ) → FrameTalkStands A xs said bytes w → w ≡ want.Message → next_frame bytes ≡ bad
+step_rejects : (A : List ℕ) (xs : List Learnt) (said bytes : List ℕ) (w v : Want) (saying : List ℕ) → FrameTalkStands A xs said bytes w → w ≡ want.Message → next_frame bytes ≡ bad
     → RefusesFrame saying v → FrameTalkStands A xs (said ++ saying) bytes v
-step_spoils A xs said bytes w v saying (listens is it) wants at refuses = ends refuses.1 at (record {
+step_rejects A xs said bytes w v saying (listens is it) wants at refuses = ends refuses.1 at (record {
   events = it.events;
   answers = it.answers;
   one_each = it.one_each;
@@ -113,8 +113,8 @@ step_spoils A xs said bytes w v saying (listens is it) wants at refuses = ends r
   learnt_is = it.learnt_is;
   said_is = ap (λ (l : List ℕ). l ++ saying) (it.said_is ∙ append-nil (all_frames it.events it.answers)) ∙ ap (λ (l : List ℕ). all_frames it.events it.answers ++ l) refuses.0;
 })
-step_spoils A xs said bytes w v saying (asks d is it) wants at refuses = is_message d (sym wants ∙ is)
-step_spoils A xs said bytes w v saying (ends is front it) wants at refuses = let wrong : want.Message ≡ want.End false = sym wants ∙ is in cc
+step_rejects A xs said bytes w v saying (asks d is it) wants at refuses = is_message d (sym wants ∙ is)
+step_rejects A xs said bytes w v saying (ends is front it) wants at refuses = let wrong : want.Message ≡ want.End false = sym wants ∙ is in cc
 
 answered : (A : List ℕ) (xs : List Learnt) (said bytes : List ℕ) (e : Event) (r : Reply) (saying : List ℕ) → HasAnswered A xs said bytes (e ∷ []) [] → IsAnswer e r
     → saying ≡ said_to (asked_session (wanted_for e)) r → HasAnswered A (xs ++ learnt (wanted_for e) r ∷ []) (said ++ saying) bytes [] []
@@ -144,14 +144,14 @@ step_learns A xs said bytes w v r saying (asks e is it) fits says then =
 module _ {T : Type 0} (k : Ghosts T)
     (front_is : (t : T) (bytes : List ℕ) → k.front t bytes ≡ front_of (next_frame bytes))
     (hears_is : (t u : T) (message said : List ℕ) → k.hears t message said u → HearsFrame (next_frame message) said (k.wants u))
-    (spoils_is : (t u : T) (said : List ℕ) → k.spoils t said u → RefusesFrame said (k.wants u))
+    (rejects_is : (t u : T) (said : List ℕ) → k.rejects t said u → RefusesFrame said (k.wants u))
     (learns_is : (t u : T) (r : Reply) (said : List ℕ) → k.learns t r said u → (said ≡ said_to (asked_session (k.wants t)) r) × (k.wants u ≡ want.Message)) where
   -- once memory was refused nothing is heard, learnt or said
   silent : {t u : T} {bytes said rest : List ℕ} {xs : List Learnt} → Heard k t bytes xs said rest u → k.wants t ≡ want.OutOfMemory
       → (xs ≡ []) × (said ≡ []) × (rest ≡ bytes) × (k.wants u ≡ want.OutOfMemory)
   silent stays lost = (refl, refl, refl, lost)
   silent (hears n wants front says later) lost = let wrong : want.Message ≡ want.OutOfMemory = sym wants ∙ lost in cc
-  silent (spoils wants front says later) lost = let wrong : want.Message ≡ want.OutOfMemory = sym wants ∙ lost in cc
+  silent (rejects wants front says later) lost = let wrong : want.Message ≡ want.OutOfMemory = sym wants ∙ lost in cc
   silent (learns x wants fits says later) lost = absurd (subst (λ (w : Want). FitsWant w x.reply) (sym wants ∙ lost) fits)
   silent (loses x wants fits end later) lost = absurd (subst (λ (w : Want). FitsWant w x.reply) (sym wants ∙ lost) fits)
   silent (breaks end later) lost = silent later end
@@ -171,10 +171,10 @@ module _ {T : Type 0} (k : Ghosts T)
       let heard : HearsFrame (whole at.0 n) saying (k.wants u) = subst (λ (f : NextFrame). HearsFrame f saying (k.wants u)) (whole_alone bytes at.0 n at.1) (hears_is t u (take n bytes) saying says) in
       subst (λ (l : List ℕ). StandsOrGaveUp A (xs ++ ys) l rest (k.wants v)) (append_assoc said saying also)
       (stands_on A xs (said ++ saying) (step_hears A xs said bytes (k.wants t) (k.wants u) at.0 n saying stood wants at.1 heard.0 heard.1) later)
-  stands_on A xs said {u = v} {rest = rest} stood (spoils {t = t} {u = u} {bytes = bytes} {said = saying} {also = also} {xs = ys} wants front says later) =
+  stands_on A xs said {u = v} {rest = rest} stood (rejects {t = t} {u = u} {bytes = bytes} {said = saying} {also = also} {xs = ys} wants front says later) =
       let at = bad_of (next_frame bytes) (sym (front_is t bytes) ∙ front) in
       subst (λ (l : List ℕ). StandsOrGaveUp A (xs ++ ys) l rest (k.wants v)) (append_assoc said saying also)
-      (stands_on A xs (said ++ saying) (step_spoils A xs said bytes (k.wants t) (k.wants u) saying stood wants at (spoils_is t u saying says)) later)
+      (stands_on A xs (said ++ saying) (step_rejects A xs said bytes (k.wants t) (k.wants u) saying stood wants at (rejects_is t u saying says)) later)
   stands_on A xs said {u = v} {rest = rest} stood (learns {t = t} {u = u} {bytes = bytes} {said = saying} {also = also} {xs = ys} x wants fits says later) =
       let it = learns_is t u x.reply saying says in
       let next : FrameTalkStands A (xs ++ x ∷ []) (said ++ saying) bytes (k.wants u) =

@@ -9,7 +9,7 @@ use Rattle.wire.specs.AnswerFrames.{answer_frames}
 use Rattle.wire.specs.Answers.{frames_of}
 use Rattle.wire.specs.Frame.{NextFrame, bad, whole, next_frame}
 use Rattle.talks.specs.Wants.{learnt}
-use Rattle.talks.specs.Conversations.{Heard, stays, hears, spoils, learns}
+use Rattle.talks.specs.Conversations.{Heard, stays, hears, rejects, learns}
 use Rattle.talks.specs.declared.talk.Talk.{Ghosts}
 use Rattle.talks.specs.declared.want.Want.{Want}
 use Rattle.talks.specs.declared.want.Want.TheVariants as want
@@ -60,7 +60,7 @@ module _ (k : Ghosts FrameTalk)
     (wants_is : (t : FrameTalk) → k.wants t ≡ t.want)
     (front_is : (t : FrameTalk) (bytes : List ℕ) → k.front t bytes ≡ front_of (next_frame bytes))
     (hears_is : (t u : FrameTalk) (message said : List ℕ) → HearsFrame (next_frame message) said u.want → k.hears t message said u)
-    (spoils_is : (t u : FrameTalk) (said : List ℕ) → RefusesFrame said u.want → k.spoils t said u)
+    (rejects_is : (t u : FrameTalk) (said : List ℕ) → RefusesFrame said u.want → k.rejects t said u)
     (learns_is : (t u : FrameTalk) (r : Reply) (said : List ℕ) → said ≡ said_to (asked_session t.want) r → u.want ≡ want.Message → k.learns t r said u) where
   abbrev wanting : FrameTalk → Want → FrameTalk
   wanting t w = record t { want = w }
@@ -77,7 +77,7 @@ module _ (k : Ghosts FrameTalk)
       let closing : FrameTalk = wanting t (wanted_for close_7) in
       let ended : FrameTalk = wanting t (want.End false) in
       let fourth : Heard k idle bad_length [] (bad_frame_said ++ []) bad_length ended =
-      spoils (wants_is idle) (front_is idle bad_length ∙ ap front_of third_frame) (spoils_is idle ended bad_frame_said (refl, refl)) stays in
+      rejects (wants_is idle) (front_is idle bad_length ∙ ap front_of third_frame) (rejects_is idle ended bad_frame_said (refl, refl)) stays in
       let third : Heard k closing bad_length (learnt (wanted_for close_7) (reply.Answer (answer.Done tag.Close None None)) ∷ []) (frames_of close_7 (answer.Done tag.Close None None) ++ (bad_frame_said ++ [])) bad_length ended =
       learns (learnt (wanted_for close_7) (reply.Answer (answer.Done tag.Close None None))) (wants_is closing) tt (learns_is closing idle (reply.Answer (answer.Done tag.Close None None)) _ refl refl) fourth in
       let second : Heard k idle after_open (learnt (wanted_for close_7) (reply.Answer (answer.Done tag.Close None None)) ∷ []) (frames_of close_7 (answer.Done tag.Close None None) ++ (bad_frame_said ++ [])) bad_length ended =

@@ -66,7 +66,7 @@ impl Talk for FrameTalk {
 
     ghost hears = { λ t message said u. HearsFrame (next_frame message) said u.want };
 
-    ghost spoils = { λ t said u. RefusesFrame said u.want };
+    ghost rejects = { λ t said u. RefusesFrame said u.want };
 
     ghost learns = { λ t reply said u. (said ≡ said_to (asked_session t.want) reply) × (u.want ≡ TheWant.Message) };
 
@@ -100,7 +100,7 @@ impl Talk for FrameTalk {
         }
     }
 
-    fn spoil(&mut self, out: &mut Vec<u8>) -> Result<(), AllocError> {
+    fn reject(&mut self, out: &mut Vec<u8>) -> Result<(), AllocError> {
         self.refuse(out)
     }
 

@@ -73,7 +73,7 @@ impl FrameLine {
         match self.talk.front(&self.held) {
             MessageFront::Nothing => Ok(false),
             MessageFront::Bad => {
-                self.talk.spoil(&mut self.said)?;
+                self.talk.reject(&mut self.said)?;
                 Ok(true)
             }
             MessageFront::Whole(size) => {

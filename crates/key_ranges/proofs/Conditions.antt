@@ -17,7 +17,7 @@ use Rattle.sql_ast.specs.declared.scope.ColumnIndex.{ColumnIndex}
 use Rattle.sql_ast.specs.Term.{Term, literal, column, current_user, session_user, comparison, conjunction}
 use Rattle.expressions.specs.Outcome.{Outcome, with_value, with_both}
 use Rattle.expressions.specs.Operators.{compared, holds, holds_in}
-use Rattle.expressions.specs.Truths.{yes}
+use Rattle.expressions.specs.Truths.{true_value}
 use Rattle.expressions.specs.Meaning.{UserNames, value_of, and_then}
 use Rattle.expressions.specs.Types.{TypedTerm}
 use Rattle.expressions.proofs.OrderLaws.{compared_less, compared_greater, compared_equal}
@@ -30,7 +30,7 @@ use Rattle.key_ranges.specs.Ranges.{IsBehind}
 
 -- ---- conditions joined by AND
 
-and_true : (o p : Outcome) → with_value o (λ v. and_then v p) ≡ Ok yes → (o ≡ Ok yes) × (p ≡ Ok yes)
+and_true : (o p : Outcome) → with_value o (λ v. and_then v p) ≡ Ok true_value → (o ≡ Ok true_value) × (p ≡ Ok true_value)
 and_true (Err code) p h = cc
 and_true (Ok Null) (Err code) h = cc
 and_true (Ok Null) (Ok Null) h = cc
@@ -58,7 +58,7 @@ and_true (Ok (Boolean true)) (Ok (Text t)) h = cc
 and_true (Ok (Boolean true)) (Ok (Boolean true)) h = (refl, refl)
 and_true (Ok (Boolean true)) (Ok (Boolean false)) h = cc
 
-all_true_from : (o : Outcome) (os : List Outcome) → all_of (o ∷ os) ≡ Ok yes → (o ≡ Ok yes) × AllByRecursion (λ o. o ≡ Ok yes) os
+all_true_from : (o : Outcome) (os : List Outcome) → all_of (o ∷ os) ≡ Ok true_value → (o ≡ Ok true_value) × AllByRecursion (λ o. o ≡ Ok true_value) os
 all_true_from o [] h = (h, tt)
 all_true_from o (p ∷ os) h =
     let rest = all_true_from (with_value o (λ v. and_then v p)) os h in
@@ -66,7 +66,7 @@ all_true_from o (p ∷ os) h =
     (both.0, (both.1, rest.1))
 
 -- each of the conditions is true
-pub all_true : (os : List Outcome) → all_of os ≡ Ok yes → AllByRecursion (λ o. o ≡ Ok yes) os
+pub all_true : (os : List Outcome) → all_of os ≡ Ok true_value → AllByRecursion (λ o. o ≡ Ok true_value) os
 all_true [] h = tt
 all_true (o ∷ os) h = all_true_from o os h
 
@@ -103,10 +103,10 @@ record HoldsIn (p : Comparison) (x y : Value) : Type 0 where
   pub compared : compare_values x y ≡ Some order
   pub holds_there : holds p order ≡ true
 
-held : (p : Comparison) (x y : Value) → compared p x y ≡ yes → HoldsIn p x y
+held : (p : Comparison) (x y : Value) → compared p x y ≡ true_value → HoldsIn p x y
 held p x y h = go (compare_values x y) refl h
   where
-    go : (o : Option Ordering) → o ≡ compare_values x y → holds_in p o ≡ yes → HoldsIn p x y
+    go : (o : Option Ordering) → o ≡ compare_values x y → holds_in p o ≡ true_value → HoldsIn p x y
     go None e t = cc
     go (Some r) e t = record { order = r; compared = sym e; holds_there = cc }
 
@@ -156,10 +156,10 @@ record IsHeld (p : Comparison) (left right : Outcome) : Type 0 where
 pub inside_ok : (v w : Value) → (let o : Outcome = Ok v in o) ≡ Ok w → v ≡ w
 inside_ok v w e = cc
 
-comparison_true : (p : Comparison) (left right : Outcome) → with_both left right (λ x y. Ok (compared p x y)) ≡ Ok yes → IsHeld p left right
+comparison_true : (p : Comparison) (left right : Outcome) → with_both left right (λ x y. Ok (compared p x y)) ≡ Ok true_value → IsHeld p left right
 comparison_true p (Err code) right h = cc
 comparison_true p (Ok x) (Err code) h = cc
-comparison_true p (Ok x) (Ok y) h = record { x = x; y = y; left_is = refl; right_is = refl; holding = held p x y (inside_ok (compared p x y) yes h) }
+comparison_true p (Ok x) (Ok y) h = record { x = x; y = y; left_is = refl; right_is = refl; holding = held p x y (inside_ok (compared p x y) true_value h) }
 
 -- ---- bounds
 
@@ -223,10 +223,10 @@ module _ (front : List (Bor Row)) (cell : ColumnIndex → Value) (behind : IsBeh
       }
 
   -- a column is within the bound that a true condition sets
-  pub bound_true : (t : Term ColumnIndex) (v : Value) → bound_in k c users front t ≡ Some v → value_of cell users t ≡ Ok yes → IsWithin k (cell c) v
+  pub bound_true : (t : Term ColumnIndex) (v : Value) → bound_in k c users front t ≡ Some v → value_of cell users t ≡ Ok true_value → IsWithin k (cell c) v
   bound_true (conjunction a b) v h true_t = go (bound_in k c users front a) refl h (λ w e. bound_true a w e parts.0) (λ e. bound_true b v e parts.1)
     where
-      parts : (value_of cell users a ≡ Ok yes) × (value_of cell users b ≡ Ok yes)
+      parts : (value_of cell users a ≡ Ok true_value) × (value_of cell users b ≡ Ok true_value)
       parts = and_true (value_of cell users a) (value_of cell users b) true_t
 
       go : (o : Option Value) → o ≡ bound_in k c users front a → first_of o (bound_in k c users front b) ≡ Some v
@@ -244,7 +244,7 @@ module _ (front : List (Bor Row)) (cell : ColumnIndex → Value) (behind : IsBeh
   bound_true _ v h true_t = cc
 
   -- and within the bound that one of true conditions sets
-  pub bounds_true : (ts : List TypedTerm) (v : Value) → bound_among k c users front ts ≡ Some v → AllByRecursion (λ o. o ≡ Ok yes) (map (λ t. value_of cell users t.term) ts) → IsWithin k (cell c) v
+  pub bounds_true : (ts : List TypedTerm) (v : Value) → bound_among k c users front ts ≡ Some v → AllByRecursion (λ o. o ≡ Ok true_value) (map (λ t. value_of cell users t.term) ts) → IsWithin k (cell c) v
   bounds_true [] v h all = cc
   bounds_true (t ∷ ts) v h all = go (bound_in k c users front t.term) refl h (λ e. bounds_true ts v e all.1)
     where

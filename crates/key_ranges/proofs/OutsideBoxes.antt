@@ -25,7 +25,7 @@ use Rattle.expressions.specs.Outcome.{Outcome, with_value, with_both}
 use Rattle.expressions.specs.Operators.{compared, holds, holds_in}
 use Rattle.expressions.specs.Meaning.{UserNames, value_of, and_then, or_else, member_value}
 use Rattle.expressions.specs.Infallible.{has_no_arithmetic}
-use Rattle.expressions.specs.Truths.{no}
+use Rattle.expressions.specs.Truths.{false_value}
 use Rattle.expressions.proofs.OrderLaws.{compared_less, compared_greater, compared_equal}
 use Rattle.expressions.proofs.Infallibility.{HasValue, infallible_value}
 use Rattle.row_codec.proofs.Layouts.{and_parts, of_type_fits}
@@ -155,24 +155,24 @@ either_none row xs ys h = go (nat_lt box_limit (length (xs ++ ys))) h
 
 -- ---- truths
 
-false_first : (o p : Outcome) → o ≡ Ok no → with_value o (λ v. and_then v p) ≡ Ok no
+false_first : (o p : Outcome) → o ≡ Ok false_value → with_value o (λ v. and_then v p) ≡ Ok false_value
 false_first o p h = ap (λ r. with_value r (λ v. and_then v p)) h
 
-false_second : (o p : Outcome) → HasValue o → p ≡ Ok no → with_value o (λ v. and_then v p) ≡ Ok no
+false_second : (o p : Outcome) → HasValue o → p ≡ Ok false_value → with_value o (λ v. and_then v p) ≡ Ok false_value
 false_second o p there h = ap (λ r. with_value r (λ v. and_then v p)) there.1 ∙ ap (λ r. and_then there.0 r) h ∙ go there.0
   where
-    go : (v : Value) → and_then v (Ok no) ≡ Ok no
+    go : (v : Value) → and_then v (Ok false_value) ≡ Ok false_value
     go Null = refl
     go (Int n) = refl
     go (Text t) = refl
     go (Boolean true) = refl
     go (Boolean false) = refl
 
-false_both : (o p : Outcome) → o ≡ Ok no → p ≡ Ok no → with_value o (λ v. or_else v p) ≡ Ok no
-false_both o p h k = ap (λ r. with_value r (λ v. or_else v p)) h ∙ ap (λ r. or_else no r) k
+false_both : (o p : Outcome) → o ≡ Ok false_value → p ≡ Ok false_value → with_value o (λ v. or_else v p) ≡ Ok false_value
+false_both o p h k = ap (λ r. with_value r (λ v. or_else v p)) h ∙ ap (λ r. or_else false_value r) k
 
 -- where a condition has boxes only if it is not false, they are nothing or everything
-none_if : (row : Row) (v : Value) → is_in_boxes row (boxes_if v) ≡ false → v ≡ no
+none_if : (row : Row) (v : Value) → is_in_boxes row (boxes_if v) ≡ false → v ≡ false_value
 none_if row Null h = cc
 none_if row (Int n) h = cc
 none_if row (Text t) h = cc
@@ -221,7 +221,7 @@ not_held op.GreaterOrEqual kind.Lower o e h = h
 not_held _ _ _ e h = cc
 
 -- the value of a comparison with its operands exchanged
-exchanged_false : (p : Comparison) (x v : Value) (o : Ordering) → compare_values x v ≡ Some o → holds (exchanged p) o ≡ false → compared p v x ≡ no
+exchanged_false : (p : Comparison) (x v : Value) (o : Ordering) → compare_values x v ≡ Some o → holds (exchanged p) o ≡ false → compared p v x ≡ false_value
 exchanged_false p x v Less e h = ap (holds_in p) (compared_less x v e) ∙ ap (λ b. Boolean b) (held_greater p ∙ h)
 exchanged_false p x v Equal e h =
     let same : x ≡ v = compared_equal x v e in
@@ -295,20 +295,20 @@ module _ (layout : Layout) (is : IsLayout layout) (table : ℕ) (users : UserNam
       by_table false e g = cc
   side_false p _ b boxes h out = cc
 
-  at_once : (p : Comparison) (a b : Term ColumnIndex) → BothKnown p a b → value_of cell users (comparison p a b) ≡ Ok no
+  at_once : (p : Comparison) (a b : Term ColumnIndex) → BothKnown p a b → value_of cell users (comparison p a b) ≡ Ok false_value
   at_once p a b known =
       ap (λ o. with_both o (value_of cell users b) (λ x y. Ok (compared p x y))) known.left_is
       ∙ ap (λ o. with_value o (λ y. Ok (compared p known.x y))) known.right_is
       ∙ ap (λ o. Ok (holds_in p o)) known.compared_so ∙ ap (λ b. Ok (Boolean b)) known.refused
 
-  turned : (p : Comparison) (a b : Term ColumnIndex) → BothKnown (exchanged p) b a → value_of cell users (comparison p a b) ≡ Ok no
+  turned : (p : Comparison) (a b : Term ColumnIndex) → BothKnown (exchanged p) b a → value_of cell users (comparison p a b) ≡ Ok false_value
   turned p a b known =
       ap (λ o. with_both o (value_of cell users b) (λ x y. Ok (compared p x y))) known.right_is
       ∙ ap (λ o. with_value o (λ y. Ok (compared p known.v y))) known.left_is
       ∙ ap (λ z. Ok z) (exchanged_false p known.x known.v known.order known.compared_so known.refused)
 
   between : (p : Comparison) (a b : Term ColumnIndex) (v w : Option Value) → v ≡ constant users front a → w ≡ constant users front b → is_in_boxes row (boxes_between p v w) ≡ false
-      → value_of cell users (comparison p a b) ≡ Ok no
+      → value_of cell users (comparison p a b) ≡ Ok false_value
   between p a b None w e f out = cc
   between p a b (Some v) None e f out = cc
   between p a b (Some v) (Some w) e f out =
@@ -316,11 +316,11 @@ module _ (layout : Layout) (is : IsLayout layout) (table : ℕ) (users : UserNam
       ∙ ap (λ o. with_value o (λ y. Ok (compared p v y))) (constant_true front cell behind users b w (sym f)).0
       ∙ ap (λ z. Ok z) (none_if row (compared p v w) out)
 
-  compared_false : (p : Comparison) (a b : Term ColumnIndex) → is_in_boxes row (boxes_compared layout table users front p a b) ≡ false → value_of cell users (comparison p a b) ≡ Ok no
+  compared_false : (p : Comparison) (a b : Term ColumnIndex) → is_in_boxes row (boxes_compared layout table users front p a b) ≡ false → value_of cell users (comparison p a b) ≡ Ok false_value
   compared_false p a b out = go (boxes_at layout table users front p a b) refl (boxes_at layout table users front (exchanged p) b a) refl out
     where
       go : (s : Option (List Box)) → s ≡ boxes_at layout table users front p a b → (t : Option (List Box)) → t ≡ boxes_at layout table users front (exchanged p) b a
-          → is_in_boxes row (boxes_or s (boxes_or t (boxes_between p (constant users front a) (constant users front b)))) ≡ false → value_of cell users (comparison p a b) ≡ Ok no
+          → is_in_boxes row (boxes_or s (boxes_or t (boxes_between p (constant users front a) (constant users front b)))) ≡ false → value_of cell users (comparison p a b) ≡ Ok false_value
       go (Some boxes) e t f g = at_once p a b (side_false p a b boxes (sym e) g)
       go None e (Some boxes) f g = turned p a b (side_false (exchanged p) b a boxes (sym f) g)
       go None e None f g = between p a b (constant users front a) (constant users front b) refl refl g
@@ -345,13 +345,13 @@ module _ (layout : Layout) (is : IsLayout layout) (table : ℕ) (users : UserNam
       go true f = cc
       go false f = no_role t index e roles f
 
-  no_member : (index : ℕ) (x : Value) → x ≡ value_at row index → (o : Ordering) → compare_values x (Text []) ≡ Some o → is_in_boxes row (boxes_of_roles roles index) ≡ false → member_value users x ≡ no
+  no_member : (index : ℕ) (x : Value) → x ≡ value_at row index → (o : Ordering) → compare_values x (Text []) ≡ Some o → is_in_boxes row (boxes_of_roles roles index) ≡ false → member_value users x ≡ false_value
   no_member index Null e o f out = cc
   no_member index (Int n) e o f out = cc
   no_member index (Boolean b) e o f out = cc
   no_member index (Text t) e o f out = ap (λ b. Boolean b) (are_roles t ∙ none_of_roles t index (sym e) out)
 
-  name_false : (a : Term ColumnIndex) (v : Option Value) → v ≡ constant users front a → is_in_boxes row (boxes_of_name users v) ≡ false → value_of cell users (member_test a) ≡ Ok no
+  name_false : (a : Term ColumnIndex) (v : Option Value) → v ≡ constant users front a → is_in_boxes row (boxes_of_name users v) ≡ false → value_of cell users (member_test a) ≡ Ok false_value
   name_false a None e out = cc
   name_false a (Some Null) e out = cc
   name_false a (Some (Int n)) e out = cc
@@ -360,11 +360,11 @@ module _ (layout : Layout) (is : IsLayout layout) (table : ℕ) (users : UserNam
       ap (λ o. with_value o (λ x. Ok (member_value users x))) (constant_true front cell behind users a (Text t) (sym e)).0
       ∙ ap (λ z. Ok z) (none_if row (Boolean (users.is_in t)) out)
 
-  member_false : (a : Term ColumnIndex) → is_in_boxes row (boxes_of_member layout table users roles front a) ≡ false → value_of cell users (member_test a) ≡ Ok no
+  member_false : (a : Term ColumnIndex) → is_in_boxes row (boxes_of_member layout table users roles front a) ≡ false → value_of cell users (member_test a) ≡ Ok false_value
   member_false (column c) out = go (nat_eq c.table table) refl (is_comparable layout c.column (Text [])) refl out
     where
       go : (t : Bool) → t ≡ nat_eq c.table table → (b : Bool) → b ≡ is_comparable layout c.column (Text [])
-          → is_in_boxes row (if t then (if b then boxes_of_roles roles c.column else everything) else boxes_of_name users (constant users front (column c))) ≡ false → value_of cell users (member_test (column c)) ≡ Ok no
+          → is_in_boxes row (if t then (if b then boxes_of_roles roles c.column else everything) else boxes_of_name users (constant users front (column c))) ≡ false → value_of cell users (member_test (column c)) ≡ Ok false_value
       go false e b f g = name_false (column c) (constant users front (column c)) refl g
       go true e false f g = cc
       go true e true f g =
@@ -384,12 +384,12 @@ module _ (layout : Layout) (is : IsLayout layout) (table : ℕ) (users : UserNam
       bs = boxes_of layout table users roles front b
 
       both : has_no_arithmetic a ≡ true → (i : Bool) → i ≡ is_in_boxes row as_ → is_in_boxes row (both_boxes as_ bs) ≡ false
-          → (is_in_boxes row as_ ≡ false → value_of cell users a ≡ Ok no) → (is_in_boxes row bs ≡ false → value_of cell users b ≡ Ok no) → value_of cell users (conjunction a b) ≡ Ok no
+          → (is_in_boxes row as_ ≡ false → value_of cell users a ≡ Ok false_value) → (is_in_boxes row bs ≡ false → value_of cell users b ≡ Ok false_value) → value_of cell users (conjunction a b) ≡ Ok false_value
       both infallible true e none of_a of_b = false_second (value_of cell users a) (value_of cell users b) (infallible_value cell users a infallible) (of_b (second_none row as_ bs none (sym e)))
       both infallible false e none of_a of_b = false_first (value_of cell users a) (value_of cell users b) (of_a (sym e))
 
       go : (q : Bool) → q ≡ has_no_arithmetic a → is_in_boxes row (if q then both_boxes as_ bs else as_) ≡ false
-          → (is_in_boxes row as_ ≡ false → value_of cell users a ≡ Ok no) → (is_in_boxes row bs ≡ false → value_of cell users b ≡ Ok no) → value_of cell users (conjunction a b) ≡ Ok no
+          → (is_in_boxes row as_ ≡ false → value_of cell users a ≡ Ok false_value) → (is_in_boxes row bs ≡ false → value_of cell users b ≡ Ok false_value) → value_of cell users (conjunction a b) ≡ Ok false_value
       go true e none of_a of_b = both (sym e) (is_in_boxes row as_) refl none of_a of_b
       go false e none of_a of_b = false_first (value_of cell users a) (value_of cell users b) (of_a none)
   false_outside (disjunction a b) out =

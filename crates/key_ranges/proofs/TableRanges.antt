@@ -17,7 +17,7 @@ use Rattle.expressions.specs.declared.eval.Users.{Users}
 use Rattle.expressions.specs.Rows.{names_of}
 use Rattle.expressions.specs.Meaning.{UserNames, value_of}
 use Rattle.expressions.specs.Stages.{◌>>=◌}
-use Rattle.expressions.specs.Truths.{no}
+use Rattle.expressions.specs.Truths.{false_value}
 use Rattle.expressions.specs.Types.{TypedTerm}
 use Rattle.expressions.proofs.Infallibility.{HasValue}
 use Rattle.abstract_database.specs.Expressions.{cell_in, bound_value, all_of, when_true}
@@ -197,14 +197,14 @@ hidden_by : (v : Value) (o : Outcome) → IsHidden o → IsHidden (when_true v o
 hidden_by Null o h = record { value = Null; has = refl; not_true = refl }
 hidden_by (Int n) o h = record { value = Int n; has = refl; not_true = refl }
 hidden_by (Text t) o h = record { value = Text t; has = refl; not_true = refl }
-hidden_by (Boolean false) o h = record { value = no; has = refl; not_true = refl }
+hidden_by (Boolean false) o h = record { value = false_value; has = refl; not_true = refl }
 hidden_by (Boolean true) o h = h
 
 module _ (layout : Layout) (is : IsLayout layout) (users : UserNames) (roles : List (List ℕ)) (are_roles : AreRolesFor users roles) (row : Row) (fits : FitsTable layout row) where
   nobody_behind : IsBehind [] (cell_in (row ∷ []))
   nobody_behind index r h = cc
 
-  formula_false : (f : Formula) → is_in_boxes row (boxes_of_formula layout users roles f) ≡ false → formula_value users f (cells_of (row ∷ [])) ≡ Ok no
+  formula_false : (f : Formula) → is_in_boxes row (boxes_of_formula layout users roles f) ≡ false → formula_value users f (cells_of (row ∷ [])) ≡ Ok false_value
   formula_false f out = false_outside layout is 0 users roles are_roles [] (cell_in (row ∷ [])) nobody_behind row fits (λ index. refl) (formula (terms f.permissive) (terms f.restrictive)) out
 
   hidden_outside : (fs : List Formula) → is_in_boxes row (boxes_of_guard layout users roles fs) ≡ false → IsHidden (guard_value users fs (cells_of (row ∷ [])))
@@ -212,7 +212,7 @@ module _ (layout : Layout) (is : IsLayout layout) (users : UserNames) (roles : L
   hidden_outside (f ∷ fs) out = go (is_formula_infallible f) refl out (λ e. hidden_outside fs e)
     where
       at_once : is_in_boxes row (boxes_of_formula layout users roles f) ≡ false → IsHidden (guard_value users (f ∷ fs) (cells_of (row ∷ [])))
-      at_once e = record { value = no; has = ap (λ o. o >>= λ v. when_true v (guard_value users fs (cells_of (row ∷ []))) (Ok v)) (formula_false f e); not_true = refl }
+      at_once e = record { value = false_value; has = ap (λ o. o >>= λ v. when_true v (guard_value users fs (cells_of (row ∷ []))) (Ok v)) (formula_false f e); not_true = refl }
 
       later : is_formula_infallible f ≡ true → IsHidden (guard_value users fs (cells_of (row ∷ []))) → IsHidden (guard_value users (f ∷ fs) (cells_of (row ∷ [])))
       later infallible rest =
@@ -244,7 +244,7 @@ joined_is users c (t ∷ ts) = joined_from users c t ts
 
 module _ (layout : Layout) (is : IsLayout layout) (users : UserNames) (roles : List (List ℕ)) (are_roles : AreRolesFor users roles) where
   conditions_false : (front : Combination) (row : Row) (rest : Combination) (table : ℕ) → length front ≡ table → FitsTable layout row → (conditions : List (Term ColumnIndex))
-      → is_in_boxes row (boxes_of layout table users roles [] (joined conditions)) ≡ false → condition_value users conditions (front ++ row ∷ rest) ≡ Ok no
+      → is_in_boxes row (boxes_of layout table users roles [] (joined conditions)) ≡ false → condition_value users conditions (front ++ row ∷ rest) ≡ Ok false_value
   conditions_false front row rest table long fits conditions out =
       joined_is users (front ++ row ∷ rest) conditions
       ∙ false_outside layout is table users roles are_roles [] (cell_in (front ++ row ∷ rest)) (λ index r h. cc) row fits (λ index. cell_there front row rest table index long) (joined conditions) out

@@ -15,7 +15,7 @@ use Rattle.sql_ast.specs.Term.{Term}
 use Rattle.expressions.specs.Outcome.{Outcome, with_value}
 use Rattle.expressions.specs.Meaning.{UserNames, value_of, and_then}
 use Rattle.expressions.specs.Stages.{◌>>=◌, each}
-use Rattle.expressions.specs.Truths.{yes}
+use Rattle.expressions.specs.Truths.{true_value}
 use Rattle.expressions.specs.Types.{TypedTerm}
 use Rattle.abstract_database.specs.Expressions.{cell_in, bound_value, all_of, when_true, passing}
 use Rattle.abstract_database.specs.Guards.{Guard}
@@ -65,7 +65,7 @@ all_value_from o [] h all = h
 all_value_from o (p ∷ os) h all = all_value_from (with_value o (λ v. and_then v p)) os (and_value_of o p h all.0) all.1
 
 pub all_value : (os : List Outcome) → AllByRecursion HasValue os → HasValue (all_of os)
-all_value [] all = (yes, refl)
+all_value [] all = (true_value, refl)
 all_value (o ∷ os) all = all_value_from o os all.0 all.1
 
 -- the outcomes of conditions
@@ -86,7 +86,7 @@ condition_is users terms ts same c = ap (λ list. all_of (map (bound_value users
 value_there : (o p : Outcome) → o ≡ p → HasValue p → HasValue o
 value_there o p e h = (h.0, e ∙ h.1)
 
-pub true_there : (o : Outcome) → is_true o ≡ true → o ≡ Ok yes
+pub true_there : (o : Outcome) → is_true o ≡ true → o ≡ Ok true_value
 true_there (Err code) h = cc
 true_there (Ok Null) h = cc
 true_there (Ok (Int n)) h = cc

@@ -20,7 +20,7 @@ use Rattle.sql_ast.specs.Term.{Term, literal, column, comparison, conjunction, d
 use Rattle.expressions.specs.Meaning.{UserNames, value_of}
 use Rattle.expressions.specs.Operators.{compared}
 use Rattle.expressions.specs.Infallible.{has_no_arithmetic}
-use Rattle.expressions.specs.Truths.{no}
+use Rattle.expressions.specs.Truths.{false_value}
 use Rattle.key_ranges.specs.declared.bounds.BoundKind.{BoundKind}
 use Rattle.key_ranges.specs.declared.bounds.BoundKind.TheVariants as kind
 use Rattle.key_ranges.specs.Bounds.{exchanged, constant}
@@ -200,7 +200,7 @@ AreRolesFor users roles = (name : List ℕ) → users.is_in name ≡ list_any (b
 
 -- on a row outside of the boxes the condition is false: it does not fail
 abbrev pub IsFalseOutside : Layout → ℕ → UserNames → (ColumnIndex → Value) → Row → Term ColumnIndex → List Box → Type 0
-IsFalseOutside layout table users cell row term boxes = is_in_boxes row boxes ≡ false → value_of cell users term ≡ Ok no
+IsFalseOutside layout table users cell row term boxes = is_in_boxes row boxes ≡ false → value_of cell users term ≡ Ok false_value
 
 -- so it is of each row that the table may hold, whatever the rows beside it are
 abbrev pub BoxesLoseNothing : Type 0

@@ -7,7 +7,7 @@ use Rattle.sql_ast.specs.Layout.{Layout}
 use Rattle.sql_ast.specs.Fits.{FitsTable}
 use Rattle.expressions.specs.Meaning.{UserNames, value_of}
 use Rattle.expressions.specs.Stages.{◌>>=◌, each}
-use Rattle.expressions.specs.Truths.{yes}
+use Rattle.expressions.specs.Truths.{true_value}
 use Rattle.expressions.specs.Types.{TypedTerm}
 use Rattle.store.specs.Records.{Records, IsOrdered}
 use Rattle.store.specs.Items.{Holds}
@@ -49,7 +49,7 @@ RangesLoseNothing = (id : ℕ) (layout : Layout) (users : UserNames) (before aft
 -- the ranges have the key of each row that a table may hold and that meets all conditions in a combination with these rows of the tables before it
 abbrev pub HaveKeysBehind : ℕ → Layout → UserNames → List TypedTerm → List KeyRange → Combination → Type 0
 HaveKeysBehind id layout users conditions ranges front = (row : Row) (rest : Combination) → FitsTable layout row
-    → all_of (map (λ c. value_of (cell_in (front ++ row ∷ rest)) users c.term) conditions) ≡ Ok yes → is_inside_any id layout ranges row ≡ true
+    → all_of (map (λ c. value_of (cell_in (front ++ row ∷ rest)) users c.term) conditions) ≡ Ok true_value → is_inside_any id layout ranges row ≡ true
 
 -- ranges of the keys of a table that have those of all rows on which the conditions are true behind each combination of these rows of the tables before it
 pub record AreHarmlessBehind (id : ℕ) (layout : Layout) (seen : List (List Row)) (users : UserNames) (guard : Guard) (conditions : List TypedTerm) (ranges : List KeyRange) : Type 0 where

@@ -9,7 +9,7 @@ use Rattle.sql_types.specs.Row.{Row, value_at}
 use Rattle.sql_ast.specs.Layout.{Layout}
 use Rattle.sql_ast.specs.Fits.{FitsTable}
 use Rattle.sql_ast.specs.declared.scope.ColumnIndex.{ColumnIndex}
-use Rattle.expressions.specs.Truths.{yes}
+use Rattle.expressions.specs.Truths.{true_value}
 use Rattle.expressions.specs.Meaning.{UserNames, value_of}
 use Rattle.expressions.specs.Types.{TypedTerm}
 use Rattle.abstract_database.specs.Expressions.{all_of}
@@ -75,7 +75,7 @@ IsRangeOf id (Several several) = AllByRecursion (IsSpanOf id) several.spans
 abbrev pub HasKeysOf : ℕ → Layout → ℕ → UserNames → List TypedTerm → KeyRange → Type 0
 HasKeysOf id layout table users conditions range = (row : Row) (cell : ColumnIndex → Value) → FitsTable layout row
     → ((index : ℕ) → cell (record { table = table; column = index }) ≡ value_at row index)
-    → all_of (map (λ c. value_of cell users c.term) conditions) ≡ Ok yes → is_inside id layout range row ≡ true
+    → all_of (map (λ c. value_of cell users c.term) conditions) ≡ Ok true_value → is_inside id layout range row ≡ true
 
 -- the rows of the first tables are these
 abbrev pub IsBehind : List (Bor Row) → (ColumnIndex → Value) → Type 0
@@ -85,7 +85,7 @@ IsBehind front cell = (index : ColumnIndex) (row : Bor Row) → slice_get front 
 abbrev pub HasKeysBehind : ℕ → Layout → ℕ → List (Bor Row) → UserNames → List TypedTerm → KeyRange → Type 0
 HasKeysBehind id layout table front users conditions range = (row : Row) (cell : ColumnIndex → Value) → FitsTable layout row
     → ((index : ℕ) → cell (record { table = table; column = index }) ≡ value_at row index) → IsBehind front cell
-    → all_of (map (λ c. value_of cell users c.term) conditions) ≡ Ok yes → is_inside id layout range row ≡ true
+    → all_of (map (λ c. value_of cell users c.term) conditions) ≡ Ok true_value → is_inside id layout range row ≡ true
 
 -- ---- the range that conditions leave
 

@@ -32,7 +32,7 @@ pub only_first : (page : List ℕ) (l : ℕ) → IsSome (one_page page l) → l 
 only_first page zero some = refl
 only_first page (suc l) some = absurd (let bad = some in cc)
 
--- the format of a spelling has it
+-- the format of a record format has it
 spelled_so : (record_format : RecordFormat) → record_format_of (format_of record_format) ≡ record_format
 spelled_so V1 = refl
 spelled_so V2 = refl

@@ -15,7 +15,7 @@ use Rattle.page_nodes.specs.Node.{IsNode}
 use Rattle.store.specs.Records.{Record}
 use Rattle.kv_store.specs.Contents.{HasContents}
 
--- an image has this record and no other, in this spelling and under number 1
+-- an image has this record and no other, in this record format and under number 1
 abbrev pub HasFirst : ℕ → RecordFormat → Record → Image → Type 0
 HasFirst pages record_format entry image = (has : HasContents pages (record { record_format = record_format; records = entry ∷ [] }) image) × (has.number ≡ 1)
 

@@ -1,7 +1,7 @@
 //! A new store on a device.
 ghost use Rattle.std.specs.Prelude.{◌≡◌, ◌≤◌, ◌∷◌, [], true, length, OnOk};
 ghost use Rattle.storage_sizes.specs.Sizes.{max_value_length};
-ghost use Rattle.storage_sizes.specs.Spellings.{current};
+ghost use Rattle.storage_sizes.specs.CurrentRecordFormat.{current};
 ghost use Rattle.cow_pages.specs.Image.{is_size};
 ghost use Rattle.page_nodes.specs.declared.cell.NodeKind.TheVariants.{Leaf};
 ghost use Rattle.page_nodes.specs.Node.{IsNode};
@@ -32,7 +32,7 @@ pub fn write_leaf_of(
 }
 
 impl<D: Device> PageStore<D> {
-    /// Makes a new store as `format_as` does, with the spelling in which databases are made.
+    /// Makes a new store as `format_as` does, with the record format in which databases are made.
     pub fn format(alloc: Global, device: &mut D, first: &Entry) -> Result<(), OpenFault>
         requires size { is_size (D.state device.old).sectors ≡ true }
         requires key { IsKeySize first.now.0 }
@@ -42,7 +42,7 @@ impl<D: Device> PageStore<D> {
         PageStore::format_as(alloc, device, RecordFormat::current(), first)
     }
 
-    /// Makes a new store of a device of 64 to 65,536 whole pages, whose records are of this spelling and which has one
+    /// Makes a new store of a device of 64 to 65,536 whole pages, whose records are of this record format and which has one
     /// record, under number 1, and no journal. What was on the device before is lost, though only sectors 0 and 1 and those of pages 1 and 2 are written: sector 0 with zeros, sector
     /// 1 with the root, page 1 with the leaf of the record, page 2 with the map.
     ///
@@ -61,7 +61,7 @@ impl<D: Device> PageStore<D> {
     {
         let mut page = [0; PAGE_SIZE];
         write_leaf_of(alloc, first, &mut page)?;
-        match format(device, Format::of_spelling(record_format), &page) {
+        match format(device, Format::of_record_format(record_format), &page) {
             Ok(()) => Ok(()),
             Err(_) => Err(OpenFault::Device),
         }

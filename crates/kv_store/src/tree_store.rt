@@ -452,7 +452,7 @@ impl<D: Device> Store for TreeStore<D> {
         if self.has_failed {
             return Err(StoreFault::Device);
         }
-        let format = self.pages.below.format().respelled();
+        let format = self.pages.below.format().migrated();
         self.change(format, RootWrite::IfChanged, Reserve::Open, batch)
     }
 }

@@ -27,13 +27,13 @@ has_journal Three = true
 abbrev pub format_in : ℕ → Format
 format_in number = if number == 1 then One else (if number == 2 then Two else Three)
 
--- the format of records of this spelling, with no journal
+-- the format of this record format, with no journal
 abbrev pub format_of : RecordFormat → Format
 format_of V1 = One
 format_of V2 = Two
 
--- the format that differs from this one in the spelling alone, which is the second
-abbrev pub respelled : Format → Format
-respelled One = Two
-respelled Two = Two
-respelled Three = Three
+-- the format that differs from this one in the record format alone, which is 2
+abbrev pub migrated : Format → Format
+migrated One = Two
+migrated Two = Two
+migrated Three = Three

@@ -1,7 +1,7 @@
 //! The formats of a device.
 ghost use Rattle.std.specs.Prelude.{◌≡◌, false};
 ghost use Rattle.storage_sizes.specs.declared.record_format.RecordFormat.TheVariants.{V2};
-ghost use Rattle.page_roots.specs.Formats.{number_of, record_format_of, has_journal, format_in, format_of, respelled};
+ghost use Rattle.page_roots.specs.Formats.{number_of, record_format_of, has_journal, format_in, format_of, migrated};
 
 use storage_sizes::RecordFormat;
 
@@ -49,8 +49,8 @@ impl Format {
         }
     }
 
-    /// The format of records of this spelling, with no journal.
-    pub fn of_spelling(record_format: RecordFormat) -> Format
+    /// The format of this record format, with no journal.
+    pub fn of_record_format(record_format: RecordFormat) -> Format
         ensures format { result ≡ format_of record_format }
         ensures spelled { record_format_of result ≡ record_format }
         ensures plain { has_journal result ≡ false }
@@ -61,9 +61,9 @@ impl Format {
         }
     }
 
-    /// The format that differs from this one in the spelling alone, which is the second.
-    pub fn respelled(self) -> Format
-        ensures format { result ≡ respelled self }
+    /// The format that differs from this one in the record format alone, which is 2.
+    pub fn migrated(self) -> Format
+        ensures format { result ≡ migrated self }
         ensures spelled { record_format_of result ≡ V2 }
         ensures journal { has_journal result ≡ has_journal self }
     {

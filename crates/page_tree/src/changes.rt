@@ -17,7 +17,7 @@ ghost use Rattle.page_tree.specs.Changed.{MergesChanges, CopiesChanged, ChangesL
 
 use crate::appending::append_leaf;
 use crate::bound::KeyBound;
-use crate::joining::{are_few, pages_to_spare};
+use crate::joining::{is_underfull, pages_to_spare};
 use crate::puts::{grow_root, put};
 use crate::removal::{Underflow, clear_root, collapse_root, follow_child, write_cells};
 use crate::scratch::{NodeScratch, Scratch};
@@ -125,7 +125,7 @@ pub(crate) fn copy_changed(
 fn left_in(change: &Change, cells: usize) -> Underflow
     ensures { (result ≡ FewCells) ⊎ (result ≡ Trees None) }
 {
-    if change.value().is_none() && are_few(cells) {
+    if change.value().is_none() && is_underfull(cells) {
         Underflow::FewCells
     } else {
         Underflow::Trees(None)

@@ -15,7 +15,7 @@ use pages::{PageFault, Pages};
 use storage_sizes::{MAX_PAGES, PAGE_SIZE};
 
 /// Cells of a leaf of fewer bytes are few: a quarter of a page.
-const FEW_BYTES: usize = PAGE_SIZE / 4;
+const UNDERFULL_BYTES: usize = PAGE_SIZE / 4;
 
 /// The most bytes of the cells of two leaves that are joined. The rest of the page, an eighth, is left for cells that are put later.
 const MAX_JOINED: usize = PAGE_SIZE / 8 * 7;
@@ -39,8 +39,8 @@ fn beside(left: u32, right: u32) -> Neighbours
 }
 
 /// Whether cells of so many bytes are few for a leaf.
-pub(crate) fn are_few(cells: usize) -> bool {
-    cells < FEW_BYTES
+pub(crate) fn is_underfull(cells: usize) -> bool {
+    cells < UNDERFULL_BYTES
 }
 
 /// Takes the cell of the right one of two children from an inner node that has been read: the child of a key, and the one beside

@@ -10,10 +10,10 @@ use Rattle.channels.specs.Channels.{NamedBytes, KeepsAll, KeepsOthers}
 use Rattle.talks.specs.declared.talk.Talk.{Ghosts}
 use Rattle.talks.specs.declared.talk.MessageFront.TheVariants.{Whole, Bad}
 use Rattle.talks.specs.declared.want.Want.{Want}
-use Rattle.talks.specs.declared.clients.Why.{Why}
+use Rattle.talks.specs.declared.clients.EndCause.{EndCause}
 use Rattle.talks.specs.Wants.{Learnt, learnt, own, FitsWant}
 use Rattle.talks.specs.declared.want.Reply.{Reply}
-use Rattle.talks.specs.Conversations.{Conversation, Continues, Place, awaited, there, gone, IsGone, IsNew, IsAwaited, HasEnded, Passes, wanted, unless_ended}
+use Rattle.talks.specs.Conversations.{Conversation, Continues, ClientState, awaited, there, gone, IsGone, IsNew, IsAwaited, HasEnded, Passes, wanted, unless_ended}
 use Rattle.talks.specs.Clients.{NoneGoes, GoesAlone, AllCame, NobodyIsThere, Moved, IsLeaving}
 use Rattle.talks.proofs.Passing.{passes_stay, passes_on}
 use Rattle.polled_clients.proofs.Steps.{continues_stay}
@@ -21,7 +21,7 @@ use Rattle.polled_clients.specs.declared.peer.Peer.{Peer}
 use Rattle.polled_clients.specs.Peers.{conversation_of, Goes}
 use Rattle.polled_clients.specs.declared.need.Need.{Need}
 use Rattle.polled_clients.specs.declared.need.Need.TheVariants as need
-use Rattle.polled_clients.specs.Places.{place_of, place_at, GoesOn, Learns, HasNeedHere, HasNeedAt}
+use Rattle.polled_clients.specs.ClientStates.{state_of, state_at, GoesOn, Learns, HasNeedHere, HasNeedAt}
 
 -- what holds of one and of all others
 pub each : (P : ℕ → Type 0) (client : ℕ) → P client → ((c : ℕ) → c ≢ client → P c) → (c : ℕ) → P c
@@ -37,11 +37,11 @@ own_other client c x other = rw (ne_eqb client c (λ same. other (sym same))) re
 pub own_self : (client : ℕ) (x : Learnt) → own client client x ≡ x ∷ []
 own_self client x = rw (eq-eqb client client refl) refl
 
-none_wanted : (o : Option Why) (v w : Want) → unless_ended o v ≡ Some w → o ≡ None
+none_wanted : (o : Option EndCause) (v w : Want) → unless_ended o v ≡ Some w → o ≡ None
 none_wanted None v w is = refl
 none_wanted (Some x) v w is = cc
 
-the_wanted : (o : Option Why) (v w : Want) → unless_ended o v ≡ Some w → v ≡ w
+the_wanted : (o : Option EndCause) (v w : Want) → unless_ended o v ≡ Some w → v ≡ w
 the_wanted None v w is = cc
 the_wanted (Some x) v w is = cc
 
@@ -64,8 +64,8 @@ pub found_same : {X : Type 0} (es fs : List (ℕ × X)) → fs ≡ es → (c : �
 found_same es fs same c = ap (lookup (nat_eq c)) same
 
 module _ {T C : Type 0} (t : Ghosts T) (k : ChannelGhosts C) where
-  abbrev at_if : Bool → Option (Peer T C) → NamedBytes → NamedBytes → Place T
-  at_if b p closed coming = if b then place_of k p closed else awaited coming
+  abbrev at_if : Bool → Option (Peer T C) → NamedBytes → NamedBytes → ClientState T
+  at_if b p closed coming = if b then state_of k p closed else awaited coming
 
   -- ---- one place
 
@@ -83,63 +83,63 @@ module _ {T C : Type 0} (t : Ghosts T) (k : ChannelGhosts C) where
 
   -- who wants something is there, and its connection has not ended
   wants_if : (b : Bool) (p : Option (Peer T C)) (closed coming : NamedBytes) (w : Want) → wanted t (at_if b p closed coming) ≡ Some w
-      → (x : Peer T C) × (p ≡ Some x) × (b ≡ true) × (x.why ≡ None) × (t.wants x.talk ≡ w)
+      → (x : Peer T C) × (p ≡ Some x) × (b ≡ true) × (x.end_cause ≡ None) × (t.wants x.talk ≡ w)
   wants_if true None closed coming w is = cc
-  wants_if true (Some x) closed coming w is = (x, refl, refl, none_wanted x.why (t.wants x.talk) w is, the_wanted x.why (t.wants x.talk) w is)
+  wants_if true (Some x) closed coming w is = (x, refl, refl, none_wanted x.end_cause (t.wants x.talk) w is, the_wanted x.end_cause (t.wants x.talk) w is)
   wants_if false p closed coming w is = cc
 
-  pub who_wants : (came c : ℕ) (p : Option (Peer T C)) (closed coming : NamedBytes) (w : Want) → wanted t (place_at k came c p closed coming) ≡ Some w
-      → (x : Peer T C) × (p ≡ Some x) × (nat_lt c came ≡ true) × (x.why ≡ None) × (t.wants x.talk ≡ w)
+  pub who_wants : (came c : ℕ) (p : Option (Peer T C)) (closed coming : NamedBytes) (w : Want) → wanted t (state_at k came c p closed coming) ≡ Some w
+      → (x : Peer T C) × (p ≡ Some x) × (nat_lt c came ≡ true) × (x.end_cause ≡ None) × (t.wants x.talk ≡ w)
   who_wants came c p closed coming w is = wants_if (nat_lt c came) p closed coming w is
 
   -- so it is one of those that are there, and may learn what fits
-  runs : (p : Option (Peer T C)) (x : Peer T C) → p ≡ Some x → x.why ≡ None → IfSome p (λ y. y.why ≡ None)
-  runs p x here none = subst (λ (o : Option (Peer T C)). IfSome o (λ y. y.why ≡ None)) (sym here) none
+  runs : (p : Option (Peer T C)) (x : Peer T C) → p ≡ Some x → x.end_cause ≡ None → IfSome p (λ y. y.end_cause ≡ None)
+  runs p x here none = subst (λ (o : Option (Peer T C)). IfSome o (λ y. y.end_cause ≡ None)) (sym here) none
 
-  pub may_give_up : (came c : ℕ) (p : Option (Peer T C)) (closed coming : NamedBytes) (w : Want) → wanted t (place_at k came c p closed coming) ≡ Some w → IfSome p (λ y. y.why ≡ None)
+  pub may_give_up : (came c : ℕ) (p : Option (Peer T C)) (closed coming : NamedBytes) (w : Want) → wanted t (state_at k came c p closed coming) ≡ Some w → IfSome p (λ y. y.end_cause ≡ None)
   may_give_up came c p closed coming w is =
       let it = who_wants came c p closed coming w is in
       runs p it.0 it.1 it.3
 
-  pub may_learn : (came c : ℕ) (p : Option (Peer T C)) (closed coming : NamedBytes) (w : Want) (r : Reply) → wanted t (place_at k came c p closed coming) ≡ Some w → FitsWant w r
-      → IfSome p (λ y. (y.why ≡ None) × FitsWant (t.wants y.talk) r)
+  pub may_learn : (came c : ℕ) (p : Option (Peer T C)) (closed coming : NamedBytes) (w : Want) (r : Reply) → wanted t (state_at k came c p closed coming) ≡ Some w → FitsWant w r
+      → IfSome p (λ y. (y.end_cause ≡ None) × FitsWant (t.wants y.talk) r)
   may_learn came c p closed coming w r is fits =
       let it = who_wants came c p closed coming w is in
-      subst (λ (o : Option (Peer T C)). IfSome o (λ y. (y.why ≡ None) × FitsWant (t.wants y.talk) r)) (sym it.1) (it.3, subst (λ (v : Want). FitsWant v r) (sym it.4) fits)
+      subst (λ (o : Option (Peer T C)). IfSome o (λ y. (y.end_cause ≡ None) × FitsWant (t.wants y.talk) r)) (sym it.1) (it.3, subst (λ (v : Want). FitsWant v r) (sym it.4) fits)
 
-  pub who_wants_is_there : (came c : ℕ) (p : Option (Peer T C)) (closed coming : NamedBytes) (w : Want) → wanted t (place_at k came c p closed coming) ≡ Some w → IsSome p
+  pub who_wants_is_there : (came c : ℕ) (p : Option (Peer T C)) (closed coming : NamedBytes) (w : Want) → wanted t (state_at k came c p closed coming) ≡ Some w → IsSome p
   who_wants_is_there came c p closed coming w is =
       let it = who_wants came c p closed coming w is in
       subst (λ (o : Option (Peer T C)). IsSome o) (sym it.1) refl
 
   -- what it wants is seen of it
-  pub is_wanted : (came c : ℕ) (p : Option (Peer T C)) (closed coming : NamedBytes) (w : Want) (y : Peer T C) → wanted t (place_at k came c p closed coming) ≡ Some w → p ≡ Some y
-      → wanted t (place_at k came c p closed coming) ≡ Some (t.wants y.talk)
+  pub is_wanted : (came c : ℕ) (p : Option (Peer T C)) (closed coming : NamedBytes) (w : Want) (y : Peer T C) → wanted t (state_at k came c p closed coming) ≡ Some w → p ≡ Some y
+      → wanted t (state_at k came c p closed coming) ≡ Some (t.wants y.talk)
   is_wanted came c p closed coming w y is here =
       let it = who_wants came c p closed coming w is in
       let same : it.0 ≡ y = cc in
       is ∙ ap (λ (v : Want). Some v) (sym it.4 ∙ ap (λ (z : Peer T C). t.wants z.talk) same)
 
-  wants_still_if : (b : Bool) (p q : Option (Peer T C)) (closed coming : NamedBytes) (v w : Want) → wanted t (at_if b p closed coming) ≡ Some v → GoesOn t k p [] q → IfSome q (λ y. unless_ended y.why (t.wants y.talk) ≡ Some w)
+  wants_still_if : (b : Bool) (p q : Option (Peer T C)) (closed coming : NamedBytes) (v w : Want) → wanted t (at_if b p closed coming) ≡ Some v → GoesOn t k p [] q → IfSome q (λ y. unless_ended y.end_cause (t.wants y.talk) ≡ Some w)
       → wanted t (at_if b q closed coming) ≡ Some w
   wants_still_if true None q closed coming v w is goes wants = cc
   wants_still_if true (Some x) None closed coming v w is goes wants = absurd goes
   wants_still_if true (Some x) (Some y) closed coming v w is goes wants = wants
   wants_still_if false p q closed coming v w is goes wants = cc
 
-  pub wants_still : (came c : ℕ) (p q : Option (Peer T C)) (closed coming : NamedBytes) (v w : Want) → wanted t (place_at k came c p closed coming) ≡ Some v → GoesOn t k p [] q
-      → IfSome q (λ y. unless_ended y.why (t.wants y.talk) ≡ Some w) → wanted t (place_at k came c q closed coming) ≡ Some w
+  pub wants_still : (came c : ℕ) (p q : Option (Peer T C)) (closed coming : NamedBytes) (v w : Want) → wanted t (state_at k came c p closed coming) ≡ Some v → GoesOn t k p [] q
+      → IfSome q (λ y. unless_ended y.end_cause (t.wants y.talk) ≡ Some w) → wanted t (state_at k came c q closed coming) ≡ Some w
   wants_still came c p q closed coming v w is goes wants = wants_still_if (nat_lt c came) p q closed coming v w is goes wants
 
   learns_if : (b : Bool) (p q : Option (Peer T C)) (closed coming : NamedBytes) (w : Want) (r : Reply) → wanted t (at_if b p closed coming) ≡ Some w → Learns t k p r q
       → Passes t (at_if b p closed coming) (learnt w r ∷ []) (at_if b q closed coming)
   learns_if true None q closed coming w r is learns = cc
   learns_if true (Some x) None closed coming w r is learns = absurd learns
-  learns_if true (Some x) (Some y) closed coming w r is learns = subst (λ (v : Want). Goes t k x (learnt v r ∷ []) y) (the_wanted x.why (t.wants x.talk) w is) learns
+  learns_if true (Some x) (Some y) closed coming w r is learns = subst (λ (v : Want). Goes t k x (learnt v r ∷ []) y) (the_wanted x.end_cause (t.wants x.talk) w is) learns
   learns_if false p q closed coming w r is learns = cc
 
-  pub learns_at : (came c : ℕ) (p q : Option (Peer T C)) (closed coming : NamedBytes) (w : Want) (r : Reply) → wanted t (place_at k came c p closed coming) ≡ Some w → Learns t k p r q
-      → Passes t (place_at k came c p closed coming) (learnt w r ∷ []) (place_at k came c q closed coming)
+  pub learns_at : (came c : ℕ) (p q : Option (Peer T C)) (closed coming : NamedBytes) (w : Want) (r : Reply) → wanted t (state_at k came c p closed coming) ≡ Some w → Learns t k p r q
+      → Passes t (state_at k came c p closed coming) (learnt w r ∷ []) (state_at k came c q closed coming)
   learns_at came c p q closed coming w r is learns = learns_if (nat_lt c came) p q closed coming w r is learns
 
   learns_gone_if : (b : Bool) (p q : Option (Peer T C)) (closed coming : NamedBytes) (r : Reply) → Learns t k p r q → IsGone (at_if b q closed coming) → IsGone (at_if b p closed coming)
@@ -154,7 +154,7 @@ module _ {T C : Type 0} (t : Ghosts T) (k : ChannelGhosts C) where
   went_if false p closed coming sent is = cc
 
   -- what had gone out to who has gone
-  pub who_went : (came c : ℕ) (p : Option (Peer T C)) (closed coming sent : NamedBytes) → place_at k came c p closed coming ≡ gone sent → closed ≡ sent
+  pub who_went : (came c : ℕ) (p : Option (Peer T C)) (closed coming sent : NamedBytes) → state_at k came c p closed coming ≡ gone sent → closed ≡ sent
   who_went came c p closed coming sent is = went_if (nat_lt c came) p closed coming sent is
 
   leaves_if : (b : Bool) (p : Option (Peer T C)) (closed coming : NamedBytes) → IsLeaving t (at_if b p closed coming) → (x : Peer T C) × (p ≡ Some x) × (b ≡ true) × HasEnded t (conversation_of k x)
@@ -162,26 +162,26 @@ module _ {T C : Type 0} (t : Ghosts T) (k : ChannelGhosts C) where
   leaves_if true (Some x) closed coming is = (x, refl, refl, is)
   leaves_if false p closed coming is = absurd is
 
-  pub who_leaves : (came c : ℕ) (p : Option (Peer T C)) (closed coming : NamedBytes) → IsLeaving t (place_at k came c p closed coming)
+  pub who_leaves : (came c : ℕ) (p : Option (Peer T C)) (closed coming : NamedBytes) → IsLeaving t (state_at k came c p closed coming)
       → (x : Peer T C) × (p ≡ Some x) × (nat_lt c came ≡ true) × HasEnded t (conversation_of k x)
   who_leaves came c p closed coming is = leaves_if (nat_lt c came) p closed coming is
 
-  pub is_there : (came c : ℕ) (p : Option (Peer T C)) (closed coming : NamedBytes) → IsLeaving t (place_at k came c p closed coming) → IsSome p
+  pub is_there : (came c : ℕ) (p : Option (Peer T C)) (closed coming : NamedBytes) → IsLeaving t (state_at k came c p closed coming) → IsSome p
   is_there came c p closed coming is =
       let it = who_leaves came c p closed coming is in
       subst (λ (o : Option (Peer T C)). IsSome o) (sym it.1) refl
 
-  pub has_come : (came c : ℕ) (p : Option (Peer T C)) (closed coming : NamedBytes) → IsLeaving t (place_at k came c p closed coming) → nat_lt c came ≡ true
+  pub has_come : (came c : ℕ) (p : Option (Peer T C)) (closed coming : NamedBytes) → IsLeaving t (state_at k came c p closed coming) → nat_lt c came ≡ true
   has_come came c p closed coming is = (who_leaves came c p closed coming is).2
 
-  pub has_ended : (came c : ℕ) (p : Option (Peer T C)) (closed coming : NamedBytes) (y : Peer T C) → IsLeaving t (place_at k came c p closed coming) → p ≡ Some y → HasEnded t (conversation_of k y)
+  pub has_ended : (came c : ℕ) (p : Option (Peer T C)) (closed coming : NamedBytes) (y : Peer T C) → IsLeaving t (state_at k came c p closed coming) → p ≡ Some y → HasEnded t (conversation_of k y)
   has_ended came c p closed coming y is here =
       let it = who_leaves came c p closed coming is in
       let same : it.0 ≡ y = cc in
       subst (λ (z : Peer T C). HasEnded t (conversation_of k z)) same it.3
 
   -- who has come, and is not there, has gone
-  pub is_gone : (came c : ℕ) (p : Option (Peer T C)) (closed coming : NamedBytes) → nat_lt c came ≡ true → p ≡ None → IsGone (place_at k came c p closed coming)
+  pub is_gone : (came c : ℕ) (p : Option (Peer T C)) (closed coming : NamedBytes) → nat_lt c came ≡ true → p ≡ None → IsGone (state_at k came c p closed coming)
   is_gone came c p closed coming has none = rw (has, none) tt
 
   need_if : (stopped : Bool) (v : Need) (p : Option (Peer T C)) (closed coming : NamedBytes) → HasNeedHere t k stopped v p → HasNeedAt t stopped v (at_if true p closed coming)
@@ -191,12 +191,12 @@ module _ {T C : Type 0} (t : Ghosts T) (k : ChannelGhosts C) where
   need_if stopped need.Question (Some x) closed coming has = has
   need_if stopped (need.Left w) (Some x) closed coming has = (has.0, (w, has.0, has.1.0), has.1.1)
 
-  pub need_at : (stopped : Bool) (came c : ℕ) (v : Need) (p : Option (Peer T C)) (closed coming : NamedBytes) → c < came → HasNeedHere t k stopped v p → HasNeedAt t stopped v (place_at k came c p closed coming)
+  pub need_at : (stopped : Bool) (came c : ℕ) (v : Need) (p : Option (Peer T C)) (closed coming : NamedBytes) → c < came → HasNeedHere t k stopped v p → HasNeedAt t stopped v (state_at k came c p closed coming)
   need_at stopped came c v p closed coming less has = subst (λ (b : Bool). HasNeedAt t stopped v (at_if b p closed coming)) (sym (lt-ltb c came less)) (need_if stopped v p closed coming has)
 
   -- ---- all of them: who they are, what had gone out to those that went, and what they send
-  abbrev pub all : ℕ → (ℕ → Option (Peer T C)) → (ℕ → NamedBytes) → (ℕ → NamedBytes) → ℕ → Place T
-  all came p closed coming c = place_at k came c (p c) (closed c) (coming c)
+  abbrev pub all : ℕ → (ℕ → Option (Peer T C)) → (ℕ → NamedBytes) → (ℕ → NamedBytes) → ℕ → ClientState T
+  all came p closed coming c = state_at k came c (p c) (closed c) (coming c)
 
   is_none_there : (b : Bool) (p : Option (Peer T C)) (closed coming : NamedBytes) → p ≡ None → IsAwaited (at_if b p closed coming) ⊎ IsGone (at_if b p closed coming)
   is_none_there true p closed coming none = rw (none) (inr tt)
@@ -222,19 +222,19 @@ module _ {T C : Type 0} (t : Ghosts T) (k : ChannelGhosts C) where
     pub goes_same : (x y : Peer T C) → conversation_of k y ≡ conversation_of k x → Goes t k x [] y
     goes_same x y same = subst (λ (z : Conversation T). Continues t (conversation_of k x) [] z) (sym same) (continues_stay t front_more bad_more (conversation_of k x))
 
-    pub moved_none : (at : ℕ → Place T) → Moved t at at
+    pub moved_none : (at : ℕ → ClientState T) → Moved t at at
     moved_none at = record { passed = λ c. passes_stay t front_more bad_more (at c); gone = λ c is. is }
 
-    pub moved_on : (p q r : ℕ → Place T) → Moved t p q → Moved t q r → Moved t p r
+    pub moved_on : (p q r : ℕ → ClientState T) → Moved t p q → Moved t q r → Moved t p r
     moved_on p q r first next = record {
       passed = λ c. passes_on t front_more bad_more (p c) (q c) (r c) [] [] (first.passed c) (next.passed c);
       gone = λ c is. first.gone c (next.gone c is);
     }
 
     -- the same places, told one by one
-    pub moved_same : (p q : ℕ → Place T) → ((c : ℕ) → q c ≡ p c) → Moved t p q
+    pub moved_same : (p q : ℕ → ClientState T) → ((c : ℕ) → q c ≡ p c) → Moved t p q
     moved_same p q same = record {
-      passed = λ c. subst (λ (l : Place T). Passes t (p c) [] l) (sym (same c)) (passes_stay t front_more bad_more (p c));
+      passed = λ c. subst (λ (l : ClientState T). Passes t (p c) [] l) (sym (same c)) (passes_stay t front_more bad_more (p c));
       gone = λ c is. subst IsGone (same c) is;
     }
 
@@ -243,9 +243,9 @@ module _ {T C : Type 0} (t : Ghosts T) (k : ChannelGhosts C) where
         → Moved t (all came p closed coming) (all came q closed coming)
     moved_one came client p q closed coming goes others = record {
       passed = each (λ c. Passes t (all came p closed coming c) [] (all came q closed coming c)) client (passes_if (nat_lt client came) (p client) (q client) (closed client) (coming client) goes)
-          (λ c other. subst (λ (o : Option (Peer T C)). Passes t (all came p closed coming c) [] (place_at k came c o (closed c) (coming c))) (sym (others c other)) (passes_stay t front_more bad_more (all came p closed coming c)));
+          (λ c other. subst (λ (o : Option (Peer T C)). Passes t (all came p closed coming c) [] (state_at k came c o (closed c) (coming c))) (sym (others c other)) (passes_stay t front_more bad_more (all came p closed coming c)));
       gone = each (λ c. IsGone (all came q closed coming c) → IsGone (all came p closed coming c)) client (gone_if (nat_lt client came) (p client) (q client) (closed client) (coming client) goes)
-          (λ c other is. subst (λ (o : Option (Peer T C)). IsGone (place_at k came c o (closed c) (coming c))) (others c other) is);
+          (λ c other is. subst (λ (o : Option (Peer T C)). IsGone (state_at k came c o (closed c) (coming c))) (others c other) is);
     }
 
     -- nothing was done to a client
@@ -266,12 +266,12 @@ module _ {T C : Type 0} (t : Ghosts T) (k : ChannelGhosts C) where
         (subst (λ (xs : List Learnt). Passes t (all came p closed coming client) xs (all came q closed coming client)) (sym (own_self client (learnt w r))) (learns_if (nat_lt client came) (p client) (q client) (closed client) (coming client) w r is learns))
         (λ c other.
         subst (λ (xs : List Learnt). Passes t (all came p closed coming c) xs (all came q closed coming c)) (sym (own_other client c (learnt w r) other))
-        (subst (λ (o : Option (Peer T C)). Passes t (all came p closed coming c) [] (place_at k came c o (closed c) (coming c))) (sym (others c other)) (passes_stay t front_more bad_more (all came p closed coming c))))
+        (subst (λ (o : Option (Peer T C)). Passes t (all came p closed coming c) [] (state_at k came c o (closed c) (coming c))) (sym (others c other)) (passes_stay t front_more bad_more (all came p closed coming c))))
 
     pub none_goes : (came client : ℕ) (p q : ℕ → Option (Peer T C)) (closed coming : ℕ → NamedBytes) (r : Reply) → Learns t k (p client) r (q client) → ((c : ℕ) → c ≢ client → q c ≡ p c) → NoneGoes (all came p closed coming) (all came q closed coming)
     none_goes came client p q closed coming r learns others =
         each (λ c. IsGone (all came q closed coming c) → IsGone (all came p closed coming c)) client (learns_gone_if (nat_lt client came) (p client) (q client) (closed client) (coming client) r learns)
-        (λ c other is. subst (λ (o : Option (Peer T C)). IsGone (place_at k came c o (closed c) (coming c))) (others c other) is)
+        (λ c other is. subst (λ (o : Option (Peer T C)). IsGone (state_at k came c o (closed c) (coming c))) (others c other) is)
 
     -- one came
     below : (came c : ℕ) → c ≢ came → nat_lt c (came + 1) ≡ nat_lt c came
@@ -289,9 +289,9 @@ module _ {T C : Type 0} (t : Ghosts T) (k : ChannelGhosts C) where
         let same : (c : ℕ) → c ≢ came → all (came + 1) q closed coming c ≡ all came p closed coming c = λ c other. rw (below came c other, others c other) refl in
         record {
           passed = each (λ c. Passes t (all came p closed coming c) [] (all (came + 1) q closed coming c)) came
-              (subst (λ (a : Place T). Passes t a [] (all (came + 1) q closed coming came)) (sym awaits)
-              (subst (λ (b : Place T). Passes t (awaited (coming came)) [] b) (sym comes) (conversation_of k y, new, continues_stay t front_more bad_more (conversation_of k y))))
-              (λ c other. subst (λ (b : Place T). Passes t (all came p closed coming c) [] b) (sym (same c other)) (passes_stay t front_more bad_more (all came p closed coming c)));
+              (subst (λ (a : ClientState T). Passes t a [] (all (came + 1) q closed coming came)) (sym awaits)
+              (subst (λ (b : ClientState T). Passes t (awaited (coming came)) [] b) (sym comes) (conversation_of k y, new, continues_stay t front_more bad_more (conversation_of k y))))
+              (λ c other. subst (λ (b : ClientState T). Passes t (all came p closed coming c) [] b) (sym (same c other)) (passes_stay t front_more bad_more (all came p closed coming c)));
           gone = each (λ c. IsGone (all (came + 1) q closed coming c) → IsGone (all came p closed coming c)) came (λ is. absurd (subst IsGone comes is)) (λ c other is. subst IsGone (same c other) is);
         }
 
@@ -303,6 +303,6 @@ module _ {T C : Type 0} (t : Ghosts T) (k : ChannelGhosts C) where
         let is : all came q closed' coming' client ≡ gone (k.taken x.channel) = rw (has, none, went) refl in
         let same : (c : ℕ) → c ≢ client → all came q closed' coming' c ≡ all came p closed coming c = λ c other. rw (others c other, apart c other, kept c) refl in
         each (λ c. Passes t (all came p closed coming c) [] (all came q closed' coming' c)) client
-        (subst (λ (a : Place T). Passes t a [] (all came q closed' coming' client)) (sym was)
-        (subst (λ (b : Place T). Passes t (there (conversation_of k x)) [] b) (sym is) (conversation_of k x, continues_stay t front_more bad_more (conversation_of k x), ended, refl)))
-        (λ c other. subst (λ (b : Place T). Passes t (all came p closed coming c) [] b) (sym (same c other)) (passes_stay t front_more bad_more (all came p closed coming c)))
+        (subst (λ (a : ClientState T). Passes t a [] (all came q closed' coming' client)) (sym was)
+        (subst (λ (b : ClientState T). Passes t (there (conversation_of k x)) [] b) (sym is) (conversation_of k x, continues_stay t front_more bad_more (conversation_of k x), ended, refl)))
+        (λ c other. subst (λ (b : ClientState T). Passes t (all came p closed coming c) [] b) (sym (same c other)) (passes_stay t front_more bad_more (all came p closed coming c)))

@@ -9,16 +9,16 @@ use Rattle.channels.specs.declared.channel.Received.TheVariants as reads
 use Rattle.talks.specs.declared.talk.Talk.{Ghosts}
 use Rattle.talks.specs.declared.talk.MessageFront.TheVariants.{Whole, Bad}
 use Rattle.talks.specs.declared.want.Want.TheVariants as want
-use Rattle.talks.specs.declared.clients.Why.{Why}
-use Rattle.talks.specs.declared.clients.Why.TheVariants as why
+use Rattle.talks.specs.declared.clients.EndCause.{EndCause}
+use Rattle.talks.specs.declared.clients.EndCause.TheVariants as end_cause
 use Rattle.talks.specs.Wants.{Learnt, FitsWant}
-use Rattle.talks.specs.Conversations.{Heard, stays, hears, spoils, learns, loses, breaks, Conversation, there, told, Continues, EndsOnce, HasCause}
+use Rattle.talks.specs.Conversations.{Heard, stays, hears, rejects, learns, loses, breaks, Conversation, there, told, Continues, EndsOnce, HasCause}
 use Rattle.talks.proofs.Passing.{passes_stay, passes_on}
 
-pub ends_none : (a b : Option Why) (xs : List Learnt) → a ≡ None → EndsOnce a xs b
-ends_none a b xs is = subst (λ (o : Option Why). EndsOnce o xs b) (sym is) tt
+pub ends_none : (a b : Option EndCause) (xs : List Learnt) → a ≡ None → EndsOnce a xs b
+ends_none a b xs is = subst (λ (o : Option EndCause). EndsOnce o xs b) (sym is) tt
 
-pub ends_stay : (a : Option Why) → EndsOnce a [] a
+pub ends_stay : (a : Option EndCause) → EndsOnce a [] a
 ends_stay None = tt
 ends_stay (Some w) = (refl, refl)
 
@@ -41,8 +41,8 @@ module _ {T : Type 0} (k : Ghosts T) where
   heard_message t u bytes said rest n wants front says left =
       subst (λ (b : List ℕ). Heard k t bytes [] said b u) (sym left) (one t u bytes said (drop n bytes) [] (hears n wants front says stays))
 
-  pub heard_bad : (t u : T) (bytes said : List ℕ) → k.wants t ≡ want.Message → k.front t bytes ≡ Bad → k.spoils t said u → Heard k t bytes [] said bytes u
-  heard_bad t u bytes said wants front says = one t u bytes said bytes [] (spoils wants front says stays)
+  pub heard_bad : (t u : T) (bytes said : List ℕ) → k.wants t ≡ want.Message → k.front t bytes ≡ Bad → k.rejects t said u → Heard k t bytes [] said bytes u
+  heard_bad t u bytes said wants front says = one t u bytes said bytes [] (rejects wants front says stays)
 
   pub heard_broken : (t u : T) (bytes : List ℕ) → k.wants u ≡ want.OutOfMemory → Heard k t bytes [] [] bytes u
   heard_broken t u bytes end = breaks end stays
@@ -57,7 +57,7 @@ module _ {T : Type 0} (k : Ghosts T) where
   heard_lost t u bytes x wants fits end = loses x wants fits end stays
 
   -- nothing was heard, whatever has gone out
-  pub quiet : (x y : Conversation T) → y.talk ≡ x.talk → y.held ≡ x.held → Keeps x.remaining y.remaining → Keeps (told x) (told y) → y.limited ≡ x.limited → EndsOnce x.why [] y.why → Continues k x [] y
+  pub quiet : (x y : Conversation T) → y.talk ≡ x.talk → y.held ≡ x.held → Keeps x.remaining y.remaining → Keeps (told x) (told y) → y.limited ≡ x.limited → EndsOnce x.end_cause [] y.end_cause → Continues k x [] y
   quiet x y talk held remaining keeps limited ends = (
     [],
     [],
@@ -69,7 +69,7 @@ module _ {T : Type 0} (k : Ghosts T) where
   )
 
   -- bytes came, and were not heard yet
-  pub received : (x y : Conversation T) (piece : List ℕ) → y.talk ≡ x.talk → y.held ≡ x.held ++ piece → Consumes x.remaining y.remaining piece → told y ≡ told x → y.limited ≡ x.limited → EndsOnce x.why [] y.why → Continues k x [] y
+  pub received : (x y : Conversation T) (piece : List ℕ) → y.talk ≡ x.talk → y.held ≡ x.held ++ piece → Consumes x.remaining y.remaining piece → told y ≡ told x → y.limited ≡ x.limited → EndsOnce x.end_cause [] y.end_cause → Continues k x [] y
   received x y piece talk held consumes same limited ends = (
     piece,
     [],
@@ -85,7 +85,7 @@ module _ {T : Type 0} (k : Ghosts T) where
       subst (λ (o : Option (List ℕ)). Appends (told x) (append_known o y.unsent) said) (sym sent) (append_known-grown (told x) x.sent x.unsent y.unsent said (Keeps-refl (told x)) unsent)
 
   -- bytes that had come were heard, or something was learnt
-  pub talked : (x y : Conversation T) (xs : List Learnt) (said : List ℕ) → Heard k x.talk x.held xs said y.held y.talk → y.remaining ≡ x.remaining → y.sent ≡ x.sent → y.unsent ≡ x.unsent ++ said → y.limited ≡ x.limited → EndsOnce x.why xs y.why
+  pub talked : (x y : Conversation T) (xs : List Learnt) (said : List ℕ) → Heard k x.talk x.held xs said y.held y.talk → y.remaining ≡ x.remaining → y.sent ≡ x.sent → y.unsent ≡ x.unsent ++ said → y.limited ≡ x.limited → EndsOnce x.end_cause xs y.end_cause
       → Continues k x xs y
   talked x y xs said heard remaining sent unsent limited ends = (
     [],
@@ -98,13 +98,13 @@ module _ {T : Type 0} (k : Ghosts T) where
   )
 
   -- a cause stays one where only the reason is noted
-  pub cause_kept : (w : Why) (x : Conversation T) (o : Option Why) → HasCause k w x → HasCause k w (record x { why = o })
-  cause_kept why.Input x o is = is
-  cause_kept why.Finished x o is = is
-  cause_kept why.Failed x o is = is
-  cause_kept why.Limit x o is = is
-  cause_kept why.Memory x o is = is
-  cause_kept why.Stopped x o is = is
+  pub cause_kept : (w : EndCause) (x : Conversation T) (o : Option EndCause) → HasCause k w x → HasCause k w (record x { end_cause = o })
+  cause_kept end_cause.Input x o is = is
+  cause_kept end_cause.Finished x o is = is
+  cause_kept end_cause.Failed x o is = is
+  cause_kept end_cause.Limit x o is = is
+  cause_kept end_cause.Memory x o is = is
+  cause_kept end_cause.Stopped x o is = is
 
 -- no bytes came, for whatever reason
 pub none_came : (old new : Option (List ℕ)) (r : Received) (buffer : List ℕ) → (r ≡ reads.Nothing) ⊎ ((r ≡ reads.End) ⊎ (r ≡ reads.Failed)) → IsReceived old new r buffer → Keeps old new

@@ -1,2 +1,2 @@
 pub mod Peers
-pub mod Places
+pub mod ClientStates

@@ -4,8 +4,8 @@ use Rattle.channels.specs.declared.channel.Channel.{Ghosts as ChannelGhosts}
 use Rattle.channels.specs.Channels.{left}
 use Rattle.talks.specs.declared.talk.Talk.{Ghosts}
 use Rattle.talks.specs.declared.want.Want.{Want}
-use Rattle.talks.specs.declared.clients.Why.{Why}
-use Rattle.talks.specs.declared.clients.Why.TheVariants as why
+use Rattle.talks.specs.declared.clients.EndCause.{EndCause}
+use Rattle.talks.specs.declared.clients.EndCause.TheVariants as end_cause
 use Rattle.talks.specs.Wants.{Learnt, WantsStep, WantsQuestion}
 use Rattle.talks.specs.Conversations.{Conversation, Continues, HasCause, unless_ended}
 use Rattle.polled_clients.specs.declared.peer.Peer.{Peer}
@@ -23,7 +23,7 @@ module _ {T C : Type 0} (k : ChannelGhosts C) where
     unsent = left p.queue.going.items p.queue.sent p.queue.said.items;
     failures = k.failures p.channel;
     limited = p.limited;
-    why = p.why;
+    end_cause = p.end_cause;
   }
 
 module _ {T C : Type 0} (t : Ghosts T) (k : ChannelGhosts C) where
@@ -32,12 +32,12 @@ module _ {T C : Type 0} (t : Ghosts T) (k : ChannelGhosts C) where
   Goes x xs y = Continues t (conversation_of k x) xs (conversation_of k y)
 
   -- its connection is to end for this
-  abbrev pub MayEnd : Bool → Peer T C → Why → Type 0
-  MayEnd stopped x w = HasCause t w (conversation_of k x) × (w ≡ why.Stopped → stopped ≡ true)
+  abbrev pub MayEnd : Bool → Peer T C → EndCause → Type 0
+  MayEnd stopped x w = HasCause t w (conversation_of k x) × (w ≡ end_cause.Stopped → stopped ≡ true)
 
   -- what a client has to do with the machine is so
   abbrev pub HasNeed : Bool → Need → Peer T C → Type 0
   HasNeed stopped need.Nothing x = Unit {0}
-  HasNeed stopped need.Step x = (w : Want) × (unless_ended x.why (t.wants x.talk) ≡ Some w) × WantsStep w
-  HasNeed stopped need.Question x = (w : Want) × (unless_ended x.why (t.wants x.talk) ≡ Some w) × WantsQuestion w
-  HasNeed stopped (need.Left w) x = (x.why ≡ Some w) × MayEnd stopped x w
+  HasNeed stopped need.Step x = (w : Want) × (unless_ended x.end_cause (t.wants x.talk) ≡ Some w) × WantsStep w
+  HasNeed stopped need.Question x = (w : Want) × (unless_ended x.end_cause (t.wants x.talk) ≡ Some w) × WantsQuestion w
+  HasNeed stopped (need.Left w) x = (x.end_cause ≡ Some w) × MayEnd stopped x w

@@ -8,7 +8,7 @@ ghost use Rattle.talks.specs.Conversations.{Passes, IsGone, awaited, gone, wante
 ghost use Rattle.talks.specs.Clients.{IsNext, IsLeaving, Moved, NoneGoes, EndsAs};
 ghost use Rattle.talks.specs.declared.want.Want.{Want as TheWant};
 ghost use Rattle.indexmap.specs.IndexMap.{get};
-ghost use Rattle.polled_clients.specs.Places.{places, HasNeedAt, HasWaited};
+ghost use Rattle.polled_clients.specs.ClientStates.{states, HasNeedAt, HasWaited};
 
 use crate::limits::{client_at, look_after, note_look};
 use crate::need::{Need, Pick};
@@ -77,7 +77,7 @@ impl<T: Talk + Drop, C: Channel + Drop, A: Attend<C>, F: TalkMaker<T>> PolledCli
         limits: ClientLimits,
         refusal: Vec<u8>,
     ) -> PolledClients<T, C, A, F>
-        ensures at { (c : ℕ) → places C.Channel A.Attend result c ≡ awaited (A.coming attend c) }
+        ensures at { (c : ℕ) → states C.Channel A.Attend result c ≡ awaited (A.coming attend c) }
         ensures waiting { result.waiting.items ≡ [] }
         ensures expected { result.limits.connections ≡ limits.connections }
         ensures refusals { result.refusals ≡ 0 }
@@ -103,18 +103,18 @@ impl<T: Talk + Drop, C: Channel + Drop, A: Attend<C>, F: TalkMaker<T>> PolledCli
     pub fn into_attend(self) -> A
     where
         F: Drop,
-        ensures { (c : ℕ) (sent : NamedBytes) → places C.Channel A.Attend self c ≡ gone sent → A.closed result c ≡ sent }
+        ensures { (c : ℕ) (sent : NamedBytes) → states C.Channel A.Attend self c ≡ gone sent → A.closed result c ≡ sent }
     {
         self.attend
     }
 
     // Looks for something to do, and does one thing.
     fn look(&mut self, stopped: bool) -> Option<Next>
-        ensures moved { Moved T.Talk (places C.Channel A.Attend self.old) (places C.Channel A.Attend self.new) }
+        ensures moved { Moved T.Talk (states C.Channel A.Attend self.old) (states C.Channel A.Attend self.new) }
         ensures waiting { self.new.waiting.items ≡ self.old.waiting.items }
         ensures limits { self.new.limits ≡ self.old.limits }
         ensures looks { self.new.looks ≡ self.old.looks }
-        ensures next { IfSome result (λ n. IsNext T.Talk stopped (places C.Channel A.Attend self.new) self.new.waiting.items (Some self.new.limits.connections) self.new.refusals self.new.looks n) }
+        ensures next { IfSome result (λ n. IsNext T.Talk stopped (states C.Channel A.Attend self.new) self.new.waiting.items (Some self.new.limits.connections) self.new.refusals self.new.looks n) }
     {
         if let Some(finish) = self.finish(stopped) {
             return Some(Next::Ended(finish));
@@ -132,7 +132,7 @@ impl<T: Talk + Drop, C: Channel + Drop, A: Attend<C>, F: TalkMaker<T>> PolledCli
 
     // Why nothing more is to be done, if that is so.
     fn finish(&self, stopped: bool) -> Option<Finish>
-        ensures ends { IfSome result (λ e. EndsAs stopped (places C.Channel A.Attend self.now) (Some self.now.limits.connections) self.now.refusals self.now.looks e) }
+        ensures ends { IfSome result (λ e. EndsAs stopped (states C.Channel A.Attend self.now) (Some self.now.limits.connections) self.now.refusals self.now.looks e) }
         ensures waiting { IfSome result (λ e. self.now.waiting.items ≡ []) }
     {
         if !self.is_deserted() {
@@ -160,11 +160,11 @@ impl<T: Talk + Drop, C: Channel + Drop, A: Attend<C>, F: TalkMaker<T>> PolledCli
 
     // Gives a client its turn.
     fn serve(&mut self, pick: Pick, stopped: bool) -> Option<Next>
-        ensures moved { Moved T.Talk (places C.Channel A.Attend self.old) (places C.Channel A.Attend self.new) }
+        ensures moved { Moved T.Talk (states C.Channel A.Attend self.old) (states C.Channel A.Attend self.new) }
         ensures waiting { self.new.waiting.items ≡ self.old.waiting.items }
         ensures limits { self.new.limits ≡ self.old.limits }
         ensures looks { self.new.looks ≡ self.old.looks }
-        ensures next { IfSome result (λ n. IsNext T.Talk stopped (places C.Channel A.Attend self.new) self.new.waiting.items (Some self.new.limits.connections) self.new.refusals self.new.looks n) }
+        ensures next { IfSome result (λ n. IsNext T.Talk stopped (states C.Channel A.Attend self.new) self.new.waiting.items (Some self.new.limits.connections) self.new.refusals self.new.looks n) }
     {
         let client = pick.client;
         match self.turn(pick, stopped) {
@@ -174,20 +174,20 @@ impl<T: Talk + Drop, C: Channel + Drop, A: Attend<C>, F: TalkMaker<T>> PolledCli
             }
             Need::Step => Some(Next::Step { client }),
             Need::Question => Some(Next::Question { client }),
-            Need::Left(why) => {
+            Need::Left(end_cause) => {
                 self.turns.note_leaving(client);
-                Some(Next::Left { client, why })
+                Some(Next::Left { client, end_cause })
             }
         }
     }
 
     // Does one thing for a client, and tells what it has to do with the machine.
     fn turn(&mut self, pick: Pick, stopped: bool) -> Need
-        ensures moved { Moved T.Talk (places C.Channel A.Attend self.old) (places C.Channel A.Attend self.new) }
+        ensures moved { Moved T.Talk (states C.Channel A.Attend self.old) (states C.Channel A.Attend self.new) }
         ensures waiting { self.new.waiting.items ≡ self.old.waiting.items }
         ensures limits { self.new.limits ≡ self.old.limits }
         ensures looks { self.new.looks ≡ self.old.looks }
-        ensures need { HasNeedAt T.Talk stopped result (places C.Channel A.Attend self.new pick.client) }
+        ensures need { HasNeedAt T.Talk stopped result (states C.Channel A.Attend self.new pick.client) }
     {
         if pick.client >= self.came {
             return Need::Nothing;
@@ -198,7 +198,7 @@ impl<T: Talk + Drop, C: Channel + Drop, A: Attend<C>, F: TalkMaker<T>> PolledCli
     // Before a round: wakes one to whom something may have come, or takes one that comes, or asks
     // who may have something to do.
     fn gather(&mut self)
-        ensures moved { Moved T.Talk (places C.Channel A.Attend self.old) (places C.Channel A.Attend self.new) }
+        ensures moved { Moved T.Talk (states C.Channel A.Attend self.old) (states C.Channel A.Attend self.new) }
         ensures waiting { self.new.waiting.items ≡ self.old.waiting.items }
         ensures limits { self.new.limits ≡ self.old.limits }
         ensures looks { self.new.looks ≡ self.old.looks }
@@ -215,7 +215,7 @@ impl<T: Talk + Drop, C: Channel + Drop, A: Attend<C>, F: TalkMaker<T>> PolledCli
     // At the end of a round: looks at the limits of one client, where it is time for that, or asks
     // who may have something to do.
     fn end_round(&mut self)
-        ensures moved { Moved T.Talk (places C.Channel A.Attend self.old) (places C.Channel A.Attend self.new) }
+        ensures moved { Moved T.Talk (states C.Channel A.Attend self.old) (states C.Channel A.Attend self.new) }
         ensures waiting { self.new.waiting.items ≡ self.old.waiting.items }
         ensures limits { self.new.limits ≡ self.old.limits }
         ensures looks { self.new.looks ≡ self.old.looks }
@@ -232,7 +232,7 @@ impl<T: Talk + Drop, C: Channel + Drop, A: Attend<C>, F: TalkMaker<T>> PolledCli
 
     // Looks at the clock.
     fn note_time(&mut self)
-        ensures moved { Moved T.Talk (places C.Channel A.Attend self.old) (places C.Channel A.Attend self.new) }
+        ensures moved { Moved T.Talk (states C.Channel A.Attend self.old) (states C.Channel A.Attend self.new) }
         ensures waiting { self.new.waiting.items ≡ self.old.waiting.items }
         ensures limits { self.new.limits ≡ self.old.limits }
         ensures looks { self.new.looks ≡ self.old.looks }
@@ -242,7 +242,7 @@ impl<T: Talk + Drop, C: Channel + Drop, A: Attend<C>, F: TalkMaker<T>> PolledCli
 
     // Looks at the limits of the client of an index.
     fn look_at_index(&mut self, index: usize)
-        ensures moved { Moved T.Talk (places C.Channel A.Attend self.old) (places C.Channel A.Attend self.new) }
+        ensures moved { Moved T.Talk (states C.Channel A.Attend self.old) (states C.Channel A.Attend self.new) }
         ensures waiting { self.new.waiting.items ≡ self.old.waiting.items }
         ensures limits { self.new.limits ≡ self.old.limits }
         ensures looks { self.new.looks ≡ self.old.looks }
@@ -254,7 +254,7 @@ impl<T: Talk + Drop, C: Channel + Drop, A: Attend<C>, F: TalkMaker<T>> PolledCli
 
     // Looks at the limits of a client.
     fn look_after(&mut self, client: u32)
-        ensures moved { Moved T.Talk (places C.Channel A.Attend self.old) (places C.Channel A.Attend self.new) }
+        ensures moved { Moved T.Talk (states C.Channel A.Attend self.old) (states C.Channel A.Attend self.new) }
         ensures waiting { self.new.waiting.items ≡ self.old.waiting.items }
         ensures limits { self.new.limits ≡ self.old.limits }
         ensures looks { self.new.looks ≡ self.old.looks }
@@ -268,7 +268,7 @@ impl<T: Talk + Drop, C: Channel + Drop, A: Attend<C>, F: TalkMaker<T>> PolledCli
 
     // Something may have come to a client.
     fn wake(&mut self, client: u32)
-        ensures moved { Moved T.Talk (places C.Channel A.Attend self.old) (places C.Channel A.Attend self.new) }
+        ensures moved { Moved T.Talk (states C.Channel A.Attend self.old) (states C.Channel A.Attend self.new) }
         ensures waiting { self.new.waiting.items ≡ self.old.waiting.items }
         ensures limits { self.new.limits ≡ self.old.limits }
         ensures looks { self.new.looks ≡ self.old.looks }
@@ -279,7 +279,7 @@ impl<T: Talk + Drop, C: Channel + Drop, A: Attend<C>, F: TalkMaker<T>> PolledCli
 
     // Takes one that comes, or turns it away where as many are there as may be.
     fn greet(&mut self)
-        ensures moved { Moved T.Talk (places C.Channel A.Attend self.old) (places C.Channel A.Attend self.new) }
+        ensures moved { Moved T.Talk (states C.Channel A.Attend self.old) (states C.Channel A.Attend self.new) }
         ensures waiting { self.new.waiting.items ≡ self.old.waiting.items }
         ensures limits { self.new.limits ≡ self.old.limits }
         ensures looks { self.new.looks ≡ self.old.looks }
@@ -295,7 +295,7 @@ impl<T: Talk + Drop, C: Channel + Drop, A: Attend<C>, F: TalkMaker<T>> PolledCli
 
     // Tells one that comes that as many are there as may be.
     fn turn_away(&mut self)
-        ensures moved { Moved T.Talk (places C.Channel A.Attend self.old) (places C.Channel A.Attend self.new) }
+        ensures moved { Moved T.Talk (states C.Channel A.Attend self.old) (states C.Channel A.Attend self.new) }
         ensures waiting { self.new.waiting.items ≡ self.old.waiting.items }
         ensures limits { self.new.limits ≡ self.old.limits }
         ensures looks { self.new.looks ≡ self.old.looks }
@@ -310,7 +310,7 @@ impl<T: Talk + Drop, C: Channel + Drop, A: Attend<C>, F: TalkMaker<T>> PolledCli
 
     // Takes one that comes.
     fn take(&mut self)
-        ensures moved { Moved T.Talk (places C.Channel A.Attend self.old) (places C.Channel A.Attend self.new) }
+        ensures moved { Moved T.Talk (states C.Channel A.Attend self.old) (states C.Channel A.Attend self.new) }
         ensures waiting { self.new.waiting.items ≡ self.old.waiting.items }
         ensures limits { self.new.limits ≡ self.old.limits }
         ensures looks { self.new.looks ≡ self.old.looks }
@@ -324,7 +324,7 @@ impl<T: Talk + Drop, C: Channel + Drop, A: Attend<C>, F: TalkMaker<T>> PolledCli
     // Takes one that comes, for whom there is this conversation.
     fn take_with(&mut self, talk: T)
         requires { T.starts talk }
-        ensures moved { Moved T.Talk (places C.Channel A.Attend self.old) (places C.Channel A.Attend self.new) }
+        ensures moved { Moved T.Talk (states C.Channel A.Attend self.old) (states C.Channel A.Attend self.new) }
         ensures waiting { self.new.waiting.items ≡ self.old.waiting.items }
         ensures limits { self.new.limits ≡ self.old.limits }
         ensures looks { self.new.looks ≡ self.old.looks }
@@ -341,7 +341,7 @@ impl<T: Talk + Drop, C: Channel + Drop, A: Attend<C>, F: TalkMaker<T>> PolledCli
     fn admit(&mut self, talk: T, channel: C)
         requires starts { T.starts talk }
         requires fresh { HasJustCome C.Channel (A.coming self.old.attend self.old.came) channel }
-        ensures moved { Moved T.Talk (places C.Channel A.Attend self.old) (places C.Channel A.Attend self.new) }
+        ensures moved { Moved T.Talk (states C.Channel A.Attend self.old) (states C.Channel A.Attend self.new) }
         ensures waiting { self.new.waiting.items ≡ self.old.waiting.items }
         ensures limits { self.new.limits ≡ self.old.limits }
         ensures looks { self.new.looks ≡ self.old.looks }
@@ -361,7 +361,7 @@ impl<T: Talk + Drop, C: Channel + Drop, A: Attend<C>, F: TalkMaker<T>> PolledCli
 
     // Asks who may have something to do, and begins a round.
     fn poll(&mut self)
-        ensures moved { Moved T.Talk (places C.Channel A.Attend self.old) (places C.Channel A.Attend self.new) }
+        ensures moved { Moved T.Talk (states C.Channel A.Attend self.old) (states C.Channel A.Attend self.new) }
         ensures waiting { self.new.waiting.items ≡ self.old.waiting.items }
         ensures limits { self.new.limits ≡ self.old.limits }
         ensures looks { self.new.looks ≡ self.old.looks }
@@ -373,7 +373,7 @@ impl<T: Talk + Drop, C: Channel + Drop, A: Attend<C>, F: TalkMaker<T>> PolledCli
 
     // Asks who may have something to do, and waits for it where nobody has something at once.
     fn ask(&mut self)
-        ensures moved { Moved T.Talk (places C.Channel A.Attend self.old) (places C.Channel A.Attend self.new) }
+        ensures moved { Moved T.Talk (states C.Channel A.Attend self.old) (states C.Channel A.Attend self.new) }
         ensures waiting { self.new.waiting.items ≡ self.old.waiting.items }
         ensures limits { self.new.limits ≡ self.old.limits }
         ensures looks { self.new.looks ≡ self.old.looks }
@@ -387,7 +387,7 @@ impl<T: Talk + Drop, C: Channel + Drop, A: Attend<C>, F: TalkMaker<T>> PolledCli
 
     // A client waits from now on for so long as it may.
     fn hold(&mut self, client: u32)
-        ensures moved { Moved T.Talk (places C.Channel A.Attend self.old) (places C.Channel A.Attend self.new) }
+        ensures moved { Moved T.Talk (states C.Channel A.Attend self.old) (states C.Channel A.Attend self.new) }
         ensures waiting { self.new.waiting.items ≡ self.old.waiting.items }
         ensures limits { self.new.limits ≡ self.old.limits }
         ensures looks { self.new.looks ≡ self.old.looks }
@@ -398,7 +398,7 @@ impl<T: Talk + Drop, C: Channel + Drop, A: Attend<C>, F: TalkMaker<T>> PolledCli
 
     // A client waits for so long as it may, if it does not wait yet.
     fn hold_until(&mut self, client: u32)
-        ensures moved { Moved T.Talk (places C.Channel A.Attend self.old) (places C.Channel A.Attend self.new) }
+        ensures moved { Moved T.Talk (states C.Channel A.Attend self.old) (states C.Channel A.Attend self.new) }
         ensures waiting { self.new.waiting.items ≡ self.old.waiting.items }
         ensures limits { self.new.limits ≡ self.old.limits }
         ensures looks { self.new.looks ≡ self.old.looks }
@@ -410,12 +410,12 @@ impl<T: Talk + Drop, C: Channel + Drop, A: Attend<C>, F: TalkMaker<T>> PolledCli
 
     // The conversation with a client wants its end, since an allocation has failed.
     fn give_up(&mut self, client: u32)
-        requires { (w : TheWant) × (wanted T.Talk (places C.Channel A.Attend self.old client) ≡ Some w) }
-        ensures moved { Moved T.Talk (places C.Channel A.Attend self.old) (places C.Channel A.Attend self.new) }
+        requires { (w : TheWant) × (wanted T.Talk (states C.Channel A.Attend self.old client) ≡ Some w) }
+        ensures moved { Moved T.Talk (states C.Channel A.Attend self.old) (states C.Channel A.Attend self.new) }
         ensures waiting { self.new.waiting.items ≡ self.old.waiting.items }
         ensures limits { self.new.limits ≡ self.old.limits }
         ensures looks { self.new.looks ≡ self.old.looks }
-        ensures wants { wanted T.Talk (places C.Channel A.Attend self.new client) ≡ Some TheWant.OutOfMemory }
+        ensures wants { wanted T.Talk (states C.Channel A.Attend self.new client) ≡ Some TheWant.OutOfMemory }
     {
         give_up(&mut self.peers, client);
         list_owed(&mut self.turns, &self.peers, client);
@@ -432,7 +432,7 @@ impl<T: Talk + Drop, C: Channel + Drop, A: Attend<C>, F: TalkMaker<T>> ServedCli
     for PolledClients<T, C, A, F> {
     ghost use Rattle.std.specs.Prelude.{◌≡◌, ℕ, [], ◌∷◌, Some};
 
-    ghost at = { λ x c. places C.Channel A.Attend x c };
+    ghost at = { λ x c. states C.Channel A.Attend x c };
 
     ghost waiting = { λ x. x.waiting.items };
 
@@ -442,8 +442,8 @@ impl<T: Talk + Drop, C: Channel + Drop, A: Attend<C>, F: TalkMaker<T>> ServedCli
 
     ghost looks = { λ x. x.looks };
 
-    ghost learns = { λ x moment c r y. (w : TheWant) × (wanted T.Talk (places C.Channel A.Attend x c) ≡ Some w) × FitsWant w r
-        × Passes T.Talk (places C.Channel A.Attend x c) (learnt w r ∷ []) (places C.Channel A.Attend y c) };
+    ghost learns = { λ x moment c r y. (w : TheWant) × (wanted T.Talk (states C.Channel A.Attend x c) ≡ Some w) × FitsWant w r
+        × Passes T.Talk (states C.Channel A.Attend x c) (learnt w r ∷ []) (states C.Channel A.Attend y c) };
 
     ghost has_waited = { λ x c. HasWaited x.limits.wait (get nat_eq x.peers c) };
 

@@ -2,7 +2,7 @@
 
 ghost use Rattle.std.specs.Prelude.{◌≡◌, ◌≢◌, ℕ, [], nat_eq};
 ghost use Rattle.indexmap.specs.IndexMap.{get};
-ghost use Rattle.polled_clients.specs.Places.{GoesOn};
+ghost use Rattle.polled_clients.specs.ClientStates.{GoesOn};
 
 use crate::peer::Peer;
 use crate::turns::Turns;

@@ -6,7 +6,7 @@ ghost use Rattle.talks.specs.declared.want.Want.{Want as TheWant};
 
 use sql_types::event::Event;
 use std::time::Duration;
-use talks::clients::Why;
+use talks::clients::EndCause;
 use talks::want::Want;
 
 /// What a client has to do with the machine.
@@ -19,7 +19,7 @@ pub enum Need {
     /// It has a question.
     Question,
     /// Its connection has ended.
-    Left(Why),
+    Left(EndCause),
 }
 
 /// Whose turn it is, and whether its event is given out that has waited, by which moment.

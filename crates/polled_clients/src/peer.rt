@@ -15,7 +15,7 @@ use channels::channel::{Channel, Received};
 use channels::send_queue::{SendQueue, Sending};
 use std::alloc::Global;
 use std::time::Duration;
-use talks::clients::Why;
+use talks::clients::EndCause;
 use talks::talk::{MessageFront, Talk};
 use talks::want::{Reply, Want};
 
@@ -38,7 +38,7 @@ pub struct Peer<T, C> {
     heard: usize,
     queue: SendQueue,
     limited: bool,
-    why: Option<Why>,
+    end_cause: Option<EndCause>,
     // Whether the last read found that nothing has come.
     is_quiet: bool,
     // Whether the last write found that nothing is taken.
@@ -70,7 +70,7 @@ impl<T: Talk, C: Channel> Peer<T, C> {
             heard: 0,
             queue: SendQueue::new(alloc),
             limited,
-            why: None,
+            end_cause: None,
             is_quiet: false,
             is_blocked: false,
             is_over: false,
@@ -100,10 +100,10 @@ impl<T: Talk, C: Channel> Peer<T, C> {
         ensures goes { Goes T.Talk C.Channel self.old [] self.new }
         ensures need { HasNeed T.Talk C.Channel stopped result self.new }
     {
-        match self.why {
-            Some(why) => {
-                if self.has_cause(why, stopped) {
-                    return Need::Left(why);
+        match self.end_cause {
+            Some(end_cause) => {
+                if self.has_cause(end_cause, stopped) {
+                    return Need::Left(end_cause);
                 }
                 Need::Nothing
             }
@@ -113,15 +113,15 @@ impl<T: Talk, C: Channel> Peer<T, C> {
 
     // Does what there is to do for a client whose connection has not ended.
     fn proceed(&mut self, stopped: bool) -> Need
-        requires { self.old.why ≡ None }
+        requires { self.old.end_cause ≡ None }
         ensures goes { Goes T.Talk C.Channel self.old [] self.new }
         ensures need { HasNeed T.Talk C.Channel stopped result self.new }
     {
         self.send_if_due();
         match self.cause(stopped) {
-            Some(why) => {
-                self.why = Some(why);
-                Need::Left(why)
+            Some(end_cause) => {
+                self.end_cause = Some(end_cause);
+                Need::Left(end_cause)
             }
             None => self.advance(stopped),
         }
@@ -129,7 +129,7 @@ impl<T: Talk, C: Channel> Peer<T, C> {
 
     // Tells what it wants of the machine, and reads and hears it first where it wants a message.
     fn advance(&mut self, stopped: bool) -> Need
-        requires { self.old.why ≡ None }
+        requires { self.old.end_cause ≡ None }
         ensures goes { Goes T.Talk C.Channel self.old [] self.new }
         ensures need { HasNeed T.Talk C.Channel stopped result self.new }
     {
@@ -145,7 +145,7 @@ impl<T: Talk, C: Channel> Peer<T, C> {
     // Hears a message, and tells what it wants of the machine then.
     fn listen(&mut self, stopped: bool) -> Need
         requires wants { T.wants self.old.talk ≡ TheWant.Message }
-        requires running { self.old.why ≡ None }
+        requires running { self.old.end_cause ≡ None }
         ensures goes { Goes T.Talk C.Channel self.old [] self.new }
         ensures need { HasNeed T.Talk C.Channel stopped result self.new }
     {
@@ -165,7 +165,7 @@ impl<T: Talk, C: Channel> Peer<T, C> {
         ensures need { (stopped : Bool) → HasNeed T.Talk C.Channel stopped result self.new }
     {
         self.has_waited = is_past(self.waits_until, asked);
-        if self.why.is_some() {
+        if self.end_cause.is_some() {
             return Need::Nothing;
         }
         self.need()
@@ -194,7 +194,7 @@ impl<T: Talk, C: Channel> Peer<T, C> {
 
     // What it wants of the machine.
     fn need(&self) -> Need
-        requires { self.now.why ≡ None }
+        requires { self.now.end_cause ≡ None }
         ensures { (stopped : Bool) → HasNeed T.Talk C.Channel stopped result self.now }
     {
         if is_step(self.talk.want()) {
@@ -209,7 +209,7 @@ impl<T: Talk, C: Channel> Peer<T, C> {
     // Lets go out what its connection takes now, unless that is to go out later.
     fn send_if_due(&mut self)
         ensures goes { Goes T.Talk C.Channel self.old [] self.new }
-        ensures why { self.new.why ≡ self.old.why }
+        ensures end_cause { self.new.end_cause ≡ self.old.end_cause }
     {
         self.note_late_end();
         if !self.is_late() {
@@ -220,7 +220,7 @@ impl<T: Talk, C: Channel> Peer<T, C> {
     // Where it wants a late end, what was said goes out a second after that was seen.
     fn note_late_end(&mut self)
         ensures conversation { conversation_of C.Channel self.new ≡ conversation_of C.Channel self.old }
-        ensures why { self.new.why ≡ self.old.why }
+        ensures end_cause { self.new.end_cause ≡ self.old.end_cause }
     {
         if self.late_until.is_none() && is_late_end(self.talk.want()) {
             self.late_until = after(self.time, Some(Duration::from_secs(LATE_SECONDS)));
@@ -235,7 +235,7 @@ impl<T: Talk, C: Channel> Peer<T, C> {
     // Lets go out what its connection takes now.
     fn send(&mut self)
         ensures goes { Goes T.Talk C.Channel self.old [] self.new }
-        ensures why { self.new.why ≡ self.old.why }
+        ensures end_cause { self.new.end_cause ≡ self.old.end_cause }
     {
         match self.queue.send(&mut self.channel) {
             Sending::Waits | Sending::Failed => self.is_blocked = true,
@@ -247,9 +247,9 @@ impl<T: Talk, C: Channel> Peer<T, C> {
     // Hears the message at the front, and reads first where none is whole.
     fn hear_next(&mut self)
         requires wants { T.wants self.old.talk ≡ TheWant.Message }
-        requires running { self.old.why ≡ None }
+        requires running { self.old.end_cause ≡ None }
         ensures goes { Goes T.Talk C.Channel self.old [] self.new }
-        ensures why { self.new.why ≡ None }
+        ensures end_cause { self.new.end_cause ≡ None }
     {
         if self.has_no_front() && !self.is_quiet {
             self.receive_and_hear();
@@ -260,9 +260,9 @@ impl<T: Talk, C: Channel> Peer<T, C> {
 
     // Reads what has come, and hears the message at the front.
     fn receive_and_hear(&mut self)
-        requires { self.old.why ≡ None }
+        requires { self.old.end_cause ≡ None }
         ensures goes { Goes T.Talk C.Channel self.old [] self.new }
-        ensures why { self.new.why ≡ None }
+        ensures end_cause { self.new.end_cause ≡ None }
     {
         self.receive();
         if is_message(self.talk.want()) {
@@ -282,9 +282,9 @@ impl<T: Talk, C: Channel> Peer<T, C> {
 
     // Makes room, and reads what has come.
     fn receive(&mut self)
-        requires { self.old.why ≡ None }
+        requires { self.old.end_cause ≡ None }
         ensures goes { Goes T.Talk C.Channel self.old [] self.new }
-        ensures why { self.new.why ≡ None }
+        ensures end_cause { self.new.end_cause ≡ None }
     {
         drop_front(&mut self.held, self.heard);
         self.heard = 0;
@@ -298,9 +298,9 @@ impl<T: Talk, C: Channel> Peer<T, C> {
     fn read(&mut self)
         requires room { vec_len self.old.held + 8192 ≤ vec_capacity self.old.held }
         requires heard { self.old.heard ≡ 0 }
-        requires running { self.old.why ≡ None }
+        requires running { self.old.end_cause ≡ None }
         ensures goes { Goes T.Talk C.Channel self.old [] self.new }
-        ensures why { self.new.why ≡ None }
+        ensures end_cause { self.new.end_cause ≡ None }
     {
         let mut buffer = [0; READ_SIZE];
         match self.channel.receive(&mut buffer) {
@@ -315,13 +315,13 @@ impl<T: Talk, C: Channel> Peer<T, C> {
     // Hears what stands at the front.
     fn hear(&mut self)
         requires wants { T.wants self.old.talk ≡ TheWant.Message }
-        requires running { self.old.why ≡ None }
+        requires running { self.old.end_cause ≡ None }
         ensures goes { Goes T.Talk C.Channel self.old [] self.new }
-        ensures why { self.new.why ≡ None }
+        ensures end_cause { self.new.end_cause ≡ None }
     {
         match self.talk.front(behind(&self.held, self.heard)) {
             MessageFront::Whole(size) => self.take_message(size),
-            MessageFront::Bad => self.spoil(),
+            MessageFront::Bad => self.reject(),
             MessageFront::Nothing => {}
         }
     }
@@ -330,9 +330,9 @@ impl<T: Talk, C: Channel> Peer<T, C> {
     fn take_message(&mut self, size: usize)
         requires wants { T.wants self.old.talk ≡ TheWant.Message }
         requires whole { T.front self.old.talk (drop self.old.heard self.old.held.items) ≡ MessageFront.Whole size }
-        requires running { self.old.why ≡ None }
+        requires running { self.old.end_cause ≡ None }
         ensures goes { Goes T.Talk C.Channel self.old [] self.new }
-        ensures why { self.new.why ≡ None }
+        ensures end_cause { self.new.end_cause ≡ None }
     {
         let message = &behind(&self.held, self.heard)[..size];
         match self.talk.hear(message, &mut self.queue.said) {
@@ -342,14 +342,14 @@ impl<T: Talk, C: Channel> Peer<T, C> {
     }
 
     // Learns that a bad message stands at the front.
-    fn spoil(&mut self)
+    fn reject(&mut self)
         requires wants { T.wants self.old.talk ≡ TheWant.Message }
         requires bad { T.front self.old.talk (drop self.old.heard self.old.held.items) ≡ MessageFront.Bad }
-        requires running { self.old.why ≡ None }
+        requires running { self.old.end_cause ≡ None }
         ensures goes { Goes T.Talk C.Channel self.old [] self.new }
-        ensures why { self.new.why ≡ None }
+        ensures end_cause { self.new.end_cause ≡ None }
     {
-        match self.talk.spoil(&mut self.queue.said) {
+        match self.talk.reject(&mut self.queue.said) {
             Ok(()) => {}
             Err(_) => {}
         }
@@ -357,7 +357,7 @@ impl<T: Talk, C: Channel> Peer<T, C> {
 
     /// Learns what it wanted.
     pub fn learn(&mut self, reply: Reply)
-        requires running { self.old.why ≡ None }
+        requires running { self.old.end_cause ≡ None }
         requires fits { FitsWant (T.wants self.old.talk) reply }
         ensures { Goes T.Talk C.Channel self.old (learnt (T.wants self.old.talk) reply ∷ []) self.new }
     {
@@ -378,54 +378,54 @@ impl<T: Talk, C: Channel> Peer<T, C> {
 
     /// Its conversation wants its end, since an allocation has failed.
     pub fn give_up(&mut self)
-        requires { self.old.why ≡ None }
+        requires { self.old.end_cause ≡ None }
         ensures goes { Goes T.Talk C.Channel self.old [] self.new }
-        ensures wants { unless_ended self.new.why (T.wants self.new.talk) ≡ Some TheWant.OutOfMemory }
+        ensures wants { unless_ended self.new.end_cause (T.wants self.new.talk) ≡ Some TheWant.OutOfMemory }
     {
         self.talk.give_up();
     }
 
     // Why its connection is to end, if it is.
-    fn cause(&self, stopped: bool) -> Option<Why>
+    fn cause(&self, stopped: bool) -> Option<EndCause>
         ensures { IfSome result (λ w. MayEnd T.Talk C.Channel stopped self.now w) }
     {
-        if self.has_cause(Why::Failed, stopped) {
-            return Some(Why::Failed);
+        if self.has_cause(EndCause::Failed, stopped) {
+            return Some(EndCause::Failed);
         }
-        if self.has_cause(Why::Memory, stopped) {
-            return Some(Why::Memory);
+        if self.has_cause(EndCause::Memory, stopped) {
+            return Some(EndCause::Memory);
         }
-        if self.has_cause(Why::Finished, stopped) {
-            return Some(Why::Finished);
+        if self.has_cause(EndCause::Finished, stopped) {
+            return Some(EndCause::Finished);
         }
-        if !self.can_send() && self.has_cause(Why::Stopped, stopped) {
-            return Some(Why::Stopped);
+        if !self.can_send() && self.has_cause(EndCause::Stopped, stopped) {
+            return Some(EndCause::Stopped);
         }
-        if self.has_cause(Why::Limit, stopped) {
-            return Some(Why::Limit);
+        if self.has_cause(EndCause::Limit, stopped) {
+            return Some(EndCause::Limit);
         }
-        if self.has_cause(Why::Input, stopped) {
-            return Some(Why::Input);
+        if self.has_cause(EndCause::Input, stopped) {
+            return Some(EndCause::Input);
         }
         None
     }
 
     // Whether its connection is to end for this.
-    fn has_cause(&self, why: Why, stopped: bool) -> bool
-        ensures { result ≡ true → MayEnd T.Talk C.Channel stopped self.now why }
+    fn has_cause(&self, end_cause: EndCause, stopped: bool) -> bool
+        ensures { result ≡ true → MayEnd T.Talk C.Channel stopped self.now end_cause }
     {
-        match why {
-            Why::Input => {
+        match end_cause {
+            EndCause::Input => {
                 is_message(self.talk.want())
                     && self.has_no_front()
                     && self.channel.has_ended()
                     && self.queue.is_empty()
             }
-            Why::Finished => is_end(self.talk.want()) && self.queue.is_empty(),
-            Why::Failed => self.channel.has_failed(),
-            Why::Limit => self.limited && self.is_over,
-            Why::Memory => is_out_of_memory(self.talk.want()),
-            Why::Stopped => stopped,
+            EndCause::Finished => is_end(self.talk.want()) && self.queue.is_empty(),
+            EndCause::Failed => self.channel.has_failed(),
+            EndCause::Limit => self.limited && self.is_over,
+            EndCause::Memory => is_out_of_memory(self.talk.want()),
+            EndCause::Stopped => stopped,
         }
     }
 
@@ -436,7 +436,7 @@ impl<T: Talk, C: Channel> Peer<T, C> {
 
     /// Whether there is something to do for it at once.
     pub fn owes(&self) -> bool {
-        if self.why.is_some() || self.cause(false).is_some() {
+        if self.end_cause.is_some() || self.cause(false).is_some() {
             return true;
         }
         if self.can_send() {
@@ -456,7 +456,7 @@ impl<T: Talk, C: Channel> Peer<T, C> {
     pub fn look_after(&mut self, asked: Duration, now: Duration, idle: Option<Duration>)
         ensures { conversation_of C.Channel self.new ≡ conversation_of C.Channel self.old }
     {
-        if self.why.is_some() {
+        if self.end_cause.is_some() {
             return;
         }
         self.time = now;

@@ -5,7 +5,7 @@ ghost use Rattle.indexmap.specs.IndexMap.{get};
 ghost use Rattle.talks.specs.Wants.{FitsWant};
 ghost use Rattle.talks.specs.Conversations.{unless_ended};
 ghost use Rattle.talks.specs.declared.want.Want.{Want as TheWant};
-ghost use Rattle.polled_clients.specs.Places.{GoesOn, Learns, HasNeedHere, IsSomeWaited};
+ghost use Rattle.polled_clients.specs.ClientStates.{GoesOn, Learns, HasNeedHere, IsSomeWaited};
 
 use crate::need::{Need, Pick};
 use crate::peer::Peer;
@@ -59,10 +59,10 @@ pub fn hold<T: Talk, C: Channel>(
 
 /// The conversation with a client wants its end, since an allocation has failed.
 pub fn give_up<T: Talk, C: Channel>(peers: &mut IndexMap<u32, Peer<T, C>>, client: u32)
-    requires { IfSome (get nat_eq peers.old client) (λ p. p.why ≡ None) }
+    requires { IfSome (get nat_eq peers.old client) (λ p. p.end_cause ≡ None) }
     ensures here { GoesOn T.Talk C.Channel (get nat_eq peers.old client) [] (get nat_eq peers.new client) }
     ensures others { (c : ℕ) → c ≢ client → get nat_eq peers.new c ≡ get nat_eq peers.old c }
-    ensures wants { IfSome (get nat_eq peers.new client) (λ p. unless_ended p.why (T.wants p.talk) ≡ Some TheWant.OutOfMemory) }
+    ensures wants { IfSome (get nat_eq peers.new client) (λ p. unless_ended p.end_cause (T.wants p.talk) ≡ Some TheWant.OutOfMemory) }
 {
     if let Some(peer) = peers.get_mut(&client) {
         peer.give_up();
@@ -71,7 +71,7 @@ pub fn give_up<T: Talk, C: Channel>(peers: &mut IndexMap<u32, Peer<T, C>>, clien
 
 /// A client learns what it wanted.
 pub fn teach<T: Talk, C: Channel>(peers: &mut IndexMap<u32, Peer<T, C>>, client: u32, reply: Reply)
-    requires { IfSome (get nat_eq peers.old client) (λ p. (p.why ≡ None) × FitsWant (T.wants p.talk) reply) }
+    requires { IfSome (get nat_eq peers.old client) (λ p. (p.end_cause ≡ None) × FitsWant (T.wants p.talk) reply) }
     ensures here { Learns T.Talk C.Channel (get nat_eq peers.old client) reply (get nat_eq peers.new client) }
     ensures others { (c : ℕ) → c ≢ client → get nat_eq peers.new c ≡ get nat_eq peers.old c }
 {

@@ -25,7 +25,7 @@ pub fn refusal_text(state: SqlState) -> &'static str
         SqlState::DuplicateColumn => "column that is named twice",
         SqlState::DatatypeMismatch => "value of the wrong type",
         SqlState::InsufficientPrivilege => "permission denied",
-        SqlState::InvalidGrantOperation => "grant option to PUBLIC, or circle of memberships",
+        SqlState::InvalidGrantOperation => "grant option to PUBLIC, or cycle of memberships",
         SqlState::DependentPrivileges => "other privileges depend on what is revoked",
         SqlState::DependentObjects => "role is still in use",
         SqlState::DivisionByZero => "division by zero",

@@ -8,10 +8,10 @@ use Rattle.store.specs.Store.{StoreState, stored, KeepsHistory, OnlyReads, Commi
 use Rattle.store.specs.declared.fault.StoreFault.{StoreFault}
 use Rattle.store.proofs.Reading.{history_joined}
 use Rattle.abstract_database.specs.Database.{Database}
-use Rattle.stored_database.specs.Spellings.{with_places, Stands}
+use Rattle.stored_database.specs.BothRecordFormats.{with_places, Stands}
 use Rattle.recovery.specs.declared.fault.OpeningFault.TheVariants.{Commit}
 use Rattle.recovery.specs.Migrated.{failed_after_opening, HasOpeningCause, Migrates}
-use Rattle.recovery.specs.Respelled.{AreRespelling}
+use Rattle.recovery.specs.MigrationChanges.{AreMigrating}
 use Rattle.recovery.proofs.Migrating.{IsSettled, commit_cause, nothing_done, commit_fails, commit_done}
 
 -- ---- lists
@@ -25,21 +25,21 @@ one_list h = cc
 -- where there is a list, the records are of record format 1, and its changes spell them in record format 2
 pub record IsFirst (old : StoreState) (changes : Changes) : Type 0 where
   pub first : old.record_format ≡ V1
-  pub respells : applied changes old.map ≡ with_places old.map
+  pub migrates_records : applied changes old.map ≡ with_places old.map
 
-first_by : (s : RecordFormat) (records : Records) (lists : List Changes) (c : Changes) (cs : List Changes) → lists ≡ c ∷ cs → AreRespelling s records lists → (s ≡ V1) × (applied c records ≡ with_places records)
+first_by : (s : RecordFormat) (records : Records) (lists : List Changes) (c : Changes) (cs : List Changes) → lists ≡ c ∷ cs → AreMigrating s records lists → (s ≡ V1) × (applied c records ≡ with_places records)
 first_by V1 records lists c cs is are = (refl, ap (λ (ds : Changes). applied ds records) (sym (one_list (sym are.1 ∙ is))) ∙ are.2)
 first_by V2 records lists c cs is are = absurd (no_list (sym are ∙ is))
 
-pub is_first : (old : StoreState) (lists : List Changes) (c : Changes) (cs : List Changes) → lists ≡ c ∷ cs → AreRespelling old.record_format old.map lists → IsFirst old c
-is_first old lists c cs is are = let both = first_by old.record_format old.map lists c cs is are in record { first = both.0; respells = both.1 }
+pub is_first : (old : StoreState) (lists : List Changes) (c : Changes) (cs : List Changes) → lists ≡ c ∷ cs → AreMigrating old.record_format old.map lists → IsFirst old c
+is_first old lists c cs is are = let both = first_by old.record_format old.map lists c cs is are in record { first = both.0; migrates_records = both.1 }
 
-second_by : (s : RecordFormat) (records : Records) (lists : List Changes) → lists ≡ [] → AreRespelling s records lists → s ≡ V2
+second_by : (s : RecordFormat) (records : Records) (lists : List Changes) → lists ≡ [] → AreMigrating s records lists → s ≡ V2
 second_by V1 records lists is are = absurd (no_list (sym is ∙ are.1))
 second_by V2 records lists is are = refl
 
 -- where there is none, they are of the second
-pub is_second : (old : StoreState) (lists : List Changes) → lists ≡ [] → AreRespelling old.record_format old.map lists → old.record_format ≡ V2
+pub is_second : (old : StoreState) (lists : List Changes) → lists ≡ [] → AreMigrating old.record_format old.map lists → old.record_format ≡ V2
 is_second old lists is are = second_by old.record_format old.map lists is are
 
 -- by whether there is a list
@@ -74,7 +74,7 @@ module _ {S : Type 0} (state : S → StoreState) (old mid new : S) (lists : List
   failed_err fault none some = by_lists lists (λ is. absurd (no_fault (none is).0))
       (λ c cs is. (some c cs is).failed ∙ ap (λ (had : Bool). failed_after {T = Unit {0}} (Err fault) had) unfailed)
 
-  module _ (sound : (state old).sound) (are : AreRespelling (state old).record_format (state old).map lists) where
+  module _ (sound : (state old).sound) (are : AreMigrating (state old).record_format (state old).map lists) where
     pub cause_err : (fault : StoreFault) → CommitsNone (Err fault) mid new lists → CommitsOne (Err fault) (state mid) (state new) lists → HasOpeningCause (Commit fault) (state old) (state new)
     cause_err fault none some = by_lists lists (λ is. absurd (no_fault (none is).0))
         (λ c cs is. commit_cause fault (state old) (state mid) (state new) (is_first (state old) lists c cs is are).first reads (reads.unchanged sound) unfailed (some c cs is).history (some c cs is).cause)
@@ -85,10 +85,10 @@ module _ {S : Type 0} (state : S → StoreState) (old mid new : S) (lists : List
           (λ is. nothing_done (state old) (state new) db sound settled stands (subst (λ (x : S). OnlyReads (state old) (state x)) (sym (none is).1) reads) (is_second (state old) lists is are) u)
           (λ c cs is.
           let first = is_first (state old) lists c cs is are in
-          commit_done c (state old) (state mid) (state new) sound reads first.first first.respells db settled stands u ((some c cs is).at_once (reads.history.sound sound) (unfailed ∙ works)))
+          commit_done c (state old) (state mid) (state new) sound reads first.first first.migrates_records db settled stands u ((some c cs is).at_once (reads.history.sound sound) (unfailed ∙ works)))
 
       pub migrates_err : (fault : StoreFault) → CommitsNone (Err fault) mid new lists → CommitsOne (Err fault) (state mid) (state new) lists → Migrates (Err (Commit fault)) db (state old) (state new)
       migrates_err fault none some = by_lists lists (λ is. absurd (no_fault (none is).0))
           (λ c cs is.
           let first = is_first (state old) lists c cs is are in
-          commit_fails c (state old) (state mid) (state new) sound reads first.first first.respells db settled stands fault ((some c cs is).at_once (reads.history.sound sound) (unfailed ∙ works)))
+          commit_fails c (state old) (state mid) (state new) sound reads first.first first.migrates_records db settled stands fault ((some c cs is).at_once (reads.history.sound sound) (unfailed ∙ works)))

@@ -13,11 +13,11 @@ use Rattle.store.specs.declared.fault.StoreFault.{StoreFault}
 use Rattle.store.specs.declared.fault.StoreFault.TheVariants as commit
 use Rattle.store.proofs.Reading.{cause_later, rose_later}
 use Rattle.abstract_database.specs.Database.{Database}
-use Rattle.stored_database.specs.Spellings.{with_places, spelled_in_second, Stands, Means}
+use Rattle.stored_database.specs.BothRecordFormats.{with_places, in_record_format_2, Stands, Means}
 use Rattle.recovery.specs.Migrated.{in_second, HasOpeningCause, KeepsDatabase, AfterMigration, Migrates}
 use Rattle.recovery.specs.declared.fault.OpeningFault.{OpeningFault}
 use Rattle.recovery.specs.declared.fault.OpeningFault.TheVariants.{Read, Commit}
-use Rattle.recovery.specs.Respelled.{RespellsFrom}
+use Rattle.recovery.specs.MigrationChanges.{MigratesRecordsFrom}
 
 -- ---- contents
 
@@ -37,13 +37,13 @@ already contents second = same second where
   same p = subst (λ (s : RecordFormat). contents_with s contents.records ≡ in_second (contents_with s contents.records)) (sym p) refl
 
 -- what the commit leads to
-pub respelled_contents : (changes : Changes) (old mid : StoreState) → old.record_format ≡ V1 → IsUnchanged old mid → applied changes old.map ≡ with_places old.map
+pub migrated_contents : (changes : Changes) (old mid : StoreState) → old.record_format ≡ V1 → IsUnchanged old mid → applied changes old.map ≡ with_places old.map
     → changed_in V2 changes (stored mid) ≡ in_second (stored old)
-respelled_contents changes old mid first same is = same_contents refl (ap (applied changes) same.map ∙ is ∙ ap (λ (s : RecordFormat). spelled_in_second s old.map) (sym first))
+migrated_contents changes old mid first same is = same_contents refl (ap (applied changes) same.map ∙ is ∙ ap (λ (s : RecordFormat). in_record_format_2 s old.map) (sym first))
 
 -- ---- causes
 
-pub read_cause : (fault : Fault) (old new : StoreState) → HasFaultCause fault old new → RespellsFrom old.record_format (Err fault) old.map → HasOpeningCause (Read fault) old new
+pub read_cause : (fault : Fault) (old new : StoreState) → HasFaultCause fault old new → MigratesRecordsFrom old.record_format (Err fault) old.map → HasOpeningCause (Read fault) old new
 read_cause read.Memory old new cause none = tt
 read_cause read.Device old new cause none = cause
 read_cause read.Damaged old new cause none = none
@@ -78,12 +78,12 @@ module _ (old new : StoreState) (db : Database) (sound : old.sound) (settled : I
   }
 
 -- a migration that ends with its commit
-module _ (changes : Changes) (old mid new : StoreState) (sound : old.sound) (reads : OnlyReads old mid) (first : old.record_format ≡ V1) (respells : applied changes old.map ≡ with_places old.map) where
+module _ (changes : Changes) (old mid new : StoreState) (sound : old.sound) (reads : OnlyReads old mid) (first : old.record_format ≡ V1) (migrates_records : applied changes old.map ≡ with_places old.map) where
   abbrev after : Contents
   after = changed_in V2 changes (stored mid)
 
   pub leads : after ≡ in_second (stored old)
-  leads = respelled_contents changes old mid first (reads.unchanged sound) respells
+  leads = migrated_contents changes old mid first (reads.unchanged sound) migrates_records
 
   same_before : stored mid ≡ stored old
   same_before = same_contents (reads.unchanged sound).record_format (reads.unchanged sound).map

@@ -12,11 +12,11 @@ use Rattle.store.specs.Store.{StoreState, Contents, stored, OnlyReads, IsUnchang
 use Rattle.abstract_database.specs.Database.{Database}
 use Rattle.stored_database.specs.Definitions.{Definitions}
 use Rattle.stored_database.specs.Records.{Shows}
-use Rattle.stored_database.specs.Spellings.{spelled_in_second, Stands}
+use Rattle.stored_database.specs.BothRecordFormats.{in_record_format_2, Stands}
 use Rattle.recovery.specs.declared.fault.OpeningFault.{OpeningFault}
 use Rattle.recovery.specs.declared.fault.OpeningFault.TheVariants.{Read, Commit}
 use Rattle.recovery.specs.Migrated.{Migrates, failed_after_opening, HasOpeningCause}
-use Rattle.recovery.specs.Respelled.{AreRespelling}
+use Rattle.recovery.specs.MigrationChanges.{AreMigrating}
 use Rattle.recovery.proofs.Migrating.{IsSettled}
 use Rattle.recovery.proofs.Ending.{by_lists, no_fault, migrates_ok, CommitsNone, CommitsOne}
 use Rattle.recovery.specs.Openings.{OnlyLooks, HasLooked, IsNumberAfter}

@@ -12,7 +12,7 @@ use Rattle.abstract_database.specs.Whole.{Each}
 use Rattle.abstract_database.specs.Database.{Database}
 use Rattle.stored_database.specs.Records.{StandsFor}
 use Rattle.stored_database.specs.Entries.{IsRecordSize}
-use Rattle.stored_database.specs.Spellings.{with_place, placed, with_places, spelled_in_second}
+use Rattle.stored_database.specs.BothRecordFormats.{with_place, placed, with_places, in_record_format_2}
 use Rattle.stored_database.proofs.Lists.{into_map, first_of_each, rest_of_each}
 use Rattle.stored_database.proofs.AllRecords.{of_where}
 use Rattle.stored_database.proofs.AllSizes.{records_sized}
@@ -21,7 +21,7 @@ use Rattle.catalogue_loading.specs.Walks.{AreHeld, LoadsItems}
 use Rattle.entry_differences.specs.Differences.{differences, applied_in_turn}
 use Rattle.entry_differences.specs.Additions.{HaveRecordSizes}
 use Rattle.entry_differences.proofs.DifferenceLemmas.{ordered_in_turn, part_leads_to, elsewhere, all_pass, each_passes}
-use Rattle.recovery.specs.Respelled.{with_its_place, IsAnything, HasRoom, Respells, RespellsFrom}
+use Rattle.recovery.specs.MigrationChanges.{with_its_place, IsAnything, HasRoom, MigratesRecords, MigratesRecordsFrom}
 use Rattle.recovery.proofs.Parts.{same_parts}
 
 abbrev pub is_descriptor : List ℕ → Bool
@@ -136,30 +136,30 @@ have_room records db stands = all_of HasRoom (entries_where is_descriptor record
 
 -- ---- what the changes come to
 
-respells : (records items : Records) (changes : Changes) → IsOrdered records → AreHeld IsAnything (λ (e : Record). e) records (4 ∷ []) items
+migrates_records : (records items : Records) (changes : Changes) → IsOrdered records → AreHeld IsAnything (λ (e : Record). e) records (4 ∷ []) items
     → ((rs : Records) → IsOrdered rs → applied changes rs ≡ applied_in_turn (differences items (map with_its_place items)) rs) → applied changes records ≡ with_places records
-respells records items changes o held places =
+migrates_records records items changes o held places =
     places records o
     ∙ ap (λ (es : Records). applied_in_turn (differences es (map with_its_place es)) records) (sym (read_all records items held))
     ∙ descriptors_placed records o
 
 -- a fault of reading
-pub fault_of_reading : (fault : Fault) (records : Records) → LoadsItems IsAnything (λ (e : Record). e) records (4 ∷ []) (Err fault) → Respells (Err fault) records
+pub fault_of_reading : (fault : Fault) (records : Records) → LoadsItems IsAnything (λ (e : Record). e) records (4 ∷ []) (Err fault) → MigratesRecords (Err fault) records
 fault_of_reading Memory records loads = tt
 fault_of_reading Device records loads = tt
 fault_of_reading Damaged records loads = λ db stands. loads (entries_where is_descriptor records) (record { held = sym (itself (entries_where is_descriptor records)); valid = λ e among. tt })
 
 -- what comes of the places
-pub places_respell : (result : Result Changes Fault) (records items : Records) → IsOrdered records → AreHeld IsAnything (λ (e : Record). e) records (4 ∷ []) items
+pub places_migrate : (result : Result Changes Fault) (records items : Records) → IsOrdered records → AreHeld IsAnything (λ (e : Record). e) records (4 ∷ []) items
     → IfOk result (λ changes. (rs : Records) → IsOrdered rs → applied changes rs ≡ applied_in_turn (differences items (map with_its_place items)) rs)
-    → (AllByRecursion HasRoom items → result ≢ Err Damaged) → Respells result records
-places_respell (Ok changes) records items o held places undamaged = respells records items changes o held places
-places_respell (Err Memory) records items o held places undamaged = tt
-places_respell (Err Device) records items o held places undamaged = tt
-places_respell (Err Damaged) records items o held places undamaged = λ db stands. undamaged (subst (AllByRecursion HasRoom) (read_all records items held) (have_room records db stands)) refl
+    → (AllByRecursion HasRoom items → result ≢ Err Damaged) → MigratesRecords result records
+places_migrate (Ok changes) records items o held places undamaged = migrates_records records items changes o held places
+places_migrate (Err Memory) records items o held places undamaged = tt
+places_migrate (Err Device) records items o held places undamaged = tt
+places_migrate (Err Damaged) records items o held places undamaged = λ db stands. undamaged (subst (AllByRecursion HasRoom) (read_all records items held) (have_room records db stands)) refl
 
 -- the fault of what spells records of record format 1
-pub fault_of_first : (record_format : RecordFormat) → record_format ≡ V1 → (fault : Fault) (records : Records) → Respells (Err fault) records → RespellsFrom record_format (Err fault) records
+pub fault_of_first : (record_format : RecordFormat) → record_format ≡ V1 → (fault : Fault) (records : Records) → MigratesRecords (Err fault) records → MigratesRecordsFrom record_format (Err fault) records
 fault_of_first record_format first Memory records none = tt
 fault_of_first record_format first Device records none = tt
-fault_of_first record_format first Damaged records none = λ db stands. none db (subst (λ (s : RecordFormat). StandsFor (spelled_in_second s records) db) first stands)
+fault_of_first record_format first Damaged records none = λ db stands. none db (subst (λ (s : RecordFormat). StandsFor (in_record_format_2 s records) db) first stands)

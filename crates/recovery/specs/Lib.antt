@@ -1,4 +1,4 @@
-pub mod Respelled
+pub mod MigrationChanges
 pub mod Migrated
 pub mod Openings
 pub mod Read

@@ -7,13 +7,13 @@ use Rattle.store.specs.declared.fault.StoreFault.TheVariants as commit
 use Rattle.store.specs.Readers.{failed_after_reads}
 use Rattle.store.specs.Store.{StoreState, Contents, stored, HasCause, HasDeviceCause, IsUnchanged, failed_after}
 use Rattle.abstract_database.specs.Database.{Database}
-use Rattle.stored_database.specs.Spellings.{spelled_in_second, Stands, Means}
+use Rattle.stored_database.specs.BothRecordFormats.{in_record_format_2, Stands, Means}
 use Rattle.recovery.specs.declared.fault.OpeningFault.{OpeningFault}
 use Rattle.recovery.specs.declared.fault.OpeningFault.TheVariants.{Read, Commit}
 
 -- the same records, all of record format 2
 abbrev pub in_second : Contents → Contents
-in_second contents = record { record_format = V2; records = spelled_in_second contents.record_format contents.records }
+in_second contents = record { record_format = V2; records = in_record_format_2 contents.record_format contents.records }
 
 -- ---- faults
 

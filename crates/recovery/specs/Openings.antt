@@ -10,7 +10,7 @@ use Rattle.store.specs.Store.{StoreState, Contents, Rose, HasDeviceCause}
 use Rattle.abstract_database.specs.Database.{Database}
 use Rattle.stored_database.specs.Definitions.{Definitions}
 use Rattle.stored_database.specs.Records.{Shows}
-use Rattle.stored_database.specs.Spellings.{Stands, Means}
+use Rattle.stored_database.specs.BothRecordFormats.{Stands, Means}
 use Rattle.recovery.specs.declared.fault.OpeningFault.{OpeningFault}
 use Rattle.recovery.specs.declared.fault.OpeningFault.TheVariants.{Read, Commit}
 pub use Rattle.recovery.specs.Migrated.{failed_after_opening, HasOpeningCause, KeepsDatabase}

@@ -10,7 +10,7 @@ use store::{Batch, Store, StoreFault};
 
 /// Commits the one list that there is and with it that the records are of record format 2, or
 /// does nothing where there is no list. The faults are those of a commit.
-pub fn commit_respelled<S: Store>(store: &mut S, lists: &[Batch]) -> Result<(), StoreFault>
+pub fn commit_migrated<S: Store>(store: &mut S, lists: &[Batch]) -> Result<(), StoreFault>
     ensures none { lists.now ≡ [] → (result ≡ Ok tt) × (store.new ≡ store.old) }
     ensures some { (changes : Changes) (others : List Changes) → lists.now ≡ changes ∷ others
         → Commits result (changed_in V2 changes (stored (S.state store.old)))

@@ -10,7 +10,7 @@ mod opening;
 mod places;
 
 pub use checks::read_under;
-pub use commits::commit_respelled;
+pub use commits::commit_migrated;
 pub use fault::OpeningFault;
-pub use lists::respelled_lists;
+pub use lists::migration_lists;
 pub use opening::{Refused, open};

@@ -7,7 +7,7 @@ ghost use Rattle.store.specs.Records.{Records, IsOrdered, applied};
 ghost use Rattle.store.specs.Readers.{HasRead};
 ghost use Rattle.store.specs.Store.{StoreState};
 ghost use Rattle.entry_differences.specs.Differences.{differences, applied_in_turn};
-ghost use Rattle.recovery.specs.Respelled.{HasRoom, with_its_place, Respells, RespellsFrom};
+ghost use Rattle.recovery.specs.MigrationChanges.{HasRoom, with_its_place, MigratesRecords, MigratesRecordsFrom};
 
 use crate::places::{RecordReader, placed_entries};
 use catalogue_loading::load_items;
@@ -22,10 +22,10 @@ use store::{Batch, Entry, Fault, Map, Store};
 ///
 /// Device: the map answered it. Damaged: a descriptor's record has no room for a place, so the
 /// records stand for no database.
-fn respelling<M: Map>(alloc: Global, map: &mut M) -> Result<Batch, Fault>
+fn migration_changes<M: Map>(alloc: Global, map: &mut M) -> Result<Batch, Fault>
     ensures preserved { M.preserved map.old map.new }
     ensures read { HasRead result (M.state map.old) (M.state map.new) }
-    ensures spelled { (M.state map.old).sound → Respells result (M.state map.old).map }
+    ensures spelled { (M.state map.old).sound → MigratesRecords result (M.state map.old).map }
 {
     let removed = match load_items(alloc, map, &[RecordKind::Descriptor as u8], &RecordReader) {
         Ok(removed) => removed,
@@ -51,21 +51,21 @@ fn place_changes(alloc: Global, removed: &[Entry]) -> Result<Batch, Fault>
 
 /// No list where the records of a store are of record format 2. Where they are of the first,
 /// the one list of changes that spell them in the second. The store is only read, in the second
-/// spelling not even that.
+/// record format not even that.
 ///
 /// Device: the store answered it. Damaged: the records stand for no database. The last two never
 /// come in record format 2.
-pub fn respelled_lists<S: Store>(alloc: Global, store: &mut S) -> Result<Items<Batch>, Fault>
+pub fn migration_lists<S: Store>(alloc: Global, store: &mut S) -> Result<Items<Batch>, Fault>
     ensures preserved { S.preserved store.old store.new }
     ensures read { HasRead result (S.state store.old) (S.state store.new) }
     ensures spelled { (S.state store.old).sound
-        → RespellsFrom (S.state store.old).record_format result (S.state store.old).map }
+        → MigratesRecordsFrom (S.state store.old).record_format result (S.state store.old).map }
     ensures none { (S.state store.old).record_format ≡ V2
         → (result ≡ Ok []) × (store.new ≡ store.old) }
 {
     let mut lists = Items::new(alloc);
     match store.record_format() {
-        RecordFormat::V1 => match respelling(alloc, store) {
+        RecordFormat::V1 => match migration_changes(alloc, store) {
             Ok(batch) => lists.push(batch)?,
             Err(fault) => return Err(fault),
         },

@@ -6,16 +6,16 @@ ghost use Rattle.store.specs.declared.fault.StoreFault.TheVariants as commit;
 ghost use Rattle.store.specs.Readers.{HasRead};
 ghost use Rattle.store.specs.Store.{StoreState, KeepsHistory, IsUnchanged, stored};
 ghost use Rattle.abstract_database.specs.Database.{Database};
-ghost use Rattle.stored_database.specs.Spellings.{Stands};
+ghost use Rattle.stored_database.specs.BothRecordFormats.{Stands};
 ghost use Rattle.recovery.specs.declared.fault.OpeningFault.TheVariants.{Read, Commit};
 ghost use Rattle.recovery.specs.Migrated.{HasOpeningCause, KeepsDatabase, failed_after_opening};
 ghost use Rattle.recovery.specs.Openings.{IsOpened, HasLooked, IsNumberAfter, OnlyLooks, outcome_of, store_of};
 ghost use Rattle.recovery.specs.Read.{AreRead};
 
 use crate::checks::{check_store, read_under};
-use crate::commits::commit_respelled;
+use crate::commits::commit_migrated;
 use crate::fault::OpeningFault;
-use crate::lists::respelled_lists;
+use crate::lists::migration_lists;
 use catalogue::definitions::Catalogue;
 use server::decide::EventHandler;
 use server::server::Server;
@@ -40,7 +40,7 @@ pub struct Refused<S> {
 /// failed, or what it gave was none of the store's; a store that had failed before answers it always.
 /// `Commit`: the records of record format 1 were not spelled in record format 2. `Full`: they find no
 /// room in it. `Number`: no commit number is left for them. `Device`: the device failed, and in which
-/// spelling they then are is known when it is opened again. After each other fault the store that is
+/// record format they then are is known when it is opened again. After each other fault the store that is
 /// handed back has the contents and the number that it had, and after each but the two of the device it
 /// works as before.
 pub fn open<S: Store, X: EventHandler + Drop>(
@@ -83,7 +83,7 @@ pub fn open<S: Store, X: EventHandler + Drop>(
             return Err(Refused { store, fault });
         }
     };
-    match commit_respelled(&mut store, lists.as_slice()) {
+    match commit_migrated(&mut store, lists.as_slice()) {
         Ok(()) => Ok(Server::over(alloc, store, handler, catalogue)),
         Err(fault) => {
             let fault = OpeningFault::Commit(fault);
@@ -108,7 +108,7 @@ fn read_store<S: Store>(alloc: Global, store: &mut S) -> Result<(Items<Batch>, C
         Ok(()) => {}
         Err(fault) => return Err(fault),
     }
-    let lists = match respelled_lists(alloc, store) {
+    let lists = match migration_lists(alloc, store) {
         Ok(lists) => lists,
         Err(fault) => return Err(fault),
     };

@@ -4,7 +4,7 @@ ghost use Rattle.std.specs.Prelude.{◌≡◌, ◌≢◌, Err, IfOk, map, take, 
 ghost use Rattle.std.specs.List.{AllByRecursion};
 ghost use Rattle.store.specs.Records.{Record};
 ghost use Rattle.catalogue_loading.specs.Decoding.{Decodes};
-ghost use Rattle.recovery.specs.Respelled.{HasRoom, IsAnything, with_its_place};
+ghost use Rattle.recovery.specs.MigrationChanges.{HasRoom, IsAnything, with_its_place};
 
 use catalogue_loading::ItemReader;
 use std::alloc::{AllocError, Global};
@@ -24,7 +24,7 @@ impl ItemReader for RecordReader {
     type Item = Entry;
 
     ghost use Rattle.store.specs.Records.{Record};
-    ghost use Rattle.recovery.specs.Respelled.{IsAnything};
+    ghost use Rattle.recovery.specs.MigrationChanges.{IsAnything};
 
     ghost IsValid = { λ reader. IsAnything };
 

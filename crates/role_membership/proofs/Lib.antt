@@ -3,7 +3,7 @@ pub mod Lifts
 pub mod Elements
 pub mod Names
 pub mod Products
-pub mod Circles
+pub mod Cycles
 pub mod Puts
 pub mod Changes
 pub mod Distinct

@@ -13,7 +13,7 @@ use std::alloc::{AllocError, Global};
 
 /// The roles that a role is in: itself, and each that a finite chain of memberships leads to. For each of them the
 /// memberships of which it is the member are looked up, and no others are looked at: time grows in proportion to these roles
-/// and memberships, as far as names hash apart, and with the binary digits of the number of all memberships. Circles do no
+/// and memberships, as far as names hash apart, and with the binary digits of the number of all memberships. Cycles do no
 /// harm.
 pub fn closure<'a>(
     alloc: Global,

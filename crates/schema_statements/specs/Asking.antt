@@ -17,8 +17,8 @@ abbrev pub asked_by : Requester → Database
 asked_by a = asked_of a.catalogue.now a.table.now
 
 -- these are the roles that the role is in
-abbrev pub IsAsker : Requester → Type 0
-IsAsker a = (s : TheName) → has_name s a.roles.now ≡ is_in a.catalogue.now.memberships a.role.now s
+abbrev pub IsRequester : Requester → Type 0
+IsRequester a = (s : TheName) → has_name s a.roles.now ≡ is_in a.catalogue.now.memberships a.role.now s
 
 -- the descriptor is for the table and concerns the role
 abbrev pub reaches : Requester → Descriptor → Bool

@@ -5,7 +5,7 @@ ghost use Rattle.catalogue.specs.Descriptors.{descriptors_after};
 ghost use Rattle.catalogue_changes.specs.DescriptorChanges.{IsChangeOf};
 ghost use Rattle.catalogue_changes.specs.StatementChanges.{IsTableOf};
 ghost use Rattle.schema_statements.specs.Alone.{LeavesAlone, IsRefusedAlone};
-ghost use Rattle.schema_statements.specs.Asking.{IsAsker};
+ghost use Rattle.schema_statements.specs.Asking.{IsRequester};
 ghost use Rattle.schema_statements.specs.DescriptorChanges.{Fits, with_those, without_those};
 ghost use Rattle.schema_statements.specs.PrivilegeStatements.{table_of, tag_of, run_of, Leaves, IsRefusedSo};
 
@@ -28,7 +28,7 @@ fn exchanged(
     requester: Requester<'_, '_>,
     statement: PrivilegeStatement<'_>,
 ) -> Result<(RevokedDescriptors, Option<Warning>), Refusal>
-    requires requester { IsAsker requester }
+    requires requester { IsRequester requester }
     requires table { table_of statement ≡ requester.table.now.definition.name }
     ensures left { IfOk result (λ r. Leaves requester.entry statement.entry r.1
         (with_those r.0.added.items (without_those r.0.removed.items requester.entry.table.now.descriptors))) }

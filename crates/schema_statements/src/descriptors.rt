@@ -3,7 +3,7 @@ ghost use Rattle.std.specs.Prelude.{◌≡◌, ◌⊎◌, false, [], Ok, Err, On
 ghost use Rattle.sql_types.specs.declared.state.SqlState.TheVariants.{OutOfMemory};
 ghost use Rattle.sql_types.specs.declared.tag.Tag.TheVariants as tag;
 ghost use Rattle.abstract_database.specs.Statements.{grant as grant_of, revoke as revoke_of};
-ghost use Rattle.schema_statements.specs.Asking.{asked_by, IsAsker};
+ghost use Rattle.schema_statements.specs.Asking.{asked_by, IsRequester};
 ghost use Rattle.schema_statements.specs.DescriptorChanges.{with_those, without_those, Fits};
 ghost use Rattle.schema_statements.specs.NamedDescriptors.{IsNamed};
 ghost use Rattle.schema_statements.specs.PrivilegeDescriptors.{Around, database_in, carried_out, checked, grant_checked, warning_where};
@@ -32,7 +32,7 @@ fn named_by_grant(
     requester: Requester<'_, '_>,
     statement: &Grant,
 ) -> Result<Named, Refusal>
-    requires requester { IsAsker requester }
+    requires requester { IsRequester requester }
     requires table { statement.now.table ≡ requester.table.now.definition.name }
     ensures named { IfOk result (IsNamed (asked_by requester.entry)
         requester.entry.role.now requester.entry.table.now.definition
@@ -64,7 +64,7 @@ fn named_by_revoke(
     requester: Requester<'_, '_>,
     statement: &Revoke,
 ) -> Result<Named, Refusal>
-    requires requester { IsAsker requester }
+    requires requester { IsRequester requester }
     requires table { statement.now.table ≡ requester.table.now.definition.name }
     ensures named { IfOk result (IsNamed (asked_by requester.entry)
         requester.entry.role.now requester.entry.table.now.definition
@@ -91,7 +91,7 @@ pub(crate) fn grant_privileges(
     requester: Requester<'_, '_>,
     statement: &Grant,
 ) -> Result<(Vec<Descriptor>, Option<Warning>), Refusal>
-    requires requester { IsAsker requester }
+    requires requester { IsRequester requester }
     requires table { statement.now.table ≡ requester.table.now.definition.name }
     ensures granted { IfOk result (λ r.
         (around : Around statement.now.table requester.entry.table.now.definition requester.entry.role.now)
@@ -128,7 +128,7 @@ pub(crate) fn revoke_privileges(
     requester: Requester<'_, '_>,
     statement: &Revoke,
 ) -> Result<(RevokedDescriptors, Option<Warning>), Refusal>
-    requires requester { IsAsker requester }
+    requires requester { IsRequester requester }
     requires table { statement.now.table ≡ requester.table.now.definition.name }
     ensures revoked { IfOk result (λ r.
         (around : Around statement.now.table requester.entry.table.now.definition requester.entry.role.now)

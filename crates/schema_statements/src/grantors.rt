@@ -1,7 +1,7 @@
 //! By whom a role grants and revokes each privilege on a table.
 ghost use Rattle.std.specs.Prelude.{◌≡◌, map, IfOk};
 ghost use Rattle.std.specs.List.{list_any, list_all};
-ghost use Rattle.schema_statements.specs.Asking.{asked_by, IsAsker};
+ghost use Rattle.schema_statements.specs.Asking.{asked_by, IsRequester};
 ghost use Rattle.schema_statements.specs.PrivilegeUnits.{by_role, with_grantor, has_grantor as has_grantor_of, leaves_out_by};
 
 use crate::requester::{Requester, grants};
@@ -20,7 +20,7 @@ pub(crate) struct NamedPrivilege<'a> {
 
 /// The privilege with its acting grantor, where this role asks.
 fn with_grantor<'a>(requester: Requester<'a, '_>, privilege: Privilege) -> NamedPrivilege<'a>
-    requires { IsAsker requester }
+    requires { IsRequester requester }
     ensures { by_role result
         ≡ with_grantor (asked_by requester.entry) requester.entry.role.now requester.entry.table.now.definition privilege }
 {
@@ -42,7 +42,7 @@ pub(crate) fn acting_grantors<'a>(
     requester: Requester<'a, '_>,
     privileges: &[Privilege],
 ) -> Result<Vec<NamedPrivilege<'a>>, AllocError>
-    requires { IsAsker requester }
+    requires { IsRequester requester }
     ensures { IfOk result (λ all. map by_role all.items
         ≡ map (with_grantor (asked_by requester.entry) requester.entry.role.now requester.entry.table.now.definition)
         privileges.now) }

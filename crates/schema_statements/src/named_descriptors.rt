@@ -3,7 +3,7 @@ ghost use Rattle.std.specs.Prelude.{◌≡◌, ◌++◌, map, flat_map, IfOk, On
 ghost use Rattle.std.specs.Option.{option_map};
 ghost use Rattle.abstract_database.specs.Privileges.{descriptors_by};
 ghost use Rattle.grant_graph.specs.Keys.{now_of};
-ghost use Rattle.schema_statements.specs.Asking.{asked_by, IsAsker};
+ghost use Rattle.schema_statements.specs.Asking.{asked_by, IsRequester};
 ghost use Rattle.schema_statements.specs.PrivilegeUnits.{descriptors_for};
 ghost use Rattle.schema_statements.specs.NamedDescriptors.{descriptor_of, IsNamed};
 
@@ -118,7 +118,7 @@ pub(crate) fn what_is_named(
     grantable: bool,
     privileges: &Privileges,
 ) -> Result<Named, AllocError>
-    requires { IsAsker requester }
+    requires { IsRequester requester }
     ensures { IfOk result (IsNamed (asked_by requester.entry) requester.entry.role.now
         requester.entry.table.now.definition privileges.now grantees.now grantable) }
 {

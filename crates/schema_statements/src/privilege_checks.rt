@@ -4,7 +4,7 @@ ghost use Rattle.std.specs.List.{list_any};
 ghost use Rattle.catalogue.specs.Grants.{is_for};
 ghost use Rattle.abstract_database.specs.Privileges.{has_some_privilege};
 ghost use Rattle.abstract_database.specs.Checks.{is_public as is_the_public};
-ghost use Rattle.schema_statements.specs.Asking.{asked_by, IsAsker, reaches as reaches_of};
+ghost use Rattle.schema_statements.specs.Asking.{asked_by, IsRequester, reaches as reaches_of};
 ghost use Rattle.schema_statements.specs.PrivilegeDescriptors.{checked};
 
 use crate::privilege_units::names_columns;
@@ -45,7 +45,7 @@ fn names_any(table: &TableDefinition, roles: &[&str]) -> bool
 
 /// Whether a privilege descriptor of the table is for PUBLIC or for a role that the role that asks is in.
 fn is_reached(requester: Requester<'_, '_>) -> bool
-    requires { IsAsker requester }
+    requires { IsRequester requester }
     ensures { result ≡ list_any (reaches_of requester.entry) requester.entry.table.now.descriptors }
 {
     let table = requester.table;
@@ -57,7 +57,7 @@ fn is_reached(requester: Requester<'_, '_>) -> bool
 
 /// Whether the role that asks has any privilege on the table, which has this name.
 fn has_some(requester: Requester<'_, '_>, table: &Name) -> bool
-    requires requester { IsAsker requester }
+    requires requester { IsRequester requester }
     requires table { table.now ≡ requester.table.now.definition.name }
     ensures { result ≡ has_some_privilege (asked_by requester.entry) requester.entry.role.now table.now }
 {
@@ -72,7 +72,7 @@ pub(crate) fn check(
     privileges: &Privileges,
     grantees: &[Grantee],
 ) -> Result<(), Refusal>
-    requires requester { IsAsker requester }
+    requires requester { IsRequester requester }
     requires table { table.now ≡ requester.table.now.definition.name }
     ensures allowed { OnOk result (checked (asked_by requester.entry) requester.entry.role.now table.now
         requester.entry.table.now.definition.layout privileges.now grantees.now ≡ Ok tt) }

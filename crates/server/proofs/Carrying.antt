@@ -57,24 +57,24 @@ inserted_to sessions new number s is = is ∙ inserted_is sessions number s
 -- ---- the writer lock
 
 -- where nobody holds the writer lock it is free
-pub slot_is_free : (records : Records) (d : Definitions) (writer : Option Writer) (holder : Option Holder) → holder ≡ None → HolderShows records d writer holder → writer ≡ None
-slot_is_free records d None holder is h = refl
-slot_is_free records d (Some s) None is h = absurd h
-slot_is_free records d (Some s) (Some x) is h = cc
+pub lock_is_free : (records : Records) (d : Definitions) (writer : Option Writer) (holder : Option Holder) → holder ≡ None → HolderShows records d writer holder → writer ≡ None
+lock_is_free records d None holder is h = refl
+lock_is_free records d (Some s) None is h = absurd h
+lock_is_free records d (Some s) (Some x) is h = cc
 
 -- the changes under the writer lock lead to the holder's database
-pub slot_shows : (records : Records) (d : Definitions) (writer : Option Writer) (s : Writer) (holder : Option Holder) (h : Holder) → writer ≡ Some s → holder ≡ Some h
+pub lock_shows : (records : Records) (d : Definitions) (writer : Option Writer) (s : Writer) (holder : Option Holder) (h : Holder) → writer ≡ Some s → holder ≡ Some h
     → HolderShows records d writer holder → Shows (applied_all s.lists records) (definitions_or s.catalogue d) h.database
-slot_shows records d writer s holder h p q shows =
+lock_shows records d writer s holder h p q shows =
     let there : HolderShows records d (Some s) (Some h) =
     subst (λ (z : Option Writer). HolderShows records d z (Some h)) p (subst (λ (z : Option Holder). HolderShows records d writer z) q shows) in
     there.1
 
 -- where somebody holds the writer lock it is not free
-pub slot_is_held : (records : Records) (d : Definitions) (writer : Option Writer) (holder : Option Holder) (h : Holder) → holder ≡ Some h → HolderShows records d writer holder
+pub lock_is_held : (records : Records) (d : Definitions) (writer : Option Writer) (holder : Option Holder) (h : Holder) → holder ≡ Some h → HolderShows records d writer holder
     → (s : Writer) × (writer ≡ Some s)
-slot_is_held records d (Some s) holder h is shows = (s, refl)
-slot_is_held records d None holder h is shows = absurd (subst (λ (z : Option Holder). HolderShows records d None z) is shows)
+lock_is_held records d (Some s) holder h is shows = (s, refl)
+lock_is_held records d None holder h is shows = absurd (subst (λ (z : Option Holder). HolderShows records d None z) is shows)
 
 -- a writer lock under which there are these records and definitions, with the changes of one more statement
 pub held_with : (records under : Records) (d before : Definitions) (writer : Option Writer) (cs : Changes) (change : Option SchemaChange) (lists : List Changes) (held : Option Definitions) (after : Database)
@@ -140,21 +140,21 @@ commit_err Reads state old new db holder d after answer m e Device sound w runs 
     (record { answer = answer; machine = m }, next, calls, ap (λ z. z.entries) sessions, fails)
 
 -- a commit that was done, of changes that make of the records what the writer lock's lists make of them
-pub slot_committed : (r : Result (Unit {0}) StoreFault) (cs : Changes) (held : Option Writer) (old new : StoreState)
+pub lock_committed : (r : Result (Unit {0}) StoreFault) (cs : Changes) (held : Option Writer) (old new : StoreState)
     → ((writer : Writer) → held ≡ Some writer → old.sound → applied cs old.map ≡ applied_all writer.lists old.map)
     → Commits r (changed_by_batch cs (stored old)) old new → OnOk r ((writer : Writer) → held ≡ Some writer → CommitsLists writer.lists old new)
-slot_committed (Ok x) cs held old new same commits = λ writer is sound. (cs, same writer is sound, commits)
-slot_committed (Err f) cs held old new same commits = tt
+lock_committed (Ok x) cs held old new same commits = λ writer is sound. (cs, same writer is sound, commits)
+lock_committed (Err f) cs held old new same commits = tt
 
 -- the same of the lists that the writer lock has
-pub slot_joined : {S : Type 0} (state : S → StoreState) (r : Result (Unit {0}) StoreFault) (held : Option Writer) (own : Writer) (old new : S)
+pub lock_joined : {S : Type 0} (state : S → StoreState) (r : Result (Unit {0}) StoreFault) (held : Option Writer) (own : Writer) (old new : S)
     → ((cs : Changes) → ((key : List ℕ) → lookup key cs ≡ latest key own.lists) → (state old).sound → applied cs (state old).map ≡ applied_all own.lists (state old).map)
     → held ≡ Some own → CommitsJoined state own.lists r old new
     → OnOk r ((writer : Writer) → held ≡ Some writer → CommitsLists writer.lists (state old) (state new))
-slot_joined state r held own old new same there (inl refused) =
+lock_joined state r held own old new same there (inl refused) =
     subst (λ (z : Result (Unit {0}) StoreFault). OnOk z ((writer : Writer) → held ≡ Some writer → CommitsLists writer.lists (state old) (state new))) (sym refused.0) tt
-slot_joined state r held own old new same there (inr done) =
-    slot_committed r done.0 held (state old) (state new)
+lock_joined state r held own old new same there (inr done) =
+    lock_committed r done.0 held (state old) (state new)
     (λ writer is sound.
     let one : own ≡ writer = let a = there in let b = is in cc in
     subst (λ (z : Writer). applied done.0 (state old).map ≡ applied_all z.lists (state old).map) one (same done.0 done.1 sound))

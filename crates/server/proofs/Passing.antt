@@ -10,7 +10,7 @@ use Rattle.store.proofs.Reading.{none_read, history_joined}
 use Rattle.abstract_database.specs.Database.{Database}
 use Rattle.stored_database.specs.Definitions.{Definitions}
 use Rattle.stored_database.specs.Records.{Shows, StandsFor}
-use Rattle.stored_database.specs.Spellings.{spelled_in_second}
+use Rattle.stored_database.specs.BothRecordFormats.{in_record_format_2}
 use Rattle.server.specs.Standing.{Means}
 use Rattle.server.specs.Decisions.{Passes, Fails}
 
@@ -20,7 +20,7 @@ LeavesRecords st = (x : Option Contents) → st.time.left x → x ≡ Some (stor
 
 some_means : (contents : Contents) (d : Definitions) (db : Database) → contents.record_format ≡ V2 → Shows contents.records d db → (x : Option Contents) → x ≡ Some contents → Means x db
 some_means contents d db second shows x is =
-    (contents, is, subst (λ (s : RecordFormat). StandsFor (spelled_in_second s contents.records) db) (sym second) (d, shows))
+    (contents, is, subst (λ (s : RecordFormat). StandsFor (in_record_format_2 s contents.records) db) (sym second) (d, shows))
 
 left_means : (st : StoreState) (d : Definitions) (db : Database) → LeavesRecords st → st.record_format ≡ V2 → Shows st.map d db → (x : Option Contents) → st.time.left x → Means x db
 left_means st d db settled second shows x left = some_means (stored st) d db second shows x (settled x left)

@@ -11,7 +11,7 @@ use Rattle.abstract_database.specs.Machine.{Event as MachineEvent, opens, execut
 use Rattle.abstract_database.specs.Runs.{TheText, Counts, IsFoundAt, Stops, At}
 use Rattle.stored_database.specs.Definitions.{Definitions}
 use Rattle.stored_database.specs.Records.{Shows}
-pub use Rattle.stored_database.specs.Spellings.{Stands, Means}
+pub use Rattle.stored_database.specs.BothRecordFormats.{Stands, Means}
 use Rattle.transactions.specs.Views.{applied_all}
 use Rattle.server.specs.declared.writer.Writer.{Writer}
 use Rattle.server.specs.declared.server.Server.{Server}

@@ -71,7 +71,7 @@ impl<S: Drop, X: Drop> Drop for Server<S, X> {
 
 impl<S: Store, X: EventHandler> Server<S, X> {
     /// A server over a store that has not failed and whose records, which are of the second
-    /// spelling, show a database with these definitions. No session is open.
+    /// record format, show a database with these definitions. No session is open.
     pub fn over(alloc: Global, store: S, handler: X, catalogue: Catalogue) -> Server<S, X>
         ensures store { result.store ≡ store }
         ensures represents { (db : Database) → (S.state store).sound
@@ -414,7 +414,7 @@ impl<S: Store, X: EventHandler> Server<S, X> {
     {
         match self.commit_held() {
             Ok(()) => {
-                self.end_slot();
+                self.free_lock();
                 change_sessions(&mut self.sessions, change);
                 Ok(answer)
             }
@@ -446,7 +446,7 @@ impl<S: Store, X: EventHandler> Server<S, X> {
     }
 
     // The changes under the writer lock are committed: its definitions are those of the database, and it is free.
-    fn end_slot(&mut self)
+    fn free_lock(&mut self)
         ensures { self.new ≡ record self.old {
           writer = None;
           catalogue = definitions_under self.old.writer self.old.catalogue;

@@ -20,7 +20,7 @@ use Rattle.server.specs.declared.writer.Writer.{Writer}
 use Rattle.server.specs.Session.{changed_in}
 use Rattle.server.specs.Standing.{HolderShows, HoldsInBlock}
 use Rattle.server.specs.Decisions.{Entries, machine_at, Decides}
-use Rattle.sessions.specs.Writers.{is_slot_of}
+use Rattle.sessions.specs.Writers.{is_lock_of}
 use Rattle.sessions.specs.Decisions.{Makes, Serves, Always, Never, IsBlockOf, NoText}
 use Rattle.sessions.proofs.Sessions.{holds_with, other_holds_with, other_holds_without, other_sees, holder_is_other, holder_is_this}
 
@@ -42,7 +42,7 @@ begin_serves writer number s changed outside is records d db holder sessions sho
 -- ---- COMMIT
 
 -- of a session that holds nothing
-pub leave_serves : (writer : Option Writer) (number : ℕ) (s : Session) (role : TheName) → s.block ≡ Inside role → is_slot_of number writer ≡ false
+pub leave_serves : (writer : Option Writer) (number : ℕ) (s : Session) (role : TheName) → s.block ≡ Inside role → is_lock_of number writer ≡ false
     → Serves writer number s Always (λ m. CommitsAt m number s.block (statement.OfSession of_session.Commit)) (λ m. commit m number s s.block)
     (decision.Answer (answer.Done tag.Commit None None) (change.Block number Leave))
 leave_serves writer number s role inside free records d db holder sessions shows holds found given =
@@ -50,10 +50,10 @@ leave_serves writer number s role inside free records d db holder sessions shows
     rw (found, inside) (tt, other_holds_with holder sessions number (in_block Outside s) other holds, rw (other, other_sees holder number db other) refl)
 
 -- of the session that holds the writer lock
-pub commit_slot_serves : (writer : Option Writer) (number : ℕ) (s : Session) (role : TheName) → s.block ≡ Inside role → is_slot_of number writer ≡ true
+pub commit_lock_serves : (writer : Option Writer) (number : ℕ) (s : Session) (role : TheName) → s.block ≡ Inside role → is_lock_of number writer ≡ true
     → Serves writer number s Always (λ m. CommitsAt m number s.block (statement.OfSession of_session.Commit)) (λ m. commit m number s s.block)
     (decision.CommitWriter (answer.Done tag.Commit None None) (change.Block number Leave))
-commit_slot_serves writer number s role inside held records d db holder sessions shows holds found given =
+commit_lock_serves writer number s role inside held records d db holder sessions shows holds found given =
     let this = holder_is_this records d writer holder number held shows in
     rw (found, inside, this.1) (this.0, refl, tt, (refl, eqb-true this.0.session number this.2), rw this.2 refl)
 
@@ -66,7 +66,7 @@ after_roll_back s (Inside before) role is = rw is refl
 after_roll_back s (Failed before) role is = rw is refl
 
 -- of a session that holds nothing
-pub end_serves : (writer : Option Writer) (number : ℕ) (s : Session) (role : TheName) → IsBlockOf role s.block → is_slot_of number writer ≡ false
+pub end_serves : (writer : Option Writer) (number : ℕ) (s : Session) (role : TheName) → IsBlockOf role s.block → is_lock_of number writer ≡ false
     → Serves writer number s Always Never (λ m. succeeds tag.Rollback (with_block_ended m number s m.committed role))
     (decision.Answer (answer.Done tag.Rollback None None) (change.Block number RollBack))
 end_serves writer number s role is free records d db holder sessions shows holds found given =
@@ -74,7 +74,7 @@ end_serves writer number s role is free records d db holder sessions shows holds
     rw (found, after_roll_back s s.block role is) (tt, other_holds_with holder sessions number (in_block Outside (as_role role s)) other holds, rw other refl)
 
 -- of the session that holds the writer lock
-pub release_serves : (writer : Option Writer) (number : ℕ) (s : Session) (role : TheName) → IsBlockOf role s.block → is_slot_of number writer ≡ true
+pub release_serves : (writer : Option Writer) (number : ℕ) (s : Session) (role : TheName) → IsBlockOf role s.block → is_lock_of number writer ≡ true
     → Serves writer number s Always Never (λ m. succeeds tag.Rollback (with_block_ended m number s m.committed role))
     (decision.Release (answer.Done tag.Rollback None None) (change.Block number RollBack))
 release_serves writer number s role is held records d db holder sessions shows holds found given =
@@ -120,7 +120,7 @@ open_one (Some s) is = (s, refl)
 
 -- that holds nothing
 pub close_decides : (records : Records) (d : Definitions) (writer : Option Writer) (db : Database) (holder : Option Holder) (sessions : Entries) (number : ℕ)
-    → is_some (session_of number sessions) ≡ true → is_slot_of number writer ≡ false → HolderShows records d writer holder → HoldsInBlock holder sessions
+    → is_some (session_of number sessions) ≡ true → is_lock_of number writer ≡ false → HolderShows records d writer holder → HoldsInBlock holder sessions
     → Decides NoText records d writer db holder sessions (closes number) (decision.Answer (answer.Done tag.Close None None) (change.Close number))
 close_decides records d writer db holder sessions number open_there free shows holds =
     let found = (open_one (session_of number sessions) open_there).1 in
@@ -129,7 +129,7 @@ close_decides records d writer db holder sessions number open_there free shows h
 
 -- that holds the writer lock
 pub close_releases : (records : Records) (d : Definitions) (writer : Option Writer) (db : Database) (holder : Option Holder) (sessions : Entries) (number : ℕ)
-    → is_some (session_of number sessions) ≡ true → is_slot_of number writer ≡ true → HolderShows records d writer holder
+    → is_some (session_of number sessions) ≡ true → is_lock_of number writer ≡ true → HolderShows records d writer holder
     → Decides NoText records d writer db holder sessions (closes number) (decision.Release (answer.Done tag.Close None None) (change.Close number))
 close_releases records d writer db holder sessions number open_there held shows =
     let found = (open_one (session_of number sessions) open_there).1 in

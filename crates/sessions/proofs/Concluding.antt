@@ -37,10 +37,10 @@ nobody_holds (Some h) number s sessions held found outside free =
     absurd (held.2 (ap (λ (z : Session). z.block) same ∙ outside))
 
 -- the writer lock of nobody
-no_slot : (records : Records) (d : Definitions) (writer : Option Writer) (holder : Option Holder) → HolderShows records d writer holder → holder ≡ None → writer ≡ None
-no_slot records d None holder shows none = refl
-no_slot records d (Some writer) None shows none = absurd shows
-no_slot records d (Some writer) (Some h) shows none = cc
+no_lock : (records : Records) (d : Definitions) (writer : Option Writer) (holder : Option Holder) → HolderShows records d writer holder → holder ≡ None → writer ≡ None
+no_lock records d None holder shows none = refl
+no_lock records d (Some writer) None shows none = absurd shows
+no_lock records d (Some writer) (Some h) shows none = cc
 
 module _ (number : ℕ) (s : Session) (x : DatabaseStatement) where
   -- ---- statements that are carried out
@@ -51,7 +51,7 @@ module _ (number : ℕ) (s : Session) (x : DatabaseStatement) where
       let m = machine_at db holder sessions in
       let free : is_held_by_other number holder ≡ false = is_free m number s x admitted.may writes in
       let none : holder ≡ None = nobody_holds holder number s sessions held admitted.is_open outside free in
-      let unheld : writer ≡ None = no_slot records d writer holder shows none in (
+      let unheld : writer ≡ None = no_lock records d writer holder shows none in (
         comes.after,
         subst (λ (o : Option Writer). Leads made.changes (records_seen number o records) (definitions_after made.schema (definitions_seen number o d)) comes.after) unheld comes.leads,
         none,

@@ -18,7 +18,7 @@ use Rattle.sessions.specs.Readings.{ReadsText}
 use Rattle.sessions.specs.LockedOut.{IsForLock, TellsRefusal}
 use Rattle.sessions.specs.Serving.{IsOpenOver}
 use Rattle.sessions.specs.declared.statements.OpenSession.{OpenSession}
-use Rattle.sessions.specs.Writers.{is_slot_of_other}
+use Rattle.sessions.specs.Writers.{is_lock_of_other}
 use Rattle.sessions.proofs.Deciding.{is_short}
 use Rattle.sessions.proofs.SeenDefinitions.{held_by_other}
 
@@ -48,7 +48,7 @@ module _ (db : Database) (holder : Option Holder) (sessions : Entries) (number :
   unopened_tells missing locked = none_is_not_some locked.1.0 (sym missing ∙ locked.1.1)
 
   -- of the holder, or where nobody holds the writer lock
-  pub free_tells : (records : Records) (d : Definitions) (writer : Option Writer) → HolderShows records d writer holder → is_slot_of_other number writer ≡ false
+  pub free_tells : (records : Records) (d : Definitions) (writer : Option Writer) → HolderShows records d writer holder → is_lock_of_other number writer ≡ false
       → TellsLockedOut ReadsText over (executes number text) (Ok false)
   free_tells records d writer shows free locked =
       true_is_not_false (sym (held_where_refused over number locked.1.0 locked.1.2.0 locked.1.2.2) ∙ held_by_other records d writer holder number shows ∙ free)
@@ -62,13 +62,13 @@ module _ (db : Database) (holder : Option Holder) (sessions : Entries) (number :
     may_fail short = ((refl, ap is_some found), short)
 
     -- that were not read
-    pub unread_tells : (records : Records) (d : Definitions) (writer : Option Writer) (error : AllocError) → HolderShows records d writer holder → is_slot_of_other number writer ≡ true
+    pub unread_tells : (records : Records) (d : Definitions) (writer : Option Writer) (error : AllocError) → HolderShows records d writer holder → is_lock_of_other number writer ≡ true
         → length text ≤ 65536 → TellsLockedOut ReadsText over (executes number text) (Err error)
     unread_tells records d writer error shows held short = (may_fail short, held_by_other records d writer holder number shows ∙ held)
 
     -- of a statement
     pub statement_tells : ReadsOnce ReadsText → (records : Records) (d : Definitions) (writer : Option Writer) (x : Statement) (result : Result Bool AllocError) → HolderShows records d writer holder
-        → is_slot_of_other number writer ≡ true → ReadsText text (Ok x) → IfOk result (λ is. IsForLock is (may_execute over number s x))
+        → is_lock_of_other number writer ≡ true → ReadsText text (Ok x) → IfOk result (λ is. IsForLock is (may_execute over number s x))
         → TellsLockedOut ReadsText over (executes number text) result
     statement_tells once records d writer x (Ok true) shows held read tells = (refl, (s, found, (x, read, tells)))
     statement_tells once records d writer x (Ok false) shows held read tells = λ locked.

@@ -10,7 +10,7 @@ use Rattle.server.specs.declared.writer.Writer.{Writer}
 use Rattle.server.specs.Writers.{definitions_or}
 use Rattle.server.specs.Standing.{HolderShows}
 use Rattle.sessions.specs.Admission.{HasRolesOf}
-use Rattle.sessions.specs.Writers.{is_slot_of_other, definitions_seen}
+use Rattle.sessions.specs.Writers.{is_lock_of_other, definitions_seen}
 
 pub has_roles : (records : Records) (d : Definitions) (db : Database) → Shows records d db → HasRolesOf d db
 has_roles records d db shown = record { roles = ap (λ (x : Database). x.roles) shown.is; memberships = ap (λ (x : Database). x.memberships) shown.is }
@@ -31,7 +31,7 @@ sees_roles records d (Some writer) db (Some h) number shown held =
 
 -- another session holds the writer lock where the machine's holder is another
 pub held_by_other : (records : Records) (d : Definitions) (writer : Option Writer) (holder : Option Holder) (number : ℕ) → HolderShows records d writer holder
-    → is_held_by_other number holder ≡ is_slot_of_other number writer
+    → is_held_by_other number holder ≡ is_lock_of_other number writer
 held_by_other records d None None number held = refl
 held_by_other records d None (Some h) number held = absurd held
 held_by_other records d (Some writer) None number held = absurd held

@@ -25,7 +25,7 @@ use Rattle.server.specs.Decisions.{Entries, machine_at}
 use Rattle.sessions.specs.Admission.{SeesRolesOf, admission_of}
 use Rattle.sessions.specs.Decisions.{Makes, Serves, Always, Never}
 use Rattle.sessions.specs.Roles.{role_set}
-use Rattle.sessions.specs.Writers.{is_slot_of_other, definitions_seen}
+use Rattle.sessions.specs.Writers.{is_lock_of_other, definitions_seen}
 use Rattle.sessions.specs.Serving.{EndsBlock, Admits, IsAdmission, RefusesAdmission, CarriesOut, IsOpenOver, ServesOver}
 use Rattle.sessions.specs.declared.statements.OpenSession.{OpenSession}
 use Rattle.sessions.proofs.SeenDefinitions.{sees_roles, held_by_other}
@@ -137,7 +137,7 @@ module _ (m : Machine) (number : ℕ) (s : Session) (code : SqlState) where
 
 -- as the session's definitions and the writer lock say
 pub is_admission : (at : OpenSession) (x : Statement) (seen_there : Definitions) (held_there : Bool) (refusal : Option SqlState)
-    → seen_there ≡ definitions_seen at.number at.writer.now at.catalogue.now → held_there ≡ is_slot_of_other at.number at.writer.now
+    → seen_there ≡ definitions_seen at.number at.writer.now at.catalogue.now → held_there ≡ is_lock_of_other at.number at.writer.now
     → ((m : Machine) (n : ℕ) → SeesRolesOf seen_there n m → is_held_by_other n m.holder ≡ held_there → may_execute m n at.session.now x ≡ admission_of refusal)
     → (records : Records) (db : Database) (holder : Option Holder) (sessions : Entries) → IsOpenOver records at db holder sessions → may_execute (machine_at db holder sessions) at.number at.session.now x ≡ admission_of refusal
 is_admission at x seen_there held_there refusal sees held_is admitted records db holder sessions over =

@@ -7,7 +7,7 @@ use Rattle.abstract_database.specs.Machine.{Holder, Session, Outside, session_of
 use Rattle.stored_database.specs.Definitions.{Definitions}
 use Rattle.server.specs.declared.writer.Writer.{Writer}
 use Rattle.server.specs.Standing.{HolderShows, HoldsInBlock}
-use Rattle.sessions.specs.Writers.{is_slot_of}
+use Rattle.sessions.specs.Writers.{is_lock_of}
 
 -- ---- lists of sessions
 
@@ -63,13 +63,13 @@ other_sees (Some h) n db other = rw (apart_from h n other) refl
 -- ---- the writer lock
 
 -- a session that does not hold the writer lock is not the holder
-pub holder_is_other : (records : Records) (d : Definitions) (writer : Option Writer) (holder : Option Holder) (n : ℕ) → is_slot_of n writer ≡ false → HolderShows records d writer holder → released n holder ≡ holder
+pub holder_is_other : (records : Records) (d : Definitions) (writer : Option Writer) (holder : Option Holder) (n : ℕ) → is_lock_of n writer ≡ false → HolderShows records d writer holder → released n holder ≡ holder
 holder_is_other records d writer None n free shows = refl
 holder_is_other records d None (Some h) n free shows = absurd shows
 holder_is_other records d (Some x) (Some h) n free shows = let apart : nat_eq h.session n ≡ false = rw shows.0 free in rw apart refl
 
 -- and one that holds it is
-pub holder_is_this : (records : Records) (d : Definitions) (writer : Option Writer) (holder : Option Holder) (n : ℕ) → is_slot_of n writer ≡ true → HolderShows records d writer holder
+pub holder_is_this : (records : Records) (d : Definitions) (writer : Option Writer) (holder : Option Holder) (n : ℕ) → is_lock_of n writer ≡ true → HolderShows records d writer holder
     → (h : Holder) × (holder ≡ Some h) × (nat_eq h.session n ≡ true)
 holder_is_this records d None holder n held shows = let wrong : false ≡ true = held in cc
 holder_is_this records d (Some x) None n held shows = absurd shows

@@ -70,7 +70,7 @@ module _ (once : ReadsOnce ReadsText) (whole : (records : Records) (db : Databas
       )
 
   opened : (a : Tenant) (d e : Database) → SameApparentRowsForPairs a.pairs d e → IsAlikeTo a (machine_over d) (machine_over e)
-  opened a d e all = record { sessions = λ number own. refl; opened_for = λ number own. tt; stopped = refl; slot = λ number own. refl; committed = all; seen = λ number own. all }
+  opened a d e all = record { sessions = λ number own. refl; opened_for = λ number own. tt; stopped = refl; lock = λ number own. refl; committed = all; seen = λ number own. all }
 
   pub opened_told : {S T X Y : Type 0} (state : S → StoreState) (other_state : T → StoreState) → opened_servers_tell_a_tenant S T X Y state other_state
   opened_told {S} {T} {X} {Y} state other_state a d e events others answers answers_there before after other_before other_after all same here unseen there unseen_there =

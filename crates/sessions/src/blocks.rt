@@ -16,7 +16,7 @@ ghost use Rattle.server.specs.declared.writer.Writer.{Writer as TheWriter};
 ghost use Rattle.sessions.specs.Decisions.{Serves, Always, Never, IsBlockOf, NoText};
 
 use crate::answers::{done, warned};
-use crate::seeing::holds_slot;
+use crate::seeing::holds_lock;
 use indexmap::IndexMap;
 use server::decision::{Decision, SessionChange};
 use server::session::{Block, BlockChange, Session};
@@ -72,7 +72,7 @@ pub fn commit(writer: &Option<Writer>, number: u64, session: &Session) -> Decisi
         ),
         Block::Inside(_) => {
             let change = SessionChange::Block(number, BlockChange::Leave);
-            if holds_slot(writer, number) {
+            if holds_lock(writer, number) {
                 Decision::CommitWriter(done(Tag::Commit), change)
             } else {
                 Decision::Answer(done(Tag::Commit), change)
@@ -104,7 +104,7 @@ fn end_rolled_back(writer: &Option<Writer>, number: u64) -> Decision
         (λ m. succeeds tag.Rollback (with_block_ended m number s m.committed role)) result }
 {
     let change = SessionChange::Block(number, BlockChange::RollBack);
-    if holds_slot(writer, number) {
+    if holds_lock(writer, number) {
         Decision::Release(done(Tag::Rollback), change)
     } else {
         Decision::Answer(done(Tag::Rollback), change)
@@ -125,7 +125,7 @@ pub fn close(writer: &Option<Writer>, sessions: &IndexMap<u64, Session>, number:
         );
     }
     let change = SessionChange::Close(number);
-    if holds_slot(writer, number) {
+    if holds_lock(writer, number) {
         Decision::Release(done(Tag::Close), change)
     } else {
         Decision::Answer(done(Tag::Close), change)

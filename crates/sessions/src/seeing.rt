@@ -2,7 +2,7 @@
 
 ghost use Rattle.std.specs.Prelude.{◌≡◌};
 ghost use Rattle.std.specs.Option.{option_copied};
-ghost use Rattle.sessions.specs.Writers.{is_slot_of, is_slot_of_other, definitions_seen};
+ghost use Rattle.sessions.specs.Writers.{is_lock_of, is_lock_of_other, definitions_seen};
 ghost use Rattle.sessions.specs.Visible.{lists_seen};
 
 use catalogue::definitions::Catalogue;
@@ -10,8 +10,8 @@ use server::writer::Writer;
 use store::Batch;
 
 /// Whether the session of this number holds the writer lock.
-pub fn holds_slot(writer: &Option<Writer>, number: u64) -> bool
-    ensures { result ≡ is_slot_of number writer.now }
+pub fn holds_lock(writer: &Option<Writer>, number: u64) -> bool
+    ensures { result ≡ is_lock_of number writer.now }
 {
     match writer {
         Some(writer) => writer.session == number,
@@ -20,8 +20,8 @@ pub fn holds_slot(writer: &Option<Writer>, number: u64) -> bool
 }
 
 /// Whether a session of another number holds it.
-pub fn other_holds_slot(writer: &Option<Writer>, number: u64) -> bool
-    ensures { result ≡ is_slot_of_other number writer.now }
+pub fn other_holds_lock(writer: &Option<Writer>, number: u64) -> bool
+    ensures { result ≡ is_lock_of_other number writer.now }
 {
     match writer {
         Some(writer) => writer.session != number,

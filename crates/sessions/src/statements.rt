@@ -25,7 +25,7 @@ use crate::answers::refuse;
 use crate::blocks::{begin, commit, roll_back};
 use crate::decisions::decision_for;
 use crate::roles::{reset_role, set_role};
-use crate::seeing::{lists_seen, other_holds_slot, seen_catalogue};
+use crate::seeing::{lists_seen, other_holds_lock, seen_catalogue};
 use catalogue::definitions::Catalogue;
 use catalogue::effect::Effect;
 use server::decision::Decision;
@@ -124,7 +124,7 @@ impl<'a> OpenSession<'a> {
         ensures admission { (records : Records) → IsAdmission records self.now statement.now result }
     {
         let seen = seen_catalogue(self.writer, self.catalogue, self.number);
-        let is_held = other_holds_slot(self.writer, self.number);
+        let is_held = other_holds_lock(self.writer, self.number);
         match admit(alloc, seen, self.session, statement, is_held)? {
             None => Ok(()),
             Some(code) => Err(StatementError::Refused(code)),

@@ -15,7 +15,7 @@ ghost use Rattle.sessions.specs.Readings.{ReadsText};
 use crate::answers::refuse;
 use crate::laws::one_reading;
 use crate::reading::read_text;
-use crate::seeing::other_holds_slot;
+use crate::seeing::other_holds_lock;
 use crate::statements::OpenSession;
 use server::decide::Context;
 use server::decision::{Decision, SessionChange};
@@ -125,7 +125,7 @@ pub(crate) fn is_locked_out(
     let Some(session) = context.sessions.get(&number) else {
         return Ok(false);
     };
-    if !other_holds_slot(context.writer, number) {
+    if !other_holds_lock(context.writer, number) {
         return Ok(false);
     }
     match read_text(alloc, text) {

@@ -9,7 +9,7 @@ use Rattle.sql_lexer.specs.declared.token.Punctuation.TheVariants.{Comma, Star}
 use Rattle.expr_parser.specs.Grammar.{Tree, SpellsExpr}
 use Rattle.sql_commands.proofs.Within.{within}
 use Rattle.sql_grammar.specs.Classes.{Class, exactly, no_star, in_any, in_class}
-use Rattle.sql_grammar.specs.Phrases.{Phrase, gives, ◌▹◌, ◌⊛◌, ◌∣◌, listed, many, word_of, name, number, expr, sort_value, clause, Spells}
+use Rattle.sql_grammar.specs.Phrases.{Phrase, gives, ◌▹◌, ◌⊛◌, ◌∣◌, listed, many, word_of, name, number, expr, sort_key_expression, clause, Spells}
 use Rattle.sql_grammar.specs.LookAhead.{if_so, nullable, first, is_determined}
 use Rattle.sql_grammar.specs.Productions.{SpellsList, last, more, SpellsRepeated, no_more, one_more}
 use Rattle.sql_grammar.proofs.Apart.{in_former, in_latter, in_first, is_exactly}
@@ -41,7 +41,7 @@ second (word_of table) = []
 second name = []
 second number = []
 second expr = any_token
-second sort_value = any_token
+second sort_key_expression = any_token
 second (clause source) = any_token
 
 -- what is known of a phrase from i to before j
@@ -179,5 +179,5 @@ seconds (word_of table) ts i j x w s = record { alone = λ e. refl; known = λ h
 seconds name ts i j x w s = record { alone = λ e. refl; known = λ h. absurd (omega (arith, h, s.1)) }
 seconds number ts i j x w s = record { alone = λ e. refl; known = λ h. absurd (omega (arith, h, s.2)) }
 seconds expr ts i j x w s = of_expr expr ts i j x refl refl s
-seconds sort_value ts i j x w s = of_expr sort_value ts i j x refl refl s.0
+seconds sort_key_expression ts i j x w s = of_expr sort_key_expression ts i j x refl refl s.0
 seconds (clause source) ts i j x w s = of_expr (clause source) ts i j x.expression refl refl s.0

@@ -6,7 +6,7 @@ use Rattle.sql_types.specs.Name.{IsUtf8Name}
 use Rattle.sql_lexer.specs.Lexeme.{Lexeme}
 use Rattle.sql_lexer.specs.declared.token.TokenKind.{TokenKind}
 use Rattle.sql_ast.specs.Read.{AreSome, IsReadTerm}
-use Rattle.sql_grammar.specs.Phrases.{Phrase, gives, ◌▹◌, ◌⊛◌, ◌∣◌, listed, many, name, number, expr, sort_value, Spells, optional, after, parenthesized}
+use Rattle.sql_grammar.specs.Phrases.{Phrase, gives, ◌▹◌, ◌⊛◌, ◌∣◌, listed, many, name, number, expr, sort_key_expression, Spells, optional, after, parenthesized}
 use Rattle.sql_grammar.specs.Productions.{SpellsList, last, more, SpellsRepeated, no_more, one_more}
 use Rattle.sql_lexer.specs.Tokens.{AreReadable}
 use Rattle.expr_parser.proofs.ReadTerms.{term_read}
@@ -37,7 +37,7 @@ names z = record { holds = λ i j x s. z.names i x s.0 }
 pub terms : {source : List ℕ} {ts : List Lexeme} → AreReadable source ts → Sound ts expr IsReadTerm
 terms z = record { holds = λ i j x s. term_read z s }
 
-pub sort_terms : {source : List ℕ} {ts : List Lexeme} → AreReadable source ts → Sound ts sort_value IsReadTerm
+pub sort_terms : {source : List ℕ} {ts : List Lexeme} → AreReadable source ts → Sound ts sort_key_expression IsReadTerm
 sort_terms z = record { holds = λ i j x s. term_read z s.0 }
 
 pub numbers : {ts : List Lexeme} → Sound ts number (λ n. n < 2 ^ 63)

@@ -46,7 +46,7 @@ use Rattle.sql_ast.specs.declared.statement.SortKey.{SortKey}
 use Rattle.sql_ast.specs.declared.statement.SortDirection.{SortDirection}
 use Rattle.sql_ast.specs.declared.statement.SortDirection.TheVariants as direction
 use Rattle.expr_parser.specs.Grammar.{Tree}
-use Rattle.sql_grammar.specs.Phrases.{Phrase, gives, ◌▹◌, ◌⊛◌, ◌∣◌, listed, many, word_of, name, number, expr, sort_value, clause, optional, after, parenthesized, noise, three_words}
+use Rattle.sql_grammar.specs.Phrases.{Phrase, gives, ◌▹◌, ◌⊛◌, ◌∣◌, listed, many, word_of, name, number, expr, sort_key_expression, clause, optional, after, parenthesized, noise, three_words}
 use Rattle.sql_commands.specs.declared.queries.MoreTables.{MoreTables}
 use Rattle.sql_commands.specs.declared.queries.MoreTables.TheVariants as more
 use Rattle.sql_commands.specs.declared.command.Command.{Command}
@@ -283,7 +283,7 @@ a_direction = word_of ((R reserved.Asc, direction.Ascending) ∷ (R reserved.Des
 
 -- expr [ASC | DESC], where the expression is no number by itself
 abbrev pub a_sort_key : Phrase SortKey
-a_sort_key = gives (λ e d. record { value = e; direction = d }) ⊛ sort_value ⊛ optional a_direction
+a_sort_key = gives (λ e d. record { value = e; direction = d }) ⊛ sort_key_expression ⊛ optional a_direction
 
 -- ORDER BY key {"," key}
 abbrev pub an_order : Phrase (List SortKey)

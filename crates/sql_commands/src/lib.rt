@@ -25,7 +25,7 @@ pub mod queries;
 mod repeated;
 pub mod roles;
 pub mod rows;
-mod sort_value;
+mod sort_key_expression;
 mod steps;
 pub mod tables;
 pub mod transactions;

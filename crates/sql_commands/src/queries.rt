@@ -9,7 +9,7 @@ use crate::list::ListOf;
 use crate::optional::Optional;
 use crate::production::{KnownProduction, Production, Readable};
 use crate::repeated::Repeated;
-use crate::sort_value::sort_value;
+use crate::sort_key_expression::sort_key_expression;
 use crate::steps::{after_word, then, token};
 use expr_parser::parse_error::ParseError;
 use expr_parser::reader::has;
@@ -271,7 +271,7 @@ impl Readable for SortKey {
     ghost phrase = { a_sort_key };
 
     fn read(alloc: Global, tokens: &[Token], at: usize) -> Result<(SortKey, usize), ParseError> {
-        let (value, at_direction) = sort_value(alloc, tokens, at)?;
+        let (value, at_direction) = sort_key_expression(alloc, tokens, at)?;
         let (direction, end) = optional_word_of(tokens, at_direction, &DIRECTIONS);
         Ok((SortKey { value, direction }, end))
     }

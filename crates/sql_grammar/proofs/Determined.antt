@@ -19,7 +19,7 @@ use Rattle.expr_parser.specs.Grammar.{Tree, SpellsExpr, Part, leaf, chain, by_no
 use Rattle.expr_parser.specs.Grammar as grammar
 use Rattle.expr_parser.proofs.Readings.{token_precedence, spells_lt}
 use Rattle.sql_grammar.specs.Classes.{Class, exactly, names, no_star, code, is_name, in_class, in_any, apart}
-use Rattle.sql_grammar.specs.Phrases.{Phrase, gives, ◌▹◌, ◌⊛◌, ◌∣◌, listed, many, word_of, name, number, expr, sort_value, clause, Spells, StandsFor}
+use Rattle.sql_grammar.specs.Phrases.{Phrase, gives, ◌▹◌, ◌⊛◌, ◌∣◌, listed, many, word_of, name, number, expr, sort_key_expression, clause, Spells, StandsFor}
 use Rattle.sql_grammar.specs.LookAhead.{operators, if_so, words_in, has_no_doubles, nullable, first, extends, is_determined, Ends}
 use Rattle.sql_grammar.specs.Productions.{SpellsList, last, more, SpellsRepeated, no_more, one_more}
 use Rattle.sql_grammar.proofs.Apart.{apart_never, or_none, none_of_both, in_former, in_latter, in_first, is_exactly, not_in}
@@ -242,7 +242,7 @@ begins (word_of table) ts i j x w s = record { le = omega (arith, s.1); filled =
 begins name ts i j x w s = record { le = omega (arith, s.1); filled = λ h. omega (arith, s.1); known = λ h. in_first names [] (kind_at ts i) (name_known ts i x s.0) }
 begins number ts i j x w s = record { le = omega (arith, s.2); filled = λ h. omega (arith, s.2); known = λ h. rw s.0 }
 begins expr ts i j x w s = record { le = omega (arith, spells_lt s); filled = λ h. spells_lt s; known = λ h. in_first no_star [] (kind_at ts i) (expr_known s) }
-begins sort_value ts i j x w s = record { le = omega (arith, spells_lt s.0); filled = λ h. spells_lt s.0; known = λ h. in_first no_star [] (kind_at ts i) (expr_known s.0) }
+begins sort_key_expression ts i j x w s = record { le = omega (arith, spells_lt s.0); filled = λ h. spells_lt s.0; known = λ h. in_first no_star [] (kind_at ts i) (expr_known s.0) }
 begins (clause source) ts i j x w s = record { le = omega (arith, spells_lt s.0); filled = λ h. spells_lt s.0; known = λ h. in_first no_star [] (kind_at ts i) (expr_known s.0) }
 
 -- Where a phrase ends

@@ -10,7 +10,7 @@ use Rattle.expr_parser.specs.declared.parse_error.ParseError.{ParseError}
 use Rattle.expr_parser.specs.Grammar.{Tree, SpellsExpr}
 use Rattle.expr_parser.proofs.Readings.{Compared, same, shorter, longer, one, spells_lt}
 use Rattle.sql_grammar.specs.Classes.{exactly, is_number, in_any, in_class}
-use Rattle.sql_grammar.specs.Phrases.{expr, sort_value, number, clause, word_of, optional, IsLoneNumber, StandsFor}
+use Rattle.sql_grammar.specs.Phrases.{expr, sort_key_expression, number, clause, word_of, optional, IsLoneNumber, StandsFor}
 use Rattle.sql_grammar.specs.LookAhead.{extends, words_in, has_words, has_no_doubles, is_determined, Ends, IsReading, HasNoReading}
 use Rattle.sql_grammar.proofs.Determined.{operator_known, one_value, word_known}
 use Rattle.sql_grammar.proofs.Steps.{start, phrase, left, other, given, is_token, optional_determined}
@@ -28,14 +28,14 @@ longest_only {ts} {n = n} (longer p q) le s = absurd (both_ways (in_any (extends
 pub expr_read : {ts : List Lexeme} {i end : ℕ} {x : Tree} → SpellsExpr ts i end x → ((j : ℕ) (e : Tree) → SpellsExpr ts i j e → j ≤ end) → IsReading expr ts i end x
 expr_read d most = record { spelled = d; only = λ n y e s. longest_only (one d e) (most n y e) s }
 
-pub sort_value_read : {ts : List Lexeme} {i end : ℕ} {x : Tree} → IsReading expr ts i end x → (IsLoneNumber ts i end → ⊥) → IsReading sort_value ts i end x
-sort_value_read r never = record { spelled = (r.spelled, never); only = λ n y d s. r.only n y d.0 s }
+pub sort_key_expression_read : {ts : List Lexeme} {i end : ℕ} {x : Tree} → IsReading expr ts i end x → (IsLoneNumber ts i end → ⊥) → IsReading sort_key_expression ts i end x
+sort_key_expression_read r never = record { spelled = (r.spelled, never); only = λ n y d s. r.only n y d.0 s }
 
-pub lone_number : {ts : List Lexeme} {i end : ℕ} {x : Tree} {e : ParseError} → IsReading expr ts i end x → IsLoneNumber ts i end → HasNoReading sort_value ts i e
+pub lone_number : {ts : List Lexeme} {i end : ℕ} {x : Tree} {e : ParseError} → IsReading expr ts i end x → IsLoneNumber ts i end → HasNoReading sort_key_expression ts i e
 lone_number {ts} {i} r h = record { never = λ p n y d s. d.1 (subst (IsLoneNumber ts i) (sym (r.only n y d.0 s).0) h) }
 
-pub no_sort_value : {ts : List Lexeme} {i : ℕ} {e : ParseError} → HasNoReading expr ts i e → HasNoReading sort_value ts i e
-no_sort_value r = record { never = λ p n y d s. r.never p n y d.0 s }
+pub no_sort_key_expression : {ts : List Lexeme} {i : ℕ} {e : ParseError} → HasNoReading expr ts i e → HasNoReading sort_key_expression ts i e
+no_sort_key_expression r = record { never = λ p n y d s. r.never p n y d.0 s }
 
 Number_inj : {x y : ℕ} → Some (Number x) ≡ Some (Number y) → x ≡ y
 Number_inj e = cc

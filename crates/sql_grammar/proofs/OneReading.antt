@@ -11,7 +11,7 @@ use Rattle.sql_ast.specs.declared.policy.PolicyClause.{PolicyClause}
 use Rattle.expr_parser.specs.Grammar.{Tree}
 use Rattle.expr_parser.proofs.Readings.{Compared, same, shorter, longer, one, Some_inj}
 use Rattle.sql_grammar.specs.Classes.{exactly, in_any, in_class, apart}
-use Rattle.sql_grammar.specs.Phrases.{Phrase, gives, ◌▹◌, ◌⊛◌, ◌∣◌, listed, many, word_of, name, number, expr, sort_value, clause, Spells}
+use Rattle.sql_grammar.specs.Phrases.{Phrase, gives, ◌▹◌, ◌⊛◌, ◌∣◌, listed, many, word_of, name, number, expr, sort_key_expression, clause, Spells}
 use Rattle.sql_grammar.specs.LookAhead.{CanBegin, nullable, first, extends, is_determined, Ends}
 use Rattle.sql_grammar.specs.Productions.{IsMaximal, OrComma, OrCanBegin}
 use Rattle.sql_grammar.proofs.Apart.{apart_never, none_of_both, is_exactly, not_in}
@@ -107,7 +107,7 @@ one_reading (word_of table) ts w i m n x y d e s t = (d.1 ∙ sym e.1, one_value
 one_reading name ts w i m n x y d e s t = named_same d.0 e.0 d.1 e.1
 one_reading number ts w i m n x y d e s t = (d.2 ∙ sym e.2, Number_inj (sym d.0 ∙ e.0))
 one_reading expr ts w i m n x y d e s t = alike (one d e) s t
-one_reading sort_value ts w i m n x y d e s t = alike (one d.0 e.0) s t
+one_reading sort_key_expression ts w i m n x y d e s t = alike (one d.0 e.0) s t
 one_reading (clause source) ts w i m n x y d e s t =
     let a = alike (one d.0 e.0) s t in
     let b : d.1 ≡ e.1 = omega (arith, a.0, d.2, e.2) in

@@ -9,7 +9,7 @@ use Rattle.sql_lexer.specs.declared.token.Punctuation.TheVariants.{Comma, Dot, S
 use Rattle.expr_parser.specs.declared.parse_error.ParseError.{ParseError}
 use Rattle.expr_parser.specs.declared.parse_error.ParseError.TheVariants.{Syntax}
 use Rattle.sql_grammar.specs.Classes.{Class, exactly, names, no_star, is_number, in_any, apart}
-use Rattle.sql_grammar.specs.Phrases.{Phrase, gives, ◌▹◌, ◌⊛◌, ◌∣◌, listed, many, word_of, name, number, expr, sort_value, clause, Spells, StandsFor}
+use Rattle.sql_grammar.specs.Phrases.{Phrase, gives, ◌▹◌, ◌⊛◌, ◌∣◌, listed, many, word_of, name, number, expr, sort_key_expression, clause, Spells, StandsFor}
 
 -- the tokens that can extend an expression: the operators, the dot after a table, and the OF behind MEMBER
 abbrev pub operators : List Class
@@ -68,7 +68,7 @@ first (word_of table) = words_in table
 first name = names ∷ []
 first number = exactly (Number 0) ∷ []
 first expr = no_star ∷ []
-first sort_value = no_star ∷ []
+first sort_key_expression = no_star ∷ []
 first (clause source) = no_star ∷ []
 
 -- the tokens that can extend it
@@ -78,7 +78,7 @@ extends (p ∣ q) = extends p ++ extends q ++ if_so (nullable q) (first p) ++ if
 extends (listed p) = exactly (Punctuation Comma) ∷ extends p
 extends (many p) = first p ++ extends p
 extends expr = operators
-extends sort_value = operators
+extends sort_key_expression = operators
 extends (clause source) = operators
 extends _ = []
 

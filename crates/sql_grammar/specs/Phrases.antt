@@ -36,7 +36,7 @@ pub data Phrase : Type 0 → Type 1 where
   -- an expression
   expr : Phrase Tree
   -- an expression that is no number by itself
-  sort_value : Phrase Tree
+  sort_key_expression : Phrase Tree
   -- an expression with its text in this source, from its first token to its last
   clause : List ℕ → Phrase PolicyClause
 
@@ -82,5 +82,5 @@ Spells ts (word_of table) i j y = StandsFor table (kind_at ts i) y × (j ≡ suc
 Spells ts name i j y = (content.name (slice_get ts i) ≡ Some y) × (j ≡ suc i)
 Spells ts number i j y = (kind_at ts i ≡ Some (Number y)) × (y < 2 ^ 63) × (j ≡ suc i)
 Spells ts expr i j y = SpellsExpr ts i j y
-Spells ts sort_value i j y = SpellsExpr ts i j y × (IsLoneNumber ts i j → ⊥)
+Spells ts sort_key_expression i j y = SpellsExpr ts i j y × (IsLoneNumber ts i j → ⊥)
 Spells ts (clause source) i j y = SpellsExpr ts i j y.expression × (k : ℕ) × (j ≡ suc k) × (y.text ≡ text_between source ts i k)

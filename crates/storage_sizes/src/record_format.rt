@@ -1,6 +1,6 @@
 //! How records are spelled.
 ghost use Rattle.std.specs.Prelude.{◌≡◌};
-ghost use Rattle.storage_sizes.specs.Spellings.{current};
+ghost use Rattle.storage_sizes.specs.CurrentRecordFormat.{current};
 
 /// How the records of a store are spelled. All are spelled alike in both record formats but those of
 /// privilege descriptors, whose keys have a place for a column in the second.
@@ -13,8 +13,8 @@ pub enum RecordFormat {
 }
 
 impl RecordFormat {
-    /// The spelling in which databases are made.
-    #[tactic(auto, unfolding(crate::specs::Spellings::current))]
+    /// The record format in which databases are made.
+    #[tactic(auto, unfolding(crate::specs::CurrentRecordFormat::current))]
     pub fn current() -> RecordFormat
         ensures { result ≡ current }
     {

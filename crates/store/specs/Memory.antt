@@ -1,6 +1,6 @@
 -- A store in memory: its records are its state, and by definition a stop now leaves them.
 use Rattle.std.specs.Prelude.{◌≡◌, List, [], ◌∷◌, ℕ, Some, false}
-use Rattle.storage_sizes.specs.Spellings.{current}
+use Rattle.storage_sizes.specs.CurrentRecordFormat.{current}
 use Rattle.store.specs.Records.{Records}
 use Rattle.storage_sizes.specs.declared.record_format.RecordFormat.{RecordFormat}
 use Rattle.store.specs.Store.{StoreState}

@@ -8,7 +8,7 @@ ghost use Rattle.store.specs.Batch.{all_changes};
 ghost use Rattle.store.specs.InPieces.{changes_of};
 ghost use Rattle.store.specs.Held.{AreHeld, records_of};
 ghost use Rattle.store.specs.Memory.{memory_state};
-ghost use Rattle.storage_sizes.specs.Spellings.{current};
+ghost use Rattle.storage_sizes.specs.CurrentRecordFormat.{current};
 
 use crate::admin::put_admin;
 use crate::cursor::is_within;

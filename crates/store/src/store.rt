@@ -25,7 +25,7 @@ pub trait Store: Map {
     fn record_format(&self) -> RecordFormat
         ensures { result ≡ (Self.state self.now).record_format };
 
-    /// Commits all changes of a batch, or none of them; the spelling stays. Full: no room is left.
+    /// Commits all changes of a batch, or none of them; the record format stays. Full: no room is left.
     /// Number: no number is. Device: the device failed, and whether the batch is committed is known
     /// only when the device is opened again. An empty batch is committed without a call below.
     ///

@@ -12,7 +12,7 @@ use Rattle.stored_database.specs.Definitions.{TableDefinition, ids_of}
 use Rattle.stored_database.specs.RecordFormat.{ended, descriptor_prefix, descriptor_record}
 use Rattle.stored_database.specs.Items.{IsStoredDescriptor}
 use Rattle.stored_database.specs.Records.{is_orphan, StandsFor}
-use Rattle.stored_database.specs.Spellings.{placed, with_places}
+use Rattle.stored_database.specs.BothRecordFormats.{placed, with_places}
 use Rattle.stored_database.proofs.Lists.{into_map, of_map, of_flat_map}
 use Rattle.stored_database.proofs.Names.{same_ended}
 use Rattle.stored_database.proofs.Descriptors.{grantor_free, grantee_free}

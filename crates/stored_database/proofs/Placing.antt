@@ -12,7 +12,7 @@ use Rattle.store.specs.Store.{Contents}
 use Rattle.abstract_database.specs.Database.{Database, action_number, grantor_name, grantee_name}
 use Rattle.stored_database.specs.RecordFormat.{ended, bit, place_byte, descriptor_prefix, descriptor_record}
 use Rattle.stored_database.specs.Records.{StandsFor}
-use Rattle.stored_database.specs.Spellings.{first_descriptor, with_place, placed, with_places, spelled_in_second, Stands}
+use Rattle.stored_database.specs.BothRecordFormats.{first_descriptor, with_place, placed, with_places, in_record_format_2, Stands}
 
 -- ---- keys with a byte more at one index
 
@@ -128,4 +128,4 @@ descriptor_alone id d e whole is = go (has_prefix (4 ∷ []) e.0) refl (is ∙ s
 -- ---- contents
 
 pub stand_for_one : ((records : Records) (a b : Database) → StandsFor records a → StandsFor records b → a ≡ b) → (contents : Contents) (a b : Database) → Stands contents a → Stands contents b → a ≡ b
-stand_for_one one contents a b p q = one (spelled_in_second contents.record_format contents.records) a b p q
+stand_for_one one contents a b p q = one (in_record_format_2 contents.record_format contents.records) a b p q

@@ -3,6 +3,6 @@ pub mod RecordFormat
 pub mod Items
 pub mod Valid
 pub mod Records
-pub mod Spellings
+pub mod BothRecordFormats
 pub mod Entries
 pub mod Examples

@@ -32,7 +32,7 @@ pub use orders::{
 pub use parts::parts_are_found_by_name;
 pub use places::{
     contents_stand_for_one_database, descriptors_get_places, places_keep_the_order,
-    spellings_are_apart,
+    record_formats_are_apart,
 };
 pub use readings::{
     one_list_of_descriptors, one_list_of_memberships, one_list_of_policies, one_list_of_roles,

@@ -7,7 +7,7 @@ ghost use Rattle.store.specs.Store.{Contents};
 ghost use Rattle.abstract_database.specs.Database.{Database};
 ghost use Rattle.stored_database.specs.Records.{StandsFor};
 ghost use Rattle.stored_database.specs.RecordFormat.{descriptor_record};
-ghost use Rattle.stored_database.specs.Spellings.{first_descriptor, placed, with_places, Stands};
+ghost use Rattle.stored_database.specs.BothRecordFormats.{first_descriptor, placed, with_places, Stands};
 
 use crate::databases::one_database;
 
@@ -28,7 +28,7 @@ pub fn places_keep_the_order()
 
 /// The same records stand for databases in both record formats only where these have no table: behind
 /// the action of what the system granted an owner record format 2 has one zero byte more.
-pub fn spellings_are_apart()
+pub fn record_formats_are_apart()
     ensures { (records : Records) (a b : Database) → StandsFor records a
         → StandsFor (with_places records) b → a.tables ≡ [] }
 {}

@@ -3,55 +3,55 @@ use Rattle.std.proofs.Common.{◌≡◌, ◌∙◌, ◌⊎◌, ℕ, List, [], �
 use Rattle.talks.specs.declared.talk.Talk.{Ghosts as TalkGhosts}
 use Rattle.talks.specs.declared.machine.Machine.{Ghosts as MachineGhosts}
 use Rattle.talks.specs.declared.clients.ServedClients.{Ghosts as ClientsGhosts}
-use Rattle.talks.specs.declared.clients.Why.{Why}
+use Rattle.talks.specs.declared.clients.EndCause.{EndCause}
 use Rattle.talks.specs.declared.want.Want.{Want}
 use Rattle.talks.specs.Wants.{Learnt}
-use Rattle.talks.specs.Conversations.{Place, awaited, there, gone, IsGone, EndsOnce, unless_ended, wanted, Passes}
+use Rattle.talks.specs.Conversations.{ClientState, awaited, there, gone, IsGone, EndsOnce, unless_ended, wanted, Passes}
 use Rattle.talks.specs.Clients.{IsLeaving}
 use Rattle.talks.specs.Turns.{Turn, Exchange, steps, asks, waits, leaves, ends, LetsGo, IsAmong, IsTurnOf, ClosesLeft, NoneIs, IsCourse, learnt_in, Steps, TakesTurn, TakesTurns}
 use Rattle.talks.proofs.Sessions.{stays_gone}
 
 -- the connection of a client has ended
-abbrev HasLeft : {T : Type 0} → Place T → Type 0
+abbrev HasLeft : {T : Type 0} → ClientState T → Type 0
 HasLeft (awaited bytes) = ⊥
-HasLeft (there x) = (w : Why) × (x.why ≡ Some w)
+HasLeft (there x) = (w : EndCause) × (x.end_cause ≡ Some w)
 HasLeft (gone told) = Unit {0}
 
-gone_has_left : {T : Type 0} (a : Place T) → IsGone a → HasLeft a
+gone_has_left : {T : Type 0} (a : ClientState T) → IsGone a → HasLeft a
 gone_has_left (awaited bytes) is = is
 gone_has_left (there x) is = absurd is
 gone_has_left (gone told) is = tt
 
-leaving_has_left : {T : Type 0} (t : TalkGhosts T) (a : Place T) → IsLeaving t a → HasLeft a
+leaving_has_left : {T : Type 0} (t : TalkGhosts T) (a : ClientState T) → IsLeaving t a → HasLeft a
 leaving_has_left t (awaited bytes) is = is
 leaving_has_left t (there x) is = (is.0, is.1)
 leaving_has_left t (gone told) is = tt
 
-gone_is_no_leaving : {T : Type 0} (t : TalkGhosts T) (a : Place T) → IsGone a → IsLeaving t a → ⊥
+gone_is_no_leaving : {T : Type 0} (t : TalkGhosts T) (a : ClientState T) → IsGone a → IsLeaving t a → ⊥
 gone_is_no_leaving t (awaited bytes) is leaving = is
 gone_is_no_leaving t (there x) is leaving = is
 gone_is_no_leaving t (gone told) is leaving = leaving
 
-ended_once : (w : Why) (a b : Option Why) (xs : List Learnt) → a ≡ Some w → EndsOnce a xs b → b ≡ Some w
+ended_once : (w : EndCause) (a b : Option EndCause) (xs : List Learnt) → a ≡ Some w → EndsOnce a xs b → b ≡ Some w
 ended_once w None b xs is once = absurd (cc)
 ended_once w (Some v) b xs is once = once.1 ∙ is
 
-left_stays : {T : Type 0} (t : TalkGhosts T) (a b : Place T) (xs : List Learnt) → Passes t a xs b → HasLeft a → HasLeft b
+left_stays : {T : Type 0} (t : TalkGhosts T) (a b : ClientState T) (xs : List Learnt) → Passes t a xs b → HasLeft a → HasLeft b
 left_stays t (awaited bytes) b xs passes left = absurd left
 left_stays t (there x) (awaited bytes) xs passes left = absurd passes
-left_stays t (there x) (there y) xs passes left = (left.0, ended_once left.0 x.why y.why xs left.1 passes.6)
+left_stays t (there x) (there y) xs passes left = (left.0, ended_once left.0 x.end_cause y.end_cause xs left.1 passes.6)
 left_stays t (there x) (gone told) xs passes left = tt
 left_stays t (gone told) (awaited bytes) xs passes left = absurd passes
 left_stays t (gone told) (there y) xs passes left = absurd passes
 left_stays t (gone told) (gone more) xs passes left = tt
 
-none_wanted : (o : Option Why) (w : Why) (v u : Want) → o ≡ Some w → unless_ended o v ≡ Some u → ⊥
+none_wanted : (o : Option EndCause) (w : EndCause) (v u : Want) → o ≡ Some w → unless_ended o v ≡ Some u → ⊥
 none_wanted None w v u is wants = absurd (cc)
 none_wanted (Some x) w v u is wants = absurd (cc)
 
-left_wants_none : {T : Type 0} (t : TalkGhosts T) (a : Place T) (u : Want) → HasLeft a → wanted t a ≡ Some u → ⊥
+left_wants_none : {T : Type 0} (t : TalkGhosts T) (a : ClientState T) (u : Want) → HasLeft a → wanted t a ≡ Some u → ⊥
 left_wants_none t (awaited bytes) u left wants = left
-left_wants_none t (there x) u left wants = none_wanted x.why left.0 (t.wants x.talk) u left.1 wants
+left_wants_none t (there x) u left wants = none_wanted x.end_cause left.0 (t.wants x.talk) u left.1 wants
 left_wants_none t (gone told) u left wants = absurd (cc)
 
 module _ {M T C : Type 0} (m : MachineGhosts M) (t : TalkGhosts T) (k : ClientsGhosts C T) where

@@ -6,18 +6,18 @@ use Rattle.talks.specs.declared.clients.ServedClients.{Ghosts as ClientsGhosts}
 use Rattle.talks.specs.declared.want.Want.{Want}
 use Rattle.talks.specs.declared.want.Reply.{Reply}
 use Rattle.talks.specs.Wants.{Learnt, OpensSession}
-use Rattle.talks.specs.Conversations.{Place, awaited, there, gone, IsGone, wanted, Passes}
+use Rattle.talks.specs.Conversations.{ClientState, awaited, there, gone, IsGone, wanted, Passes}
 use Rattle.talks.specs.Turns.{Turn, Exchange, steps, asks, waits, leaves, ends, LetsGo, WasLetGo, learnt_in, Steps, TakesTurn, TakesTurns, HasNone, OpenedBySteps, OpenedHere, OpenedIn}
 
 -- who has gone stays so, and wants nothing
-pub stays_gone : {T : Type 0} (t : TalkGhosts T) (a b : Place T) (xs : List Learnt) → Passes t a xs b → IsGone a → IsGone b
+pub stays_gone : {T : Type 0} (t : TalkGhosts T) (a b : ClientState T) (xs : List Learnt) → Passes t a xs b → IsGone a → IsGone b
 stays_gone t (awaited bytes) b xs passes is = absurd is
 stays_gone t (there x) b xs passes is = absurd is
 stays_gone t (gone told) (awaited bytes) xs passes is = absurd passes
 stays_gone t (gone told) (there y) xs passes is = absurd passes
 stays_gone t (gone told) (gone more) xs passes is = tt
 
-gone_wants_none : {T : Type 0} (t : TalkGhosts T) (a : Place T) (w : Want) → IsGone a → wanted t a ≡ Some w → ⊥
+gone_wants_none : {T : Type 0} (t : TalkGhosts T) (a : ClientState T) (w : Want) → IsGone a → wanted t a ≡ Some w → ⊥
 gone_wants_none t (awaited bytes) w is wants = is
 gone_wants_none t (there x) w is wants = is
 gone_wants_none t (gone told) w is wants = absurd (cc)

@@ -1,11 +1,11 @@
 -- What the calls of clients do.
 use Rattle.std.specs.Prelude.{◌≡◌, ◌≢◌, ◌⊎◌, ◌<◌, ◌≤◌, ◌-◌, ◌^◌, ◌==◌, ℕ, Bool, true, false, not, if◌then◌else◌, List, [], ◌∷◌, filter, Option, Some}
 use Rattle.talks.specs.Wants.{WantsStep, WantsQuestion}
-use Rattle.talks.specs.Conversations.{Place, awaited, there, gone, IsGone, IsAwaited, wanted, ending, HasEnded, Passes}
+use Rattle.talks.specs.Conversations.{ClientState, awaited, there, gone, IsGone, IsAwaited, wanted, ending, HasEnded, Passes}
 use Rattle.talks.specs.declared.want.Want.{Want}
 use Rattle.talks.specs.declared.want.Want.TheVariants as want
 use Rattle.talks.specs.declared.talk.Talk.{Ghosts}
-use Rattle.talks.specs.declared.clients.Why.TheVariants as why
+use Rattle.talks.specs.declared.clients.EndCause.TheVariants as end_cause
 use Rattle.talks.specs.declared.clients.Finish.{Finish}
 use Rattle.talks.specs.declared.clients.Finish.TheVariants as ends
 use Rattle.talks.specs.declared.clients.Next.{Next}
@@ -29,23 +29,23 @@ is_behind c (d ∷ ds) = not (d == c)
 -- ---- who is there
 
 -- nobody goes
-abbrev pub NoneGoes : {T : Type 0} → (ℕ → Place T) → (ℕ → Place T) → Type 0
+abbrev pub NoneGoes : {T : Type 0} → (ℕ → ClientState T) → (ℕ → ClientState T) → Type 0
 NoneGoes old new = (c : ℕ) → IsGone (new c) → IsGone (old c)
 
 -- nobody but this client does
-abbrev pub GoesAlone : {T : Type 0} → ℕ → (ℕ → Place T) → (ℕ → Place T) → Type 0
+abbrev pub GoesAlone : {T : Type 0} → ℕ → (ℕ → ClientState T) → (ℕ → ClientState T) → Type 0
 GoesAlone client old new = (c : ℕ) → c ≢ client → IsGone (new c) → IsGone (old c)
 
 -- nobody is there
-abbrev pub NobodyIsThere : {T : Type 0} → (ℕ → Place T) → Type 0
+abbrev pub NobodyIsThere : {T : Type 0} → (ℕ → ClientState T) → Type 0
 NobodyIsThere at = (c : ℕ) → IsAwaited (at c) ⊎ IsGone (at c)
 
 -- the first n have come and gone, and no other has come
-abbrev pub AllCame : {T : Type 0} → ℕ → (ℕ → Place T) → Type 0
+abbrev pub AllCame : {T : Type 0} → ℕ → (ℕ → ClientState T) → Type 0
 AllCame n at = (c : ℕ) → (c < n → IsGone (at c)) × (n ≤ c → IsAwaited (at c))
 
 -- why nothing more is to be done
-abbrev pub EndsAs : {T : Type 0} → Bool → (ℕ → Place T) → Option ℕ → ℕ → ℕ → Finish → Type 0
+abbrev pub EndsAs : {T : Type 0} → Bool → (ℕ → ClientState T) → Option ℕ → ℕ → ℕ → Finish → Type 0
 EndsAs stopped at expected refusals looks ends.Done = (n : ℕ) × (expected ≡ Some n) × AllCame n at
 EndsAs stopped at expected refusals looks ends.Stopped = (stopped ≡ true) × NobodyIsThere at
 EndsAs stopped at expected refusals looks ends.Net = (refusals ≢ 0) × NobodyIsThere at
@@ -58,23 +58,23 @@ LeavesNobody _ = Unit {0}
 
 module _ {T : Type 0} (k : Ghosts T) where
   -- a client waits, behind those that do, or was refused the memory for that
-  abbrev pub IsPutLast : (ℕ → Place T) → ℕ → List ℕ → List ℕ → Type 0
+  abbrev pub IsPutLast : (ℕ → ClientState T) → ℕ → List ℕ → List ℕ → Type 0
   IsPutLast at c old new = (new ≡ put_last c old) ⊎ ((new ≡ old) × (wanted k (at c) ≡ Some want.OutOfMemory))
 
   -- the connection of a client has ended, with its cause
-  abbrev pub IsLeaving : Place T → Type 0
+  abbrev pub IsLeaving : ClientState T → Type 0
   IsLeaving (awaited bytes) = ⊥
   IsLeaving (there x) = HasEnded k x
   IsLeaving (gone told) = ⊥
 
   -- clients came, were heard and were sent to; nothing was learnt, and nobody went
-  pub record Moved (old new : ℕ → Place T) : Type 0 where
+  pub record Moved (old new : ℕ → ClientState T) : Type 0 where
     pub passed : (c : ℕ) → Passes k (old c) [] (new c)
     pub gone : NoneGoes old new
 
   -- what is to be done next
-  abbrev pub IsNext : Bool → (ℕ → Place T) → List ℕ → Option ℕ → ℕ → ℕ → Next → Type 0
+  abbrev pub IsNext : Bool → (ℕ → ClientState T) → List ℕ → Option ℕ → ℕ → ℕ → Next → Type 0
   IsNext stopped at waiting expected refusals looks (next.Step client) = (w : Want) × (wanted k (at client) ≡ Some w) × WantsStep w
   IsNext stopped at waiting expected refusals looks (next.Question client) = (w : Want) × (wanted k (at client) ≡ Some w) × WantsQuestion w
-  IsNext stopped at waiting expected refusals looks (next.Left client w) = (ending (at client) ≡ Some w) × IsLeaving (at client) × (w ≡ why.Stopped → stopped ≡ true)
+  IsNext stopped at waiting expected refusals looks (next.Left client w) = (ending (at client) ≡ Some w) × IsLeaving (at client) × (w ≡ end_cause.Stopped → stopped ≡ true)
   IsNext stopped at waiting expected refusals looks (next.Ended e) = EndsAs stopped at expected refusals looks e × (LeavesNobody e → waiting ≡ [])

@@ -6,8 +6,8 @@ use Rattle.talks.specs.declared.want.Want.{Want}
 use Rattle.talks.specs.declared.want.Want.TheVariants as want
 use Rattle.talks.specs.declared.talk.MessageFront.TheVariants.{Nothing, Whole, Bad}
 use Rattle.talks.specs.declared.talk.Talk.{Ghosts}
-use Rattle.talks.specs.declared.clients.Why.{Why}
-use Rattle.talks.specs.declared.clients.Why.TheVariants as why
+use Rattle.talks.specs.declared.clients.EndCause.{EndCause}
+use Rattle.talks.specs.declared.clients.EndCause.TheVariants as end_cause
 
 -- ---- one reading of the bytes of a client
 
@@ -17,8 +17,8 @@ pub data Heard {T : Type 0} (k : Ghosts T) : T → List ℕ → List Learnt → 
   stays : {t : T} {bytes : List ℕ} → Heard k t bytes [] [] bytes t
   hears : {t u v : T} {bytes said also rest : List ℕ} {xs : List Learnt} (n : ℕ) → k.wants t ≡ want.Message → k.front t bytes ≡ Whole n
       → k.hears t (take n bytes) said u → Heard k u (drop n bytes) xs also rest v → Heard k t bytes xs (said ++ also) rest v
-  spoils : {t u v : T} {bytes said also rest : List ℕ} {xs : List Learnt} → k.wants t ≡ want.Message → k.front t bytes ≡ Bad
-      → k.spoils t said u → Heard k u bytes xs also rest v → Heard k t bytes xs (said ++ also) rest v
+  rejects : {t u v : T} {bytes said also rest : List ℕ} {xs : List Learnt} → k.wants t ≡ want.Message → k.front t bytes ≡ Bad
+      → k.rejects t said u → Heard k u bytes xs also rest v → Heard k t bytes xs (said ++ also) rest v
   learns : {t u v : T} {bytes said also rest : List ℕ} {xs : List Learnt} (x : Learnt) → k.wants t ≡ x.want → FitsWant x.want x.reply
       → k.learns t x.reply said u → Heard k u bytes xs also rest v → Heard k t bytes (x ∷ xs) (said ++ also) rest v
   loses : {t u v : T} {bytes also rest : List ℕ} {xs : List Learnt} (x : Learnt) → k.wants t ≡ x.want → FitsWant x.want x.reply
@@ -44,49 +44,49 @@ pub record Conversation (T : Type 0) : Type 0 where
   -- a limit was set that may end it
   pub limited : Bool
   -- why its connection has ended, once it has
-  pub why : Option Why
+  pub end_cause : Option EndCause
 
 -- all that was said to a client, where that is known
 abbrev pub told : {T : Type 0} → Conversation T → Option (List ℕ)
 told x = append_known x.sent x.unsent
 
 -- where a client is: to come, with these bytes, where they are known; there; or gone, after this has gone out to it
-pub data Place (T : Type 0) : Type 0 where
-  awaited : Option (List ℕ) → Place T
-  there : Conversation T → Place T
-  gone : Option (List ℕ) → Place T
+pub data ClientState (T : Type 0) : Type 0 where
+  awaited : Option (List ℕ) → ClientState T
+  there : Conversation T → ClientState T
+  gone : Option (List ℕ) → ClientState T
 
-abbrev pub IsGone : {T : Type 0} → Place T → Type 0
+abbrev pub IsGone : {T : Type 0} → ClientState T → Type 0
 IsGone (awaited bytes) = ⊥
 IsGone (there x) = ⊥
 IsGone (gone sent) = Unit {0}
 
-abbrev pub IsAwaited : {T : Type 0} → Place T → Type 0
+abbrev pub IsAwaited : {T : Type 0} → ClientState T → Type 0
 IsAwaited (awaited bytes) = Unit {0}
 IsAwaited (there x) = ⊥
 IsAwaited (gone sent) = ⊥
 
 -- once its connection has ended a client learns nothing, and that has one reason
-abbrev pub EndsOnce : Option Why → List Learnt → Option Why → Type 0
+abbrev pub EndsOnce : Option EndCause → List Learnt → Option EndCause → Type 0
 EndsOnce None xs new = Unit {0}
 EndsOnce (Some w) xs new = (xs ≡ []) × (new ≡ Some w)
 
 -- why the connection of a client has ended
-abbrev pub ending : {T : Type 0} → Place T → Option Why
+abbrev pub ending : {T : Type 0} → ClientState T → Option EndCause
 ending (awaited bytes) = None
-ending (there x) = x.why
+ending (there x) = x.end_cause
 ending (gone sent) = None
 
 -- what is wanted, while the connection has not ended
-abbrev pub unless_ended : Option Why → Want → Option Want
+abbrev pub unless_ended : Option EndCause → Want → Option Want
 unless_ended None w = Some w
 unless_ended (Some reason) w = None
 
 module _ {T : Type 0} (k : Ghosts T) where
   -- what the conversation with a client wants
-  abbrev pub wanted : Place T → Option Want
+  abbrev pub wanted : ClientState T → Option Want
   wanted (awaited bytes) = None
-  wanted (there x) = unless_ended x.why (k.wants x.talk)
+  wanted (there x) = unless_ended x.end_cause (k.wants x.talk)
   wanted (gone sent) = None
 
   -- some bytes came and were heard, this was learnt, and just that was said which the protocol says to all this
@@ -95,7 +95,7 @@ module _ {T : Type 0} (k : Ghosts T) where
       × Consumes x.remaining y.remaining came
       × Heard k x.talk (x.held ++ came) xs said y.held y.talk
       × Appends (told x) (told y) said
-      × (y.limited ≡ x.limited) × EndsOnce x.why xs y.why
+      × (y.limited ≡ x.limited) × EndsOnce x.end_cause xs y.end_cause
 
   -- a client that has just come
   pub record IsNew (bytes : Option (List ℕ)) (x : Conversation T) : Type 0 where
@@ -105,23 +105,23 @@ module _ {T : Type 0} (k : Ghosts T) where
     pub sent : (x.sent ≡ None) ⊎ (x.sent ≡ Some [])
     pub unsent : x.unsent ≡ []
     pub failures : x.failures ≡ 0
-    pub why : x.why ≡ None
+    pub end_cause : x.end_cause ≡ None
 
   -- each end has its cause; that of Stopped is the machine's
-  abbrev pub HasCause : Why → Conversation T → Type 0
-  HasCause why.Input x = (k.wants x.talk ≡ want.Message) × (k.front x.talk x.held ≡ Nothing) × IsAtEnd x.remaining × (x.unsent ≡ [])
-  HasCause why.Finished x = WantsEnd (k.wants x.talk) × (x.unsent ≡ [])
-  HasCause why.Failed x = x.failures ≢ 0
-  HasCause why.Limit x = x.limited ≡ true
-  HasCause why.Memory x = k.wants x.talk ≡ want.OutOfMemory
-  HasCause why.Stopped x = Unit {0}
+  abbrev pub HasCause : EndCause → Conversation T → Type 0
+  HasCause end_cause.Input x = (k.wants x.talk ≡ want.Message) × (k.front x.talk x.held ≡ Nothing) × IsAtEnd x.remaining × (x.unsent ≡ [])
+  HasCause end_cause.Finished x = WantsEnd (k.wants x.talk) × (x.unsent ≡ [])
+  HasCause end_cause.Failed x = x.failures ≢ 0
+  HasCause end_cause.Limit x = x.limited ≡ true
+  HasCause end_cause.Memory x = k.wants x.talk ≡ want.OutOfMemory
+  HasCause end_cause.Stopped x = Unit {0}
 
   -- the connection has ended, with its cause
   abbrev pub HasEnded : Conversation T → Type 0
-  HasEnded x = (w : Why) × (x.why ≡ Some w) × HasCause w x
+  HasEnded x = (w : EndCause) × (x.end_cause ≡ Some w) × HasCause w x
 
-  -- between these two places a client learnt this: it came, and it went once its connection had ended
-  abbrev pub Passes : Place T → List Learnt → Place T → Type 0
+  -- between these two states a client learnt this: it came, and it went once its connection had ended
+  abbrev pub Passes : ClientState T → List Learnt → ClientState T → Type 0
   Passes (awaited bytes) xs (awaited left) = (xs ≡ []) × (left ≡ bytes)
   Passes (awaited bytes) xs (there y) = (x : Conversation T) × IsNew bytes x × Continues x xs y
   Passes (awaited bytes) xs (gone sent) = (x : Conversation T) × IsNew bytes x × ((y : Conversation T) × Continues x xs y × HasEnded y × (y.sent ≡ sent))

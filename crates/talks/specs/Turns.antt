@@ -5,8 +5,8 @@ use Rattle.talks.specs.declared.want.Reply.{Reply}
 use Rattle.talks.specs.declared.talk.Talk.{Ghosts as TalkGhosts}
 use Rattle.talks.specs.declared.machine.Machine.{Ghosts as MachineGhosts}
 use Rattle.talks.specs.declared.clients.ServedClients.{Ghosts as ClientsGhosts}
-use Rattle.talks.specs.declared.clients.Why.{Why}
-use Rattle.talks.specs.declared.clients.Why.TheVariants as why
+use Rattle.talks.specs.declared.clients.EndCause.{EndCause}
+use Rattle.talks.specs.declared.clients.EndCause.TheVariants as end_cause
 use Rattle.talks.specs.Wants.{Learnt, learnt, own, WantsStep, WantsQuestion, OpensSession, RefusesMemory}
 use Rattle.talks.specs.Conversations.{IsGone, wanted, ending, Passes}
 use Rattle.talks.specs.Clients.{without, is_behind, IsPutLast, IsLeaving, Moved}
@@ -27,7 +27,7 @@ pub data Turn : Type 0 where
   -- a session was closed that a client has left open
   leaves : ℕ → Turn
   -- a client was let go whose connection had ended
-  ends : ℕ → Why → Turn
+  ends : ℕ → EndCause → Turn
 
 -- what client c learns of an exchange
 abbrev pub learnt_of : ℕ → Exchange → List Learnt
@@ -134,7 +134,7 @@ module _ {M T C : Type 0} (m : MachineGhosts M) (t : TalkGhosts T) (k : ClientsG
   TakesTurn old before (asks d) new after = Wants before d.client d.want × WantsQuestion d.want × m.Tells old d.client d.want d.reply new × k.learns before (m.moment new) d.client d.reply after × (k.waiting after ≡ without d.client (k.waiting before))
   TakesTurn old before (waits c w) new after = Wants before c w × MustWait old before c w × (new ≡ old) × IsPutLast t (k.at after) c (k.waiting before) (k.waiting after)
   TakesTurn old before (leaves c) new after = IsLeaving t (k.at before c) × m.Closes old c new × (after ≡ before)
-  TakesTurn old before (ends c w) new after = (ending (k.at before c) ≡ Some w) × IsLeaving t (k.at before c) × (w ≡ why.Stopped → m.stopped old ≡ true)
+  TakesTurn old before (ends c w) new after = (ending (k.at before c) ≡ Some w) × IsLeaving t (k.at before c) × (w ≡ end_cause.Stopped → m.stopped old ≡ true)
       × HasNone old c × (new ≡ old) × IsGone (k.at after c) × (k.waiting after ≡ without c (k.waiting before))
 
   -- what clients do between turns: they come, are heard and sent to

@@ -2,7 +2,7 @@
 
 ghost use Rattle.std.specs.Prelude.{◌≡◌, ◌≢◌, true, ℕ, List, [], Option, Some, Bool};
 ghost use Rattle.talks.specs.Wants.{FitsWant, learnt, own};
-ghost use Rattle.talks.specs.Conversations.{Place, wanted, ending, IsGone, Passes};
+ghost use Rattle.talks.specs.Conversations.{ClientState, wanted, ending, IsGone, Passes};
 ghost use Rattle.talks.specs.Clients.{IsNext, NoneGoes, GoesAlone, IsPutLast, without, is_behind, EndsAs, IsLeaving, Moved};
 ghost use Rattle.talks.specs.declared.want.Want.{Want as TheWant};
 ghost use Rattle.talks.specs.declared.want.Reply.{Reply as TheReply};
@@ -13,7 +13,7 @@ use crate::want::{Reply, Want};
 
 /// Why the connection of a client ended.
 #[derive(Clone, Copy, PartialEq, Eq)]
-pub enum Why {
+pub enum EndCause {
     /// Its input is at its end: no whole message is left, and all that was said has gone out.
     Input,
     /// Its conversation wanted that, as after a bad message, and all that was said has gone out.
@@ -49,7 +49,7 @@ pub enum Next {
     /// It wants a question answered.
     Question { client: u32 },
     /// The connection of a client has ended.
-    Left { client: u32, why: Why },
+    Left { client: u32, end_cause: EndCause },
     /// Nobody comes any more.
     Ended(Finish),
 }
@@ -57,7 +57,7 @@ pub enum Next {
 /// Clients, which are numbered in the order of their coming.
 pub trait ServedClients<T: Talk> {
     /// Where each client is, and the conversation with it.
-    ghost at: { Self → ℕ → Place T };
+    ghost at: { Self → ℕ → ClientState T };
 
     /// Who waits for the writer lock, the first that came first.
     ghost waiting: { Self → List ℕ };

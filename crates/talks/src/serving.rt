@@ -8,7 +8,7 @@ ghost use Rattle.talks.specs.Turns.{Turn, TakesTurn, Moves, Goes, MayGo, MustWai
 ghost use Rattle.talks.specs.Serving.{ServesClients, EndedAs};
 ghost use Rattle.talks.specs.declared.want.Want.{Want as TheWant};
 
-use crate::clients::{Finish, Next, ServedClients, Why};
+use crate::clients::{EndCause, Finish, Next, ServedClients};
 use crate::machine::Machine;
 use crate::talk::Talk;
 use std::alloc::AllocError;
@@ -35,7 +35,7 @@ pub fn serve_clients<M: Machine, T: Talk, C: ServedClients<T>>(
         match next {
             Next::Step { client } => take_step(machine, clients, client),
             Next::Question { client } => answer_question(machine, clients, client),
-            Next::Left { client, why } => leave(machine, clients, client, why),
+            Next::Left { client, end_cause } => leave(machine, clients, client, end_cause),
             Next::Ended(ending) => return ServeEnd::Ended(ending),
         }
     }
@@ -132,11 +132,11 @@ fn leave<M: Machine, T: Talk, C: ServedClients<T>>(
     machine: &mut M,
     clients: &mut C,
     client: u32,
-    why: Why,
+    end_cause: EndCause,
 )
-    requires ending { ending (C.at clients.old client) ≡ Some why }
+    requires ending { ending (C.at clients.old client) ≡ Some end_cause }
     requires leaving { IsLeaving T.Talk (C.at clients.old client) }
-    requires stopped { why ≡ Why.Stopped → M.stopped machine.old ≡ true }
+    requires stopped { end_cause ≡ EndCause.Stopped → M.stopped machine.old ≡ true }
     ensures { (turn : Turn) × TakesTurn M.Machine T.Talk C.ServedClients machine.old clients.old turn machine.new clients.new
         × Moves M.Machine T.Talk C.ServedClients turn clients.old clients.new }
 {

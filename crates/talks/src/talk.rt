@@ -36,7 +36,7 @@ pub trait Talk {
     ghost hears: { Self → List ℕ → List ℕ → Self → Type 0 };
 
     /// What it says of a bad front, and how it stands then.
-    ghost spoils: { Self → List ℕ → Self → Type 0 };
+    ghost rejects: { Self → List ℕ → Self → Type 0 };
 
     /// What it says to what it learns, and how it stands then.
     ghost learns: { Self → TheReply → List ℕ → Self → Type 0 };
@@ -57,9 +57,9 @@ pub trait Talk {
         ensures err { OnErr result ((wants self.new ≡ TheWant.OutOfMemory) × (out.new.items ≡ out.old.items)) };
 
     /// Learns that a bad message stands at the front, of which it says something.
-    fn spoil(&mut self, out: &mut Vec<u8>) -> Result<(), AllocError>
+    fn reject(&mut self, out: &mut Vec<u8>) -> Result<(), AllocError>
         requires { wants self.old ≡ TheWant.Message }
-        ensures ok { OnOk result ((said : List ℕ) × spoils self.old said self.new
+        ensures ok { OnOk result ((said : List ℕ) × rejects self.old said self.new
             × (out.new.items ≡ out.old.items ++ said)) }
         ensures err { OnErr result ((wants self.new ≡ TheWant.OutOfMemory) × (out.new.items ≡ out.old.items)) };
 

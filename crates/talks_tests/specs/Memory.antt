@@ -2,9 +2,9 @@
 use Rattle.std.specs.Prelude.{◌≡◌, false, [], Some}
 use Rattle.talks.specs.declared.talk.Talk.{Ghosts}
 use Rattle.talks.specs.declared.want.Want.{Want}
-use Rattle.talks.specs.declared.clients.Why.TheVariants as why
+use Rattle.talks.specs.declared.clients.EndCause.TheVariants as end_cause
 use Rattle.talks.specs.Wants.{WantsStep, WantsQuestion}
-use Rattle.talks.specs.Conversations.{Conversation, Place, awaited, there, gone, wanted, ending}
+use Rattle.talks.specs.Conversations.{Conversation, ClientState, awaited, there, gone, wanted, ending}
 use Rattle.talks.specs.Clients.{IsLeaving}
 use Rattle.talks_tests.specs.declared.line.MemoryClient.{MemoryClient}
 use Rattle.talks_tests.specs.declared.line.Stage.{Stage}
@@ -22,21 +22,21 @@ conversation_of line = record {
   unsent = [];
   failures = 0;
   limited = false;
-  why = line.why;
+  end_cause = line.end_cause;
 }
 
 -- where a client is
-abbrev pub place_at : {T : Type 0} → Stage → MemoryClient T → Place T
-place_at stage.Awaited line = awaited (Some line.held.items)
-place_at stage.There line = there (conversation_of line)
-place_at stage.Gone line = gone (Some line.said.items)
+abbrev pub state_at : {T : Type 0} → Stage → MemoryClient T → ClientState T
+state_at stage.Awaited line = awaited (Some line.held.items)
+state_at stage.There line = there (conversation_of line)
+state_at stage.Gone line = gone (Some line.said.items)
 
-abbrev pub place_of : {T : Type 0} → MemoryClient T → Place T
-place_of line = place_at line.stage line
+abbrev pub state_of : {T : Type 0} → MemoryClient T → ClientState T
+state_of line = state_at line.stage line
 
 -- what a client has to do with the machine is so
-abbrev pub HasWish : {T : Type 0} → Ghosts T → Wish → Place T → Type 0
+abbrev pub HasWish : {T : Type 0} → Ghosts T → Wish → ClientState T → Type 0
 HasWish k wish.Nothing p = Unit {0}
 HasWish k wish.Step p = (w : Want) × (wanted k p ≡ Some w) × WantsStep w
 HasWish k wish.Question p = (w : Want) × (wanted k p ≡ Some w) × WantsQuestion w
-HasWish k (wish.Left w) p = (ending p ≡ Some w) × IsLeaving k p × (w ≡ why.Stopped → ⊥)
+HasWish k (wish.Left w) p = (ending p ≡ Some w) × IsLeaving k p × (w ≡ end_cause.Stopped → ⊥)

@@ -5,8 +5,8 @@ ghost use Rattle.talks.specs.Wants.{FitsWant, learnt};
 ghost use Rattle.talks.specs.Conversations.{Passes, IsGone, wanted};
 ghost use Rattle.talks.specs.Clients.{without, put_last, is_behind, IsNext, Moved};
 ghost use Rattle.talks.specs.declared.want.Want.{Want as TheWant};
-ghost use Rattle.talks_tests.specs.Memory.{place_of};
-ghost use Rattle.talks_tests.specs.TwoClients.{waiting_of, places, NextOf};
+ghost use Rattle.talks_tests.specs.Memory.{state_of};
+ghost use Rattle.talks_tests.specs.TwoClients.{waiting_of, states, NextOf};
 
 use crate::line::{BeginsAnew, MemoryClient, Stage, Wish};
 use talks::clients::{Finish, Next, ServedClients};
@@ -123,17 +123,17 @@ fn next_of(client: u32, wish: Wish) -> Option<Next>
         Wish::Nothing => None,
         Wish::Step => Some(Next::Step { client }),
         Wish::Question => Some(Next::Question { client }),
-        Wish::Left(why) => Some(Next::Left { client, why }),
+        Wish::Left(end_cause) => Some(Next::Left { client, end_cause }),
     }
 }
 
 impl<T: BeginsAnew> TwoClients<T> {
     // Looks at the one that was not looked at last.
     fn look(&mut self, stopped: bool) -> Option<Next>
-        ensures moved { Moved T.Talk (places self.old) (places self.new) }
+        ensures moved { Moved T.Talk (states self.old) (states self.new) }
         ensures waiting { self.new.queue ≡ self.old.queue }
         ensures looks { self.new.looks ≡ self.old.looks }
-        ensures next { IfSome result (λ n. IsNext T.Talk stopped (places self.new) (waiting_of self.new.queue) (Some 2) 0 self.new.looks n) }
+        ensures next { IfSome result (λ n. IsNext T.Talk stopped (states self.new) (waiting_of self.new.queue) (Some 2) 0 self.new.looks n) }
     {
         if self.is_done() {
             return Some(Next::Ended(Finish::Done));
@@ -146,20 +146,20 @@ impl<T: BeginsAnew> TwoClients<T> {
     }
 
     fn look_at_first(&mut self, stopped: bool) -> Option<Next>
-        ensures moved { Moved T.Talk (places self.old) (places self.new) }
+        ensures moved { Moved T.Talk (states self.old) (states self.new) }
         ensures waiting { self.new.queue ≡ self.old.queue }
         ensures looks { self.new.looks ≡ self.old.looks }
-        ensures next { IfSome result (λ n. IsNext T.Talk stopped (places self.new) (waiting_of self.new.queue) (Some 2) 0 self.new.looks n) }
+        ensures next { IfSome result (λ n. IsNext T.Talk stopped (states self.new) (waiting_of self.new.queue) (Some 2) 0 self.new.looks n) }
     {
         self.second_was_last = false;
         next_of(0, self.first.attend())
     }
 
     fn look_at_second(&mut self, stopped: bool) -> Option<Next>
-        ensures moved { Moved T.Talk (places self.old) (places self.new) }
+        ensures moved { Moved T.Talk (states self.old) (states self.new) }
         ensures waiting { self.new.queue ≡ self.old.queue }
         ensures looks { self.new.looks ≡ self.old.looks }
-        ensures next { IfSome result (λ n. IsNext T.Talk stopped (places self.new) (waiting_of self.new.queue) (Some 2) 0 self.new.looks n) }
+        ensures next { IfSome result (λ n. IsNext T.Talk stopped (states self.new) (waiting_of self.new.queue) (Some 2) 0 self.new.looks n) }
     {
         self.second_was_last = true;
         next_of(1, self.second.attend())
@@ -169,7 +169,7 @@ impl<T: BeginsAnew> TwoClients<T> {
 impl<T: BeginsAnew> ServedClients<T> for TwoClients<T> {
     ghost use Rattle.std.specs.Prelude.{◌≡◌, ℕ, [], ◌∷◌, Some};
 
-    ghost at = { places };
+    ghost at = { states };
 
     ghost waiting = { λ x. waiting_of x.queue };
 
@@ -179,7 +179,7 @@ impl<T: BeginsAnew> ServedClients<T> for TwoClients<T> {
 
     ghost looks = { λ x. x.looks };
 
-    ghost learns = { λ x moment c r y. (w : TheWant) × (wanted T.Talk (places x c) ≡ Some w) × FitsWant w r × Passes T.Talk (places x c) (learnt w r ∷ []) (places y c) };
+    ghost learns = { λ x moment c r y. (w : TheWant) × (wanted T.Talk (states x c) ≡ Some w) × FitsWant w r × Passes T.Talk (states x c) (learnt w r ∷ []) (states y c) };
 
     ghost has_waited = { λ x c. ⊥ };
 

@@ -65,7 +65,7 @@ impl Talk for Echo {
 
     ghost hears = { λ t message said u. HearsText message said u.want };
 
-    ghost spoils = { λ t said u. (said ≡ 33 ∷ []) × (u.want ≡ TheWant.End false) };
+    ghost rejects = { λ t said u. (said ≡ 33 ∷ []) × (u.want ≡ TheWant.End false) };
 
     ghost learns = { λ t reply said u. (said ≡ said_of reply) × (u.want ≡ TheWant.Message) };
 
@@ -95,7 +95,7 @@ impl Talk for Echo {
         }
     }
 
-    fn spoil(&mut self, out: &mut Vec<u8>) -> Result<(), AllocError> {
+    fn reject(&mut self, out: &mut Vec<u8>) -> Result<(), AllocError> {
         self.refuse(out)
     }
 

@@ -5,11 +5,11 @@ ghost use Rattle.talks.specs.Wants.{WantsStep, WantsQuestion, FitsWant, learnt};
 ghost use Rattle.talks.specs.Conversations.{HasCause, Continues, Passes, IsGone, wanted};
 ghost use Rattle.talks.specs.Clients.{IsLeaving};
 ghost use Rattle.talks.specs.declared.want.Want.{Want as TheWant};
-ghost use Rattle.talks_tests.specs.Memory.{conversation_of, place_of, HasWish};
+ghost use Rattle.talks_tests.specs.Memory.{conversation_of, state_of, HasWish};
 
 use sql_types::event::Event;
 use std::alloc::Global;
-use talks::clients::Why;
+use talks::clients::EndCause;
 use talks::talk::{MessageFront, Talk};
 use talks::want::{Reply, Want};
 
@@ -30,7 +30,7 @@ pub enum Wish {
     /// It has a question.
     Question,
     /// Its connection has ended.
-    Left(Why),
+    Left(EndCause),
 }
 
 /// Where a client is.
@@ -52,16 +52,16 @@ pub struct MemoryClient<T> {
     pub held: Vec<u8>,
     /// What was said to it.
     pub said: Vec<u8>,
-    pub why: Option<Why>,
+    pub end_cause: Option<EndCause>,
     pub stage: Stage,
 }
 
 impl<T: BeginsAnew> MemoryClient<T> {
     /// Does one thing for the client, and tells what it has to do with the machine.
     pub fn attend(&mut self) -> Wish
-        ensures passed { Passes T.Talk (place_of self.old) [] (place_of self.new) }
-        ensures gone { IsGone (place_of self.new) → IsGone (place_of self.old) }
-        ensures wish { HasWish T.Talk result (place_of self.new) }
+        ensures passed { Passes T.Talk (state_of self.old) [] (state_of self.new) }
+        ensures gone { IsGone (state_of self.new) → IsGone (state_of self.old) }
+        ensures wish { HasWish T.Talk result (state_of self.new) }
     {
         match self.stage {
             Stage::Awaited => {
@@ -76,12 +76,12 @@ impl<T: BeginsAnew> MemoryClient<T> {
     // It comes, with all that it sends.
     fn come(&mut self)
         requires { self.old.stage ≡ Stage.Awaited }
-        ensures passed { Passes T.Talk (place_of self.old) [] (place_of self.new) }
+        ensures passed { Passes T.Talk (state_of self.old) [] (state_of self.new) }
         ensures there { self.new.stage ≡ Stage.There }
     {
         self.talk.begin();
         self.said.clear();
-        self.why = None;
+        self.end_cause = None;
         self.stage = Stage::There;
     }
 
@@ -90,12 +90,12 @@ impl<T: BeginsAnew> MemoryClient<T> {
         requires { self.old.stage ≡ Stage.There }
         ensures there { self.new.stage ≡ Stage.There }
         ensures goes_on { Continues T.Talk (conversation_of self.old) [] (conversation_of self.new) }
-        ensures wish { HasWish T.Talk result (place_of self.new) }
+        ensures wish { HasWish T.Talk result (state_of self.new) }
     {
         match self.cause() {
             Some(found) => self.end_as(found),
             None => {
-                if self.why.is_some() {
+                if self.end_cause.is_some() {
                     return Wish::Nothing;
                 }
                 self.advance()
@@ -104,38 +104,38 @@ impl<T: BeginsAnew> MemoryClient<T> {
     }
 
     // Its connection ends, or has ended, with this cause.
-    fn end_as(&mut self, found: Why) -> Wish
+    fn end_as(&mut self, found: EndCause) -> Wish
         requires there { self.old.stage ≡ Stage.There }
         requires cause { HasCause T.Talk found (conversation_of self.old) }
-        requires running { found ≡ Why.Stopped → ⊥ }
+        requires running { found ≡ EndCause.Stopped → ⊥ }
         ensures there { self.new.stage ≡ Stage.There }
         ensures goes_on { Continues T.Talk (conversation_of self.old) [] (conversation_of self.new) }
-        ensures wish { HasWish T.Talk result (place_of self.new) }
+        ensures wish { HasWish T.Talk result (state_of self.new) }
     {
-        match self.why {
-            Some(why) => {
-                if is_same(why, found) {
+        match self.end_cause {
+            Some(end_cause) => {
+                if is_same(end_cause, found) {
                     return Wish::Left(found);
                 }
                 Wish::Nothing
             }
             None => {
-                self.why = Some(found);
+                self.end_cause = Some(found);
                 Wish::Left(found)
             }
         }
     }
 
     // Why the connection is to end, if it is.
-    fn cause(&self) -> Option<Why>
-        ensures { IfSome result (λ w. HasCause T.Talk w (conversation_of self.now) × (w ≡ Why.Stopped → ⊥)) }
+    fn cause(&self) -> Option<EndCause>
+        ensures { IfSome result (λ w. HasCause T.Talk w (conversation_of self.now) × (w ≡ EndCause.Stopped → ⊥)) }
     {
         match self.talk.want() {
-            Want::End { late: _ } => Some(Why::Finished),
-            Want::OutOfMemory => Some(Why::Memory),
+            Want::End { late: _ } => Some(EndCause::Finished),
+            Want::OutOfMemory => Some(EndCause::Memory),
             Want::Message => {
                 if self.is_at_end() {
-                    return Some(Why::Input);
+                    return Some(EndCause::Input);
                 }
                 None
             }
@@ -152,11 +152,11 @@ impl<T: BeginsAnew> MemoryClient<T> {
 
     // Tells what it wants of the machine, or hears the next message where it wants one.
     fn advance(&mut self) -> Wish
-        requires why { self.old.why ≡ None }
+        requires end_cause { self.old.end_cause ≡ None }
         requires there { self.old.stage ≡ Stage.There }
         ensures there { self.new.stage ≡ Stage.There }
         ensures goes_on { Continues T.Talk (conversation_of self.old) [] (conversation_of self.new) }
-        ensures wish { HasWish T.Talk result (place_of self.new) }
+        ensures wish { HasWish T.Talk result (state_of self.new) }
     {
         if is_step(self.talk.want()) {
             return Wish::Step;
@@ -173,13 +173,13 @@ impl<T: BeginsAnew> MemoryClient<T> {
     // Hears what stands at the front.
     fn hear(&mut self)
         requires wants { T.wants self.old.talk ≡ TheWant.Message }
-        requires why { self.old.why ≡ None }
+        requires end_cause { self.old.end_cause ≡ None }
         ensures there { self.new.stage ≡ self.old.stage }
         ensures goes_on { Continues T.Talk (conversation_of self.old) [] (conversation_of self.new) }
     {
         match self.talk.front(&self.held) {
             MessageFront::Whole(size) => self.take_message(size),
-            MessageFront::Bad => self.spoil(),
+            MessageFront::Bad => self.reject(),
             MessageFront::Nothing => {}
         }
     }
@@ -188,7 +188,7 @@ impl<T: BeginsAnew> MemoryClient<T> {
     fn take_message(&mut self, size: usize)
         requires wants { T.wants self.old.talk ≡ TheWant.Message }
         requires whole { T.front self.old.talk self.old.held.items ≡ MessageFront.Whole size }
-        requires why { self.old.why ≡ None }
+        requires end_cause { self.old.end_cause ≡ None }
         ensures there { self.new.stage ≡ self.old.stage }
         ensures goes_on { Continues T.Talk (conversation_of self.old) [] (conversation_of self.new) }
     {
@@ -199,14 +199,14 @@ impl<T: BeginsAnew> MemoryClient<T> {
     }
 
     // Learns that a bad message stands at the front.
-    fn spoil(&mut self)
+    fn reject(&mut self)
         requires wants { T.wants self.old.talk ≡ TheWant.Message }
         requires bad { T.front self.old.talk self.old.held.items ≡ MessageFront.Bad }
-        requires why { self.old.why ≡ None }
+        requires end_cause { self.old.end_cause ≡ None }
         ensures there { self.new.stage ≡ self.old.stage }
         ensures goes_on { Continues T.Talk (conversation_of self.old) [] (conversation_of self.new) }
     {
-        match self.talk.spoil(&mut self.said) {
+        match self.talk.reject(&mut self.said) {
             Ok(()) => {}
             Err(_) => {}
         }
@@ -214,9 +214,9 @@ impl<T: BeginsAnew> MemoryClient<T> {
 
     /// Learns what it wanted.
     pub fn learn(&mut self, reply: Reply)
-        requires { (w : TheWant) × (wanted T.Talk (place_of self.old) ≡ Some w) × FitsWant w reply }
-        ensures passed { (w : TheWant) → wanted T.Talk (place_of self.old) ≡ Some w
-            → Passes T.Talk (place_of self.old) (learnt w reply ∷ []) (place_of self.new) }
+        requires { (w : TheWant) × (wanted T.Talk (state_of self.old) ≡ Some w) × FitsWant w reply }
+        ensures passed { (w : TheWant) → wanted T.Talk (state_of self.old) ≡ Some w
+            → Passes T.Talk (state_of self.old) (learnt w reply ∷ []) (state_of self.new) }
         ensures there { self.new.stage ≡ self.old.stage }
         ensures stays { self.new.stage ≡ Stage.There }
     {
@@ -228,17 +228,17 @@ impl<T: BeginsAnew> MemoryClient<T> {
 
     /// What it wants.
     pub fn want(&self) -> &Want
-        requires { (w : TheWant) × (wanted T.Talk (place_of self.now) ≡ Some w) }
-        ensures { wanted T.Talk (place_of self.now) ≡ Some result.now }
+        requires { (w : TheWant) × (wanted T.Talk (state_of self.now) ≡ Some w) }
+        ensures { wanted T.Talk (state_of self.now) ≡ Some result.now }
     {
         self.talk.want()
     }
 
     /// Goes, once its connection has ended.
     pub fn close(&mut self)
-        requires { IsLeaving T.Talk (place_of self.old) }
-        ensures passed { Passes T.Talk (place_of self.old) [] (place_of self.new) }
-        ensures gone { IsGone (place_of self.new) }
+        requires { IsLeaving T.Talk (state_of self.old) }
+        ensures passed { Passes T.Talk (state_of self.old) [] (state_of self.new) }
+        ensures gone { IsGone (state_of self.new) }
     {
         self.stage = Stage::Gone;
     }
@@ -251,7 +251,7 @@ impl<T> MemoryClient<T> {
             talk,
             held: input,
             said: Vec::new(alloc),
-            why: None,
+            end_cause: None,
             stage: Stage::Awaited,
         }
     }
@@ -264,7 +264,7 @@ impl<T> MemoryClient<T> {
     }
 }
 
-fn is_same(a: Why, b: Why) -> bool
+fn is_same(a: EndCause, b: EndCause) -> bool
     ensures { result ≡ true → a ≡ b }
 {
     a == b

@@ -79,7 +79,7 @@ impl<S: Store> Callee for Records<S> {
     }
 }
 
-/// The word of a spelling.
+/// The word of a record format.
 fn word_of(record_format: RecordFormat) -> &'static str {
     match record_format {
         RecordFormat::V1 => "first",

@@ -1,5 +1,5 @@
 use Rattle.std.proofs.Common.{◌-◌, arith}
-use Rattle.catalogue_loading.proofs.Circles.{one_role}
+use Rattle.catalogue_loading.proofs.Cycles.{one_role}
 use Rattle.catalogue_loading.proofs.membership_checks.is_first_of_role.Goals as goal
 
 pub returns-else-index-eq0 : goal.returns-else-index-eq0

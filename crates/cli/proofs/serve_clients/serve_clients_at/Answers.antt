@@ -1,5 +1,4 @@
-use Rattle.std.proofs.Common.{rules, ◌≡◌, ◌∙◌, ap, inl, inr, refl}
-use Rattle.databases.specs.Openings.{device_under}
+use Rattle.std.proofs.Common.{rules, inl, inr, refl}
 use Rattle.systems.specs.Systems.{Rose}
 use Rattle.cli.proofs.Changes.{rose_between}
 use Rattle.cli.proofs.ServedClients.{bound_between, clients_served_at, counts_between}

@@ -1,7 +1,7 @@
 use Rattle.std.proofs.Common.{◌≡◌, ◌/◌, IfErr, sym, subst}
 use Rattle.store.proofs.Reading.{reads_joined}
 use Rattle.copies.specs.RecordCopies.{HasOutsized, behind_mark, whole}
-use Rattle.storage_sizes.specs.Spellings.{current}
+use Rattle.storage_sizes.specs.CurrentRecordFormat.{current}
 use Rattle.store.specs.declared.fault.Fault.TheVariants.{Damaged}
 use Rattle.copies.specs.declared.fault.CopyFault.TheVariants.{Read}
 use Rattle.copies.specs.DeviceCopies.{HasSourceCause}

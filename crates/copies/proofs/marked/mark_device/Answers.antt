@@ -1,6 +1,6 @@
 use Rattle.std.proofs.Common.{◌≡◌, ℕ, true, subst}
 use Rattle.cow_pages.specs.Image.{is_size}
-use Rattle.storage_sizes.specs.Spellings.{current}
+use Rattle.storage_sizes.specs.CurrentRecordFormat.{current}
 use Rattle.store.specs.Records.{Record}
 use Rattle.kv_store.specs.Formatting.{WritesStore, IsMade}
 use Rattle.copies.proofs.marked.mark_device.Goals as goal

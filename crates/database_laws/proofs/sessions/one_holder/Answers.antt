@@ -1,4 +1,4 @@
-use Rattle.database_laws.proofs.SlotLemmas.{transition_preserves, transition_unseen, seen_committed}
+use Rattle.database_laws.proofs.LockLemmas.{transition_preserves, transition_unseen, seen_committed}
 use Rattle.database_laws.proofs.sessions.one_holder.Goals as goal
 
 pub returns-clause-holder : goal.returns-clause-holder

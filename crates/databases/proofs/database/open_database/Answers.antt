@@ -18,7 +18,7 @@ returns-in-Ok-open-clause-opens g c = λ faithful.
     let opened = c.in-Ok.ensures in
     let is = c.in-Ok-open.ensures in
     let sound = (opened.holds faithful).sound in
-    opened_on g.met.D.Device.only_now d c.in-Ok.store _ opened faithful is.history (c.is_first_spelling-was_migrated.ensures ∙ ap is_first c.record_format.ensures) (is.opened sound) (is.number sound)
+    opened_on g.met.D.Device.only_now d c.in-Ok.store _ opened faithful is.history (c.is_record_format_1-was_migrated.ensures ∙ ap is_first c.record_format.ensures) (is.opened sound) (is.number sound)
     (λ second.
     let looks = subst (λ (sp : RecordFormat). OnlyLooks sp (Ok tt)) (sym second) tt in
     ((is.read looks).only_reads, is.preserved looks opened.has_not_failed))

@@ -2,7 +2,7 @@ use Rattle.std.proofs.Common.{sym, subst}
 use Rattle.abstract_database.specs.Database.{Database}
 use Rattle.abstract_database.specs.Runs.{IsFoundAt}
 use Rattle.store.specs.Store.{stored}
-use Rattle.stored_database.specs.Spellings.{spelled_in_second}
+use Rattle.stored_database.specs.BothRecordFormats.{in_record_format_2}
 use Rattle.databases.specs.Lives.{all_of_client}
 use Rattle.databases.proofs.Living.{means_is, lived, not_opened, answered_refused, answered_preserved, nothing_answered}
 use Rattle.databases.proofs.over_store.live_over.Goals as goal
@@ -13,7 +13,7 @@ returns-in-Ok-clause-lives g c = λ is works last found.
     let old = state c.args.store in
     let server = c.in-Ok.server in
     let opened = c.in-Ok.ensures.opened is in
-    let one = c.one_database.ensures (spelled_in_second old.record_format old.map) opened.database found.0 opened.stands (means_is (stored old) found.0 found.1) in
+    let one = c.one_database.ensures (in_record_format_2 old.record_format old.map) opened.database found.0 opened.stands (means_is (stored old) found.0 found.1) in
     let sound = c.in-Ok.ensures.history.sound is in
     lived g.X.EventHandler.Reads state last old server opened.database (all_of_client 0 c.args.events.now) c.args.answers.now.items c.answer_events.new.answers.items
     c.answer_events.result.0 c.answer_events.result.1 (λ s x is works left. g.met.S.Store.settled s x is works left) sound c.in-Ok.ensures.history (c.in-Ok.ensures.number is)

@@ -1,6 +1,6 @@
 use Rattle.std.proofs.Common.{◌≡◌, ◌++◌, drop, map}
 use Rattle.std.specs.List.{AllByRecursion}
-use Rattle.recovery.specs.Respelled.{HasRoom, with_its_place}
+use Rattle.recovery.specs.MigrationChanges.{HasRoom, with_its_place}
 use Rattle.recovery.proofs.places.placed_entries.Given as goal
 
 -- the records to come are left to be given a place, where they have room

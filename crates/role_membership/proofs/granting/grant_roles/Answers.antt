@@ -11,7 +11,7 @@ use Rattle.abstract_database.specs.Roles.{memberships_of, with_memberships, may_
 use Rattle.abstract_database.specs.Checks.{require_roles, checked_grant_role}
 use Rattle.role_membership.specs.Chains.{IsOneInOne}
 use Rattle.role_membership.specs.Rights.{database_of, checked_names}
-use Rattle.role_membership.proofs.Circles.{granted_without_circle, refused_with_circle}
+use Rattle.role_membership.proofs.Cycles.{granted_without_cycle, refused_with_cycle}
 use Rattle.role_membership.proofs.Puts.{all_rise}
 use Rattle.role_membership.proofs.granting.grant_roles.Goals as goal
 
@@ -32,8 +32,8 @@ returns-then-branch-clause-refused c = inr (λ users is.
     let s = c.args.statement.now in
     let ms = c.args.memberships.now.items in
     let named = rw (c.as_slice.ensures.value, c.as_slice-granted.ensures, c.as_slice-members.ensures) at c.in_ok-check_names.ensures.allowed in
-    let circle = rw (c.as_slice-2.ensures.value, c.as_slice-granted.ensures, c.as_slice-members.ensures) at (c.in_ok-is_one_in_one.ensures.0 c.if-branch.true) in
-    after_names (database_of c.args.roles.now ms) users c.args.current.now s is named ∙ refused_with_circle ms s.roles s.members s.with_admin_option circle)
+    let cycle = rw (c.as_slice-2.ensures.value, c.as_slice-granted.ensures, c.as_slice-members.ensures) at (c.in_ok-is_one_in_one.ensures.0 c.if-branch.true) in
+    after_names (database_of c.args.roles.now ms) users c.args.current.now s is named ∙ refused_with_cycle ms s.roles s.members s.with_admin_option cycle)
 
 pub returns-clause-allowed : goal.returns-clause-allowed
 returns-clause-allowed c = λ users is.
@@ -41,8 +41,8 @@ returns-clause-allowed c = λ users is.
     let ms = c.args.memberships.now.items in
     let named = rw (c.as_slice.ensures.value, c.as_slice-granted.ensures, c.as_slice-members.ensures) at c.in_ok-check_names.ensures.allowed in
     let test = rw (c.as_slice-2.ensures.value, c.as_slice-granted.ensures, c.as_slice-members.ensures) at c.in_ok-is_one_in_one.ensures.1 in
-    let none = λ (circle : IsOneInOne ms s.roles s.members). (let contrary : true ≡ false = sym (test circle) ∙ c.if-branch.false in let impossible : ⊥ = cc in impossible) in
-    ap is_ok (after_names (database_of c.args.roles.now ms) users c.args.current.now s is named ∙ granted_without_circle ms s.roles s.members s.with_admin_option none)
+    let none = λ (cycle : IsOneInOne ms s.roles s.members). (let contrary : true ≡ false = sym (test cycle) ∙ c.if-branch.false in let impossible : ⊥ = cc in impossible) in
+    ap is_ok (after_names (database_of c.args.roles.now ms) users c.args.current.now s is named ∙ granted_without_cycle ms s.roles s.members s.with_admin_option none)
 
 pub returns-clause-granted : goal.returns-clause-granted
 returns-clause-granted c = λ rising users is.
@@ -50,10 +50,10 @@ returns-clause-granted c = λ rising users is.
     let ms = c.args.memberships.now.items in
     let named = rw (c.as_slice.ensures.value, c.as_slice-granted.ensures, c.as_slice-members.ensures) at c.in_ok-check_names.ensures.allowed in
     let test = rw (c.as_slice-2.ensures.value, c.as_slice-granted.ensures, c.as_slice-members.ensures) at c.in_ok-is_one_in_one.ensures.1 in
-    let none = λ (circle : IsOneInOne ms s.roles s.members). (let contrary : true ≡ false = sym (test circle) ∙ c.if-branch.false in let impossible : ⊥ = cc in impossible) in
+    let none = λ (cycle : IsOneInOne ms s.roles s.members). (let contrary : true ≡ false = sym (test cycle) ∙ c.if-branch.false in let impossible : ⊥ = cc in impossible) in
     let list = rw (c.as_slice-3.ensures.value, c.as_slice-granted.ensures, c.as_slice-members.ensures) at c.in_ok-memberships.ensures in
     after_names (database_of c.args.roles.now ms) users c.args.current.now s is named
-    ∙ granted_without_circle ms s.roles s.members s.with_admin_option none
+    ∙ granted_without_cycle ms s.roles s.members s.with_admin_option none
     ∙ ap Ok (sym (list rising))
 
 pub returns-clause-in_order : goal.returns-clause-in_order

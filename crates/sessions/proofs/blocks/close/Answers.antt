@@ -1,19 +1,19 @@
 use Rattle.std.proofs.Common.{◌≡◌, true, false, is_some, sym, ◌∙◌}
 use Rattle.abstract_database.specs.Machine.{session_of}
-use Rattle.sessions.specs.Writers.{is_slot_of}
+use Rattle.sessions.specs.Writers.{is_lock_of}
 use Rattle.sessions.proofs.BlockDecisions.{close_decides, close_releases}
 use Rattle.sessions.proofs.blocks.close.Goals as goal
 
-pub returns-then-holds_slot : goal.returns-then-holds_slot
-returns-then-holds_slot c records d db holder shows holds =
+pub returns-then-holds_lock : goal.returns-then-holds_lock
+returns-then-holds_lock c records d db holder shows holds =
     let sessions = c.args.sessions.now.entries in
     let open_there : is_some (session_of c.args.number sessions) ≡ true = sym c.contains_key.ensures ∙ c.if-not-contains_key.false in
-    let held : is_slot_of c.args.number c.args.writer.now ≡ true = sym c.holds_slot.ensures ∙ c.if-holds_slot.true in
+    let held : is_lock_of c.args.number c.args.writer.now ≡ true = sym c.holds_lock.ensures ∙ c.if-holds_lock.true in
     rw c.done.ensures (close_releases records d c.args.writer.now db holder sessions c.args.number open_there held shows)
 
-pub returns-else-holds_slot : goal.returns-else-holds_slot
-returns-else-holds_slot c records d db holder shows holds =
+pub returns-else-holds_lock : goal.returns-else-holds_lock
+returns-else-holds_lock c records d db holder shows holds =
     let sessions = c.args.sessions.now.entries in
     let open_there : is_some (session_of c.args.number sessions) ≡ true = sym c.contains_key.ensures ∙ c.if-not-contains_key.false in
-    let free : is_slot_of c.args.number c.args.writer.now ≡ false = sym c.holds_slot.ensures ∙ c.if-holds_slot.false in
-    rw c.done-else-holds_slot.ensures (close_decides records d c.args.writer.now db holder sessions c.args.number open_there free shows holds)
+    let free : is_lock_of c.args.number c.args.writer.now ≡ false = sym c.holds_lock.ensures ∙ c.if-holds_lock.false in
+    rw c.done-else-holds_lock.ensures (close_decides records d c.args.writer.now db holder sessions c.args.number open_there free shows holds)

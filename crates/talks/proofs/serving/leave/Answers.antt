@@ -7,7 +7,7 @@ use Rattle.talks.proofs.serving.leave.Goals as goal
 pub returns-then-not-close_next : goal.returns-then-not-close_next
 returns-then-not-close_next g c =
     let client = c.args.client in (
-      ends client c.args.why,
+      ends client c.args.end_cause,
       (c.requires.ending, c.requires.leaving, c.requires.stopped, c.close_next.ensures.none c.if-not-close_next.true, c.close_next.ensures.kept c.if-not-close_next.true, c.close.ensures.gone, c.close.ensures.waiting),
       record {
         passed = c.close.ensures.passed;

@@ -26,7 +26,7 @@ returns g c =
     let new = c.change.new.self in
     let batch = c.args.batch.now in
     let is = c.change.ensures in
-    let second = c.respelled-format.ensures.spelled in
+    let second = c.migrated-format.ensures.spelled in
     record {
       commits = subst (λ (s : RecordFormat). Commits c.change.result (changed_in s batch (stored (store_state old))) (store_state old) (store_state new)) second is.commits;
       batch = λ worked contents holds. subst (λ (s : RecordFormat). CommitsBatch Open batch c.change.result contents (changed_in s batch contents) old.pages.below new.pages.below) second (is.batch worked contents holds);

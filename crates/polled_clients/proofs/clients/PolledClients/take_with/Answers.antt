@@ -3,7 +3,7 @@ use Rattle.std.specs.Prelude.{nat_eq}
 use Rattle.channels.specs.Channels.{NamedBytes}
 use Rattle.channels.specs.Comings.{HasJustCome}
 use Rattle.indexmap.specs.IndexMap.{get}
-use Rattle.polled_clients.specs.Places.{places}
+use Rattle.polled_clients.specs.ClientStates.{states}
 use Rattle.polled_clients.proofs.Placing.{moved_kept, moved_on}
 use Rattle.polled_clients.proofs.clients.PolledClients.take_with.Goals as goal
 
@@ -15,7 +15,7 @@ returns-in-Came-clause-moved g c =
     let self = c.args.self.now in
     let old = self.attend in
     let new = c.take.new.self in
-    let at = places g.C.Channel g.A.Attend in
+    let at = states g.C.Channel g.A.Attend in
     moved_on g.T.Talk g.C.Channel g.met.T.Talk.front_more g.met.T.Talk.bad_more (at self) (at (record self { attend = new })) (at c.admit.new.self)
     (moved_kept g.T.Talk g.C.Channel g.met.T.Talk.front_more g.met.T.Talk.bad_more self.came (get nat_eq self.peers) (g.A.Attend.closed old) (g.A.Attend.coming old) (g.A.Attend.closed new) (g.A.Attend.coming new) c.take.ensures.closed c.take.ensures.coming)
     c.admit.ensures.moved

@@ -1,12 +1,12 @@
 use Rattle.std.proofs.Common.{arith}
 use Rattle.std.specs.Prelude.{nat_eq}
 use Rattle.indexmap.specs.IndexMap.{get}
-use Rattle.polled_clients.specs.Places.{places}
+use Rattle.polled_clients.specs.ClientStates.{states}
 use Rattle.polled_clients.proofs.Placing.{moved_none, moved_one, need_at}
 use Rattle.polled_clients.proofs.clients.PolledClients.turn.Goals as goal
 
 pub returns-then-pick-self-clause-moved : goal.returns-then-pick-self-clause-moved
-returns-then-pick-self-clause-moved g c = moved_none g.T.Talk g.C.Channel g.met.T.Talk.front_more g.met.T.Talk.bad_more (places g.C.Channel g.A.Attend c.args.self.now)
+returns-then-pick-self-clause-moved g c = moved_none g.T.Talk g.C.Channel g.met.T.Talk.front_more g.met.T.Talk.bad_more (states g.C.Channel g.A.Attend c.args.self.now)
 
 pub returns-clause-moved : goal.returns-clause-moved
 returns-clause-moved g c =

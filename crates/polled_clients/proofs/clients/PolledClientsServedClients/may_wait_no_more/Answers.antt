@@ -2,7 +2,7 @@ use Rattle.std.proofs.Common.{Option, sym, subst}
 use Rattle.std.specs.Prelude.{nat_eq}
 use Rattle.std.specs.declared.time.Duration.{Duration}
 use Rattle.indexmap.specs.IndexMap.{get}
-use Rattle.polled_clients.specs.Places.{HasWaited}
+use Rattle.polled_clients.specs.ClientStates.{HasWaited}
 use Rattle.polled_clients.proofs.clients.PolledClientsServedClients.may_wait_no_more.Goals as goal
 
 pub returns-in-None : goal.returns-in-None

@@ -10,4 +10,4 @@ returns-clause-goes g c =
     let self = c.args.self.now in
     let new = record self { talk = c.give_up.new.self } in
     talked g.T.Talk (conversation_of g.C.Channel self) (conversation_of g.C.Channel new) [] [] (heard_broken g.T.Talk self.talk c.give_up.new.self (drop self.heard self.held.items) c.give_up.ensures)
-    refl refl (sym (append-nil (left self.queue.going.items self.queue.sent self.queue.said.items))) refl (ends_none self.why self.why [] c.requires)
+    refl refl (sym (append-nil (left self.queue.going.items self.queue.sent self.queue.said.items))) refl (ends_none self.end_cause self.end_cause [] c.requires)

@@ -11,7 +11,7 @@ returns-in-Ok g c =
     let it = c.in-Ok.ensures.ok in
     let x = learnt (g.T.Talk.wants self.talk) c.args.reply in
     talked g.T.Talk (conversation_of g.C.Channel self) (conversation_of g.C.Channel new) (x ∷ []) it.0 (heard_reply g.T.Talk self.talk c.learn.new.self (drop self.heard self.held.items) it.0 x refl c.requires.fits it.1)
-    refl refl (said_last (drop self.queue.sent self.queue.going.items) self.queue.said.items c.learn.new.out.items it.0 it.2) refl (ends_none self.why self.why (x ∷ []) c.requires.running)
+    refl refl (said_last (drop self.queue.sent self.queue.going.items) self.queue.said.items c.learn.new.out.items it.0 it.2) refl (ends_none self.end_cause self.end_cause (x ∷ []) c.requires.running)
 
 pub returns-in-Err : goal.returns-in-Err
 returns-in-Err g c =
@@ -20,4 +20,4 @@ returns-in-Err g c =
     let it = c.in-Err.ensures.err in
     let x = learnt (g.T.Talk.wants self.talk) c.args.reply in
     talked g.T.Talk (conversation_of g.C.Channel self) (conversation_of g.C.Channel new) (x ∷ []) [] (heard_lost g.T.Talk self.talk c.learn.new.self (drop self.heard self.held.items) x refl c.requires.fits it.0)
-    refl refl (nothing_said (drop self.queue.sent self.queue.going.items) self.queue.said.items c.learn.new.out.items it.1) refl (ends_none self.why self.why (x ∷ []) c.requires.running)
+    refl refl (nothing_said (drop self.queue.sent self.queue.going.items) self.queue.said.items c.learn.new.out.items it.1) refl (ends_none self.end_cause self.end_cause (x ∷ []) c.requires.running)

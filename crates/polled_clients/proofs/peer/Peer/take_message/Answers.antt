@@ -12,7 +12,7 @@ returns-in-Ok-clause-goes g c =
     talked g.T.Talk (conversation_of g.C.Channel self) (conversation_of g.C.Channel new) [] it.0
     (heard_message g.T.Talk self.talk c.hear.new.self (drop self.heard self.held.items) it.0 (drop (self.heard + c.args.size) self.held.items) c.args.size c.requires.wants c.requires.whole
     (subst (λ (l : List ℕ). g.T.Talk.hears self.talk (take c.args.size l) it.0 c.hear.new.self) (c.behind.ensures ∙ ap (λ (l : List ℕ). drop self.heard l) c.deref.ensures.value) it.1) (sym (drop-drop c.args.size self.heard self.held.items)))
-    refl refl (said_last (drop self.queue.sent self.queue.going.items) self.queue.said.items c.hear.new.out.items it.0 it.2) refl (ends_none self.why self.why [] c.requires.running)
+    refl refl (said_last (drop self.queue.sent self.queue.going.items) self.queue.said.items c.hear.new.out.items it.0 it.2) refl (ends_none self.end_cause self.end_cause [] c.requires.running)
 
 pub returns-in-Err-clause-goes : goal.returns-in-Err-clause-goes
 returns-in-Err-clause-goes g c =
@@ -20,7 +20,7 @@ returns-in-Err-clause-goes g c =
     let new = record self { talk = c.hear.new.self; queue = record self.queue { said = c.hear.new.out } } in
     let it = c.in-Err.ensures.err in
     talked g.T.Talk (conversation_of g.C.Channel self) (conversation_of g.C.Channel new) [] [] (heard_broken g.T.Talk self.talk c.hear.new.self (drop self.heard self.held.items) it.0)
-    refl refl (nothing_said (drop self.queue.sent self.queue.going.items) self.queue.said.items c.hear.new.out.items it.1) refl (ends_none self.why self.why [] c.requires.running)
+    refl refl (nothing_said (drop self.queue.sent self.queue.going.items) self.queue.said.items c.hear.new.out.items it.1) refl (ends_none self.end_cause self.end_cause [] c.requires.running)
 
 pub slice_bounds-message-end : goal.slice_bounds-message-end
 slice_bounds-message-end g c =

@@ -11,7 +11,7 @@ use Rattle.server.specs.declared.decision.SessionChange.{SessionChange}
 use Rattle.server.specs.declared.decision.Decision.TheVariants as decisions
 use Rattle.server.specs.Writers.{definitions_or}
 use Rattle.server.specs.Decisions.{Carries, Performs, machine_at, after_change}
-use Rattle.server.proofs.Carrying.{slot_shows, commit_err, slot_joined, each_fault, out_of_memory}
+use Rattle.server.proofs.Carrying.{lock_shows, commit_err, lock_joined, each_fault, out_of_memory}
 use Rattle.server.proofs.server.Server.commit_held.Goals as goal
 
 pub returns-clause-definitions : goal.returns-clause-definitions
@@ -25,7 +25,7 @@ returns-clause-ok g c =
     let st = g.S.Map.state old.store in
     let held = c.in-Some.writer in
     let there : old.writer ≡ Some held = let a = c.in-Some.is in cc in
-    slot_joined g.S.Map.state c.commit_to-result.result old.writer held old.store c.commit_to-result.new.store
+    lock_joined g.S.Map.state c.commit_to-result.result old.writer held old.store c.commit_to-result.new.store
     (λ cs words sound. c.joined_changes.ensures cs held.lists st.map (g.met.S.Map.ordered old.store sound) words)
     there c.commit_to-result.ensures.commits
 
@@ -50,7 +50,7 @@ returns-clause-err g c =
     (λ done.
     let cs = done.0 in
     let equal : applied cs st.map ≡ applied_all writer.lists st.map = c.joined_changes.ensures cs writer.lists st.map (g.met.S.Map.ordered old.store sound) done.1 in
-    let shown : Shows (applied cs st.map) d p.0.database = subst (λ (z : Records). Shows z d p.0.database) (sym equal) (slot_shows st.map old.catalogue old.writer writer holder p.0 there p.1 w.held) in
+    let shown : Shows (applied cs st.map) d p.0.database = subst (λ (z : Records). Shows z d p.0.database) (sym equal) (lock_shows st.map old.catalogue old.writer writer holder p.0 there p.1 w.held) in
     commit_err g.X.EventHandler.Reads state old new db holder d (changed_by_batch cs (stored st)) answer (machine_at p.0.database None (after_change change old.sessions.entries)) e fault sound w runs refl same refl refl
     (subst (λ (z : Result (Unit {0}) StoreFault). Commits z (changed_by_batch cs (stored st)) st (state c.commit_to-result.new.store)) is done.2) w.second shown p.3 p.4 p.5)
     c.commit_to-result.ensures.commits)

@@ -4,7 +4,7 @@ use Rattle.store.specs.Contents.{changed_by_batch}
 use Rattle.catalogue.specs.Changes.{changed}
 use Rattle.server.specs.Decisions.{machine_at}
 use Rattle.server.proofs.Passing.{commit_done}
-use Rattle.server.proofs.Carrying.{slot_is_free, works_unheld, commit_err}
+use Rattle.server.proofs.Carrying.{lock_is_free, works_unheld, commit_err}
 use Rattle.server.proofs.server.Server.commit_staged.Goals as goal
 
 pub returns-in-Ok-clause-carries : goal.returns-in-Ok-clause-carries
@@ -17,7 +17,7 @@ returns-in-Ok-clause-carries g c sound runs db holder e w p =
     let done = commits.at_once sound w.unfailed in (
       machine_at p.0 None old.sessions.entries,
       p.5,
-      works_unheld g.S.Map.state (record old { store = c.commit.new.self; catalogue = c.make.result }) c.commit.new.self d p.0 old.sessions.entries refl c.make.ensures (slot_is_free st.map before old.writer holder p.2 w.held) runs refl (commits.failed ∙ w.unfailed)
+      works_unheld g.S.Map.state (record old { store = c.commit.new.self; catalogue = c.make.result }) c.commit.new.self d p.0 old.sessions.entries refl c.make.ensures (lock_is_free st.map before old.writer holder p.2 w.held) runs refl (commits.failed ∙ w.unfailed)
           (done.committed.record_format ∙ w.second) (rw done.committed.map p.1),
       commit_done c.in-Ok.field-0 (changed_by_batch c.args.changes.now (stored st)) st (g.S.Map.state c.commit.new.self) before d db p.0 commits.history done w.second w.committed w.second p.1,
     )

@@ -7,7 +7,7 @@ use Rattle.server.specs.declared.writer.Writer.{Writer}
 use Rattle.server.specs.Writers.{definitions_or, definitions_under}
 use Rattle.server.specs.Decisions.{machine_at, after_change}
 use Rattle.server.proofs.Passing.{commit_done}
-use Rattle.server.proofs.Carrying.{slot_is_held, slot_shows, works_unheld}
+use Rattle.server.proofs.Carrying.{lock_is_held, lock_shows, works_unheld}
 use Rattle.server.proofs.server.Server.commit_writer.Goals as goal
 
 pub returns-in-Ok-clause-carries : goal.returns-in-Ok-clause-carries
@@ -16,24 +16,24 @@ returns-in-Ok-clause-carries g c sound runs db holder e w p =
     let old = c.args.self.now in
     let st = state old.store in
     let mid = c.commit_held.new.self in
-    let held = slot_is_held st.map old.catalogue old.writer holder p.0 p.1 w.held in
+    let held = lock_is_held st.map old.catalogue old.writer holder p.0 p.1 w.held in
     let writer = held.0 in
     let there : old.writer ≡ Some writer = held.1 in
     let d = definitions_or writer.catalogue old.catalogue in
     let led = c.in-Ok.ensures.ok writer there sound in
     let cs = led.0 in
-    let shown : Shows (applied cs st.map) d p.0.database = subst (λ (z : Records). Shows z d p.0.database) (sym led.1) (slot_shows st.map old.catalogue old.writer writer holder p.0 there p.1 w.held) in
+    let shown : Shows (applied cs st.map) d p.0.database = subst (λ (z : Records). Shows z d p.0.database) (sym led.1) (lock_shows st.map old.catalogue old.writer writer holder p.0 there p.1 w.held) in
     let commits = led.2 in
     let done = commits.at_once sound w.unfailed in
     let kept = c.commit_held.ensures.kept in
-    let ended = c.end_slot.ensures in
-    let store : c.end_slot.new.self.store ≡ mid.store = ap (λ z. z.store) ended in
-    let entries : c.end_slot.new.self.sessions.entries ≡ old.sessions.entries = ap (λ z. z.sessions.entries) ended ∙ ap (λ z. z.sessions.entries) kept in
+    let ended = c.free_lock.ensures in
+    let store : c.free_lock.new.self.store ≡ mid.store = ap (λ z. z.store) ended in
+    let entries : c.free_lock.new.self.sessions.entries ≡ old.sessions.entries = ap (λ z. z.sessions.entries) ended ∙ ap (λ z. z.sessions.entries) kept in
     let after = after_change c.args.change old.sessions.entries in
     let changed : c.change_sessions.new.sessions.entries ≡ after = c.change_sessions.ensures (rw entries p.2) ∙ ap (λ z. after_change c.args.change z) entries in (
       machine_at p.0.database None after,
       p.5,
-      works_unheld state (record c.end_slot.new.self { sessions = c.change_sessions.new.sessions }) mid.store d p.0.database after store
+      works_unheld state (record c.free_lock.new.self { sessions = c.change_sessions.new.sessions }) mid.store d p.0.database after store
           (ap (λ z. z.catalogue) ended ∙ c.commit_held.ensures.definitions mid.catalogue ∙ ap (λ z. definitions_under old.writer z.catalogue) kept ∙ ap (λ (z : Option Writer). definitions_under z old.catalogue) there) (ap (λ z. z.writer) ended)
           (ap (λ z. z.stopped) ended ∙ ap (λ z. z.stopped) kept ∙ runs) changed (commits.failed ∙ w.unfailed) (done.committed.record_format ∙ w.second) (rw done.committed.map shown),
       rw store (commit_done c.in-Ok.field-0 (changed_by_batch cs (stored st)) st (state mid.store) old.catalogue d db p.0.database commits.history done w.second w.committed w.second shown),

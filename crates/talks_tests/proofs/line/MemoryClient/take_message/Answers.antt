@@ -14,9 +14,9 @@ drop_front-requires g c = (g.met.T.Talk.front_more c.args.self.now.talk c.args.s
 pub returns-in-Ok-clause-goes_on : goal.returns-in-Ok-clause-goes_on
 returns-in-Ok-clause-goes_on g c =
     let it = c.in-Ok.ensures.ok in
-    rw (c.drop_front.ensures) (continues g.T.Talk _ _ _ _ _ _ it.0 _ _ _ (heard_message g.T.Talk c.args.self.now.talk c.hear.new.self c.args.self.now.held.items it.0 c.args.size c.requires.wants c.requires.whole (subst (λ (l : List ℕ). g.T.Talk.hears c.args.self.now.talk (take c.args.size l) it.0 c.hear.new.self) c.deref.ensures.value it.1)) it.2 (ends_none c.args.self.now.why _ [] c.requires.why))
+    rw (c.drop_front.ensures) (continues g.T.Talk _ _ _ _ _ _ it.0 _ _ _ (heard_message g.T.Talk c.args.self.now.talk c.hear.new.self c.args.self.now.held.items it.0 c.args.size c.requires.wants c.requires.whole (subst (λ (l : List ℕ). g.T.Talk.hears c.args.self.now.talk (take c.args.size l) it.0 c.hear.new.self) c.deref.ensures.value it.1)) it.2 (ends_none c.args.self.now.end_cause _ [] c.requires.end_cause))
 
 pub returns-in-Err-clause-goes_on : goal.returns-in-Err-clause-goes_on
 returns-in-Err-clause-goes_on g c =
     let it = c.in-Err.ensures.err in
-    continues g.T.Talk _ _ _ _ _ _ [] _ _ _ (heard_broken g.T.Talk c.args.self.now.talk c.hear.new.self c.args.self.now.held.items it.0) (it.1 ∙ sym (append-nil c.args.self.now.said.items)) (ends_none c.args.self.now.why _ [] c.requires.why)
+    continues g.T.Talk _ _ _ _ _ _ [] _ _ _ (heard_broken g.T.Talk c.args.self.now.talk c.hear.new.self c.args.self.now.held.items it.0) (it.1 ∙ sym (append-nil c.args.self.now.said.items)) (ends_none c.args.self.now.end_cause _ [] c.requires.end_cause)

@@ -1,5 +1,0 @@
-use Rattle.stored_database.proofs.Apart.{without_tables}
-use Rattle.stored_database.proofs.places.spellings_are_apart.Goals as goal
-
-pub returns : goal.returns
-returns c = without_tables
