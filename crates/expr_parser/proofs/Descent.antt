@@ -18,7 +18,8 @@ use Rattle.expr_parser.specs.declared.level.Level.{Level}
 use Rattle.expr_parser.specs.declared.level.Level.TheVariants as level
 use Rattle.expr_parser.specs.declared.level.Connective.{Connective}
 use Rattle.expr_parser.specs.Grammar.{Tree, joined, Part, chained, negation, test, comparison, signed, primary, operand, joiner, comparer, counted, negative, leaf, Spells, chain, by_not, no_not, tests, compared, not_compared, by_number, by_minus, no_minus, by_leaf, qualified, inside, by_member, Continues, ends, goes_on, Tested, untested, is_null, is_not_null, ReadsLongestPart, IsMinus}
-use Rattle.expr_parser.proofs.Readings.{token_precedence, Compared, same, shorter, longer, one, part_precedence, joiner_precedence, comparer_precedence, operand_precedence, spells_lt, no_not_at, no_minus_at, Some_inj}
+use Rattle.expr_parser.specs.Precedence.{token_precedence, part_precedence}
+use Rattle.expr_parser.proofs.Readings.{Compared, same, shorter, longer, one, joiner_precedence, comparer_precedence, operand_precedence, spells_lt, no_not_at, no_minus_at, Some_inj}
 
 -- no front that spells the part is longer
 abbrev pub Longest : List Lexeme → Part → ℕ → ℕ → Type 0

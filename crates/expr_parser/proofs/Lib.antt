@@ -4,3 +4,4 @@ pub mod Primaries
 pub mod Readings
 pub mod Wholes
 pub mod ReadTerms
+pub mod AloneOperands

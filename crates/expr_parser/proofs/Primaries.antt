@@ -16,7 +16,8 @@ use Rattle.sql_ast.specs.declared.expression.ColumnName.{ColumnName}
 use Rattle.sql_ast.specs.declared.expression.Expression.{Expression}
 use Rattle.expr_parser.specs.declared.level.Level.TheVariants as level
 use Rattle.expr_parser.specs.Grammar.{Tree, table_column, chained, primary, leaf_of, leaf, constant, bare_column, text_literal, Spells, by_leaf, qualified, inside, by_member, ReadsLongestPart, ReadsColumn, HasNoPrimary, IsMember}
-use Rattle.expr_parser.proofs.Readings.{token_precedence, Compared, same, shorter, longer, one, spells_lt, no_leaf, no_name, dot_or_of, open_or_member, Some_inj}
+use Rattle.expr_parser.specs.Precedence.{token_precedence}
+use Rattle.expr_parser.proofs.Readings.{Compared, same, shorter, longer, one, spells_lt, no_leaf, no_name, dot_or_of, open_or_member, Some_inj}
 use Rattle.expr_parser.proofs.Descent.{Longest, Never}
 
 pub leaf_longest : (ts : List Lexeme) (i : ℕ) (x : Tree) → leaf (slice_get ts i) ≡ Some x → ((t n : List ℕ) → name (slice_get ts i) ≡ Some t → kind_at ts (suc i) ≡ Some (Punctuation Dot) → name (slice_get ts (suc (suc i))) ≡ Some n → ⊥) → (IsMember ts i → HasNoPrimary ts (suc (suc i))) → Longest ts primary i (suc i)

@@ -12,39 +12,8 @@ use Rattle.sql_ast.specs.declared.expression.Comparison.{Comparison}
 use Rattle.expr_parser.specs.declared.level.Level.{Level}
 use Rattle.expr_parser.specs.declared.level.Level.TheVariants as level
 use Rattle.expr_parser.specs.declared.level.Connective.{Connective}
-use Rattle.expr_parser.specs.Grammar.{Tree, table_column, joined, Part, chained, negation, test, comparison, signed, primary, operand, joiner, comparer, counted, negative, leaf_of, leaf, Spells, chain, by_not, no_not, tests, compared, not_compared, by_number, by_minus, no_minus, by_leaf, qualified, inside, by_member, Continues, ends, goes_on, Tested, untested, is_null, is_not_null}
-
--- the precedence of a token that may stand after a part
-abbrev pub token_precedence : Option TokenKind → ℕ
-token_precedence (Some (Reserved Or)) = 1
-token_precedence (Some (Reserved And)) = 2
-token_precedence (Some (Reserved Is)) = 4
-token_precedence (Some (Punctuation Equal)) = 5
-token_precedence (Some (Punctuation NotEqual)) = 5
-token_precedence (Some (Punctuation Less)) = 5
-token_precedence (Some (Punctuation LessOrEqual)) = 5
-token_precedence (Some (Punctuation Greater)) = 5
-token_precedence (Some (Punctuation GreaterOrEqual)) = 5
-token_precedence (Some (Punctuation Plus)) = 6
-token_precedence (Some (Punctuation Minus)) = 6
-token_precedence (Some (Punctuation Star)) = 7
-token_precedence (Some (Punctuation Slash)) = 7
-token_precedence (Some (Punctuation Percent)) = 7
-token_precedence (Some (Punctuation Dot)) = 9
-token_precedence (Some (Unreserved Of)) = 9
-token_precedence _ = 0
-
--- the least precedence of the operators of a part
-abbrev pub part_precedence : Part → ℕ
-part_precedence (chained level.Or) = 1
-part_precedence (chained level.And) = 2
-part_precedence (chained level.Sum) = 6
-part_precedence (chained level.Term) = 7
-part_precedence negation = 3
-part_precedence test = 4
-part_precedence comparison = 5
-part_precedence signed = 8
-part_precedence primary = 9
+use Rattle.expr_parser.specs.Precedence.{token_precedence, part_precedence}
+use Rattle.expr_parser.specs.Grammar.{Tree, table_column, joined, Part, chained, primary, operand, joiner, comparer, counted, negative, leaf_of, leaf, Spells, chain, by_not, no_not, tests, compared, not_compared, by_number, by_minus, no_minus, by_leaf, qualified, inside, by_member, Continues, ends, goes_on, Tested, untested, is_null, is_not_null}
 
 -- two readings, to m and to n: one, or the shorter is followed by a token of at least this token_precedence
 pub data Compared (ts : List Lexeme) (least m n : ℕ) (d e : Tree) : Type 0 where

@@ -2,3 +2,4 @@ pub mod Grammar
 pub mod Whole
 pub mod Stages
 pub mod Written
+pub mod Precedence

@@ -126,3 +126,19 @@ pub fn column_at(
         None => Ok(Some((column(None, first), at + 1))),
     }
 }
+
+/// The expression that the token at an index is by itself, or `None` where it is none.
+pub fn leaf_at(
+    alloc: Global,
+    tokens: &[Token],
+    at: usize,
+) -> Result<Option<Expression<ColumnName>>, AllocError>
+    ensures value { IfOk result (λ found.
+        option_map term_of found ≡ leaf (slice_get (lexemes tokens.now) at)) }
+    ensures within { IfOk result (λ found. IfSome found (λ _. at < length tokens.now)) }
+{
+    match name_at(alloc, tokens, at)? {
+        Some(name) => Ok(Some(column(None, name))),
+        None => literal_at(alloc, tokens, at),
+    }
+}

@@ -1,13 +1,15 @@
 //! Levels of precedence: operands are joined to chains, level by level.
 
-ghost use Rattle.std.specs.Prelude.{◌≡◌, ◌<◌, IfOk, IfSome, length};
+ghost use Rattle.std.specs.Prelude.{◌≡◌, ◌<◌, IfOk, IfSome, Some, length};
+ghost use Rattle.sql_lexer.specs.declared.token.TokenKind.TheVariants as kind;
 ghost use Rattle.sql_lexer.specs.Lexeme.{lexemes, kind_at as kind_in};
 ghost use Rattle.sql_ast.specs.Term.{term_of};
-ghost use Rattle.expr_parser.specs.Grammar.{joined, joiner, comparer};
+ghost use Rattle.expr_parser.specs.Grammar.{joined, joiner, comparer, chained};
+ghost use Rattle.expr_parser.specs.Precedence.{token_precedence, part_precedence};
 
 use crate::reader::kind_at;
 use sql_ast::expression::{ColumnName, Comparison, Expression, Operation};
-use sql_lexer::token::{Punctuation, Reserved, Token, TokenKind};
+use sql_lexer::token::{Punctuation, Reserved, Token, TokenKind, Unreserved};
 use std::alloc::{AllocError, Global};
 
 /// A level of precedence, whose operators join operands to a chain that groups to the left: OR,
@@ -18,6 +20,20 @@ pub enum Level {
     And,
     Sum,
     Term,
+}
+
+impl Level {
+    /// How tightly the operators of the level bind.
+    pub fn precedence(self) -> u8
+        ensures { result ≡ part_precedence (chained self) }
+    {
+        match self {
+            Level::Or => 1,
+            Level::And => 2,
+            Level::Sum => 6,
+            Level::Term => 7,
+        }
+    }
 }
 
 /// What joins two operands of a chain.
@@ -85,5 +101,40 @@ pub fn comparer_at(tokens: &[Token], at: usize) -> Option<Comparison>
         TokenKind::Punctuation(Punctuation::Greater) => Some(Comparison::Greater),
         TokenKind::Punctuation(Punctuation::GreaterOrEqual) => Some(Comparison::GreaterOrEqual),
         _ => None,
+    }
+}
+
+/// How tightly the token at an index binds to the operand before it: 1 for OR, which binds least,
+/// and 0 where no operator stands (PostgreSQL manual, 4.1.6, "Operator Precedence").
+pub fn precedence_at(tokens: &[Token], at: usize) -> u8
+    ensures { result ≡ token_precedence (kind_in (lexemes tokens.now) at) }
+{
+    match kind_at(tokens, at) {
+        Some(TokenKind::Reserved(word)) => match word {
+            Reserved::Or => 1,
+            Reserved::And => 2,
+            Reserved::Is => 4,
+            _ => 0,
+        },
+        Some(TokenKind::Punctuation(sign)) => sign_precedence(sign),
+        Some(TokenKind::Unreserved(Unreserved::Of)) => 9,
+        _ => 0,
+    }
+}
+
+fn sign_precedence(sign: Punctuation) -> u8
+    ensures { result ≡ token_precedence (Some (kind.Punctuation sign)) }
+{
+    match sign {
+        Punctuation::Equal
+        | Punctuation::NotEqual
+        | Punctuation::Less
+        | Punctuation::LessOrEqual
+        | Punctuation::Greater
+        | Punctuation::GreaterOrEqual => 5,
+        Punctuation::Plus | Punctuation::Minus => 6,
+        Punctuation::Star | Punctuation::Slash | Punctuation::Percent => 7,
+        Punctuation::Dot => 9,
+        _ => 0,
     }
 }

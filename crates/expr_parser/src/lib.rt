@@ -18,6 +18,7 @@
 //! words of MEMBER OF may be names: `member` is a column where no prim stands behind `member of`.
 #![tactic(auto)]
 
+mod alone;
 pub mod grammar;
 pub mod laws;
 mod leaf;

@@ -5,6 +5,7 @@ ghost use Rattle.std.specs.Prelude.{◌≡◌, IfOk, Some};
 ghost use Rattle.sql_lexer.specs.Lexeme.{lexemes, kind_at as kind_in};
 ghost use Rattle.expr_parser.specs.Grammar.{chained, negation, test, comparison, signed, primary, operand, ReadsLongest, ReadsLongestPart, IsMember, IsMinus};
 
+use crate::alone::operand_alone_at;
 use crate::leaf::{column_at, literal_at, minus_at, negative, number_at};
 use crate::level::{Level, comparer_at, join, joiner_at};
 use crate::member::{member_at, member_test_at};
@@ -66,6 +67,9 @@ fn operand_at(
     ensures { IfOk result (λ found.
         ReadsLongestPart (lexemes tokens.now) (operand level) at found) }
 {
+    if let Some(found) = operand_alone_at(alloc, tokens, at, level)? {
+        return Ok(Some(found));
+    }
     match level {
         Level::Or => chain_at(alloc, tokens, at, Level::And),
         Level::And => negation_at(alloc, tokens, at),
