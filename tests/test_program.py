@@ -30,6 +30,7 @@ SCRIPTS = os.path.join(TOP, 'crates', 'system_tests', 'data')
 PAGES = {'four_thousand_events.script': 4096}      # the pages of a script's file, if not 256
 REASONS = {'NotADatabase': "not a database; 'guarddb format' makes one in a new file",
            'Damaged': 'the database is damaged; restore it from a copy',
+           'Format': 'of format 9, and this guarddb knows 1 to 3; open it with the guarddb that made it, or restore a copy',
            'WrongSize': 'not 64 to 65536 pages of 4096 bytes, or not as many as it was made with'}
 NO_FORM = "not 'open SESSION ROLE', 'SESSION: STATEMENT' or 'close SESSION', with one blank after the colon; a statement is one line"
 
@@ -239,7 +240,7 @@ class Program(unittest.TestCase):
             return change
         def told(fault):
             return 1, '', f'guarddb: {fault}\nguarddb: {self.path("db")}: {REASONS[fault]}\n'
-        for at, byte, fault in [(512, 0, 'NotADatabase'), (523, 9, 'Damaged'), (527, 0x41, 'WrongSize'), (535, 2, 'Damaged'),
+        for at, byte, fault in [(512, 0, 'NotADatabase'), (523, 9, 'Format'), (527, 0x41, 'WrongSize'), (535, 2, 'Damaged'),
                                 (539, 0, 'Damaged'), (8199, 1, 'Damaged'), (4109, 8, 'Damaged'), (4110, 1, 'Damaged')]:
             with self.subTest(at):
                 is_told(put(at, byte), told(fault))

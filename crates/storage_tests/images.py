@@ -9,7 +9,7 @@ import zlib
 
 PAGE, SECTOR = 4096, 512
 MAGIC = b"GUARDDB1"
-REASONS = {"opened": "", "WrongSize": "S", "NotADatabase": "N", "Damaged": ".", "failed": "F"}
+REASONS = {"opened": "", "WrongSize": "S", "NotADatabase": "N", "NewerFormat": "L", "Damaged": ".", "failed": "F"}
 
 
 class Refused(Exception):
@@ -55,6 +55,32 @@ def root_in(sector, parity):
     return pages, number, map_pages, form
 
 
+def number_in(sector, at, size):
+    return int.from_bytes(sector[at:at + size], "big")
+
+
+# Whether a root sector begins as a root of a format above 3, and whether it holds a root of any format.
+def begins_later(sector, parity):
+    return sector.startswith(MAGIC) and number_in(sector, 8, 4) > 3 and number_in(sector, 16, 8) % 2 == parity
+
+
+def holds_root(sector, parity):
+    try:
+        return begins_later(sector, parity) or root_in(sector, parity) is not None
+    except Refused:
+        return False
+
+
+# The format of the root sector that begins so while the other holds no root of a greater number, or None.
+def newer_format(sectors):
+    for parity, sector in enumerate(sectors):
+        other = sectors[1 - parity]
+        is_older = not holds_root(other, 1 - parity) or number_in(other, 16, 8) < number_in(sector, 16, 8)
+        if begins_later(sector, parity) and is_older:
+            return number_in(sector, 8, 4)
+    return None
+
+
 def page_count(image):
     need(len(image) % PAGE == 0 and 64 <= len(image) // PAGE <= 65536, "WrongSize")
     return len(image) // PAGE
@@ -64,6 +90,8 @@ def deciding_root(image):
     pages = page_count(image)
     sectors = [bytes(image[:SECTOR]), bytes(image[SECTOR:2 * SECTOR])]
     need(any(sector.startswith(MAGIC) for sector in sectors), "NotADatabase")
+    form = newer_format(sectors)
+    need(form is None, f"NewerFormat({form})")
     roots = [root_in(sector, parity) for parity, sector in enumerate(sectors)]
     root = max((root for root in roots if root), key=lambda root: root[1])
     need(root[0] == pages, "WrongSize")
@@ -178,8 +206,9 @@ def outcome(image):
     try:
         records = records_of(image)
     except Refused as refused:
-        reason = str(refused)
-        return reason, reason, REASONS[reason]
+        fault = str(refused)
+        reason = fault.partition("(")[0]
+        return reason, fault, REASONS[reason]
     digest = digest_of(records)
     return "opened", f"opened, {len(records)} records, {digest}", digest
 

@@ -369,7 +369,7 @@ def write_formats(images):
             if (form, byte) == (2, 3):
                 images.opens('format_3_over_format_2', lines, database(GRANTS), 3, 12, ASKED)
             else:
-                images.is_refused(f'format_{byte}_over_format_{form}', lines, 'Damaged')
+                images.is_refused(f'format_{byte}_over_format_{form}', lines, 'Format' if byte > 3 else 'Damaged')
         images.is_refused(f'older_root_of_format_9_beside_format_{form}', [grants, byte_line(older, 9)], 'Damaged')
     empty = database(NO_TABLE)
     images.opens('format_1_over_roles', ['from roles_of_format_2', byte_line(SECTOR + 11, 1)], empty, 1, 1)

@@ -55,6 +55,7 @@ module _ {D L : Type 0} (old mid new : SystemState D L) (partial target : List â
   copy_against_since (New command.PrintedTo) stands = absurd stands
   copy_against_since (New command.WrongSize) stands = absurd stands
   copy_against_since (New command.NotADatabase) stands = absurd stands
+  copy_against_since (New (command.NewerFormat format)) stands = absurd stands
   copy_against_since (New command.Damaged) stands = absurd stands
   copy_against_since (New command.Full) stands = absurd stands
   copy_against_since (New command.Number) stands = absurd stands

@@ -22,6 +22,7 @@ told_with_reason about fault.Full a b = two_lines (fault_name fault.Full) (subje
 told_with_reason about fault.Number a b = two_lines (fault_name fault.Number) (subject_text about) (reason_text fault.Number)
 told_with_reason about fault.WrongSize a b = two_lines (fault_name fault.WrongSize) (subject_text about) (reason_text fault.WrongSize)
 told_with_reason about fault.NotADatabase a b = two_lines (fault_name fault.NotADatabase) (subject_text about) (reason_text fault.NotADatabase)
+told_with_reason about (fault.NewerFormat format) a b = two_lines (fault_name (fault.NewerFormat format)) (subject_text about) (reason_text (fault.NewerFormat format))
 told_with_reason about fault.Exists a b = two_lines (fault_name fault.Exists) (subject_text about) (reason_text fault.Exists)
 told_with_reason about fault.Partial a b = two_lines (fault_name fault.Partial) (subject_text about) (reason_text fault.Partial)
 told_with_reason about (fault.NoRoom pages least) a b = two_lines (fault_name (fault.NoRoom pages least)) (subject_text about) (reason_text (fault.NoRoom pages least))

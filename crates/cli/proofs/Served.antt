@@ -14,7 +14,7 @@ use Rattle.wire.specs.Listening.{Listening}
 use Rattle.databases.specs.declared.database.Opened.{Opened}
 use Rattle.databases.specs.Openings.{device_under}
 use Rattle.cli.specs.declared.fault.CommandFault.{CommandFault}
-use Rattle.cli.specs.declared.fault.CommandFault.TheVariants.{Exists, InUse, Memory, Device, WrongSize, NotADatabase, Damaged, Full, Number, PrintedTo, Net, Partial, NoRoom, ScriptUnread, ScriptNotUtf8, NoRole, FirstFormat, NoSwitchRoom, NoSwitchNumber, Output}
+use Rattle.cli.specs.declared.fault.CommandFault.TheVariants.{Exists, InUse, Memory, Device, WrongSize, NotADatabase, NewerFormat, Damaged, Full, Number, PrintedTo, Net, Partial, NoRoom, ScriptUnread, ScriptNotUtf8, NoRole, FirstFormat, NoSwitchRoom, NoSwitchNumber, Output}
 use Rattle.cli.specs.Files.{ChangesDevice, IsOpenedAt}
 use Rattle.cli.specs.Migrations.{TellsMigration}
 use Rattle.cli.specs.Serving.{ChangesBoth, IsBoundBetween, IsNotBound, ServesAs, ServesAt, ServesOn}
@@ -60,6 +60,7 @@ module _ {D L X C : Type 0} (g : Ghosts D) (c : SinkGhosts C) (Reads : ReadingRe
   served_at (Err (Device cause)) it = absurd it
   served_at (Err WrongSize) it = absurd it
   served_at (Err NotADatabase) it = absurd it
+  served_at (Err (NewerFormat format)) it = absurd it
   served_at (Err Damaged) it = absurd it
   served_at (Err Full) it = absurd it
   served_at (Err Number) it = absurd it
@@ -128,6 +129,7 @@ module _ (X : Type 0) {D L C : Type 0} (g : Ghosts D) (c : SinkGhosts C) (Reads 
   served_so (Err (Device cause)) left closed closing counts it = absurd it
   served_so (Err WrongSize) left closed closing counts it = absurd it
   served_so (Err NotADatabase) left closed closing counts it = absurd it
+  served_so (Err (NewerFormat format)) left closed closing counts it = absurd it
   served_so (Err Damaged) left closed closing counts it = absurd it
   served_so (Err Full) left closed closing counts it = absurd it
   served_so (Err Number) left closed closing counts it = absurd it

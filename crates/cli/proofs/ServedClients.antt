@@ -17,7 +17,7 @@ use Rattle.wire.specs.ScriptRun.{Known}
 use Rattle.databases.specs.declared.database.Opened.{Opened}
 use Rattle.databases.specs.Openings.{device_under}
 use Rattle.cli.specs.declared.fault.CommandFault.{CommandFault}
-use Rattle.cli.specs.declared.fault.CommandFault.TheVariants.{Exists, InUse, Memory, Device, WrongSize, NotADatabase, Damaged, Full, Number, PrintedTo, Net, Partial, NoRoom, ScriptUnread, ScriptNotUtf8, NoRole, FirstFormat, NoSwitchRoom, NoSwitchNumber, Output}
+use Rattle.cli.specs.declared.fault.CommandFault.TheVariants.{Exists, InUse, Memory, Device, WrongSize, NotADatabase, NewerFormat, Damaged, Full, Number, PrintedTo, Net, Partial, NoRoom, ScriptUnread, ScriptNotUtf8, NoRole, FirstFormat, NoSwitchRoom, NoSwitchNumber, Output}
 use Rattle.cli.specs.declared.serve_clients.ManyClients.{ManyClients}
 use Rattle.cli.specs.Files.{ChangesDevice, IsOpenedAt}
 use Rattle.cli.specs.Migrations.{TellsMigration}
@@ -79,6 +79,7 @@ module _ {D L X C T P : Type 0} (g : Ghosts D) (a : AttendGhosts L C) (t : TalkG
   clients_served_at old new place bound before after ended left between (Err (Device cause)) it = absurd it
   clients_served_at old new place bound before after ended left between (Err WrongSize) it = absurd it
   clients_served_at old new place bound before after ended left between (Err NotADatabase) it = absurd it
+  clients_served_at old new place bound before after ended left between (Err (NewerFormat format)) it = absurd it
   clients_served_at old new place bound before after ended left between (Err Damaged) it = absurd it
   clients_served_at old new place bound before after ended left between (Err Full) it = absurd it
   clients_served_at old new place bound before after ended left between (Err Number) it = absurd it
@@ -153,6 +154,7 @@ module _ (X : Type 0) {D L C T P : Type 0} (g : Ghosts D) (a : AttendGhosts L C)
   clients_served_so (Err (Device cause)) left closed closing counts it = absurd it
   clients_served_so (Err WrongSize) left closed closing counts it = absurd it
   clients_served_so (Err NotADatabase) left closed closing counts it = absurd it
+  clients_served_so (Err (NewerFormat format)) left closed closing counts it = absurd it
   clients_served_so (Err Damaged) left closed closing counts it = absurd it
   clients_served_so (Err Full) left closed closing counts it = absurd it
   clients_served_so (Err Number) left closed closing counts it = absurd it

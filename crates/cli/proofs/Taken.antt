@@ -7,7 +7,7 @@ use Rattle.systems.specs.Systems.{SystemState}
 use Rattle.cow_pages.specs.Image.{is_size}
 use Rattle.abstract_database.specs.Lists.{TheName}
 use Rattle.cow_pages.specs.declared.open.OpenFault.{OpenFault}
-use Rattle.cow_pages.specs.declared.open.OpenFault.TheVariants.{WrongSize, NotADatabase, Damaged, Device, Memory}
+use Rattle.cow_pages.specs.declared.open.OpenFault.TheVariants.{WrongSize, NotADatabase, NewerFormat, Damaged, Device, Memory}
 use Rattle.databases.specs.Making.{Makes}
 use Rattle.cli.specs.Faults.{of_pages}
 use Rattle.cli.specs.Formatting.{IsTakenAway, IsUnformatted}
@@ -25,5 +25,6 @@ module _ {D L : Type 0} (g : Ghosts D) (old new : SystemState D L) (path : List 
   unformatted Memory size sectors makes taken = (size, inr taken)
   unformatted Device size sectors makes taken = (size, inr taken)
   unformatted NotADatabase size sectors makes taken = absurd makes
+  unformatted (NewerFormat format) size sectors makes taken = absurd makes
   unformatted Damaged size sectors makes taken = absurd makes
   unformatted WrongSize size sectors makes taken = absurd (no_size (g.state blank).sectors (8 * pages) sectors size makes.0)

@@ -17,7 +17,7 @@ use Rattle.systems.specs.declared.fault.OpenPathFault.TheVariants as path
 use Rattle.databases.specs.declared.fault.DatabaseFault.{DatabaseFault}
 use Rattle.databases.specs.declared.fault.DatabaseFault.TheVariants.{Pages, Records}
 use Rattle.cli.specs.declared.fault.CommandFault.{CommandFault}
-use Rattle.cli.specs.declared.fault.CommandFault.TheVariants.{Exists, InUse, PrintedTo, Memory, Device, WrongSize, NotADatabase, Damaged, Full, Number, FirstFormat, NoSwitchRoom, NoSwitchNumber}
+use Rattle.cli.specs.declared.fault.CommandFault.TheVariants.{Exists, InUse, PrintedTo, Memory, Device, WrongSize, NotADatabase, NewerFormat, Damaged, Full, Number, FirstFormat, NoSwitchRoom, NoSwitchNumber}
 
 -- of opening the device of a path
 abbrev pub of_path : OpenPathFault → CommandFault
@@ -37,6 +37,7 @@ of_file (file.Device cause) = Device cause
 abbrev pub of_pages : OpenFault → CommandFault
 of_pages pages.WrongSize = WrongSize
 of_pages pages.NotADatabase = NotADatabase
+of_pages (pages.NewerFormat format) = NewerFormat format
 of_pages pages.Damaged = Damaged
 of_pages pages.Device = Device Other
 of_pages pages.Memory = Memory

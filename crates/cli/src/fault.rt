@@ -31,6 +31,8 @@ pub enum CommandFault {
     WrongSize,
     /// The file is no database.
     NotADatabase,
+    /// The file is of this format, above those that this program knows.
+    NewerFormat(u32),
     /// There is something of the name of a new file already.
     Exists,
     /// There is something of the name that a copy has until it is whole.
@@ -71,6 +73,7 @@ impl fmt::Display for CommandFault {
             CommandFault::Number => write!(f, "Number"),
             CommandFault::WrongSize => write!(f, "WrongSize"),
             CommandFault::NotADatabase => write!(f, "NotADatabase"),
+            CommandFault::NewerFormat(_) => write!(f, "Format"),
             CommandFault::Exists | CommandFault::Partial => write!(f, "Exists"),
             CommandFault::NoRoom { pages: _, least: _ } => write!(f, "Full"),
             CommandFault::InUse => write!(f, "InUse"),
@@ -118,6 +121,10 @@ impl fmt::Display for Reason {
                     "not a database; 'guarddb format' makes one in a new file"
                 )
             }
+            CommandFault::NewerFormat(format) => write!(
+                f,
+                "of format {format}, and this guarddb knows 1 to 3; open it with the guarddb that made it, or restore a copy"
+            ),
             CommandFault::Exists => {
                 write!(f, "the name is taken; this command makes a new file")
             }
@@ -162,6 +169,7 @@ impl From<OpenFault> for CommandFault {
         match fault {
             OpenFault::WrongSize => CommandFault::WrongSize,
             OpenFault::NotADatabase => CommandFault::NotADatabase,
+            OpenFault::NewerFormat(format) => CommandFault::NewerFormat(format),
             OpenFault::Damaged => CommandFault::Damaged,
             OpenFault::Device => CommandFault::Device(SystemCause::Other),
             OpenFault::Memory => CommandFault::Memory,

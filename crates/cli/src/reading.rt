@@ -18,8 +18,8 @@ use systems::{Access, System};
 /// sector of the file is written, of a file of format 1 neither. Others may read it meanwhile. The
 /// file is closed then.
 ///
-/// The faults are those of `System::open`; and `WrongSize`, `NotADatabase` and `Damaged`, which name
-/// the first fault that stands in the file. `Full` and `Number` never come.
+/// The faults are those of `System::open`; and `WrongSize`, `NotADatabase`, `NewerFormat` and
+/// `Damaged`, which name the first fault that stands in the file. `Full` and `Number` never come.
 pub fn read_file<Y: System>(
     system: &mut Y,
     alloc: Global,

@@ -18,10 +18,10 @@ use wire::text_sink::TakesText;
 /// 2, and `err` is told so, as `guarddb: PATH was of format 1 and is of format 2 now`. That `err`
 /// does not take the line is no fault, but the answer's `told` says so.
 ///
-/// The faults are those of `System::open`; `WrongSize`, `NotADatabase` and `Damaged`, which name the
-/// first fault that stands in the file; and `Full` and `Number`, where a file of format 1 has no
-/// room for its records in format 2, or no commit number. Nothing is told on `err` then, and the
-/// file is there as opening it has left it.
+/// The faults are those of `System::open`; `WrongSize`, `NotADatabase`, `NewerFormat` and `Damaged`,
+/// which name the first fault that stands in the file; and `Full` and `Number`, where a file of
+/// format 1 has no room for its records in format 2, or no commit number. Nothing is told on `err`
+/// then, and the file is there as opening it has left it.
 pub fn check_file<Y: System, X: EventHandler + Drop, E: Write>(
     system: &mut Y,
     alloc: Global,

@@ -150,6 +150,7 @@ module _ (d e : DeviceState) (size : is_size d.sectors ≡ true) (writes : Write
       by_fault : (named : OpenFault) → (named ≡ pages.Memory → ⊥) → IsNamedFor named e → (named ≡ pages.Device → HasFailed e f) → HasFailed d f
       by_fault pages.WrongSize not is failed = absurd (faulty_none e.sectors e.content pages.WrongSize marked size_is is has)
       by_fault pages.NotADatabase not is failed = absurd (faulty_none e.sectors e.content pages.NotADatabase marked size_is is has)
+      by_fault (pages.NewerFormat format) not is failed = absurd (faulty_none e.sectors e.content (pages.NewerFormat format) marked size_is is has)
       by_fault pages.Damaged not is failed = absurd (elim is [
         | inl first ↦ faulty_none e.sectors e.content pages.Damaged marked size_is first has
         | inr none ↦ none.1 marked has
@@ -168,6 +169,7 @@ module _ (d e : DeviceState) (size : is_size d.sectors ≡ true) (writes : Write
       by_fault : (named : OpenFault) → CannotOpen e named (g.state new) → CannotBegin g (of_target named) old new
       by_fault pages.WrongSize is = of_device pages.WrongSize (λ bad. let no : pages.WrongSize ≡ pages.Memory = bad in cc) is
       by_fault pages.NotADatabase is = of_device pages.NotADatabase (λ bad. let no : pages.NotADatabase ≡ pages.Memory = bad in cc) is
+      by_fault (pages.NewerFormat format) is = of_device (pages.NewerFormat format) (λ bad. let no : pages.NewerFormat format ≡ pages.Memory = bad in cc) is
       by_fault pages.Damaged is = of_device pages.Damaged (λ bad. let no : pages.Damaged ≡ pages.Memory = bad in cc) is
       by_fault pages.Device is = of_device pages.Device (λ bad. let no : pages.Device ≡ pages.Memory = bad in cc) is
       by_fault pages.Memory is = subst (λ (s : DeviceState). IsNotBegun s (g.state new)) (sym same) (not_begun (g.state new) pages.Memory is)

@@ -118,6 +118,7 @@ pub refused_pages : {E : Type 0} (state : E → DeviceState) (d e : DeviceState)
     → CopiesDatabase d e state (Err (Pages fault)) target target
 refused_pages state d e pages.WrongSize target named failed = (named, refl)
 refused_pages state d e pages.NotADatabase target named failed = (named, refl)
+refused_pages state d e (pages.NewerFormat format) target named failed = (named, refl)
 refused_pages state d e pages.Damaged target named failed = (named, refl)
 refused_pages state d e pages.Device target named failed = (failed refl, refl)
 refused_pages state d e pages.Memory target named failed = (named, refl)

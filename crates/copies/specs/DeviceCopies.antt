@@ -122,6 +122,7 @@ Begins g old (Err refused) = CannotBegin g refused.1 old refused.0
 abbrev pub of_target : OpenFault → CopyFault
 of_target opening.WrongSize = Write write.Device
 of_target opening.NotADatabase = Write write.Device
+of_target (opening.NewerFormat format) = Write write.Device
 of_target opening.Damaged = Write write.Device
 of_target opening.Device = Write write.Device
 of_target opening.Memory = Write write.Memory

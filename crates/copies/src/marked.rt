@@ -34,8 +34,11 @@ fn fault_of_target(fault: OpenFault) -> CopyFault
 {
     match fault {
         OpenFault::Memory => CopyFault::Write(StoreFault::Memory),
-        OpenFault::WrongSize | OpenFault::NotADatabase | OpenFault::Damaged | OpenFault::Device =>
-            CopyFault::Write(StoreFault::Device),
+        OpenFault::WrongSize
+        | OpenFault::NotADatabase
+        | OpenFault::NewerFormat(_)
+        | OpenFault::Damaged
+        | OpenFault::Device => CopyFault::Write(StoreFault::Device),
     }
 }
 

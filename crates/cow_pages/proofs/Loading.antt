@@ -13,12 +13,13 @@ use Rattle.cow_pages.specs.Image.{is_size, first_fault, fault_of_image, fault_of
 use Rattle.cow_pages.specs.Held.{AreSpelled, IsSettled, IsFixedPage}
 use Rattle.cow_pages.specs.Opening.{IsRootFound, IsNamedFor, IsOfReading, NamesFault}
 use Rattle.cow_pages.specs.declared.open.OpenFault.{OpenFault}
-use Rattle.cow_pages.specs.declared.open.OpenFault.TheVariants.{WrongSize, NotADatabase, Damaged, Device, Memory}
+use Rattle.cow_pages.specs.declared.open.OpenFault.TheVariants.{WrongSize, NotADatabase, NewerFormat, Damaged, Device, Memory}
 use Rattle.cow_pages.proofs.Bytes.{same_page}
 
 pub named_for : (fault : OpenFault) (first : Option OpenFault) → (fault ≡ Memory → ⊥) → first ≡ Some fault → IsNamedFor fault first
 named_for WrongSize first other is = is
 named_for NotADatabase first other is = is
+named_for (NewerFormat format) first other is = is
 named_for Damaged first other is = is
 named_for Device first other is = tt
 named_for Memory first other is = absurd (other refl)
@@ -65,6 +66,7 @@ memory_read fault old new is = rw is tt
 pub read_named : (fault : OpenFault) (old new : DeviceState) → IsOfReading fault old new → (fault ≡ Device) ⊎ (fault ≡ Memory)
 read_named WrongSize old new is = absurd is
 read_named NotADatabase old new is = absurd is
+read_named (NewerFormat format) old new is = absurd is
 read_named Damaged old new is = absurd is
 read_named Device old new is = inl refl
 read_named Memory old new is = inr refl

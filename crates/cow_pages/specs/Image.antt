@@ -6,11 +6,12 @@ use Rattle.page_roots.specs.declared.format.Format.{Format}
 use Rattle.page_roots.specs.Root.{RootFields}
 use Rattle.page_roots.specs.Sector.{root_at, begins_with_magic}
 use Rattle.page_roots.specs.Chosen.{IsChosen, chosen}
+use Rattle.page_roots.specs.Later.{later_format}
 use Rattle.page_roots.specs.MapPage.{map_of}
 use Rattle.page_roots.specs.Reach.{IsSound, is_sound}
 use Rattle.pages.specs.State.{Array}
 use Rattle.cow_pages.specs.declared.open.OpenFault.{OpenFault}
-use Rattle.cow_pages.specs.declared.open.OpenFault.TheVariants.{WrongSize, NotADatabase, Damaged}
+use Rattle.cow_pages.specs.declared.open.OpenFault.TheVariants.{WrongSize, NotADatabase, NewerFormat, Damaged}
 
 -- the bytes of a physical page
 unfoldable pub bytes_of_page : Image → ℕ → List ℕ
@@ -53,9 +54,14 @@ is_size sectors = (sectors % 8 == 0) && (nat_le 64 (sectors / 8) && nat_le (sect
 abbrev pub IsSizeOf : ℕ → ℕ → Type 0
 IsSizeOf sectors pages = (is_size sectors ≡ true) × (sectors ≡ 8 * pages) × (64 ≤ pages) × (pages ≤ 65536)
 
+-- no root is chosen: the image is of a later format, or damaged
+abbrev pub fault_of_format : Option ℕ → OpenFault
+fault_of_format None = Damaged
+fault_of_format (Some format) = NewerFormat format
+
 -- the first fault of the root that is chosen, or that none is
 abbrev pub fault_of_root : ℕ → Image → Option RootFields → Option OpenFault
-fault_of_root pages image None = Some Damaged
+fault_of_root pages image None = Some (fault_of_format (later_format (image 0) (image 1)))
 fault_of_root pages image (Some root) =
     if root.pages == pages then (if is_sound pages root.maps (map_in image root.maps) then None else Some Damaged)
     else Some WrongSize

@@ -6,7 +6,7 @@ use Rattle.page_roots.specs.Sector.{root_at, begins_with_magic}
 use Rattle.page_roots.specs.Chosen.{chosen}
 use Rattle.page_roots.specs.Reach.{IsSound}
 use Rattle.cow_pages.specs.declared.open.OpenFault.{OpenFault}
-use Rattle.cow_pages.specs.declared.open.OpenFault.TheVariants.{WrongSize, NotADatabase, Damaged, Device, Memory}
+use Rattle.cow_pages.specs.declared.open.OpenFault.TheVariants.{WrongSize, NotADatabase, NewerFormat, Damaged, Device, Memory}
 use Rattle.cow_pages.specs.PageMap.{EndsWith}
 
 -- A fault that is named stands in the content: it is the first one. That the device failed says nothing of the content.
@@ -14,6 +14,7 @@ use Rattle.cow_pages.specs.PageMap.{EndsWith}
 abbrev pub IsNamedFor : OpenFault → Option OpenFault → Type 0
 IsNamedFor WrongSize first = first ≡ Some WrongSize
 IsNamedFor NotADatabase first = first ≡ Some NotADatabase
+IsNamedFor (NewerFormat format) first = first ≡ Some (NewerFormat format)
 IsNamedFor Damaged first = first ≡ Some Damaged
 IsNamedFor Device first = Unit {0}
 IsNamedFor Memory first = (first ≡ None) ⊎ (first ≡ Some Damaged)
@@ -27,6 +28,7 @@ NamesFault (Err fault) first = IsNamedFor fault first
 abbrev pub IsOfReading : OpenFault → DeviceState → DeviceState → Type 0
 IsOfReading WrongSize old new = ⊥
 IsOfReading NotADatabase old new = ⊥
+IsOfReading (NewerFormat format) old new = ⊥
 IsOfReading Damaged old new = ⊥
 IsOfReading Device old new = HasFailed old new
 IsOfReading Memory old new = Unit {0}

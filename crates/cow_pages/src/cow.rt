@@ -105,9 +105,9 @@ impl<D: Device> CowPages<D> {
     ghost use Rattle.sector_device.specs.Device.{KeepsHistory};
 
     /// Opens a device. It is synced before it is read, and its content stays. A refusal hands it back, with the content
-    /// that it had: `WrongSize`, `NotADatabase` and `Damaged` name the first fault that stands in the content, in the
-    /// order of the definition; `Device` says that the device failed, and `Memory` that memory was refused, and comes
-    /// only where the content has no fault or is damaged. The cache has `DEFAULT_CACHE_PAGES`.
+    /// that it had: `WrongSize`, `NotADatabase`, `NewerFormat` and `Damaged` name the first fault that stands in the
+    /// content, in the order of the definition; `Device` says that the device failed, and `Memory` that memory was
+    /// refused, and comes only where the content has no fault or is damaged. The cache has `DEFAULT_CACHE_PAGES`.
     pub fn open(alloc: Global, device: D) -> Result<CowPages<D>, (D, OpenFault)>
         ensures { Opens (D.state device) result }
     {

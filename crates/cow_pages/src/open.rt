@@ -14,8 +14,8 @@ use crate::page_map::PageMap;
 use crate::spans::Span;
 use page_allocator::PageAllocator;
 use page_roots::{
-    ENTRIES_PER_MAP_PAGE, MAX_MAP_PAGES, Root, choose, has_magic, is_sound_reach, read_map_page,
-    read_root,
+    ENTRIES_PER_MAP_PAGE, MAX_MAP_PAGES, Root, choose, has_magic, is_sound_reach, later_format,
+    read_map_page, read_root,
 };
 use sector_device::{Device, DeviceFault, PAGE_SIZE, SECTOR_SIZE, SECTORS_PER_PAGE, read_page};
 use std::alloc::{AllocError, Global};
@@ -31,6 +31,9 @@ pub enum OpenFault {
     WrongSize,
     /// Neither root sector begins with the magic of a root.
     NotADatabase,
+    /// It is of this format, above those that this program knows: a root sector begins as a root of
+    /// it, and the other holds no newer root.
+    NewerFormat(u32),
     /// A root sector is neither empty nor well formed, or the map is malformed.
     Damaged,
     /// The device failed.
@@ -115,7 +118,10 @@ pub(crate) fn find_root(
             }
             Ok(root)
         }
-        None => Err(OpenFault::Damaged),
+        None => match later_format(even, odd) {
+            Some(format) => Err(OpenFault::NewerFormat(format)),
+            None => Err(OpenFault::Damaged),
+        },
     }
 }
 

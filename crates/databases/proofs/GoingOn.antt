@@ -69,6 +69,7 @@ module _ {D : Type 0} (g : Ghosts D) (X : Type 0) (Reads : ReadingRelation) wher
   leads last life (Err (Pages pages.Device)) lives within = not_begun last life (Pages pages.Device) lives.0 lives.1 within
   leads last life (Err (Pages pages.WrongSize)) lives within = not_begun last life (Pages pages.WrongSize) lives.1 lives.2 within
   leads last life (Err (Pages pages.NotADatabase)) lives within = absurd lives
+  leads last life (Err (Pages (pages.NewerFormat format))) lives within = absurd lives
   leads last life (Err (Pages pages.Damaged)) lives within = absurd lives
   leads last life (Err (Records (Read read.Memory))) lives within = not_begun last life (Records (Read read.Memory)) lives.0 lives.1 within
   leads last life (Err (Records (Read read.Device))) lives within = not_begun last life (Records (Read read.Device)) lives.0 lives.1 within

@@ -5,7 +5,7 @@ use Rattle.sector_device.specs.Device.{DeviceState, Image, timeline}
 use Rattle.sector_device.specs.declared.device.Device.{Ghosts}
 use Rattle.cow_pages.specs.Image.{first_fault, is_size}
 use Rattle.cow_pages.specs.declared.open.OpenFault.{OpenFault}
-use Rattle.cow_pages.specs.declared.open.OpenFault.TheVariants.{WrongSize, NotADatabase, Damaged, Device, Memory}
+use Rattle.cow_pages.specs.declared.open.OpenFault.TheVariants.{WrongSize, NotADatabase, NewerFormat, Damaged, Device, Memory}
 use Rattle.storage_sizes.specs.CurrentRecordFormat.{current}
 use Rattle.store.specs.Memory.{admin_record, new_records}
 use Rattle.kv_store.specs.Numbered.{HasContentsUnder}
@@ -110,6 +110,10 @@ module _ (admin : TheName) (stands : StandsFor (new_records admin) (new_database
     none_other true is = absurd is
     none_other false is = absurd is
 
+    none_newer : (journal : Bool) (format : ℕ) → FormatsOfKind g journal (admin_record admin) (Err (NewerFormat format)) old new → Makes g.state journal admin (Err (NewerFormat format)) old new
+    none_newer true format is = absurd is
+    none_newer false format is = absurd is
+
     none_damaged : (journal : Bool) → FormatsOfKind g journal (admin_record admin) (Err Damaged) old new → Makes g.state journal admin (Err Damaged) old new
     none_damaged true is = absurd is
     none_damaged false is = absurd is
@@ -120,4 +124,5 @@ module _ (admin : TheName) (stands : StandsFor (new_records admin) (new_database
     makes journal (Err Memory) is = refused journal is
     makes journal (Err WrongSize) is = none_wrong journal is
     makes journal (Err NotADatabase) is = none_other journal is
+    makes journal (Err (NewerFormat format)) is = none_newer journal format is
     makes journal (Err Damaged) is = none_damaged journal is

@@ -3,7 +3,7 @@ use Rattle.std.proofs.Common.{◌≡◌, ◌∙◌, ◌≤◌, ◌/◌, ℕ, inl
 use Rattle.sector_device.specs.Device.{DeviceState, Image, HasFailed, IsLeft}
 use Rattle.store.specs.Store.{Contents}
 use Rattle.cow_pages.specs.declared.open.OpenFault.{OpenFault}
-use Rattle.cow_pages.specs.declared.open.OpenFault.TheVariants.{WrongSize, NotADatabase, Damaged, Device, Memory}
+use Rattle.cow_pages.specs.declared.open.OpenFault.TheVariants.{WrongSize, NotADatabase, NewerFormat, Damaged, Device, Memory}
 use Rattle.cow_pages.specs.Image.{first_fault}
 use Rattle.cow_pages.specs.Held.{KeepsContent}
 use Rattle.journal_store.specs.DeviceImages.{IsReadAs, HasContents}
@@ -49,6 +49,8 @@ pub refused_as_none : (fault : OpenFault) (d e : DeviceState) → IsNone d.secto
     → IsRefusedAsNone (Err (Pages fault)) d e
 refused_as_none WrongSize d e none named failed keeps = other_fault _ (first_fault d.sectors d.content) WrongSize none named (λ is. let bad : WrongSize ≡ NotADatabase = is in cc)
 refused_as_none NotADatabase d e none named failed keeps = (inl refl, keeps)
+refused_as_none (NewerFormat format) d e none named failed keeps =
+    other_fault _ (first_fault d.sectors d.content) (NewerFormat format) none named (λ is. let bad : NewerFormat format ≡ NotADatabase = is in cc)
 refused_as_none Damaged d e none named failed keeps =
     ⊎_elim
     (λ is. other_fault _ (first_fault d.sectors d.content) Damaged none is (λ same. let bad : Damaged ≡ NotADatabase = same in cc))

@@ -10,7 +10,7 @@ use Rattle.store.specs.declared.fault.Fault.TheVariants as read
 use Rattle.store.specs.declared.fault.StoreFault.TheVariants as commit
 use Rattle.store.specs.Store.{StoreState, Contents, stored, KeepsHistory, OnlyReads, Rose, HasDeviceCause}
 use Rattle.cow_pages.specs.declared.open.OpenFault.{OpenFault}
-use Rattle.cow_pages.specs.declared.open.OpenFault.TheVariants.{WrongSize, NotADatabase, Damaged, Device, Memory}
+use Rattle.cow_pages.specs.declared.open.OpenFault.TheVariants.{WrongSize, NotADatabase, NewerFormat, Damaged, Device, Memory}
 use Rattle.cow_pages.specs.Image.{is_size, first_fault, fault_of_image}
 use Rattle.cow_pages.specs.Held.{KeepsContent}
 use Rattle.sector_device.specs.declared.device.Device.{Ghosts}
@@ -292,6 +292,8 @@ refused_on g X Reads last events told d e WrongSize content found keeps same nam
     (wrong_size last (g.state d) (is_size (g.state d).sectors) refl content found named, refl, leaves_same last (g.state d) (g.state e) found keeps same)
 refused_on g X Reads last events told d e NotADatabase content found keeps same named =
     absurd (other_fault last (g.state d) NotADatabase (λ bad. let other : NotADatabase ≡ WrongSize = bad in cc) content found named)
+refused_on g X Reads last events told d e (NewerFormat format) content found keeps same named =
+    absurd (other_fault last (g.state d) (NewerFormat format) (λ bad. let other : NewerFormat format ≡ WrongSize = bad in cc) content found named)
 refused_on g X Reads last events told d e Damaged content found keeps same named = absurd (elim named [
   | inl first ↦ other_fault last (g.state d) Damaged (λ bad. let other : Damaged ≡ WrongSize = bad in cc) content found first
   | inr none ↦ nothing_found last (g.state d) content found none.1
@@ -301,6 +303,7 @@ refused_on g X Reads last events told d e Damaged content found keeps same named
 pub device_of_pages : (fault : OpenFault) → IsOfDevice (Pages fault) → fault ≡ Device
 device_of_pages WrongSize is = absurd is
 device_of_pages NotADatabase is = absurd is
+device_of_pages (NewerFormat format) is = absurd is
 device_of_pages Damaged is = absurd is
 device_of_pages Device is = refl
 device_of_pages Memory is = absurd is

@@ -5,7 +5,7 @@ use Rattle.sector_device.specs.Timeline.{LeavesOnly}
 use Rattle.sector_device.specs.Device.{DeviceState, Image, KeepsHistory, KeepsSize, HasFailed, IsLeft, IsSynced, timeline}
 use Rattle.sector_device.specs.declared.device.Device.{Ghosts}
 use Rattle.cow_pages.specs.declared.open.OpenFault.{OpenFault}
-use Rattle.cow_pages.specs.declared.open.OpenFault.TheVariants.{WrongSize, NotADatabase, Damaged, Device, Memory}
+use Rattle.cow_pages.specs.declared.open.OpenFault.TheVariants.{WrongSize, NotADatabase, NewerFormat, Damaged, Device, Memory}
 use Rattle.cow_pages.specs.Image.{first_fault, is_size}
 use Rattle.cow_pages.specs.Formatting.{IsBlank}
 use Rattle.store.specs.Records.{Record}
@@ -56,6 +56,7 @@ Makes state journal admin (Err Memory) old new = (is_size (state old).sectors �
 Makes state journal admin (Err Device) old new = WritesNew journal admin (state old) (state new) × HasFailed (state old) (state new)
 Makes state journal admin (Err WrongSize) old new = (is_size (state old).sectors ≡ false) × (new ≡ old)
 Makes state journal admin (Err NotADatabase) old new = ⊥
+Makes state journal admin (Err (NewerFormat format)) old new = ⊥
 Makes state journal admin (Err Damaged) old new = ⊥
 
 -- what making the store of a new database does, with a journal or without

@@ -80,6 +80,7 @@ LivesOn g X Reads last events before after old new (Err (Pages pages.Device)) = 
 LivesOn g X Reads last events before after old new (Err (Pages pages.WrongSize)) =
     (is_size (g.state old).sectors ≡ false) × (after ≡ before) × IsNoLife last (records_on (g.state old)) (records_on (g.state new))
 LivesOn g X Reads last events before after old new (Err (Pages pages.NotADatabase)) = ⊥
+LivesOn g X Reads last events before after old new (Err (Pages (pages.NewerFormat format))) = ⊥
 LivesOn g X Reads last events before after old new (Err (Pages pages.Damaged)) = ⊥
 LivesOn g X Reads last events before after old new (Err (Records (Read read.Memory))) = (after ≡ before) × IsNoLife last (records_on (g.state old)) (records_on (g.state new))
 LivesOn g X Reads last events before after old new (Err (Records (Read read.Device))) = (after ≡ before) × IsNoLife last (records_on (g.state old)) (records_on (g.state new))

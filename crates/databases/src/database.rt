@@ -31,13 +31,13 @@ pub struct Opened<D: Device, X> {
 /// and a stop leaves no more than before. Records of record format 1 are migrated, in one commit:
 /// a stop then leaves the same database at every moment, also where the migration is refused.
 ///
-/// `Pages`: no store was opened. `WrongSize`, `NotADatabase` and `Damaged` name the first fault that
-/// stands in the content, in this order: the size, the magic of the root sectors, the root sectors,
-/// the size that the root names, the map, the tree of records, the journal where there is one.
-/// `Records`: a store was opened, but no server. `Damaged`: the records stand for no database. After
-/// these nothing is written. `Full`: no room is left for the records of record format 1 in the
-/// second. `Number`: no commit number is left for them. Of both, `Device`: the device failed, and
-/// `Memory`: an allocation failed, once the size and the magic were tested.
+/// `Pages`: no store was opened. `WrongSize`, `NotADatabase`, `NewerFormat` and `Damaged` name the
+/// first fault that stands in the content, in this order: the size, the magic of the root sectors,
+/// the root sectors, the size that the root names, the map, the tree of records, the journal where
+/// there is one. `Records`: a store was opened, but no server. `Damaged`: the records stand for no
+/// database. After these nothing is written. `Full`: no room is left for the records of record
+/// format 1 in the second. `Number`: no commit number is left for them. Of both, `Device`: the
+/// device failed, and `Memory`: an allocation failed, once the size and the magic were tested.
 pub fn open_database<D: JournalDevice, X: EventHandler + Drop>(
     alloc: Global,
     device: D,

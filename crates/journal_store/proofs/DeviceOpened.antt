@@ -5,7 +5,7 @@ use Rattle.std.proofs.lemmas.Bool.{false≢true}
 use Rattle.sector_device.specs.Device.{DeviceState, Image, history_joined}
 use Rattle.sector_device.specs.declared.device.Device.{Ghosts}
 use Rattle.cow_pages.specs.declared.open.OpenFault.{OpenFault}
-use Rattle.cow_pages.specs.declared.open.OpenFault.TheVariants.{WrongSize, NotADatabase, Damaged, Device, Memory}
+use Rattle.cow_pages.specs.declared.open.OpenFault.TheVariants.{WrongSize, NotADatabase, NewerFormat, Damaged, Device, Memory}
 use Rattle.cow_pages.specs.Image.{first_fault}
 use Rattle.cow_pages.specs.PreservedLaws.{failed_later}
 use Rattle.cow_pages.specs.ReadingLaws.{reads_joined}
@@ -70,6 +70,7 @@ journal_opened d s opened = record {
 named_in_pages : (fault : OpenFault) (d : DeviceState) → is_damaged fault ≡ false → IsNamedInPages fault d → IsNamedFor fault d
 named_in_pages WrongSize d not named = named
 named_in_pages NotADatabase d not named = named
+named_in_pages (NewerFormat format) d not named = named
 named_in_pages Damaged d not named = absurd (false≢true (sym not))
 named_in_pages Device d not named = tt
 named_in_pages Memory d not named = named
@@ -86,6 +87,7 @@ pages_refused d e fault not refused = record {
 damaged_is : (fault : OpenFault) → is_damaged fault ≡ true → fault ≡ Damaged
 damaged_is WrongSize is = absurd (false≢true is)
 damaged_is NotADatabase is = absurd (false≢true is)
+damaged_is (NewerFormat format) is = absurd (false≢true is)
 damaged_is Damaged is = refl
 damaged_is Device is = absurd (false≢true is)
 damaged_is Memory is = absurd (false≢true is)
@@ -130,12 +132,14 @@ module _ (d m : DeviceState) (fault : OpenFault) (is : is_damaged fault ≡ true
   ]
   none_of_both WrongSize same named faithful none = absurd (false≢true same)
   none_of_both NotADatabase same named faithful none = absurd (false≢true same)
+  none_of_both (NewerFormat format) same named faithful none = absurd (false≢true same)
   none_of_both Device same named faithful none = absurd (false≢true same)
   none_of_both Memory same named faithful none = absurd (false≢true same)
 
   named_before : (why : OpenFault) → d.faithful → IsNamedInJournal why m → IsNamedFor why d
   named_before WrongSize faithful named = moved faithful (λ n image. first_fault n image ≡ Some WrongSize) named
   named_before NotADatabase faithful named = moved faithful (λ n image. first_fault n image ≡ Some NotADatabase) named
+  named_before (NewerFormat format) faithful named = moved faithful (λ n image. first_fault n image ≡ Some (NewerFormat format)) named
   named_before Damaged faithful named = elim named [
     | inl first ↦ inl (moved faithful (λ n image. first_fault n image ≡ Some Damaged) first)
     | inr none ↦ none_of_both fault is (pages.named faithful) faithful none

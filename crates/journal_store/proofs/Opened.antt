@@ -12,7 +12,7 @@ use Rattle.journal.specs.Journals.{region_in, HasJournal, HoldsJournal}
 use Rattle.journal.specs.Reading.{region_of}
 use Rattle.journal.proofs.Opening.{region_same, region_still}
 use Rattle.cow_pages.specs.declared.open.OpenFault.{OpenFault}
-use Rattle.cow_pages.specs.declared.open.OpenFault.TheVariants.{WrongSize, NotADatabase, Damaged, Device, Memory}
+use Rattle.cow_pages.specs.declared.open.OpenFault.TheVariants.{WrongSize, NotADatabase, NewerFormat, Damaged, Device, Memory}
 use Rattle.cow_pages.specs.Image.{Means, first_fault, is_size}
 use Rattle.cow_pages.specs.Held.{KeepsContent}
 use Rattle.cow_pages.specs.Cow.{device_below, root_of}
@@ -70,6 +70,7 @@ module _ (d m : DeviceState) (history : KeepsHistory d m) (keeps : d.faithful �
   named_before : d.faithful → (fault : OpenFault) → IsNamedWith true fault m → IsNamedFor fault d
   named_before faithful WrongSize is = moved faithful (λ n image. first_fault n image ≡ Some WrongSize) is
   named_before faithful NotADatabase is = moved faithful (λ n image. first_fault n image ≡ Some NotADatabase) is
+  named_before faithful (NewerFormat format) is = moved faithful (λ n image. first_fault n image ≡ Some (NewerFormat format)) is
   named_before faithful Damaged is = elim is [
     | inl first ↦ inl (moved faithful (λ n image. first_fault n image ≡ Some Damaged) first)
     | inr none ↦ inr (

@@ -4,7 +4,7 @@ use Rattle.sector_device.specs.Device.{DeviceState, KeepsHistory, HasFailed}
 use Rattle.sector_device.specs.declared.device.Device.{Ghosts}
 use Rattle.store.specs.Store.{StoreState, stored}
 use Rattle.cow_pages.specs.declared.open.OpenFault.{OpenFault}
-use Rattle.cow_pages.specs.declared.open.OpenFault.TheVariants.{WrongSize, NotADatabase, Damaged, Device, Memory}
+use Rattle.cow_pages.specs.declared.open.OpenFault.TheVariants.{WrongSize, NotADatabase, NewerFormat, Damaged, Device, Memory}
 use Rattle.cow_pages.specs.Image.{first_fault}
 use Rattle.cow_pages.specs.Held.{KeepsContent}
 use Rattle.journal_store.specs.Opening.{CannotOpen as CannotOpenJournal}
@@ -19,6 +19,7 @@ use Rattle.journal_store.specs.DeviceStores.{state_under, store_state}
 abbrev pub IsNamedFor : OpenFault → DeviceState → Type 0
 IsNamedFor WrongSize d = first_fault d.sectors d.content ≡ Some WrongSize
 IsNamedFor NotADatabase d = first_fault d.sectors d.content ≡ Some NotADatabase
+IsNamedFor (NewerFormat format) d = first_fault d.sectors d.content ≡ Some (NewerFormat format)
 IsNamedFor Damaged d = (first_fault d.sectors d.content ≡ Some Damaged)
     ⊎ ((first_fault d.sectors d.content ≡ None) × IsReadAs (d.sectors / 8) d.content None)
 IsNamedFor Device d = Unit {0}
@@ -59,6 +60,7 @@ OpensJournaled {D} {g} d result = MatchResult result (λ s. IsOpened d s) (λ e.
 abbrev pub is_damaged : OpenFault → Bool
 is_damaged WrongSize = false
 is_damaged NotADatabase = false
+is_damaged (NewerFormat format) = false
 is_damaged Damaged = true
 is_damaged Device = false
 is_damaged Memory = false

@@ -7,7 +7,7 @@ use Rattle.sector_device.specs.Page.{IsAlone, IsOutside}
 use Rattle.sector_device.specs.declared.device.Device.{Ghosts}
 use Rattle.journal.specs.Sectors.{zeros}
 use Rattle.cow_pages.specs.declared.open.OpenFault.{OpenFault}
-use Rattle.cow_pages.specs.declared.open.OpenFault.TheVariants.{WrongSize, NotADatabase, Damaged, Device, Memory}
+use Rattle.cow_pages.specs.declared.open.OpenFault.TheVariants.{WrongSize, NotADatabase, NewerFormat, Damaged, Device, Memory}
 use Rattle.cow_pages.specs.Image.{first_fault}
 use Rattle.cow_pages.specs.Formatting.{IsBlank}
 use Rattle.store.specs.Records.{Record}
@@ -51,6 +51,7 @@ abbrev pub Formats : {D : Type 0} (g : Ghosts D) → Record → Result (Unit {0}
 Formats g entry (Ok x) old new = WritesStore entry (g.state old) (g.state new) × ((g.state old).faithful → IsMade entry (g.state old) (g.state new))
 Formats g entry (Err WrongSize) old new = ⊥
 Formats g entry (Err NotADatabase) old new = ⊥
+Formats g entry (Err (NewerFormat format)) old new = ⊥
 Formats g entry (Err Damaged) old new = ⊥
 Formats g entry (Err Memory) old new = new ≡ old
 Formats g entry (Err Device) old new = WritesStore entry (g.state old) (g.state new) × HasFailed (g.state old) (g.state new)

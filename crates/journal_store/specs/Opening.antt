@@ -8,7 +8,7 @@ use Rattle.journal.specs.Journals.{region_in}
 use Rattle.journal.specs.Reading.{region_of, entries_of}
 use Rattle.journal.specs.declared.journal.JournalRecord.{JournalRecord}
 use Rattle.cow_pages.specs.declared.open.OpenFault.{OpenFault}
-use Rattle.cow_pages.specs.declared.open.OpenFault.TheVariants.{WrongSize, NotADatabase, Damaged, Device, Memory}
+use Rattle.cow_pages.specs.declared.open.OpenFault.TheVariants.{WrongSize, NotADatabase, NewerFormat, Damaged, Device, Memory}
 use Rattle.cow_pages.specs.Image.{first_fault}
 use Rattle.cow_pages.specs.Held.{KeepsContent}
 use Rattle.store.specs.Records.{Records, Changes, IsOrdered}
@@ -26,6 +26,7 @@ use Rattle.journal_store.specs.Stores.{device_under, journal_state}
 abbrev pub IsNamedFor : OpenFault → DeviceState → Type 0
 IsNamedFor WrongSize d = first_fault d.sectors d.content ≡ Some WrongSize
 IsNamedFor NotADatabase d = first_fault d.sectors d.content ≡ Some NotADatabase
+IsNamedFor (NewerFormat format) d = first_fault d.sectors d.content ≡ Some (NewerFormat format)
 IsNamedFor Damaged d = (first_fault d.sectors d.content ≡ Some Damaged)
     ⊎ ((first_fault d.sectors d.content ≡ None) × IsJournalReadAs (d.sectors / 8) d.content None)
 IsNamedFor Device d = Unit {0}

@@ -19,6 +19,14 @@ impl<D: Device> Map for DeviceStore<D> {
 
     ghost preserved_joined = { λ s mid later first second. looks_joined s mid later first second };
 
+    ghost cost = { λ s later most. Unit {0} };
+
+    ghost cost_none = { λ s. tt };
+
+    ghost cost_joined = { λ s mid later first second one other. tt };
+
+    ghost cost_within = { λ s later less most below spent. tt };
+
     ghost ahead = { λ s place records. AreAhead s place records };
 
     ghost ahead_within = { λ s stop place records. AreAheadWithin s stop place records };

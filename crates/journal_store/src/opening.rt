@@ -93,11 +93,11 @@ fn replay(alloc: Global, root: u64, sectors: &[[u8; SECTOR_SIZE]]) -> Result<Rep
 
 impl<D: JournalDevice> JournalStore<D> {
     /// Opens a device whose root says that there is a journal. It is synced before it is read, and nothing is written. A
-    /// refusal hands it back with the content that it had: `WrongSize`, `NotADatabase` and `Damaged` name the first fault
-    /// that stands in the content, in this order: the size, the magic of the root sectors, the root sectors, the size that
-    /// the root names, the map, that the root says that there is a journal, the tree of records, the sectors of the journal,
-    /// the batches of its records. With `Ok` none of these faults stands in the content of a faithful device. `Device` says
-    /// that the device failed, and `Memory` that memory was refused. The cache has `DEFAULT_CACHE_PAGES`.
+    /// refusal hands it back with the content that it had: `WrongSize`, `NotADatabase`, `NewerFormat` and `Damaged` name the
+    /// first fault that stands in the content, in this order: the size, the magic of the root sectors, the root sectors, the
+    /// size that the root names, the map, that the root says that there is a journal, the tree of records, the sectors of
+    /// the journal, the batches of its records. With `Ok` none of these faults stands in the content of a faithful device.
+    /// `Device` says that the device failed, and `Memory` that memory was refused. The cache has `DEFAULT_CACHE_PAGES`.
     pub fn open(alloc: Global, device: D) -> Result<JournalStore<D>, (D, OpenFault)>
         ensures { Opens (D.state device) result }
     {

@@ -29,6 +29,14 @@ impl<D: Device> Map for JournalStore<D> {
 
     ghost preserved_joined = { λ s mid later first second. keeps_joined s mid later first second };
 
+    ghost cost = { λ s later most. Unit {0} };
+
+    ghost cost_none = { λ s. tt };
+
+    ghost cost_joined = { λ s mid later first second one other. tt };
+
+    ghost cost_within = { λ s later less most below spent. tt };
+
     ghost ahead = { λ s place records. IsAhead s place records };
 
     ghost ahead_within = { λ s stop place records. IsAheadWithin s stop place records };

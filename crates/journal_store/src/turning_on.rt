@@ -84,7 +84,10 @@ fn is_damaged(fault: OpenFault) -> bool
 {
     match fault {
         OpenFault::Damaged => true,
-        OpenFault::WrongSize | OpenFault::NotADatabase | OpenFault::Device | OpenFault::Memory =>
-            false,
+        OpenFault::WrongSize
+        | OpenFault::NotADatabase
+        | OpenFault::NewerFormat(_)
+        | OpenFault::Device
+        | OpenFault::Memory => false,
     }
 }

@@ -11,7 +11,7 @@ use Rattle.pages.specs.declared.array.PageFault.TheVariants as page
 use Rattle.cow_pages.specs.declared.cow.CowPages.{CowPages}
 use Rattle.cow_pages.specs.declared.page_map.PageMap.{PageMap}
 use Rattle.cow_pages.specs.declared.open.OpenFault.{OpenFault}
-use Rattle.cow_pages.specs.declared.open.OpenFault.TheVariants.{WrongSize, NotADatabase, Damaged, Device, Memory}
+use Rattle.cow_pages.specs.declared.open.OpenFault.TheVariants.{WrongSize, NotADatabase, NewerFormat, Damaged, Device, Memory}
 use Rattle.cow_pages.specs.Image.{Means}
 use Rattle.cow_pages.specs.Held.{KeepsContent}
 use Rattle.cow_pages.specs.Cow.{device_below, root_of, has_failed, durable_array, working_array, IsOpen, StaysDurable}
@@ -123,6 +123,7 @@ module _ {D : Type 0} {g : Ghosts D} (d : DeviceState) (p q : CowPages D g) (ope
   pub store_refused : (journal : Bool) (fault : PageFault) (failed : Bool) (refused : OpenFault) → failed ≡ has_failed q → (d.faithful → IsCaused (λ f. FailedWith p q f) fault) → (fault ≡ page.Full → ⊥) → RefusesOpen fault failed refused → CannotOpenWith journal d refused (device_below q)
   store_refused journal fault failed WrongSize is why full refuses = absurd refuses
   store_refused journal fault failed NotADatabase is why full refuses = absurd refuses
+  store_refused journal fault failed (NewerFormat format) is why full refuses = absurd refuses
   store_refused journal fault failed Damaged is why full refuses = record {
     history = history_is;
     cause = λ bad. absurd (let other : Damaged ≡ Device = bad in cc);

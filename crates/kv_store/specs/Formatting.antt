@@ -7,7 +7,7 @@ use Rattle.sector_device.specs.declared.device.Device.{Ghosts}
 use Rattle.storage_sizes.specs.declared.record_format.RecordFormat.{RecordFormat}
 use Rattle.page_roots.specs.Formats.{format_of}
 use Rattle.cow_pages.specs.declared.open.OpenFault.{OpenFault}
-use Rattle.cow_pages.specs.declared.open.OpenFault.TheVariants.{WrongSize, NotADatabase, Damaged, Device, Memory}
+use Rattle.cow_pages.specs.declared.open.OpenFault.TheVariants.{WrongSize, NotADatabase, NewerFormat, Damaged, Device, Memory}
 use Rattle.cow_pages.specs.Image.{first_fault}
 use Rattle.cow_pages.specs.Formatting.{IsBlank, HasFirstBytes}
 use Rattle.page_nodes.specs.declared.cell.NodeKind.TheVariants.{Leaf}
@@ -42,6 +42,7 @@ abbrev pub Formats : {D : Type 0} (g : Ghosts D) → RecordFormat → Record →
 Formats g record_format entry (Ok x) old new = WritesStore record_format entry (g.state old) (g.state new) × ((g.state old).faithful → IsMade record_format entry (g.state old) (g.state new))
 Formats g record_format entry (Err WrongSize) old new = ⊥
 Formats g record_format entry (Err NotADatabase) old new = ⊥
+Formats g record_format entry (Err (NewerFormat format)) old new = ⊥
 Formats g record_format entry (Err Damaged) old new = ⊥
 Formats g record_format entry (Err Memory) old new = new ≡ old
 Formats g record_format entry (Err Device) old new = WritesStore record_format entry (g.state old) (g.state new) × HasFailed (g.state old) (g.state new)

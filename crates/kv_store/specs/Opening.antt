@@ -4,7 +4,7 @@ use Rattle.sector_device.specs.Device.{DeviceState, KeepsHistory, HasFailed}
 use Rattle.sector_device.specs.declared.device.Device.{Ghosts}
 use Rattle.store.specs.Store.{StoreState, stored}
 use Rattle.cow_pages.specs.declared.open.OpenFault.{OpenFault}
-use Rattle.cow_pages.specs.declared.open.OpenFault.TheVariants.{WrongSize, NotADatabase, Damaged, Device, Memory}
+use Rattle.cow_pages.specs.declared.open.OpenFault.TheVariants.{WrongSize, NotADatabase, NewerFormat, Damaged, Device, Memory}
 use Rattle.cow_pages.specs.Image.{first_fault}
 use Rattle.cow_pages.specs.Held.{KeepsContent}
 use Rattle.cow_pages.specs.Cow.{device_below}
@@ -21,6 +21,7 @@ use Rattle.kv_store.specs.PageStore.{pages_of, store_state}
 abbrev pub IsNamedWith : Bool → OpenFault → DeviceState → Type 0
 IsNamedWith journal WrongSize d = first_fault d.sectors d.content ≡ Some WrongSize
 IsNamedWith journal NotADatabase d = first_fault d.sectors d.content ≡ Some NotADatabase
+IsNamedWith journal (NewerFormat format) d = first_fault d.sectors d.content ≡ Some (NewerFormat format)
 IsNamedWith journal Damaged d = (first_fault d.sectors d.content ≡ Some Damaged)
     ⊎ ((first_fault d.sectors d.content ≡ None) × IsReadWith journal (d.sectors / 8) d.content None)
 IsNamedWith journal Device d = Unit {0}

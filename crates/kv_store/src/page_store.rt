@@ -25,10 +25,10 @@ impl<D: Device> PageStore<D> {
     ghost use Rattle.kv_store.specs.Opening.{Opens};
 
     /// Opens a device. It is synced before it is read, and nothing is written. A refusal hands it back with the content that
-    /// it had: `WrongSize`, `NotADatabase` and `Damaged` name the first fault that stands in the content, in this order:
-    /// the size, the magic of the root sectors, the root sectors, the size that the root names, the map, that the root says
-    /// that there is a journal, the tree of records. With `Ok` none of these faults stands in the content of a faithful
-    /// device. `Device` says that the device failed, and `Memory` that memory was refused. The cache has
+    /// it had: `WrongSize`, `NotADatabase`, `NewerFormat` and `Damaged` name the first fault that stands in the content, in
+    /// this order: the size, the magic of the root sectors, the root sectors, the size that the root names, the map, that
+    /// the root says that there is a journal, the tree of records. With `Ok` none of these faults stands in the content of a
+    /// faithful device. `Device` says that the device failed, and `Memory` that memory was refused. The cache has
     /// `DEFAULT_CACHE_PAGES`.
     pub fn open(alloc: Global, device: D) -> Result<PageStore<D>, (D, OpenFault)>
         ensures { Opens (D.state device) result }
@@ -103,6 +103,14 @@ impl<D: Device> Map for PageStore<D> {
 
     ghost preserved_joined = { λ s mid later first second.
         nothing_written_joined (pages_of s) (pages_of mid) (pages_of later) first second };
+
+    ghost cost = { λ s later most. Unit {0} };
+
+    ghost cost_none = { λ s. tt };
+
+    ghost cost_joined = { λ s mid later first second one other. tt };
+
+    ghost cost_within = { λ s later less most below spent. tt };
 
     ghost ahead = { λ s walk records. AreAhead s.tree walk records };
 

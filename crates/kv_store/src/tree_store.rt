@@ -95,10 +95,10 @@ impl<D: Device> TreeStore<D> {
 
     /// Opens the pages of a device whose root says that there is a journal, or of one whose root says that there is none. It
     /// is synced before it is read, and nothing is written. A refusal hands it back with the content that it had:
-    /// `WrongSize`, `NotADatabase` and `Damaged` name the first fault that stands in the content, in this order: the size,
-    /// the magic of the root sectors, the root sectors, the size that the root names, the map, what the root says of a
-    /// journal, the tree of records. With `Ok` none of these faults stands in the content of a faithful device. `Device`
-    /// says that the device failed, and `Memory` that memory was refused. The cache has so many pages.
+    /// `WrongSize`, `NotADatabase`, `NewerFormat` and `Damaged` name the first fault that stands in the content, in this
+    /// order: the size, the magic of the root sectors, the root sectors, the size that the root names, the map, what the
+    /// root says of a journal, the tree of records. With `Ok` none of these faults stands in the content of a faithful
+    /// device. `Device` says that the device failed, and `Memory` that memory was refused. The cache has so many pages.
     pub fn open_with(
         alloc: Global,
         device: D,
@@ -207,6 +207,14 @@ impl<D: Device> Map for TreeStore<D> {
 
     ghost preserved_joined = { λ s mid later first second.
         nothing_written_joined (pages_of s) (pages_of mid) (pages_of later) first second };
+
+    ghost cost = { λ s later most. Unit {0} };
+
+    ghost cost_none = { λ s. tt };
+
+    ghost cost_joined = { λ s mid later first second one other. tt };
+
+    ghost cost_within = { λ s later less most below spent. tt };
 
     ghost ahead = { λ s walk records. AreAhead s walk records };
 

@@ -4,3 +4,4 @@ pub mod Reading
 pub mod Choosing
 pub mod Claiming
 pub mod Reaching
+pub mod Newest

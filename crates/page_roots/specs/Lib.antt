@@ -6,3 +6,4 @@ pub mod Chosen
 pub mod MapPage
 pub mod Reach
 pub mod Claims
+pub mod Later

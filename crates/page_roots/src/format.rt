@@ -18,6 +18,9 @@ pub enum Format {
 }
 
 impl Format {
+    // The greatest number of a format.
+    pub(crate) const LAST: u32 = 3;
+
     /// The number of a root of this format, 1 to 3.
     pub fn number(self) -> u32
         ensures { result ≡ number_of self }

@@ -5,6 +5,7 @@
 mod choice;
 mod fields;
 mod format;
+mod later;
 mod laws;
 mod map_page;
 mod reach;
@@ -14,6 +15,7 @@ mod sector;
 pub use choice::choose;
 pub use fields::MAX_MAP_PAGES;
 pub use format::Format;
+pub use later::later_format;
 pub use laws::{chosen_root_law, reach_law, root_spelling_law};
 pub use map_page::{ENTRIES_PER_MAP_PAGE, put_map_page, read_map_page, write_map_page};
 pub use reach::is_sound_reach;

@@ -200,6 +200,7 @@ fn word_of_fault(fault: OpenFault) -> &'static str {
     match fault {
         OpenFault::WrongSize => " WrongSize",
         OpenFault::NotADatabase => " NotADatabase",
+        OpenFault::NewerFormat(_) => " NewerFormat",
         OpenFault::Damaged => " Damaged",
         OpenFault::Device => " D",
         OpenFault::Memory => " memory",

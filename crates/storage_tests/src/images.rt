@@ -6,7 +6,7 @@
 //! each tells what came of it. `bytes START COUNT` tries three other values of each of so many bytes, of which one in EVERY is
 //! taken, the same ones in each run, or all of them with the word `all` on the command line. `sectors` tries zeros in the place
 //! of each sector that has another byte. Of both kinds of changes a line has the outcomes one after the other: `.` for Damaged,
-//! `S` for WrongSize, `N` for NotADatabase, `F` where the device failed or memory was refused, and a digest of all records where
+//! `S` for WrongSize, `N` for NotADatabase, `L` for NewerFormat, `F` where the device failed or memory was refused, and a digest of all records where
 //! the image opened. `sum NAME` tells how many images of the database came to which outcome.
 //!
 //! What opening refuses is proved of each device, and so is that the cursor meets the records of the tree; here both stand

@@ -1,5 +1,5 @@
 //! Maps of records, as what reads them sees them.
-ghost use Rattle.std.specs.Prelude.{◌≡◌, List, ℕ, is_some};
+ghost use Rattle.std.specs.Prelude.{◌≡◌, ◌+◌, ◌≤◌, List, ℕ, is_some};
 ghost use Rattle.sector_device.specs.Timeline.{IsPresent};
 ghost use Rattle.store.specs.Records.{Record, Records, IsOrdered, entries_where, entry_at, first_from, is_from, lookup};
 ghost use Rattle.store.specs.Store.{StoreState, OnlyReads, Reads, HasReadCause};
@@ -29,6 +29,22 @@ pub trait Map {
     ghost preserved_joined: { (map mid later : Self) → preserved map mid → preserved mid later
         → preserved map later };
 
+    /// What the calls between a map and the same map later cost, at most: each call costs one, and a count
+    /// one more for each record that it counts. So code that works on any map makes no more calls than its
+    /// contract says.
+    ghost cost: { Self → Self → ℕ → Type 0 };
+
+    /// Where nothing is called, it costs nothing.
+    ghost cost_none: { (map : Self) → cost map map 0 };
+
+    /// The costs of two runs of calls add up.
+    ghost cost_joined: { (map mid later : Self) (first second : ℕ) → cost map mid first
+        → cost mid later second → cost map later (first + second) };
+
+    /// What costs so much at most, costs no more than a greater number.
+    ghost cost_within: { (map later : Self) (less most : ℕ) → less ≤ most → cost map later less
+        → cost map later most };
+
     /// These are the records ahead of a place.
     ghost ahead: { Self → Self.Place → Records → Type 0 };
 
@@ -42,6 +58,7 @@ pub trait Map {
     /// `out`, nor after a fault. The faults are Memory and Device.
     fn get(&mut self, key: &[u8], out: &mut Entry) -> Result<bool, StoreFault>
         ensures preserved { preserved self.old self.new }
+        ensures cost { cost self.old self.new 1 }
         ensures reads { Reads (entry_at key.now (state self.old).map) result out.new
             (state self.old) (state self.new) };
 
@@ -50,12 +67,14 @@ pub trait Map {
     /// after a fault. The faults are Memory and Device.
     fn scan_from(&mut self, key: &[u8], out: &mut Entry) -> Result<bool, StoreFault>
         ensures preserved { preserved self.old self.new }
+        ensures cost { cost self.old self.new 1 }
         ensures reads { Reads (first_from key.now (state self.old).map) result out.new
             (state self.old) (state self.new) };
 
     /// Whether `key` has an entry. The faults are Memory and Device.
     fn contains(&mut self, key: &[u8]) -> Result<bool, StoreFault>
         ensures preserved { preserved self.old self.new }
+        ensures cost { cost self.old self.new 1 }
         ensures goes { Goes (λ found. found ≡ is_some (lookup key.now (state self.old).map))
             result (state self.old) (state self.new) };
 
@@ -63,6 +82,8 @@ pub trait Map {
     /// many or more: a count ends where it has come to `most`. The faults are Memory and Device.
     fn count_to(&mut self, start: &[u8], stop: &[u8], most: u64) -> Result<u64, StoreFault>
         ensures preserved { preserved self.old self.new }
+        ensures cost { (state self.old).sound → cost self.old self.new
+            (count_to most (span start.now stop.now (state self.old).map) + 1) }
         ensures goes { Goes (λ count. count ≡ count_to most (span start.now stop.now (state self.old).map))
             result (state self.old) (state self.new) };
 
@@ -70,6 +91,7 @@ pub trait Map {
     /// faults are Memory and Device.
     fn seek(&mut self, key: &[u8]) -> Result<Self::Place, StoreFault>
         ensures preserved { preserved self.old self.new }
+        ensures cost { cost self.old self.new 1 }
         ensures goes { Goes (λ place. ahead self.new place
             (entries_where (is_from key.now) (state self.old).map))
             result (state self.old) (state self.new) };
@@ -79,6 +101,7 @@ pub trait Map {
     /// Device.
     fn step(&mut self, place: &mut Self::Place) -> Result<bool, StoreFault>
         ensures preserved { preserved self.old self.new }
+        ensures cost { cost self.old self.new 1 }
         ensures goes { Goes (λ found. (records : Records) → ahead self.old place.old records
             → Takes (found_at self.new place.new) (ahead self.new place.new) found records)
             result (state self.old) (state self.new) };
@@ -89,6 +112,7 @@ pub trait Map {
     /// behind the stop one record at most is looked at. The faults are Memory and Device.
     fn step_within(&mut self, place: &mut Self::Place, stop: &[u8]) -> Result<bool, StoreFault>
         ensures preserved { preserved self.old self.new }
+        ensures cost { cost self.old self.new 1 }
         ensures goes { Goes (λ found. (records : Records) → ahead_within self.old stop.now place.old records
             → Takes (found_at self.new place.new) (ahead_within self.new stop.now place.new) found records)
             result (state self.old) (state self.new) };

@@ -256,6 +256,14 @@ impl Map for MemStore {
 
     ghost preserved_joined = { λ s mid later first second. (second.0 ∙ first.0, second.1 ∙ first.1) };
 
+    ghost cost = { λ s later most. Unit {0} };
+
+    ghost cost_none = { λ s. tt };
+
+    ghost cost_joined = { λ s mid later first second one other. tt };
+
+    ghost cost_within = { λ s later less most below spent. tt };
+
     ghost ahead = { λ s place records. ahead_in s.entries place ≡ records };
 
     ghost ahead_within = { λ s stop place records.

@@ -1,5 +1,5 @@
 //! Stores: maps of records that change by commits.
-ghost use Rattle.std.specs.Prelude.{◌≡◌, false, Option, Some, [], Ok, OnErr};
+ghost use Rattle.std.specs.Prelude.{◌≡◌, ◌+◌, false, length, Option, Some, [], Ok, OnErr};
 ghost use Rattle.storage_sizes.specs.declared.record_format.RecordFormat.TheVariants.{V2};
 ghost use Rattle.store.specs.Contents.{changed_by_batch, changed_in};
 ghost use Rattle.store.specs.Store.{Contents, Commits, stored};
@@ -36,14 +36,16 @@ pub trait Store: Map {
             (Self.state self.old) (Self.state self.new) }
         ensures empty { batch.old ≡ [] → (Self.state self.old).has_failed ≡ false
             → (result ≡ Ok tt) × (self.new ≡ self.old) }
-        ensures given_back { OnErr result (batch.new ≡ batch.old) };
+        ensures given_back { OnErr result (batch.new ≡ batch.old) }
+        ensures cost { Self.cost self.old self.new (length batch.old + 1) };
 
     /// Commits all changes of a batch and with them that the records are of record format 2, or
     /// nothing. The faults are those of `commit`. Where the records are of record format 1 an
     /// empty batch is a commit, too.
     fn commit_migration(&mut self, batch: &Batch) -> Result<(), StoreFault>
         ensures commits { Commits result (changed_in V2 batch.now (stored (Self.state self.old)))
-            (Self.state self.old) (Self.state self.new) };
+            (Self.state self.old) (Self.state self.new) }
+        ensures cost { Self.cost self.old self.new (length batch.now + 1) };
 
     /// Once it has answered Device, it answers nothing else.
     ghost closes: { (store : Self) → (Self.state store).closes };

@@ -209,6 +209,14 @@ impl<'a, M: Map> Map for View<'a, M> {
       records_joined (M.state v.map.now) (M.state mid.map.now) (M.state later.map.now) first.2 second.2,
     ) };
 
+    ghost cost = { λ v later most. Unit {0} };
+
+    ghost cost_none = { λ v. tt };
+
+    ghost cost_joined = { λ v mid later first second one other. tt };
+
+    ghost cost_within = { λ v later less most below spent. tt };
+
     ghost ahead = { λ v place records. AreAhead (M.ahead v.map.now) v.lists.now (M.state v.map.now)
         place records };
 

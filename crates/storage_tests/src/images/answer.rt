@@ -92,6 +92,7 @@ pub fn tell_short(out: &mut Transcript, answer: &ImageAnswer) {
         Ok(contents) => out.put_hex(contents.digest),
         Err(OpenFault::WrongSize) => out.put("S"),
         Err(OpenFault::NotADatabase) => out.put("N"),
+        Err(OpenFault::NewerFormat(_)) => out.put("L"),
         Err(OpenFault::Damaged) => out.put("."),
         Err(OpenFault::Device | OpenFault::Memory) => out.put("F"),
     }

@@ -11,6 +11,7 @@ pub struct OutcomeCounts {
     opened: u64,
     wrong_size: u64,
     not_a_database: u64,
+    newer_format: u64,
     damaged: u64,
     failed: u64,
 }
@@ -23,6 +24,7 @@ impl OutcomeCounts {
             opened: 0,
             wrong_size: 0,
             not_a_database: 0,
+            newer_format: 0,
             damaged: 0,
             failed: 0,
         }
@@ -34,6 +36,7 @@ impl OutcomeCounts {
             Ok(_) => &mut self.opened,
             Err(OpenFault::WrongSize) => &mut self.wrong_size,
             Err(OpenFault::NotADatabase) => &mut self.not_a_database,
+            Err(OpenFault::NewerFormat(_)) => &mut self.newer_format,
             Err(OpenFault::Damaged) => &mut self.damaged,
             Err(OpenFault::Device | OpenFault::Memory) => &mut self.failed,
         };
@@ -50,6 +53,7 @@ impl OutcomeCounts {
             (self.opened, " opened,"),
             (self.wrong_size, " WrongSize,"),
             (self.not_a_database, " NotADatabase,"),
+            (self.newer_format, " NewerFormat,"),
             (self.damaged, " Damaged,"),
             (self.failed, " failed\n"),
         ] {

@@ -73,6 +73,7 @@ impl TestFault {
     /// Tells why an opening was refused.
     pub fn tell(self, out: &mut String) -> Result<(), AllocError> {
         match self {
+            TestFault::NoStore(OpenFault::NewerFormat(_)) => write!(out, "Format"),
             TestFault::NoStore(fault) => write!(out, "{fault:?}"),
             TestFault::NoServer(OpeningFault::Read(fault)) => write!(out, "{fault:?}"),
             TestFault::NoServer(OpeningFault::Commit(fault)) => write!(out, "{fault:?}"),

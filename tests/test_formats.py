@@ -1,0 +1,78 @@
+#!/usr/bin/env python3
+"""Opens files of each format, and of later ones, that a second program wrote by docs/formats.md: python3 tests/test_formats.py
+
+The files are those of tests/formats, which never change. Which of them a Guarddb opens, and as what it refuses the others, is what that
+page says. The program is the one in the environment variable GUARDDB; without it only the files are compared.
+"""
+import os
+import shutil
+import tempfile
+import unittest
+
+from program import IS_FAKE, free_port, run
+import format_files
+
+LATER = {'later_alone': 4, 'later_above_format_2': 4, 'later_above_format_3': 7, 'two_later': 5}
+DAMAGED = ['later_below_format_2', 'later_of_the_wrong_sector', 'no_format']
+KNOWN = {'format_1': 1, 'format_2': 2, 'format_3': 3}
+QUESTION = 'open a ann\na: SELECT count(*) FROM t\n'
+
+
+class Files(unittest.TestCase):
+    def test_the_files_are_as_they_were(self):
+        self.assertEqual(format_files.main(), 0)
+        self.assertEqual(set(format_files.names()), {*LATER, *DAMAGED, *KNOWN})
+
+
+@unittest.skipIf(IS_FAKE, 'GUARDDB names no program')
+class Formats(unittest.TestCase):
+    def setUp(self):
+        self.folder = tempfile.mkdtemp(prefix='guarddb-')
+        self.addCleanup(shutil.rmtree, self.folder)
+        self.db = os.path.join(self.folder, 'db')
+
+    def put(self, name):
+        with open(self.db, 'wb') as file:
+            file.write(format_files.bytes_of(name))
+
+    def is_refused(self, name, fault, reason):
+        """By each command over a file, which is not written."""
+        self.put(name)
+        told = (1, '', f'guarddb: {fault}\nguarddb: {self.db}: {reason}\n')
+        other = os.path.join(self.folder, 'new')
+        served = ('serve', self.db, '--port', str(free_port()), '--connections', '1')
+        for words in (('check', self.db), ('describe', self.db), ('run', self.db, '/dev/null'), served,
+                      ('copy', self.db, other, '--pages', '64'), ('journal', self.db, 'on'), ('journal', self.db, 'off')):
+            with self.subTest(name, command=words[0]):
+                self.assertEqual(run(*words), told)
+        with open(self.db, 'rb') as file:
+            self.assertEqual(file.read(), format_files.bytes_of(name))
+        self.assertEqual(os.listdir(self.folder), ['db'])
+
+    def test_later_formats(self):
+        for name, form in LATER.items():
+            self.is_refused(name, 'Format', f'of format {form}, and this guarddb knows 1 to 3; open it with the guarddb that made it, '
+                                            'or restore a copy')
+
+    def test_what_is_only_damaged(self):
+        for name in DAMAGED:
+            self.is_refused(name, 'Damaged', 'the database is damaged; restore it from a copy')
+
+    def test_known_formats(self):
+        for name, form in KNOWN.items():
+            with self.subTest(name):
+                self.put(name)
+                status, printed, _ = run('run', self.db, '/dev/stdin', given=QUESTION)
+                self.assertEqual((status, printed), (0, f'ok OPEN\nrows 1\n{2 if form == 3 else 3}\n'))
+                self.assertEqual(run('check', self.db), (0, 'ok CHECK\n', ''))
+                with open(self.db, 'rb') as file:
+                    data = file.read()
+                roots = [data[at:at + 512] for at in (0, 512)]
+                newest = max(roots, key=lambda root: root[16:24])
+                self.assertEqual(newest[11], max(form, 2))
+                if form > 1:
+                    self.assertEqual(data, format_files.bytes_of(name))
+
+
+if __name__ == '__main__':
+    unittest.main()
