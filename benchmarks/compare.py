@@ -46,12 +46,17 @@ def table(name, rows, number=lambda key: key * 7919 % 99991):
     return [f'CREATE TABLE {name} (k BIGINT PRIMARY KEY, x BIGINT, o TEXT)', 'BEGIN', *inserts, 'COMMIT']
 
 
-def tenants():
+def tenants(name='t'):
     """Statements that make a table of 200 tenants, of whom bob is one, with as many rows each, in one block."""
-    names = ['bob', *(f't{tenant:03}' for tenant in range(1, 200))]
-    values = [[f"('{name}', {key}, {key * 7919 % 99991})" for key in range(ROWS // 200)] for name in names]
-    inserts = ['INSERT INTO t VALUES ' + ', '.join(rows[low:low + 100]) for rows in values for low in range(0, len(rows), 100)]
-    return ['CREATE TABLE t (o TEXT, k BIGINT, x BIGINT, PRIMARY KEY (o, k))', 'BEGIN', *inserts, 'COMMIT']
+    owners = ['bob', *(f't{tenant:03}' for tenant in range(1, 200))]
+    values = [[f"('{owner}', {key}, {key * 7919 % 99991})" for key in range(ROWS // 200)] for owner in owners]
+    inserts = [f'INSERT INTO {name} VALUES ' + ', '.join(rows[low:low + 100]) for rows in values for low in range(0, len(rows), 100)]
+    return [f'CREATE TABLE {name} (o TEXT, k BIGINT, x BIGINT, PRIMARY KEY (o, k))', 'BEGIN', *inserts, 'COMMIT']
+
+
+def own_rows(name):
+    """Statements by which each role sees its own rows of a table."""
+    return [f'ALTER TABLE {name} ENABLE ROW LEVEL SECURITY', f'CREATE POLICY p ON {name} USING (o = current_user)']
 
 
 def under(condition, statement):
@@ -77,8 +82,7 @@ def fills():
     made['policy'] = Fill([*guarded, 'CREATE POLICY p ON t USING (x >= 0)'], 'bob', 'x >= 0')
     made['owner'] = Fill([*guarded, 'CREATE POLICY p ON t USING (o = current_user)'], 'bob', "o = 'bob'")
     made['retained'] = Fill([*guarded, 'CREATE POLICY p ON t USING (k >= 0)'], 'bob', 'k >= 0')
-    own = ['ALTER TABLE t ENABLE ROW LEVEL SECURITY', 'CREATE POLICY p ON t USING (o = current_user)']
-    made['tenants'] = Fill([*tenants(), *bob, *own], 'bob', "o = 'bob'")
+    made['tenants'] = Fill([*tenants(), *bob, *own_rows('t')], 'bob', "o = 'bob'")
     made['journaled'] = Fill(table('t', 10_000), journal=True)
     made['memberships'] = Fill([*table('t', ROWS), 'CREATE ROLE bob LOGIN', *chain, 'GRANT SELECT ON t TO g3'], 'bob')
     return made

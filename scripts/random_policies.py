@@ -3,8 +3,8 @@
 
 The tables have keys of one to three columns, with a tenant's name in one of them. Policies bound columns of the key, or
 fail, in every order: permissive and restrictive, for all commands and for one, with OR, MEMBER OF and the current and
-the session user. Tenants and an owner read and change rows. The same seed gives the same script. model.py says what it
-answers.
+the session user. Tenants and an owner read and change rows, in blocks too, and root makes and drops policies meanwhile. The
+same seed gives the same script. model.py says what it answers.
 """
 import random
 import sys
@@ -23,6 +23,8 @@ COMPARISONS = ['=', '=', '=', '<', '<=', '>', '>=', '<>']
 class Script:
     def __init__(self, seed):
         self.r = random.Random(seed)
+        self.policies = {table: [] for table in TABLES}
+        self.in_block = set()
 
     def chance(self, p):
         return self.r.random() < p
@@ -97,11 +99,20 @@ class Script:
                               str(self.r.randint(-1, 4)) if kind == 'BIGINT' else "'" + self.r.choice(NAMES) + "'")
         return '(%s)' % ', '.join(values)
 
+    def many_rows(self, table):
+        """Rows of other keys than those of row, so that a walk comes to more than a few."""
+        for at in range(self.r.randint(30, 120)):
+            tenant = "'%s'" % self.of('a', 'b', 'bob', 'c', 'ann')
+            yield '(%s)' % ', '.join({'tenant': tenant, 'id': str(10 + at), 'open': self.of('true', 'false'),
+                                      'x': str(self.r.randint(1, 6))}[column] for column, _ in TABLES[table][0])
+
     def policy(self, table, number):
-        words = 'CREATE POLICY %s%d ON %s' % (self.of('a', 'm', 'z'), number, table)
+        name = '%s%d' % (self.of('a', 'm', 'z'), number)
+        self.policies[table].append(name)
+        words = 'CREATE POLICY %s ON %s' % (name, table)
         if self.chance(0.35):
             words += ' AS RESTRICTIVE'
-        command = self.of('', '', '', ' FOR SELECT', ' FOR UPDATE', ' FOR DELETE')
+        command = self.of('', '', '', '', ' FOR SELECT', ' FOR UPDATE', ' FOR DELETE', ' FOR INSERT')
         words += command
         if self.chance(0.15):
             words += ' TO ' + self.of('staff', 'a', 'ann')
@@ -112,6 +123,8 @@ class Script:
             condition = keyed if self.chance(0.7) else '%s AND %s' % (keyed, self.condition(scope, 1))
         else:
             condition = self.condition(scope, 2)
+        if command == ' FOR INSERT':
+            return words + ' WITH CHECK (%s)' % condition
         words += ' USING (%s)' % condition
         if command in ('', ' FOR UPDATE') and self.chance(0.2):
             words += ' WITH CHECK (%s)' % self.condition(scope, 1)
@@ -133,6 +146,8 @@ class Script:
                 yield '0: GRANT SELECT, INSERT, UPDATE, DELETE ON %s TO %s' % (table, name)
             for _ in range(self.r.randint(0, 14)):
                 yield '0: INSERT INTO %s VALUES %s' % (table, self.row(table))
+            if self.chance(0.2):
+                yield '0: INSERT INTO %s VALUES %s' % (table, ', '.join(self.many_rows(table)))
             if self.chance(0.85):
                 yield '0: ALTER TABLE %s ENABLE ROW LEVEL SECURITY' % table
             for number in range(self.of(0, 1, 1, 2, 2, 3, 4)):
@@ -178,10 +193,30 @@ class Script:
         if self.chance(0.3):
             return 'DELETE FROM %s%s' % (table, where)
         if self.chance(0.3):
-            return 'INSERT INTO %s VALUES %s' % (table, self.row(table))
-        column, kind = self.r.choice(TABLES[table][0])
-        new = self.of(self.value(kind), column, column + ' + 1' if kind == 'BIGINT' else column)
-        return 'UPDATE %s SET %s = %s%s' % (table, column, new, where)
+            return 'INSERT INTO %s VALUES %s' % (table, ', '.join(self.row(table) for _ in range(self.of(1, 1, 1, 2, 3))))
+        sets = []
+        for column, kind in self.r.sample(TABLES[table][0], self.of(1, 1, 1, 2)):
+            sets.append('%s = %s' % (column, self.of(self.value(kind), column, column + ' + 1' if kind == 'BIGINT' else column)))
+        return 'UPDATE %s SET %s%s' % (table, ', '.join(sets), where)
+
+    def defined(self):
+        """A change of a table's policies, or of who is in which role."""
+        table = self.r.choice(list(TABLES))
+        if self.chance(0.3):
+            return self.of('GRANT b TO ab', 'REVOKE b FROM ab', 'REVOKE staff FROM ann', 'GRANT staff TO ann')
+        if self.chance(0.2):
+            return 'ALTER TABLE %s %s ROW LEVEL SECURITY' % (table, self.of('ENABLE', 'ENABLE', 'DISABLE', 'FORCE', 'NO FORCE'))
+        if self.policies[table] and self.chance(0.5):
+            return 'DROP POLICY %s ON %s' % (self.policies[table].pop(self.r.randrange(len(self.policies[table]))), table)
+        return self.policy(table, self.r.randint(5, 9))
+
+    def bounded(self, session):
+        """The begin or the end of a session's block."""
+        if session in self.in_block:
+            self.in_block.remove(session)
+            return self.of('COMMIT', 'ROLLBACK')
+        self.in_block.add(session)
+        return 'BEGIN'
 
     def statements(self, count):
         for _ in range(count):
@@ -189,8 +224,10 @@ class Script:
             if self.chance(0.06):
                 yield '%d: %s' % (session, self.of('SET ROLE staff', 'SET ROLE a', 'SET ROLE b', 'RESET ROLE',
                                                     'RESET ROLE', 'RESET ROLE'))
-            elif self.chance(0.02):
-                yield '0: ' + self.of('GRANT b TO ab', 'REVOKE b FROM ab', 'REVOKE staff FROM ann', 'GRANT staff TO ann')
+            elif self.chance(0.03):
+                yield '0: ' + self.defined()
+            elif self.chance(0.25 if session in self.in_block else 0.03):
+                yield '%d: %s' % (session, self.bounded(session))
             else:
                 yield '%d: %s' % (session, self.select() if self.chance(0.7) else self.change())
 

@@ -31,7 +31,11 @@ def run(*words, given=''):
 
 def of_program(lines):
     """What the program answers to each event of a script over memory."""
-    status, printed, messages = run(given='\n'.join(lines) + '\n')
+    return of_answers(lines, *run(given='\n'.join(lines) + '\n'))
+
+
+def of_answers(lines, status, printed, messages):
+    """What a run of a script printed, by its events."""
     assert status == 0, (lines, status, messages)
     answers, left = [], iter(printed.split('\n')[:-1])
     for line in left:
