@@ -17,7 +17,8 @@ use Rattle.sql_lexer.specs.contracts.token.Unreserved as unreserved_words
 use denote.Enum.Declared.{tag_of}
 use Rattle.expr_parser.specs.Grammar.{Tree, SpellsExpr, Part, leaf, chain, by_not, no_not, tests, compared, not_compared, by_number, by_minus, no_minus, by_leaf, qualified, inside, by_member}
 use Rattle.expr_parser.specs.Grammar as grammar
-use Rattle.expr_parser.proofs.Readings.{token_precedence, spells_lt}
+use Rattle.expr_parser.proofs.Readings.{spells_lt}
+use Rattle.expr_parser.specs.Precedence.{token_precedence}
 use Rattle.sql_grammar.specs.Classes.{Class, exactly, names, no_star, code, is_name, in_class, in_any, apart}
 use Rattle.sql_grammar.specs.Phrases.{Phrase, gives, ◌▹◌, ◌⊛◌, ◌∣◌, listed, many, word_of, name, number, expr, sort_key_expression, clause, Spells, StandsFor}
 use Rattle.sql_grammar.specs.LookAhead.{operators, if_so, words_in, has_no_doubles, nullable, first, extends, is_determined, Ends}
