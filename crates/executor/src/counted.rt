@@ -1,8 +1,8 @@
 //! `count(*)` over all rows that are found of a table, by their keys.
-ghost use Rattle.std.specs.Prelude.{◌≡◌, IsTrue, IfOk, Ok, length};
+ghost use Rattle.std.specs.Prelude.{IsTrue, IfOk, Ok, length};
 ghost use Rattle.store.specs.StatementError.{ReadsMap};
 ghost use Rattle.store.specs.Records.{entries_where};
-ghost use Rattle.store.specs.Walks.{count_of};
+ghost use Rattle.store.specs.Walks.{count_to};
 ghost use Rattle.key_ranges.specs.Spans.{is_in_spans, AreSpansInOrder};
 ghost use Rattle.expressions.specs.Rows.{names_of};
 ghost use Rattle.table_rows.specs.Failures.{Answers};
@@ -19,7 +19,7 @@ use sql_types::items::Items;
 use sql_types::value::Value;
 use std::alloc::{AllocError, Global};
 use store::{Map, StatementError};
-use table_rows::{Target, count_rows};
+use table_rows::{Target, count_rows_to};
 
 // Whether a query over one table counts all rows that its target finds: neither a policy nor a
 // condition leaves one out.
@@ -49,50 +49,62 @@ pub(crate) fn count_found<M: Map>(
     ensures counted { (M.state records.old).sound → Answers result
         (counted (length (records_of table.now (M.state records.old).map))) }
 {
-    let count = count_keys(alloc, records, table)?;
+    let count = count_found_to(alloc, records, table, u64::MAX)?;
     match count_row(alloc, count)? {
         Ok(rows) => Ok(rows),
         Err(code) => Err(StatementError::Refused(code)),
     }
 }
 
-// How many records a target finds, up to `u64::MAX`, by their keys.
-fn count_keys<M: Map>(
+/// How many rows a target finds, those of its table or of its range, or `most` where they are as many or
+/// more: what it takes to tell whether they are fewer than so many. No value is read. The failures are Memory
+/// and Device.
+pub(crate) fn count_found_to<M: Map>(
     alloc: Global,
     records: &mut M,
     table: &Target<'_>,
+    most: u64,
 ) -> Result<u64, StatementError>
     ensures preserved { M.preserved records.old records.new }
     ensures reads { ReadsMap result (M.state records.old) (M.state records.new) }
     ensures counts { (M.state records.old).sound → Answers result
-        (Ok (count_of (records_of table.now (M.state records.old).map))) }
+        (Ok (count_to most (records_of table.now (M.state records.old).map))) }
 {
     match table.range {
-        None => count_rows(alloc, records, table.id),
+        None => count_rows_to(alloc, records, table.id, most),
         Some(KeyRange::Point(key)) => {
             let found = records.contains(key.as_slice())?;
-            Ok(u64::from(found))
+            Ok(u64::from(found).min(most))
         }
         Some(KeyRange::Span { start, stop }) => {
-            let count = records.count_to(start.as_slice(), stop.as_slice(), u64::MAX)?;
+            let count = records.count_to(start.as_slice(), stop.as_slice(), most)?;
             Ok(count)
         }
-        Some(KeyRange::Several(spans)) => count_in_spans(records, spans.as_slice()),
+        Some(KeyRange::Several(spans)) => count_in_spans_to(records, spans.as_slice(), most),
     }
 }
 
-// How many records have keys in spans, up to `u64::MAX`.
-fn count_in_spans<M: Map>(records: &mut M, spans: &[KeySpan]) -> Result<u64, StatementError>
+// The same of the records whose keys are in spans. The count ends with the span in which it comes to
+// `most`.
+fn count_in_spans_to<M: Map>(
+    records: &mut M,
+    spans: &[KeySpan],
+    most: u64,
+) -> Result<u64, StatementError>
     requires { AreSpansInOrder spans.now }
     ensures preserved { M.preserved records.old records.new }
     ensures reads { ReadsMap result (M.state records.old) (M.state records.new) }
     ensures counts { (M.state records.old).sound → Answers result
-        (Ok (count_of (entries_where (is_in_spans spans.now) (M.state records.old).map))) }
+        (Ok (count_to most (entries_where (is_in_spans spans.now) (M.state records.old).map))) }
 {
     let mut count: u64 = 0;
     for span in spans {
-        let more = records.count_to(span.start.as_slice(), span.stop.as_slice(), u64::MAX)?;
-        count = count.saturating_add(more);
+        if count >= most {
+            return Ok(count);
+        }
+        let more = most - count;
+        let found = records.count_to(span.start.as_slice(), span.stop.as_slice(), more)?;
+        count = count.saturating_add(found);
     }
     Ok(count)
 }

@@ -16,7 +16,7 @@ mod visit;
 mod walk;
 
 pub use change::{RowChanges, delete, insert, update};
-pub use count::{count_rows, count_rows_to};
+pub use count::count_rows_to;
 pub use laws::{held_rows_are_whole, key_is_found, other_records_stay, update_is_held};
 pub use part::visit_part;
 pub use target::{Assignments, Insertion, Target};

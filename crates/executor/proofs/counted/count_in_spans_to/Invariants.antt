@@ -1,8 +1,8 @@
-use Rattle.std.proofs.Common.{◌≡◌, ◌≤◌, ◌+◌, ◌^◌, ◌-◌, min, drop, length}
+use Rattle.std.proofs.Common.{◌≡◌, ◌≤◌, ◌+◌, min, drop, length}
 use Rattle.store.specs.Records.{entries_where}
 use Rattle.store.specs.Store.{OnlyReads}
 use Rattle.key_ranges.specs.Spans.{is_in_spans}
-use Rattle.executor.proofs.counted.count_in_spans.Given as goal
+use Rattle.executor.proofs.counted.count_in_spans_to.Given as goal
 
 -- the count so far, and the records in the spans that still come
 abbrev pub invariant-loop-span : goal.invariant-loop-span
@@ -10,7 +10,7 @@ invariant-loop-span g l = record {
   preserved : g.M.Map.preserved l.fn.records l.records;
   reads : OnlyReads (g.M.Map.state l.fn.records) (g.M.Map.state l.records);
   works : (g.M.Map.state l.records).has_failed ≡ (g.M.Map.state l.fn.records).has_failed;
-  few : l.count ≤ 2 ^ 64 - 1;
-  counted : (g.M.Map.state l.fn.records).sound → min (length (entries_where (is_in_spans l.spans) (g.M.Map.state l.fn.records).map)) (2 ^ 64 - 1)
-      ≡ min (l.count + length (entries_where (is_in_spans (drop l.span-index l.spans)) (g.M.Map.state l.fn.records).map)) (2 ^ 64 - 1);
+  few : (g.M.Map.state l.fn.records).sound → l.count ≤ l.most;
+  counted : (g.M.Map.state l.fn.records).sound → min (length (entries_where (is_in_spans l.spans) (g.M.Map.state l.fn.records).map)) l.most
+      ≡ min (l.count + length (entries_where (is_in_spans (drop l.span-index l.spans)) (g.M.Map.state l.fn.records).map)) l.most;
 }
