@@ -5,6 +5,7 @@ ghost use Rattle.store.specs.Records.{entries_where};
 ghost use Rattle.store.specs.Walks.{count_to};
 ghost use Rattle.key_ranges.specs.Spans.{is_in_spans, AreSpansInOrder};
 ghost use Rattle.expressions.specs.Rows.{names_of};
+ghost use Rattle.table_rows.specs.Costs.{cost_of, walk_cost};
 ghost use Rattle.table_rows.specs.Failures.{Answers};
 ghost use Rattle.table_rows.specs.Ranged.{records_of};
 ghost use Rattle.gathering.specs.Found.{counted};
@@ -46,6 +47,8 @@ pub(crate) fn count_found<M: Map>(
 ) -> Result<Items<Items<Value>>, StatementError>
     ensures preserved { M.preserved records.old records.new }
     ensures reads { ReadsMap result (M.state records.old) (M.state records.new) }
+    ensures cost { (M.state records.old).sound → M.cost records.old records.new
+        (cost_of table.now (M.state records.old).map) }
     ensures counted { (M.state records.old).sound → Answers result
         (counted (length (records_of table.now (M.state records.old).map))) }
 {
@@ -67,6 +70,8 @@ pub(crate) fn count_found_to<M: Map>(
 ) -> Result<u64, StatementError>
     ensures preserved { M.preserved records.old records.new }
     ensures reads { ReadsMap result (M.state records.old) (M.state records.new) }
+    ensures cost { (M.state records.old).sound → M.cost records.old records.new
+        (cost_of table.now (M.state records.old).map) }
     ensures counts { (M.state records.old).sound → Answers result
         (Ok (count_to most (records_of table.now (M.state records.old).map))) }
 {
@@ -94,6 +99,9 @@ fn count_in_spans_to<M: Map>(
     requires { AreSpansInOrder spans.now }
     ensures preserved { M.preserved records.old records.new }
     ensures reads { ReadsMap result (M.state records.old) (M.state records.new) }
+    ensures cost { (M.state records.old).sound → M.cost records.old records.new
+        (walk_cost (length spans.now)
+        (entries_where (is_in_spans spans.now) (M.state records.old).map)) }
     ensures counts { (M.state records.old).sound → Answers result
         (Ok (count_to most (entries_where (is_in_spans spans.now) (M.state records.old).map))) }
 {

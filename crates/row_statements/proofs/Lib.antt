@@ -8,3 +8,4 @@ pub mod Querying
 pub mod Damaging
 pub mod Acting
 pub mod Planned
+pub mod Costing

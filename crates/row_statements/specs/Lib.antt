@@ -4,3 +4,4 @@ pub mod Ranges
 pub mod Damage
 pub mod Targeted
 pub mod Reading
+pub mod Costs

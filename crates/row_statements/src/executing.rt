@@ -8,6 +8,7 @@ ghost use Rattle.stored_database.specs.Records.{Shows};
 ghost use Rattle.catalogue.specs.Executed.{Executes};
 ghost use Rattle.store.specs.StatementError.{ReadsMap};
 ghost use Rattle.table_rows.specs.Failures.{IsDamagedFor};
+ghost use Rattle.row_statements.specs.Costs.{CostsAtMost, CostsPlanned};
 ghost use Rattle.row_statements.specs.Damage.{FindsDamage, StopsForDamage};
 ghost use Rattle.row_statements.specs.Executed.{OnlyReads, Performs, PlansReads, WritesAsRead};
 ghost use Rattle.row_statements.specs.Reading.{AnswersBy, ReadsFor};
@@ -33,6 +34,9 @@ use table_rows::{Assignments, Insertion, delete, insert, update};
 /// It is refused as [`plan_rows`] says, and then as [`select`], [`insert`], [`update`] or [`delete`]
 /// does. Memory that is refused and a device that fails are faults, and so is a record that is of no
 /// row among the keys of [`ranged`] or of [`crate::range_where`], and no other.
+///
+/// Over one table it costs no more than a walk over the records among these keys, whether it is answered or
+/// refused, and a look-up for each new key: no other record makes it call the map once more.
 pub fn execute<M: Map>(
     alloc: Global,
     map: &mut M,
@@ -43,6 +47,9 @@ pub fn execute<M: Map>(
 ) -> Result<Effect, StatementError>
     ensures preserved { M.preserved map.old map.new }
     ensures read { ReadsMap result (M.state map.old) (M.state map.new) }
+    ensures cost { (M.state map.old).sound → CostsAtMost (M.cost map.old map.new)
+        (M.state map.old).map catalogue.now
+        (seen_users catalogue.now.memberships current.now session.now) statement.now }
     ensures unchanged { OnlyReads statement.now → IfOk result (λ effect. effect.changes ≡ []) }
     ensures definitions { IfOk result (λ effect. effect.schema ≡ None) }
     ensures executed { (M.state map.old).sound → (db : Database)
@@ -71,6 +78,8 @@ fn carry_out<M: Map>(
 ) -> Result<Effect, StatementError>
     ensures preserved { M.preserved map.old map.new }
     ensures read { ReadsMap result (M.state map.old) (M.state map.new) }
+    ensures cost { (M.state map.old).sound → CostsPlanned (M.cost map.old map.new)
+        (M.state map.old).map (names_of users.entry) plan.now }
     ensures unchanged { PlansReads plan.now → IfOk result (λ effect. effect.changes ≡ []) }
     ensures definitions { IfOk result (λ effect. effect.schema ≡ None) }
     ensures executed { (M.state map.old).sound

@@ -2,7 +2,8 @@
 //! opened its session, and writes what they are answered. A line is `open NAME ROLE` or
 //! `NAME: STATEMENT`, as in scripts, or `ranges NAME: STATEMENT`: of a SELECT, an UPDATE or a DELETE
 //! that passes its checks it writes each table with the keys among which its rows would be looked
-//! for: one key, a span of keys, or all keys. A line `new` begins again, over a new database.
+//! for: one key, a span of keys, or all keys. Of a line `cost NAME: STATEMENT` it writes what the calls of the statement on the store
+//! cost ([`CountedMap`]), and commits nothing. A line `new` begins again, over a new database.
 //!
 //! A line `record KEY / VALUE` puts a record of these bytes (`notation` of `records`) into the store, as if its file had been
 //! altered. A SELECT speaks of the records that it read, so it answers `failed Damaged` only where it
@@ -13,11 +14,13 @@
 //! random queries over small tables with the answers of another program (`random_queries.py` and
 //! `model.py` in `scripts/`).
 
+mod counted_map;
 mod looked;
 
 use crate::names::name_of;
 use crate::records::loading::new_store;
 use crate::records::put_record;
+use crate::rows::counted_map::CountedMap;
 use crate::rows::looked::put_looked_for;
 use crate::told::Told;
 use anyhow::{Result, bail};
@@ -53,6 +56,8 @@ enum Asked {
     Outcome,
     /// Where it looks for rows.
     Ranges,
+    /// What its calls on the store cost.
+    Cost,
 }
 
 /// A database in memory with the sessions that are open.
@@ -85,10 +90,8 @@ impl OpenDatabase {
         let Some((session, text)) = line.split_once(": ") else {
             bail!("a line is no event");
         };
-        match session.strip_prefix("ranges ") {
-            Some(session) => self.run_statement(alloc, session, text, Asked::Ranges, out),
-            None => self.run_statement(alloc, session, text, Asked::Outcome, out),
-        }
+        let (asked, session) = asked_of(session);
+        self.run_statement(alloc, session, text, asked, out)
     }
 
     fn begin_again(&mut self, alloc: Global) -> Result<()> {
@@ -124,6 +127,17 @@ impl OpenDatabase {
     }
 }
 
+/// What the words before a statement ask of it, and the name of its session.
+fn asked_of(words: &str) -> (Asked, &str) {
+    if let Some(session) = words.strip_prefix("ranges ") {
+        return (Asked::Ranges, session);
+    }
+    match words.strip_prefix("cost ") {
+        Some(session) => (Asked::Cost, session),
+        None => (Asked::Outcome, words),
+    }
+}
+
 /// The role of the session of this name.
 fn role_of<'s>(sessions: &'s [TestSession], name: &str) -> Result<&'s Name> {
     for session in sessions {
@@ -150,6 +164,7 @@ fn run_parsed(
     match asked {
         Asked::Outcome => carry_out(alloc, store, &catalogue, role, statement, out),
         Asked::Ranges => Ok(put_ranges(alloc, &catalogue, role, statement, out)),
+        Asked::Cost => put_cost(alloc, store, &catalogue, role, statement, out),
     }
 }
 
@@ -197,11 +212,32 @@ fn put_ranges(
     out.put("\n");
 }
 
+/// Tells what the calls of a statement cost that is carried out and not committed, whether it is answered or refused.
+fn put_cost(
+    alloc: Global,
+    store: &mut MemStore,
+    catalogue: &Catalogue,
+    role: &Name,
+    statement: &DatabaseStatement,
+    out: &mut Told,
+) -> Result<()> {
+    let session = Session::new(role.try_copy(alloc)?, role.try_copy(alloc)?);
+    let mut map = CountedMap::new(store);
+    if let Err(StatementError::Failed(fault)) = Statements.execute(
+        alloc, &mut map, catalogue, &session, statement,
+    ) {
+        bail!(fault);
+    }
+    out.put_number("", i128::from(map.spent()));
+    out.put("\n");
+    Ok(())
+}
+
 /// Tells why a statement is refused.
 fn put_refused(alloc: Global, code: SqlState, asked: Asked, out: &mut Told) {
     match asked {
         Asked::Outcome => put_answer(alloc, &Answer::Refused(code), out),
-        Asked::Ranges => out.put_line(&[code.code()]),
+        Asked::Ranges | Asked::Cost => out.put_line(&[code.code()]),
     }
 }
 

@@ -1,6 +1,7 @@
 -- The rows that an UPDATE or a DELETE chooses, and what the definition chooses.
-use Rattle.std.proofs.Common.{◌≡◌, ℕ, ◌+◌, Bool, true, false, if◌then◌else◌, List, [], ◌∷◌, ◌++◌, map, length, option_to_list, Option, Some, None, Result, Ok, Err, refl, sym, ap, ◌∙◌, subst, inl, inr, append_assoc, append-nil, arith}
+use Rattle.std.proofs.Common.{◌≡◌, ◌≤◌, ℕ, ◌+◌, Bool, true, false, if◌then◌else◌, List, [], ◌∷◌, ◌++◌, map, length, option_to_list, Option, Some, None, Result, Ok, Err, refl, sym, ap, ◌∙◌, subst, inl, inr, append_assoc, append-nil, arith}
 use Rattle.std.specs.List.{AllByRecursion}
+use Rattle.std.proofs.lemmas.List.{length-append}
 use Rattle.sql_types.specs.declared.state.SqlState.{SqlState}
 use Rattle.sql_types.specs.declared.value.Value.TheVariants.{Null, Int, Text, Bool as Boolean}
 use Rattle.sql_types.specs.Row.{Row}
@@ -175,6 +176,11 @@ each_makes P f (x ∷ xs) rows h e =
     let more = bind_ok (each f xs) _ rows first.2 in
     subst (AllByRecursion P) (ok_inside (first.0 ∷ more.0) rows more.2) (h x (inl refl) first.0 first.1, each_makes P f xs more.0 (λ y among. h y (inr among)) more.1)
 
+-- one more at most
+one_kept : {X : Type 0} (xs : List X) (o : Option X) → length (xs ++ option_to_list o) ≤ length xs + 1
+one_kept xs None = let long = length-append xs [] in omega (arith, long)
+one_kept xs (Some x) = let long = length-append xs (x ∷ []) in omega (arith, long)
+
 -- ---- the changes of what is chosen, whatever becomes of it
 
 module _ (test : Row → Result Bool SqlState) (becomes : Row → Result (Option Row) SqlState) (id : ℕ) (layout : Layout) where
@@ -194,3 +200,21 @@ module _ (test : Row → Result Bool SqlState) (becomes : Row → Result (Option
   chosen_concern (row ∷ rows) done chosen p e =
       let first = bind_ok (test row) _ chosen e in
       after_choice row rows done chosen first.0 p first.2 (λ next q f. chosen_concern rows next chosen q f)
+
+  kept_after : (row : Row) (rows : List Row) (done chosen : ChosenRows) (this : Bool)
+      → (if this then (becomes row >>= λ new. all_chosen test becomes id layout (with_chosen (row_record id layout row).0 new done) rows) else all_chosen test becomes id layout done rows) ≡ Ok chosen
+      → ((next : ChosenRows) → all_chosen test becomes id layout next rows ≡ Ok chosen → length chosen.rows ≤ length next.rows + length rows) → length chosen.rows ≤ length done.rows + (length rows + 1)
+  kept_after row rows done chosen false e later = (let less = later done e in omega (arith, less))
+  kept_after row rows done chosen true e later =
+      let new = bind_ok (becomes row) _ chosen e in
+      let less = later (with_chosen (row_record id layout row).0 new.0 done) new.2 in
+      let more = one_kept done.rows new.0 in
+      omega (arith, less, more)
+
+  -- no more rows are kept than there are
+  pub chosen_few : (rows : List Row) (done chosen : ChosenRows) → all_chosen test becomes id layout done rows ≡ Ok chosen → length chosen.rows ≤ length done.rows + length rows
+  chosen_few [] done chosen e = subst (λ (c : ChosenRows). length c.rows ≤ length done.rows + 0) (ok_inside done chosen e) (omega arith)
+  chosen_few (row ∷ rows) done chosen e =
+      let first = bind_ok (test row) _ chosen e in
+      let less = kept_after row rows done chosen first.0 first.2 (λ next f. chosen_few rows next chosen f) in
+      omega (arith, less)

@@ -19,3 +19,4 @@ pub mod Ranging
 pub mod Statements
 pub mod Keeping
 pub mod Sets
+pub mod Costs

@@ -174,7 +174,7 @@ each_map : {A B C : Type 0} (f : B → Result C SqlState) (g : A → B) (xs : Li
 each_map f g [] = refl
 each_map f g (x ∷ xs) = ap (λ r. f (g x) >>= λ y. r >>= λ ys. Ok (y ∷ ys)) (each_map f g xs)
 
-length_map : {A B : Type 0} (g : A → B) (xs : List A) → length (map g xs) ≡ length xs
+pub length_map : {A B : Type 0} (g : A → B) (xs : List A) → length (map g xs) ≡ length xs
 length_map g [] = refl
 length_map g (x ∷ xs) = let later = length_map g xs in omega (arith, later)
 

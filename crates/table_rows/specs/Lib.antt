@@ -10,3 +10,4 @@ pub mod Ranged
 pub mod Choosing
 pub mod NewRows
 pub mod Setting
+pub mod Costs

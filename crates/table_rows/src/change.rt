@@ -1,12 +1,13 @@
 //! INSERT, UPDATE and DELETE over the rows of a table (SQL:2016 Foundation, 14.9, 14.11 and 14.14).
-ghost use Rattle.std.specs.Prelude.{◌≡◌, OnOk, IfOk, IfErr, List};
+ghost use Rattle.std.specs.Prelude.{◌≡◌, ◌+◌, OnOk, IfOk, IfErr, List, length};
 ghost use Rattle.sql_types.specs.Row.{Row};
 ghost use Rattle.sql_ast.specs.Layout.{IsLayout};
 ghost use Rattle.abstract_database.specs.Changes.{CheckedInsert, CheckedUpdate, CheckedDelete, rows_updated, rows_deleted};
 ghost use Rattle.store.specs.StatementError.{ReadsMap};
 ghost use Rattle.table_rows.specs.Failures.{IsDamagedFor};
 ghost use Rattle.table_rows.specs.HeldRows.{HoldsRows, ConcernRowsOf};
-ghost use Rattle.table_rows.specs.Ranged.{FindsSpelled, FindsDamage, IsOfTable, LosesNothing};
+ghost use Rattle.table_rows.specs.Ranged.{records_of, FindsSpelled, FindsDamage, IsOfTable, LosesNothing};
+ghost use Rattle.table_rows.specs.Costs.{cost_of, update_cost};
 ghost use Rattle.table_rows.specs.Targets.{users_of, sees, admits, inserted_by, assigned_by, IsInsert, IsUpdate, IsDelete};
 ghost use Rattle.table_rows.specs.NewRows.{GiveFittingRows, MakesChanges, inserted};
 
@@ -40,6 +41,7 @@ pub fn insert<M: Map>(
 ) -> Result<RowChanges, StatementError>
     ensures preserved { M.preserved records.old records.new }
     ensures reads { ReadsMap result (M.state records.old) (M.state records.new) }
+    ensures cost { M.cost records.old records.new (length insertion.now.rows.now) }
     ensures changes { (M.state records.old).sound → (rows : List Row) (c : CheckedInsert)
         → IsLayout target.now.columns.now
         → HoldsRows target.now.id target.now.columns.now (M.state records.old).map rows
@@ -77,6 +79,9 @@ pub fn update<M: Map>(
 ) -> Result<RowChanges, StatementError>
     ensures preserved { M.preserved records.old records.new }
     ensures reads { ReadsMap result (M.state records.old) (M.state records.new) }
+    ensures cost { (M.state records.old).sound → IsOfTable target.now.id target.now.range
+        → M.cost records.old records.new
+        (update_cost target.now assignments.now (M.state records.old).map) }
     ensures changes { (M.state records.old).sound → (rows : List Row) (c : CheckedUpdate)
         → IsLayout target.now.columns.now
         → HoldsRows target.now.id target.now.columns.now (M.state records.old).map rows
@@ -111,6 +116,9 @@ fn update_with_keys<M: Map>(
 ) -> Result<RowChanges, StatementError>
     ensures preserved { M.preserved records.old records.new }
     ensures reads { ReadsMap result (M.state records.old) (M.state records.new) }
+    ensures cost { (M.state records.old).sound → IsOfTable target.now.id target.now.range
+        → M.cost records.old records.new (cost_of target.now (M.state records.old).map
+        + length (records_of target.now (M.state records.old).map)) }
     ensures changes { (M.state records.old).sound → (rows : List Row) (c : CheckedUpdate)
         → IsLayout target.now.columns.now
         → HoldsRows target.now.id target.now.columns.now (M.state records.old).map rows
@@ -152,6 +160,8 @@ pub fn delete<M: Map>(
 ) -> Result<RowChanges, StatementError>
     ensures preserved { M.preserved records.old records.new }
     ensures reads { ReadsMap result (M.state records.old) (M.state records.new) }
+    ensures cost { (M.state records.old).sound → M.cost records.old records.new
+        (cost_of target.now (M.state records.old).map) }
     ensures changes { (M.state records.old).sound → (rows : List Row) (c : CheckedDelete)
         → IsLayout target.now.columns.now
         → HoldsRows target.now.id target.now.columns.now (M.state records.old).map rows

@@ -1,5 +1,5 @@
 //! The rows that an UPDATE or a DELETE chooses.
-ghost use Rattle.std.specs.Prelude.{◌≡◌, OnOk, IfOk, IfErr, List, length};
+ghost use Rattle.std.specs.Prelude.{◌≡◌, ◌≤◌, OnOk, IfOk, IfErr, List, length};
 ghost use Rattle.sql_types.specs.Row.{Row};
 ghost use Rattle.expressions.specs.Rows.{names_of, value_on};
 ghost use Rattle.store.specs.Records.{IsKeySize};
@@ -9,7 +9,8 @@ ghost use Rattle.guards.specs.Truths.{is_met};
 ghost use Rattle.store.specs.StatementError.{ReadsMap};
 ghost use Rattle.table_rows.specs.Failures.{Gives, Answers, IsDamagedFor, ReadsNoMap};
 ghost use Rattle.table_rows.specs.HeldRows.{HoldsRows, ConcernRowsOf};
-ghost use Rattle.table_rows.specs.Ranged.{FindsSpelled, FindsDamage, IsOfTable, LosesNothing};
+ghost use Rattle.table_rows.specs.Ranged.{records_of, FindsSpelled, FindsDamage, IsOfTable, LosesNothing};
+ghost use Rattle.table_rows.specs.Costs.{cost_of};
 ghost use Rattle.table_rows.specs.Targets.{users_of, sees, condition_in};
 ghost use Rattle.table_rows.specs.Choosing.{is_chosen, became, all_chosen, nothing_chosen, chosen_after, TakesRow};
 
@@ -57,6 +58,8 @@ pub(crate) fn choose<M: Map>(
 ) -> Result<ChosenRows, StatementError>
     ensures preserved { M.preserved records.old records.new }
     ensures reads { ReadsMap result (M.state records.old) (M.state records.new) }
+    ensures cost { (M.state records.old).sound → M.cost records.old records.new
+        (cost_of target.now (M.state records.old).map) }
     ensures chosen { (M.state records.old).sound → (rows : List Row)
         → HoldsRows target.now.id target.now.columns.now (M.state records.old).map rows
         → LosesNothing target.now condition.entry
@@ -72,6 +75,9 @@ pub(crate) fn choose<M: Map>(
         (IsDamagedFor (FindsDamage target.now (M.state records.old).map)) }
     ensures concern { (M.state records.old).sound → IsOfTable target.now.id target.now.range
         → IfOk result (λ chosen. ConcernRowsOf target.now.id chosen.changes) }
+    ensures few { (M.state records.old).sound → IsOfTable target.now.id target.now.range
+        → IfOk result (λ chosen.
+        length chosen.rows ≤ length (records_of target.now (M.state records.old).map)) }
 {
     let chosen = ChosenRows::new(alloc);
     let mut choosing = Choosing {

@@ -4,6 +4,7 @@ ghost use Rattle.store.specs.Records.{entries_where, has_prefix};
 ghost use Rattle.store.specs.StatementError.{ReadsMap};
 ghost use Rattle.store.specs.Walks.{count_to};
 ghost use Rattle.row_codec.specs.Rows.{row_prefix};
+ghost use Rattle.table_rows.specs.Costs.{walk_cost};
 ghost use Rattle.table_rows.specs.Failures.{Answers};
 
 use crate::visit::table_prefix;
@@ -20,6 +21,8 @@ pub fn count_rows_to<M: Map>(
 ) -> Result<u64, StatementError>
     ensures preserved { M.preserved records.old records.new }
     ensures reads { ReadsMap result (M.state records.old) (M.state records.new) }
+    ensures cost { (M.state records.old).sound → M.cost records.old records.new (walk_cost 1
+        (entries_where (has_prefix (row_prefix table)) (M.state records.old).map)) }
     ensures counts { (M.state records.old).sound → Answers result
         (Ok (count_to most (entries_where (has_prefix (row_prefix table)) (M.state records.old).map))) }
 {

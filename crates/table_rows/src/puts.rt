@@ -1,5 +1,5 @@
 //! New rows of a table among the changes of a statement.
-ghost use Rattle.std.specs.Prelude.{◌≡◌, IfOk, IfErr, OnOk, List};
+ghost use Rattle.std.specs.Prelude.{◌≡◌, IfOk, IfErr, OnOk, List, length};
 ghost use Rattle.std.specs.List.{AllByRecursion};
 ghost use Rattle.sql_types.specs.Row.{Row};
 ghost use Rattle.sql_ast.specs.Rows.{KeepsLimits};
@@ -36,6 +36,7 @@ pub fn put_rows<M: Map>(
     requires { AllByRecursion (KeepsLimits columns.now) rows.now }
     ensures preserved { M.preserved records.old records.new }
     ensures reads { ReadsMap result (M.state records.old) (M.state records.new) }
+    ensures cost { M.cost records.old records.new (length rows.now) }
     ensures puts { (M.state records.old).sound → (others : List Row) → IsLayout columns.now
         → IsOrdered changes.old
         → HoldsRows id columns.now (applied changes.old (M.state records.old).map) others
@@ -64,6 +65,7 @@ fn put_row<M: Map>(
     requires { KeepsLimits columns.now row.now }
     ensures preserved { M.preserved records.old records.new }
     ensures reads { ReadsMap result (M.state records.old) (M.state records.new) }
+    ensures cost { M.cost records.old records.new 1 }
     ensures puts { (M.state records.old).sound
         → PutsRecord result (row_record id columns.now row.now) (M.state records.old).map
         changes.old changes.new }
@@ -99,6 +101,7 @@ fn key_of(
 // or else the map does.
 fn has_key<M: Map>(records: &mut M, changes: &Batch, key: &[u8]) -> Result<bool, StoreFault>
     ensures preserved { M.preserved records.old records.new }
+    ensures cost { M.cost records.old records.new 1 }
     ensures finds { FindsKey key.now changes.now result (M.state records.old)
         (M.state records.new) }
 {

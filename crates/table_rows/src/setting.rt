@@ -9,6 +9,7 @@ ghost use Rattle.store.specs.StatementError.{ReadsMap};
 ghost use Rattle.table_rows.specs.Failures.{Answers, IsDamagedFor, ReadsNoMap};
 ghost use Rattle.table_rows.specs.HeldRows.{HoldsRows, ConcernRowsOf};
 ghost use Rattle.table_rows.specs.Ranged.{FindsSpelled, FindsDamage, IsOfTable, LosesNothing};
+ghost use Rattle.table_rows.specs.Costs.{cost_of};
 ghost use Rattle.table_rows.specs.Targets.{users_of, sees, admits, condition_in, assigned_by, IsUpdate};
 ghost use Rattle.table_rows.specs.NewRows.{GiveFittingRows, MakesChanges};
 ghost use Rattle.table_rows.specs.Choosing.{is_chosen, over_chosen};
@@ -63,6 +64,8 @@ pub(crate) fn update_in_place<M: Map>(
 ) -> Result<RowChanges, StatementError>
     ensures preserved { M.preserved records.old records.new }
     ensures reads { ReadsMap result (M.state records.old) (M.state records.new) }
+    ensures cost { (M.state records.old).sound → M.cost records.old records.new
+        (cost_of target.now (M.state records.old).map) }
     ensures changes { (M.state records.old).sound → (rows : List Row) (c : CheckedUpdate)
         → IsLayout target.now.columns.now
         → sets_key target.now.columns.now.key assignments.now.columns.now ≡ false
@@ -99,6 +102,8 @@ fn set_rows<M: Map>(
 ) -> Result<SetRows, StatementError>
     ensures preserved { M.preserved records.old records.new }
     ensures reads { ReadsMap result (M.state records.old) (M.state records.new) }
+    ensures cost { (M.state records.old).sound → M.cost records.old records.new
+        (cost_of target.now (M.state records.old).map) }
     ensures set { (M.state records.old).sound → (rows : List Row)
         → HoldsRows target.now.id target.now.columns.now (M.state records.old).map rows
         → LosesNothing target.now condition.entry

@@ -11,6 +11,7 @@ ghost use Rattle.store.specs.StatementError.{ReadsMap};
 ghost use Rattle.table_rows.specs.Failures.{ReadsNoMap};
 ghost use Rattle.table_rows.specs.Visits.{VisitsAt, VisitsRecord, IsDoneOnlyIf, SpellsVisited};
 ghost use Rattle.table_rows.specs.Walked.{WalksOn};
+ghost use Rattle.table_rows.specs.Costs.{walk_cost};
 
 use row_codec::{RowRef, push_row_prefix};
 use sql_ast::columns::Columns;
@@ -76,6 +77,8 @@ pub(crate) fn visit_rows<M: Map, V: RowVisitor>(
 ) -> Result<Flow, StatementError>
     ensures preserved { M.preserved records.old records.new }
     ensures reads { ReadsMap result (M.state records.old) (M.state records.new) }
+    ensures cost { (M.state records.old).sound → M.cost records.old records.new
+        (walk_cost 1 (span start.now stop.now (M.state records.old).map)) }
     ensures walked { (M.state records.old).sound → (id : ℕ)
         → WalksOn id columns.now (span start.now stop.now (M.state records.old).map)
         (V.after visitor.old id columns.now) (V.after visitor.new id columns.now) result }

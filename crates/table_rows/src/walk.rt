@@ -1,5 +1,5 @@
 //! A walk over the rows of a target: of its table, or of a range of the keys of its table.
-ghost use Rattle.std.specs.Prelude.{◌≡◌, OnOk, List, ℕ, false, option_to_list};
+ghost use Rattle.std.specs.Prelude.{◌≡◌, OnOk, List, ℕ, false, length, option_to_list};
 ghost use Rattle.sql_types.specs.Row.{Row};
 ghost use Rattle.store.specs.Records.{entries_where, entry_at};
 ghost use Rattle.store.specs.StatementError.{ReadsMap};
@@ -7,6 +7,7 @@ ghost use Rattle.key_ranges.specs.Spans.{is_in_spans, AreSpansInOrder};
 ghost use Rattle.table_rows.specs.Ranged.{records_of, FindsRows, FindsSpelled};
 ghost use Rattle.table_rows.specs.Visits.{IsDoneOnlyIf, VisitsAll};
 ghost use Rattle.table_rows.specs.Walked.{Walks, WalksOn};
+ghost use Rattle.table_rows.specs.Costs.{cost_of, walk_cost};
 
 use crate::target::Target;
 use crate::visit::{Flow, RowVisitor, table_prefix, visit_record, visit_rows};
@@ -27,6 +28,8 @@ pub fn visit_target<M: Map, V: RowVisitor>(
 ) -> Result<(), StatementError>
     ensures preserved { M.preserved records.old records.new }
     ensures reads { ReadsMap result (M.state records.old) (M.state records.new) }
+    ensures cost { (M.state records.old).sound → M.cost records.old records.new
+        (cost_of target.now (M.state records.old).map) }
     ensures visits { (M.state records.old).sound → (rows : List Row)
         → FindsRows target.now (M.state records.old).map rows
         → VisitsAll result rows (V.after visitor.old target.now.id target.now.columns.now)
@@ -51,6 +54,8 @@ fn visit_found<M: Map, V: RowVisitor>(
 ) -> Result<Flow, StatementError>
     ensures preserved { M.preserved records.old records.new }
     ensures reads { ReadsMap result (M.state records.old) (M.state records.new) }
+    ensures cost { (M.state records.old).sound → M.cost records.old records.new
+        (cost_of target.now (M.state records.old).map) }
     ensures walked { (M.state records.old).sound → WalksOn target.now.id target.now.columns.now
         (records_of target.now (M.state records.old).map)
         (V.after visitor.old target.now.id target.now.columns.now)
@@ -86,6 +91,9 @@ fn visit_spans<M: Map, V: RowVisitor>(
     requires { AreSpansInOrder spans.now }
     ensures preserved { M.preserved records.old records.new }
     ensures reads { ReadsMap result (M.state records.old) (M.state records.new) }
+    ensures cost { (M.state records.old).sound → M.cost records.old records.new
+        (walk_cost (length spans.now)
+        (entries_where (is_in_spans spans.now) (M.state records.old).map)) }
     ensures walked { (M.state records.old).sound → (id : ℕ) → WalksOn id columns.now
         (entries_where (is_in_spans spans.now) (M.state records.old).map)
         (V.after visitor.old id columns.now) (V.after visitor.new id columns.now) result }
@@ -111,6 +119,7 @@ pub(crate) fn visit_key<M: Map, V: RowVisitor>(
 ) -> Result<Flow, StatementError>
     ensures preserved { M.preserved records.old records.new }
     ensures reads { ReadsMap result (M.state records.old) (M.state records.new) }
+    ensures cost { M.cost records.old records.new 1 }
     ensures walked { (M.state records.old).sound → (id : ℕ)
         → WalksOn id columns.now (option_to_list (entry_at key.now (M.state records.old).map))
         (V.after visitor.old id columns.now) (V.after visitor.new id columns.now) result }

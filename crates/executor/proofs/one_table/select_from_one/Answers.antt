@@ -1,3 +1,4 @@
+use Rattle.std.proofs.Common.{◌≤◌, arith}
 use Rattle.expressions.specs.Rows.{names_of}
 use Rattle.executor.proofs.CountedRows.{count_answers, count_read, walk_read}
 use Rattle.executor.proofs.one_table.select_from_one.Goals as goal
@@ -13,3 +14,6 @@ returns-then-branch-clause-read g c = λ s.
 pub returns-else-branch-clause-read : goal.returns-else-branch-clause-read
 returns-else-branch-clause-read g c = λ s.
     walk_read c.args.table.now (g.M.Map.state c.args.records.now).map (names_of c.args.users.now) c.args.query.now c.select_by_walk.result (c.select_by_walk.ensures.read s)
+
+pub returns-in_err-counts_found-clause-cost : goal.returns-in_err-counts_found-clause-cost
+returns-in_err-counts_found-clause-cost g c = λ s. g.M.Map.cost_within c.args.records.now c.args.records.now 0 _ (omega arith) (g.M.Map.cost_none c.args.records.now)

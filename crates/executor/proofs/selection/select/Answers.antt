@@ -1,6 +1,7 @@
 use Rattle.std.proofs.Common.{◌≡◌, ◌∙◌, List, [], ◌∷◌, ap, sym, subst}
 use Rattle.expressions.specs.Rows.{names_of}
 use Rattle.abstract_database.specs.Queries.{Source, query}
+use Rattle.table_rows.specs.Costs.{cost_of}
 use Rattle.table_rows.specs.Failures.{Answers}
 use Rattle.gathering.specs.Queries.{bound_of}
 use Rattle.table_rows.specs.declared.target.Target.{Target}
@@ -24,3 +25,9 @@ pub returns-in-Some-clause-one_table : goal.returns-in-Some-clause-one_table
 returns-in-Some-clause-one_table g c = λ s other alone.
     only_read (g.M.Map.state c.args.records.now).map c.args.tables.now c.in-Some.others.now c.in-Some.table.now other (names_of c.args.users.now) c.args.query.now c.select_from_one.result
     c.in-Some.ensures.cases.0 alone (c.select_from_one.ensures.read s)
+
+pub returns-in-Some-clause-cost : goal.returns-in-Some-clause-cost
+returns-in-Some-clause-cost g c = λ s other alone.
+    let both : c.in-Some.table.now ∷ c.in-Some.others.now ≡ other ∷ [] = sym c.in-Some.ensures.cases.0 ∙ alone in
+    let same : c.in-Some.table.now ≡ other = cc in
+    subst (λ (t : Target). g.M.Map.cost c.args.records.now c.select_from_one.new.records (cost_of t (g.M.Map.state c.args.records.now).map)) same (c.select_from_one.ensures.cost s)

@@ -1,3 +1,6 @@
+use Rattle.std.proofs.Common.{inl, inr, subst}
+use Rattle.expressions.specs.Meaning.{UserNames}
+use Rattle.row_statements.specs.Costs.{CostsPlanned}
 use Rattle.row_statements.specs.Damage.{FindsDamage}
 use Rattle.row_statements.specs.Users.{seen_users}
 use Rattle.row_statements.proofs.Acting.{in_definitions}
@@ -27,9 +30,13 @@ returns g c =
     record {
       preserved = c.carry_out.ensures.preserved;
       read = c.carry_out.ensures.read;
+      cost = λ sound. inr (c.in_ok-plan.plan, planned, subst (λ (u : UserNames). CostsPlanned (g.M.Map.cost c.args.map.now c.carry_out.new.map) records u c.in_ok-plan.plan) acts (c.carry_out.ensures.cost sound));
       unchanged = λ only. c.carry_out.ensures.unchanged (planning.plans_reads d current c.args.statement.now c.in_ok-plan.plan planned only);
       definitions = c.carry_out.ensures.definitions;
       executed = λ sound. planning.executed records d current c.args.session.now c.args.statement.now c.in_ok-plan.plan _ acts planned c.carry_out.result c.in_ok-plan.ensures.means (c.carry_out.ensures.executed sound);
       damage = λ sound. planning.damaged records d current c.args.session.now c.args.statement.now c.in_ok-plan.plan _ acts planned c.carry_out.result (c.carry_out.ensures.damage sound);
       reads = λ sound. planning.read records d current c.args.session.now c.args.statement.now c.in_ok-plan.plan _ acts planned c.carry_out.result (c.carry_out.ensures.reads sound);
     }
+
+pub returns-in_err-plan-clause-cost : goal.returns-in_err-plan-clause-cost
+returns-in_err-plan-clause-cost g c = λ sound. inl (g.M.Map.cost_none c.args.map.now)

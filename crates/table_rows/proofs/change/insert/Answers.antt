@@ -1,8 +1,9 @@
-use Rattle.std.proofs.Common.{◌∙◌, List, length, Result, sym, ap, subst, refl}
+use Rattle.std.proofs.Common.{◌∙◌, ◌≤◌, List, arith, length, Result, sym, ap, subst, refl}
 use Rattle.sql_types.specs.declared.state.SqlState.{SqlState}
 use Rattle.sql_types.specs.Row.{Row}
 use Rattle.expressions.specs.Stages.{◌>>=◌, each}
 use Rattle.abstract_database.specs.Changes.{Changed, checked_rows}
+use Rattle.abstract_database.proofs.ResultLemmas.{length_each}
 use Rattle.store.specs.declared.stop.StatementError.TheVariants.{Refused}
 use Rattle.table_rows.specs.Targets.{users_of, admits, inserted_by}
 use Rattle.table_rows.specs.NewRows.{MakesChanges, inserted}
@@ -57,3 +58,19 @@ returns-clause-changes g c = λ s rows checked is h i f.
     let fit = inserted_fit target.columns.now (admits target) (inserted_by target insertion) insertion.rows.now c.in_ok-rows.rows c.in_ok-check_new_rows.field-0 f c.in_ok-rows.ensures (sym passed) in
     let put = rw (c.as_slice-new.ensures, c.new-changes.ensures) at (c.in_ok-put_rows.ensures.puts s rows is) in
     put_done target.id target.columns.now (admits target) rows c.in_ok-rows.rows records n (inserted (admits target) (users_of target) checked rows) meant c.in_ok-check_new_rows.field-0 _ (record { changes = c.put_rows.new.changes; count = n }) (sym passed) (put tt h fit) tt refl
+
+pub returns-in_err-rows-clause-cost : goal.returns-in_err-rows-clause-cost
+returns-in_err-rows-clause-cost g c = g.M.Map.cost_within c.args.records.now c.args.records.now 0 _ (omega arith) (g.M.Map.cost_none c.args.records.now)
+
+pub returns-in_err-check_new_rows-clause-cost : goal.returns-in_err-check_new_rows-clause-cost
+returns-in_err-check_new_rows-clause-cost g c = g.M.Map.cost_within c.args.records.now c.args.records.now 0 _ (omega arith) (g.M.Map.cost_none c.args.records.now)
+
+pub returns-in_err-put_rows-clause-cost : goal.returns-in_err-put_rows-clause-cost
+returns-in_err-put_rows-clause-cost g c =
+    let same = ap length c.as_slice-new.ensures ∙ length_each (inserted_by c.args.target.now c.args.insertion.now) c.args.insertion.now.rows.now c.in_ok-rows.rows c.in_ok-rows.ensures in
+    g.M.Map.cost_within c.args.records.now c.put_rows.new.records (length c.as_slice-new.result.now) _ (omega (arith, same)) c.in_err-put_rows.ensures.cost
+
+pub returns-clause-cost : goal.returns-clause-cost
+returns-clause-cost g c =
+    let same = ap length c.as_slice-new.ensures ∙ length_each (inserted_by c.args.target.now c.args.insertion.now) c.args.insertion.now.rows.now c.in_ok-rows.rows c.in_ok-rows.ensures in
+    g.M.Map.cost_within c.args.records.now c.put_rows.new.records (length c.as_slice-new.result.now) _ (omega (arith, same)) c.in_ok-put_rows.ensures.cost

@@ -1,10 +1,11 @@
-use Rattle.std.proofs.Common.{◌∙◌, List, length, Some, Result, sym, subst, refl}
+use Rattle.std.proofs.Common.{◌≡◌, ◌∙◌, ◌+◌, ◌≤◌, List, ap, arith, length, Some, Result, sym, subst, refl}
 use Rattle.std.specs.Prelude.{IfErr}
 use Rattle.sql_types.specs.declared.state.SqlState.{SqlState}
 use Rattle.expressions.specs.Stages.{◌>>=◌, each}
 use Rattle.abstract_database.specs.Changes.{Chosen, Changed, checked_rows, choose, condition_on_row, new_rows, other_rows, rows_updated}
 use Rattle.store.specs.declared.stop.StatementError.TheVariants.{Refused}
 use Rattle.table_rows.specs.Failures.{IsDamagedFor}
+use Rattle.table_rows.specs.Costs.{cost_of}
 use Rattle.table_rows.specs.Ranged.{FindsDamage}
 use Rattle.table_rows.specs.Targets.{users_of, sees, admits, condition_in, assigned_by}
 use Rattle.table_rows.specs.Choosing.{became}
@@ -91,3 +92,28 @@ returns-in_err-put_rows-clause-damage g c = λ s.
     let cause = FindsDamage c.args.target.now (g.M.Map.state c.args.records.now).map in
     ended c.in_err-put_rows.field-0.0 (λ r. IfErr r (IsDamagedFor cause)) c.from_residual-in_err-put_rows.result c.from_residual-in_err-put_rows.ensures.1
     (no_damage c.in_err-put_rows.field-0.0 cause (c.in_err-put_rows.ensures.undamaged (c.in_ok-chosen.ensures.reads.only_reads.history.sound s)))
+
+pub returns-in_err-chosen-clause-cost : goal.returns-in_err-chosen-clause-cost
+returns-in_err-chosen-clause-cost g c = λ s of. g.M.Map.cost_within c.args.records.now c.choose.new.records (cost_of c.args.target.now (g.M.Map.state c.args.records.now).map) _ (omega arith) (c.in_err-chosen.ensures.cost s)
+
+pub returns-in_err-rows-clause-cost : goal.returns-in_err-rows-clause-cost
+returns-in_err-rows-clause-cost g c = λ s of. g.M.Map.cost_within c.args.records.now c.choose.new.records (cost_of c.args.target.now (g.M.Map.state c.args.records.now).map) _ (omega arith) (c.in_ok-chosen.ensures.cost s)
+
+pub returns-in_err-check_new_rows-clause-cost : goal.returns-in_err-check_new_rows-clause-cost
+returns-in_err-check_new_rows-clause-cost g c = λ s of. g.M.Map.cost_within c.args.records.now c.choose.new.records (cost_of c.args.target.now (g.M.Map.state c.args.records.now).map) _ (omega arith) (c.in_ok-chosen.ensures.cost s)
+
+pub returns-in_err-put_rows-clause-cost : goal.returns-in_err-put_rows-clause-cost
+returns-in_err-put_rows-clause-cost g c = λ s of.
+    let first = cost_of c.args.target.now (g.M.Map.state c.args.records.now).map in
+    let few = c.in_ok-chosen.ensures.few s of in
+    let same = ap length (c.as_slice-new.ensures ∙ c.in_ok-rows.ensures) in
+    g.M.Map.cost_within c.args.records.now c.put_rows.new.records (first + length c.as_slice-new.result.now) _ (omega (arith, few, same))
+    (g.M.Map.cost_joined c.args.records.now c.choose.new.records c.put_rows.new.records first (length c.as_slice-new.result.now) (c.in_ok-chosen.ensures.cost s) c.in_err-put_rows.ensures.cost)
+
+pub returns-clause-cost : goal.returns-clause-cost
+returns-clause-cost g c = λ s of.
+    let first = cost_of c.args.target.now (g.M.Map.state c.args.records.now).map in
+    let few = c.in_ok-chosen.ensures.few s of in
+    let same = ap length (c.as_slice-new.ensures ∙ c.in_ok-rows.ensures) in
+    g.M.Map.cost_within c.args.records.now c.put_rows.new.records (first + length c.as_slice-new.result.now) _ (omega (arith, few, same))
+    (g.M.Map.cost_joined c.args.records.now c.choose.new.records c.put_rows.new.records first (length c.as_slice-new.result.now) (c.in_ok-chosen.ensures.cost s) c.in_ok-put_rows.ensures.cost)

@@ -1,4 +1,4 @@
-use Rattle.std.proofs.Common.{◌∙◌, sym, refl}
+use Rattle.std.proofs.Common.{◌∙◌, ◌≤◌, arith, sym, refl}
 use Rattle.store.proofs.Reading.{none_read}
 use Rattle.table_rows.proofs.Putting.{key_in_changes, read_is}
 use Rattle.table_rows.proofs.puts.has_key.Goals as goal
@@ -18,3 +18,6 @@ returns-in-None-clause-finds g c = record {
   cause = c.contains.ensures.goes.cause;
   failed = c.contains.ensures.goes.failed;
 }
+
+pub returns-in-Some-clause-cost : goal.returns-in-Some-clause-cost
+returns-in-Some-clause-cost g c = g.M.Map.cost_within c.args.records.now c.args.records.now 0 1 (omega arith) (g.M.Map.cost_none c.args.records.now)

@@ -1,4 +1,4 @@
-use Rattle.std.proofs.Common.{◌∙◌, arith, subst, refl}
+use Rattle.std.proofs.Common.{◌∙◌, ◌+◌, ◌≤◌, arith, length, subst, refl}
 use Rattle.std.specs.Prelude.{IfErr}
 use Rattle.std.proofs.Math.ListN.{drop_of_length-le}
 use Rattle.sql_types.specs.Row.{Row}
@@ -27,6 +27,8 @@ loop-row-preserved g c = record {
   preserved = g.M.Map.preserved_joined c.args.records.now c.loop-row.records c.put_row.new.records c.loop-row.invariant.preserved c.in_ok-put_row.ensures.preserved;
   reads = reads_joined (g.M.Map.state c.args.records.now) (g.M.Map.state c.loop-row.records) (g.M.Map.state c.put_row.new.records) c.loop-row.invariant.reads c.in_ok-put_row.ensures.reads.only_reads;
   works = c.in_ok-put_row.ensures.reads.failed ∙ c.loop-row.invariant.works;
+  few = omega arith;
+  cost = g.M.Map.cost_joined c.args.records.now c.loop-row.records c.put_row.new.records c.loop-row.row-index 1 c.loop-row.invariant.cost c.in_ok-put_row.ensures.cost;
   concern = λ old. c.in_ok-put_row.ensures.concern (c.loop-row.invariant.concern old);
   putting = λ s others is ordered h f.
       let records = (g.M.Map.state c.args.records.now).map in
@@ -49,3 +51,10 @@ pub returns-in_err-put_row-clause-undamaged : goal.returns-in_err-put_row-clause
 returns-in_err-put_row-clause-undamaged g c = λ s.
     ended c.in_err-put_row.field-0.0 (λ r. IfErr r (IsDamagedFor ⊥)) c.from_residual.result c.from_residual.ensures.1
     (put_undamaged c.in_err-put_row.field-0.0 _ _ _ _ (c.in_err-put_row.ensures.puts (c.loop-row.invariant.reads.history.sound s)))
+
+pub returns-in_err-put_row-clause-cost : goal.returns-in_err-put_row-clause-cost
+returns-in_err-put_row-clause-cost g c =
+    g.M.Map.cost_within c.args.records.now c.put_row.new.records (c.loop-row.row-index + 1) _ (omega arith) (g.M.Map.cost_joined c.args.records.now c.loop-row.records c.put_row.new.records c.loop-row.row-index 1 c.loop-row.invariant.cost c.in_err-put_row.ensures.cost)
+
+pub returns-clause-cost : goal.returns-clause-cost
+returns-clause-cost g c = g.M.Map.cost_within c.args.records.now c.loop-row.records c.loop-row.row-index _ c.loop-row.invariant.few c.loop-row.invariant.cost

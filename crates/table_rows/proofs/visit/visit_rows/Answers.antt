@@ -1,4 +1,4 @@
-use Rattle.std.proofs.Common.{◌∙◌, ℕ, Ok, Err, subst}
+use Rattle.std.proofs.Common.{◌∙◌, ◌+◌, ℕ, Ok, Err, ap, arith, length, subst}
 use Rattle.store.specs.Records.{Record, entries_where, is_from}
 use Rattle.store.specs.Walks.{span}
 use Rattle.store.proofs.Changes.{ordered_entries_where}
@@ -19,7 +19,7 @@ loop-init g c =
       preserved = c.in_ok-place.ensures.preserved;
       reads = goes.only_reads;
       works = goes.failed;
-      remains = λ s. (span c.args.start.now c.args.stop.now records, g.met.M.Map.ahead_cut _ c.args.stop.now _ (entries_where from records) (ordered_entries_where from records (g.met.M.Map.ordered c.args.records.now s)) (goes.answer s), λ id. walking_first id c.args.columns.now (span c.args.start.now c.args.stop.now records) (g.V.RowVisitor.after c.args.visitor.now id c.args.columns.now));
+      remains = λ s. (span c.args.start.now c.args.stop.now records, g.met.M.Map.ahead_cut _ c.args.stop.now _ (entries_where from records) (ordered_entries_where from records (g.met.M.Map.ordered c.args.records.now s)) (goes.answer s), λ id. walking_first id c.args.columns.now (span c.args.start.now c.args.stop.now records) (g.V.RowVisitor.after c.args.visitor.now id c.args.columns.now), 1, c.in_ok-place.ensures.cost, omega arith);
     }
 
 pub returns-in_err-step_within-clause-preserved : goal.returns-in_err-step_within-clause-preserved
@@ -51,6 +51,9 @@ loop-preserved g c = record {
             (subst (SpellsRow c.args.columns.now) (c.entry-entry.ensures took.0 took.3) c.in_ok-visit_record.ensures.spelled)
             (visited_on id c.args.columns.now flow took.0 (now id) (then id) c.in-Continue.is
             (subst (λ (e : Record). VisitsRecord id c.args.columns.now e (Ok flow) (now id) (then id)) (c.entry-entry.ensures took.0 took.3) (c.in_ok-visit_record.ensures.visits id))),
+        left.3 + 1,
+        g.M.Map.cost_joined c.args.records.now c.loop.records c.step_within.new.self left.3 1 left.4 c.in_ok-step_within.ensures.cost,
+        (let long = ap length took.2 in omega (arith, left.5, long)),
       );
 }
 
@@ -87,3 +90,31 @@ returns-in-Done-clause-walked g c = λ s id.
 
 pub returns-in-Done-clause-ends : goal.returns-in-Done-clause-ends
 returns-in-Done-clause-ends g c = done_only g.V.RowVisitor.ends_early c.in_ok-visit_record.field-0 c.in-Done.is c.in_ok-visit_record.ensures.ends
+
+pub returns-in_err-step_within-clause-cost : goal.returns-in_err-step_within-clause-cost
+returns-in_err-step_within-clause-cost g c = λ s.
+    let left = c.loop.invariant.remains s in
+    g.M.Map.cost_within c.args.records.now c.step_within.new.self (left.3 + 1) _ (omega (arith, left.5)) (g.M.Map.cost_joined c.args.records.now c.loop.records c.step_within.new.self left.3 1 left.4 c.in_err-step_within.ensures.cost)
+
+pub returns-then-not-branch-clause-cost : goal.returns-then-not-branch-clause-cost
+returns-then-not-branch-clause-cost g c = λ s.
+    let left = c.loop.invariant.remains s in
+    g.M.Map.cost_within c.args.records.now c.step_within.new.self (left.3 + 1) _ (omega (arith, left.5)) (g.M.Map.cost_joined c.args.records.now c.loop.records c.step_within.new.self left.3 1 left.4 c.in_ok-step_within.ensures.cost)
+
+pub returns-in_err-visit_record-clause-cost : goal.returns-in_err-visit_record-clause-cost
+returns-in_err-visit_record-clause-cost g c = λ s.
+    let left = c.loop.invariant.remains s in
+    g.M.Map.cost_within c.args.records.now c.step_within.new.self (left.3 + 1) _ (omega (arith, left.5)) (g.M.Map.cost_joined c.args.records.now c.loop.records c.step_within.new.self left.3 1 left.4 c.in_ok-step_within.ensures.cost)
+
+pub returns-in-Done-clause-cost : goal.returns-in-Done-clause-cost
+returns-in-Done-clause-cost g c = λ s.
+    let left = c.loop.invariant.remains s in
+    g.M.Map.cost_within c.args.records.now c.step_within.new.self (left.3 + 1) _ (omega (arith, left.5)) (g.M.Map.cost_joined c.args.records.now c.loop.records c.step_within.new.self left.3 1 left.4 c.in_ok-step_within.ensures.cost)
+
+pub returns-in_err-place-clause-cost : goal.returns-in_err-place-clause-cost
+returns-in_err-place-clause-cost g c = λ s. g.M.Map.cost_within c.args.records.now c.seek.new.self 1 _ (omega arith) c.in_err-place.ensures.cost
+
+pub returns-clause-cost : goal.returns-clause-cost
+returns-clause-cost g c = λ s.
+    let left = c.loop.invariant.remains s in
+    g.M.Map.cost_within c.args.records.now c.loop.records left.3 _ (omega (arith, left.5)) left.4
