@@ -7,6 +7,7 @@ import contextlib
 import os
 import random
 import shutil
+import signal
 import socket
 import subprocess
 import tempfile
@@ -205,6 +206,127 @@ class ManyClients(unittest.TestCase):
             thread.join()
             self.assertEqual(list(other.ask('SELECT k FROM free')), [['2']])
 
+    def keys(self, session):
+        return [int(key) for key, in session.ask('SELECT k FROM free ORDER BY k')]
+
+    def begins(self, session, key):
+        """A block that has written."""
+        session.ask('BEGIN')
+        session.ask(f'INSERT INTO free VALUES ({key}, 0)')
+
+    def goes_through(self, session, statement, wait):
+        """How long it takes until a statement is carried out, which another's block keeps out at first."""
+        began = time.monotonic()
+        while True:
+            try:
+                session.ask(statement)
+                return time.monotonic() - began
+            except guarddb.Refused as refused:
+                self.assertEqual((refused.code, wait), ('55P03', 0))
+                self.assertLess(time.monotonic() - began, PATIENCE)
+                time.sleep(0.05)
+
+    def test_a_holder_that_falls_silent(self):
+        """Another's REVOKE and INSERT go through once its time is over, and its rows are gone, with all its sessions."""
+        for wait in (0, 600):
+            for statement in ('REVOKE SELECT ON t FROM u1', 'INSERT INTO free VALUES (2, 2)'):
+                with self.subTest(wait=wait, statement=statement), self.served('--clients', 3, '--connections', 2, '--wait', wait, '--block', 2) as place:
+                    with self.connect(place) as second:
+                        first = self.connect(place)
+                        holder, beside, other = first.open('root'), first.open('u2'), second.open('root')
+                        self.begins(holder, 1)
+                        beside.ask('BEGIN')
+                        self.assertLessEqual(2, self.goes_through(other, statement, wait))
+                        self.assertEqual(first.input.read(), b'')
+                        first.close()
+                        self.assertNotIn(1, self.keys(other))
+                        if statement.startswith('INSERT'):
+                            self.assertEqual(self.keys(other), [2])
+                            other.ask('DELETE FROM free')
+
+    def test_a_holder_that_goes_on(self):
+        """One that sends now and then is ended as well, since others wait; one that commits in time is not."""
+        with self.served('--clients', 3, '--connections', 3, '--wait', 600, '--block', 2) as place, self.connect(place) as second:
+            busy = self.connect(place)
+            holder, other = busy.open('root'), second.open('root')
+            self.begins(holder, 1)
+            thread = threading.Thread(target=other.ask, args=('INSERT INTO free VALUES (2, 2)',))
+            thread.start()
+            with self.assertRaises(ConnectionError):
+                end = time.monotonic() + PATIENCE
+                while time.monotonic() < end:
+                    holder.ask('SELECT count(*) FROM free')
+                    time.sleep(0.1)
+            thread.join()
+            busy.close()
+            self.assertEqual(self.keys(other), [2])
+            with self.connect(place) as third:
+                holder = third.open('root')
+                for key in (3, 4):
+                    self.begins(holder, key)
+                    thread = threading.Thread(target=other.ask, args=(f'INSERT INTO free VALUES ({key}0, 0)',))
+                    thread.start()
+                    time.sleep(1)
+                    holder.ask('COMMIT')            # after one second of two, and then of the next two
+                    thread.join()
+                self.assertEqual(self.keys(other), [2, 3, 4, 30, 40])
+
+    def test_a_holder_for_whom_nobody_waits(self):
+        """It lives on, beside readers and beside a statement of its own connection that is refused for it."""
+        with self.served('--clients', 2, '--connections', 2, '--block', 1) as place, self.connect(place) as first, self.connect(place) as second:
+            holder, beside, reader = first.open('root'), first.open('root'), second.open('root')
+            self.begins(holder, 1)
+            self.is_kept_from_writing(beside)
+            for _ in range(40):
+                self.assertEqual(self.keys(reader), [])
+                time.sleep(0.1)
+            holder.ask('COMMIT')
+            self.assertEqual(self.keys(reader), [1])
+
+    def test_a_lock_that_is_taken_again(self):
+        """The time begins anew with each block, and not with the block but with the first that is kept out."""
+        with self.served('--clients', 2, '--connections', 2, '--block', 3) as place, self.connect(place) as first, self.connect(place) as second:
+            holder, other = first.open('root'), second.open('root')
+            for key in range(4):
+                self.begins(holder, key)
+                time.sleep(1.5)
+                self.is_kept_from_writing(other)
+                time.sleep(1)
+                self.is_kept_from_writing(other)
+                time.sleep(1)
+                holder.ask('COMMIT')
+            self.assertEqual(self.keys(other), [0, 1, 2, 3])
+            self.begins(holder, 4)
+            began = time.monotonic()
+            self.is_kept_from_writing(other)
+            with self.assertRaises((ConnectionError, AssertionError)):
+                while True:                             # each that is kept out, and none begins the time anew
+                    time.sleep(0.2)
+                    self.is_kept_from_writing(other)
+            self.assertLess(time.monotonic() - began, PATIENCE / 2)
+            self.assertNotIn(4, self.keys(other))
+
+    def test_a_commit_that_has_come(self):
+        """It is carried out, though the server was busy, or stood still, until the time was over."""
+        with self.served('--clients', 3, '--connections', 3, '--wait', 600, '--block', 1) as place:
+            with self.connect(place) as first, self.connect(place) as second:
+                holder, other = first.open('root'), second.open('root')
+                self.begins(holder, 1)
+                thread = threading.Thread(target=other.ask, args=('INSERT INTO free VALUES (2, 2)',))
+                thread.start()
+                time.sleep(0.3)
+                self.server.send_signal(signal.SIGSTOP)
+                try:
+                    first.socket.sendall(frame(guarddb.STATEMENT, holder.number, 'COMMIT'))
+                    time.sleep(3)
+                finally:
+                    self.server.send_signal(signal.SIGCONT)
+                answer = spelled(holder.number, 'ok COMMIT\n')
+                self.assertEqual(first.input.read(len(answer)), answer)
+                thread.join()
+                self.assertEqual(self.keys(other), [1, 2])
+            self.connect(place).close()
+
     def test_a_bad_frame_beside_others(self):
         with self.served('--clients', 4, '--connections', 3) as place, self.connect(place) as good:
             session = good.open('u1')
@@ -289,7 +411,10 @@ class ManyClients(unittest.TestCase):
             (['--clients', '5', '--port', '5000', '--wait', '86401'], "--wait takes a decimal number of seconds from 0 to 86400, not '86401'"),
             (['--clients', '5'], 'serve --clients N takes FILE, and either --port P or --socket PATH'),
             (['--clients', '5', '--port', '1', '--socket', 'a'], 'serve --clients N takes FILE, and either --port P or --socket PATH'),
+            (['--clients', '5', '--port', '5000', '--block', '0'], "--block takes a decimal number of seconds from 1 to 86400, not '0'"),
+            (['--clients', '5', '--port', '5000', '--block', '86401'], "--block takes a decimal number of seconds from 1 to 86400, not '86401'"),
             (['--connections', '5', '--port', '1', '--wait', '3'], 'serve takes FILE, either --port P or --socket PATH, and --connections K'),
+            (['--connections', '5', '--port', '1', '--block', '3'], 'serve takes FILE, either --port P or --socket PATH, and --connections K'),
         ]:
             with self.subTest(words):
                 status, out, err = run('serve', self.path, *words)

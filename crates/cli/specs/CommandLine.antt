@@ -12,7 +12,7 @@ use Rattle.cli.specs.declared.command.Invocation.TheVariants as order
 use Rattle.cli.specs.declared.command.UsageFault.{UsageFault}
 use Rattle.cli.specs.declared.command.UsageFault.TheVariants as usage
 use Rattle.cli.specs.declared.number.NumberOption.{NumberOption}
-use Rattle.cli.specs.declared.number.NumberOption.TheVariants.{Pages, Port, Connections, Idle, Clients, Wait}
+use Rattle.cli.specs.declared.number.NumberOption.TheVariants.{Pages, Port, Connections, Idle, Clients, Wait, Block}
 use Rattle.cli.specs.CommandGrammar.{program_app}
 use Rattle.cli.specs.Numbers.{IsNumberFor, NoNumberFor}
 use Rattle.cli.specs.declared.refusals.OnRefusal.{OnRefusal}
@@ -49,9 +49,10 @@ pub record GivenCounts : Type 0 where
   pub connections : Option TheWord
   pub wait : Option TheWord
   pub idle : Option TheWord
+  pub block : Option TheWord
 
 abbrev pub given_counts : CountWords → GivenCounts
-given_counts words = record { clients = words.clients.now; connections = lent_word words.connections; wait = lent_word words.wait; idle = lent_word words.idle }
+given_counts words = record { clients = words.clients.now; connections = lent_word words.connections; wait = lent_word words.wait; idle = lent_word words.idle; block = lent_word words.block }
 
 -- the words that a command is given
 pub data Given : Type 0 where
@@ -94,7 +95,7 @@ IsAtRefusal rows on = (stop explain : Bool) × AreRunFlags rows stop explain × 
 
 -- `serve` has no word of a server of many clients
 abbrev pub HasNoClients : List Row → Type 0
-HasNoClients rows = (first_of (codes "clients") rows ≡ None) × (first_of (codes "wait") rows ≡ None)
+HasNoClients rows = (first_of (codes "clients") rows ≡ None) × (first_of (codes "wait") rows ≡ None) × (first_of (codes "block") rows ≡ None)
 
 -- it has a port, or a socket
 abbrev pub HasPlaceWord : List Row → GivenPlace → Type 0
@@ -107,6 +108,7 @@ pub record HasCounts (rows : List Row) (counts : GivenCounts) : Type 0 where
   pub connections : first_of (codes "connections") rows ≡ counts.connections
   pub wait : first_of (codes "wait") rows ≡ counts.wait
   pub idle : first_of (codes "idle") rows ≡ counts.idle
+  pub block : first_of (codes "block") rows ≡ counts.block
 
 -- the words stand where the command takes them: `format` and `copy` have `--journal` or not; `run` has two words without `--memory`, and one with it;
 -- `serve` has a port or a socket, and `--idle` or not; `describe` has a role or none, and `--json` or not
@@ -165,12 +167,18 @@ abbrev pub IsWaitFor : Option TheWord → ℕ → Type 0
 IsWaitFor None seconds = seconds ≡ 0
 IsWaitFor (Some word) seconds = IsNumberFor Wait word seconds
 
+-- how long one may hold the writer lock that another wants: half a minute, where nothing is given
+abbrev pub IsBlockFor : Option TheWord → ℕ → Type 0
+IsBlockFor None seconds = seconds ≡ 30
+IsBlockFor (Some word) seconds = IsNumberFor Block word seconds
+
 -- the numbers of a server of many clients
 pub record AreCountsGiven (counts : GivenCounts) (many : ManyClients) : Type 0 where
   pub at_once : IsNumberFor Clients counts.clients many.at_once
   pub connections : IsSomeNumber Connections counts.connections many.connections
   pub wait : IsWaitFor counts.wait many.wait
   pub idle : IsSomeNumber Idle counts.idle many.idle
+  pub block : IsBlockFor counts.block many.block
 
 -- the place where a server listens: a port of this number, or a path that the system takes for a socket's
 abbrev pub IsPlaceFor : GivenPlace → ListenPlace → Type 0
@@ -229,6 +237,7 @@ count_in Clients counts = Some counts.clients
 count_in Connections counts = counts.connections
 count_in Wait counts = counts.wait
 count_in Idle counts = counts.idle
+count_in Block counts = counts.block
 count_in _ counts = None
 
 abbrev pub number_in : NumberOption → Given → Option TheWord

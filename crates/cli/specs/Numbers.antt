@@ -2,7 +2,7 @@
 use Rattle.std.specs.Prelude.{◌≡◌, ◌≤◌, ℕ, List, codes}
 use Rattle.std.specs.Str.Parse.{IsNumeral, digits_value}
 use Rattle.cli.specs.declared.number.NumberOption.{NumberOption}
-use Rattle.cli.specs.declared.number.NumberOption.TheVariants.{Pages, Port, Connections, Idle, Clients, Wait}
+use Rattle.cli.specs.declared.number.NumberOption.TheVariants.{Pages, Port, Connections, Idle, Clients, Wait, Block}
 
 -- the ranges
 abbrev pub least_of : NumberOption → ℕ
@@ -12,6 +12,7 @@ least_of Connections = 1
 least_of Idle = 1
 least_of Clients = 1
 least_of Wait = 0
+least_of Block = 1
 
 abbrev pub most_of : NumberOption → ℕ
 most_of Pages = 65536
@@ -20,6 +21,7 @@ most_of Connections = 65535
 most_of Idle = 86400
 most_of Clients = 1000
 most_of Wait = 86400
+most_of Block = 86400
 
 -- the word is one decimal digit or more, and writes this number, which is in the range of the option
 pub record IsNumberFor (option : NumberOption) (word : List ℕ) (number : ℕ) : Type 0 where
@@ -39,3 +41,4 @@ number_rule Connections = codes "--connections takes a decimal number from 1 to 
 number_rule Idle = codes "--idle takes a decimal number of seconds from 1 to 86400"
 number_rule Clients = codes "--clients takes a decimal number from 1 to 1000"
 number_rule Wait = codes "--wait takes a decimal number of seconds from 0 to 86400"
+number_rule Block = codes "--block takes a decimal number of seconds from 1 to 86400"

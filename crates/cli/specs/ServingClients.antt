@@ -1,5 +1,5 @@
 -- What serving many clients at once at a place, over the database in a file, does.
-use Rattle.std.specs.Prelude.{◌≡◌, ◌==◌, ◌≤◌, ◌⊎◌, ◌*◌, ◌^◌, ◌-◌, ℕ, Bool, List, [], Option, Some, None, Result, Ok, Err, if◌then◌else◌}
+use Rattle.std.specs.Prelude.{◌≡◌, ◌==◌, ◌≤◌, ◌⊎◌, ◌*◌, ◌^◌, ◌-◌, ℕ, Bool, true, List, [], Option, Some, None, Result, Ok, Err, if◌then◌else◌}
 use Rattle.std.specs.Duration.{as_nanos}
 use Rattle.std.specs.Option.{unwrap_or}
 use Rattle.std.specs.declared.time.Duration.{Duration}
@@ -22,6 +22,7 @@ use Rattle.polled_clients.specs.declared.clients.ClientLimits.{ClientLimits}
 use Rattle.talks.specs.declared.talk.Talk.{Ghosts as TalkGhosts}
 use Rattle.talks.specs.declared.clients.ServedClients.{Ghosts as ClientsGhosts}
 use Rattle.talks.specs.declared.serving.ServeEnd.{ServeEnd}
+use Rattle.talks.specs.Clients.{Contention}
 use Rattle.talks.specs.Conversations.{awaited, gone}
 use Rattle.databases.specs.Openings.{device_under}
 use Rattle.databases.specs.Runs.{ServesClientsFrom}
@@ -54,6 +55,11 @@ pub record AreLimits (many : ManyClients) (limits : ClientLimits) : Type 0 where
   pub at_once : limits.at_once ≡ many.at_once
   pub wait : IsLimitOf (asked_wait many.wait) limits.wait
   pub idle : IsLimitOf many.idle limits.idle
+  pub block : IsLimitOf (Some many.block) limits.block
+
+-- nobody holds the writer lock for which another's statement was held back or refused; whether one may only for so long
+abbrev pub uncontended : Bool → Contention
+uncontended limited = record { holder = None; cut_off = None; is_limited = limited }
 
 -- what one is told who comes while as many are served at once as may be
 abbrev pub crowded_said : List ℕ
@@ -69,6 +75,7 @@ module _ {D X L C T P : Type 0} (g : Ghosts D) (a : AttendGhosts L C) (t : TalkG
     pub coming : (c : ℕ) → p.at before c ≡ awaited (a.coming listener c)
     pub expected : p.expected before ≡ Some (asked_connections many)
     pub none_waits : p.waiting before ≡ []
+    pub none_contends : p.contention before ≡ uncontended true
     pub none_refused : p.refusals before ≡ 0
     pub none_looked : p.looks before ≡ 0
     pub serves : ServesClientsFrom g t p Reads server before end left after

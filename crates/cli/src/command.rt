@@ -79,7 +79,8 @@ pub enum Invocation<'a> {
     },
     /// `serve FILE --port P --clients N` or `serve FILE --socket PATH --clients N`: serves so many clients
     /// at once, with `--connections K` so many in all. With `--wait SECONDS` a statement may wait for the
-    /// writer lock, and with `--idle SECONDS` a client ends that sends nothing for so long.
+    /// writer lock, and with `--idle SECONDS` a client ends that sends nothing for so long. One ends, too,
+    /// that keeps another from writing for `--block SECONDS`, or half a minute.
     ServeClients {
         file: &'a str,
         place: ListenPlace<'a>,

@@ -20,6 +20,9 @@ pub enum NumberOption {
     Clients,
     /// `--wait SECONDS`: how long a statement may wait for the writer lock, in seconds, 0 to 86,400.
     Wait,
+    /// `--block SECONDS`: how long a session may hold the writer lock that another client wants, in
+    /// seconds, 1 to 86,400.
+    Block,
 }
 
 impl NumberOption {
@@ -32,7 +35,8 @@ impl NumberOption {
             NumberOption::Port
             | NumberOption::Connections
             | NumberOption::Idle
-            | NumberOption::Clients => 1,
+            | NumberOption::Clients
+            | NumberOption::Block => 1,
             NumberOption::Wait => 0,
         }
     }
@@ -44,7 +48,7 @@ impl NumberOption {
         match self {
             NumberOption::Pages => 65_536,
             NumberOption::Port | NumberOption::Connections => 65_535,
-            NumberOption::Idle | NumberOption::Wait => 86_400,
+            NumberOption::Idle | NumberOption::Wait | NumberOption::Block => 86_400,
             NumberOption::Clients => 1_000,
         }
     }
@@ -86,6 +90,12 @@ impl fmt::Display for NumberOption {
                 write!(
                     f,
                     "--wait takes a decimal number of seconds from 0 to 86400"
+                )
+            }
+            NumberOption::Block => {
+                write!(
+                    f,
+                    "--block takes a decimal number of seconds from 1 to 86400"
                 )
             }
         }

@@ -38,6 +38,9 @@ pub struct ManyClients {
     /// After how many seconds one ends that sends nothing, or takes nothing of an answer, 1 to 86,400.
     /// `None`: for ever.
     pub idle: Option<u32>,
+    /// For how many seconds one may hold the writer lock once another's statement waits for it or was
+    /// refused since it does, 1 to 86,400.
+    pub block: u32,
 }
 
 impl ManyClients {
@@ -50,6 +53,7 @@ impl ManyClients {
             at_once: self.at_once as usize,
             wait: limit_of(asked_wait(self.wait)),
             idle: limit_of(self.idle),
+            block: limit_of(Some(self.block)),
         }
     }
 }

@@ -17,7 +17,12 @@ pub(crate) struct CountWords<'a> {
     pub(crate) connections: Option<&'a str>,
     pub(crate) wait: Option<&'a str>,
     pub(crate) idle: Option<&'a str>,
+    pub(crate) block: Option<&'a str>,
 }
+
+/// After how many seconds one ends that holds the writer lock while another wants it, where that is not
+/// said.
+const BLOCK_SECONDS: u32 = 30;
 
 /// The order that the words after `serve` give.
 pub(crate) fn read_serve<'a>(given: &ArgMatches<'a>) -> Result<Invocation<'a>, UsageFault<'a>>
@@ -38,11 +43,24 @@ fn read_sequential<'a>(given: &ArgMatches<'a>) -> Result<Invocation<'a>, UsageFa
 {
     match given.get_str("wait") {
         Some(_) => Err(UsageFault::Serving),
-        None => read_each(given),
+        None => read_unblocked(given),
     }
 }
 
 // The order that the words after `serve` give with neither `--clients` nor `--wait`.
+fn read_unblocked<'a>(given: &ArgMatches<'a>) -> Result<Invocation<'a>, UsageFault<'a>>
+    requires clients { first_of (codes "clients") (rows_of (found_of given.now)) ≡ None }
+    requires wait { first_of (codes "wait") (rows_of (found_of given.now)) ≡ None }
+    ensures asked { IfOk result (IsOrdered (GivesAs (codes "serve") (rows_of (found_of given.now)))) }
+    ensures refused { IfErr result (IsUnfit (GivesAs (codes "serve") (rows_of (found_of given.now)))) }
+{
+    match given.get_str("block") {
+        Some(_) => Err(UsageFault::Serving),
+        None => read_each(given),
+    }
+}
+
+// The order that the words after `serve` give with none of `--clients`, `--wait` and `--block`.
 fn read_each<'a>(given: &ArgMatches<'a>) -> Result<Invocation<'a>, UsageFault<'a>>
     requires { HasNoClients (rows_of (found_of given.now)) }
     ensures asked { IfOk result (IsOrdered (GivesAs (codes "serve") (rows_of (found_of given.now)))) }
@@ -129,6 +147,7 @@ fn read_many<'a>(given: &ArgMatches<'a>, clients: &'a str) -> Result<Invocation<
         connections: given.get_str("connections"),
         wait: given.get_str("wait"),
         idle: given.get_str("idle"),
+        block: given.get_str("block"),
     };
     let Some(port) = given.get_str("port") else {
         let Some(socket) = given.get_str("socket") else {
@@ -193,11 +212,13 @@ fn read_counts<'a>(counts: CountWords<'a>) -> Result<ManyClients, UsageFault<'a>
     let connections = read_some(NumberOption::Connections, counts.connections)?;
     let wait = read_some(NumberOption::Wait, counts.wait)?;
     let idle = read_some(NumberOption::Idle, counts.idle)?;
+    let block = read_some(NumberOption::Block, counts.block)?;
     Ok(ManyClients {
         at_once,
         connections,
         wait: wait.unwrap_or(0),
         idle,
+        block: block.unwrap_or(BLOCK_SECONDS),
     })
 }
 

@@ -6,8 +6,8 @@ pub const USAGE: &str = "guarddb format FILE --pages N --admin NAME [--journal]
        guarddb run --memory NAME SCRIPT [--stop|--explain]
        guarddb serve FILE --port P --connections K [--idle SECONDS]
        guarddb serve FILE --socket PATH --connections K [--idle SECONDS]
-       guarddb serve FILE --port P --clients N [--connections K] [--wait SECONDS] [--idle SECONDS]
-       guarddb serve FILE --socket PATH --clients N [--connections K] [--wait SECONDS] [--idle SECONDS]
+       guarddb serve FILE --port P --clients N [--connections K] [--wait SECONDS] [--idle SECONDS] [--block SECONDS]
+       guarddb serve FILE --socket PATH --clients N [--connections K] [--wait SECONDS] [--idle SECONDS] [--block SECONDS]
        guarddb check FILE
        guarddb describe FILE [ROLE] [--json]
        guarddb copy FILE NEW --pages N [--journal]
@@ -30,8 +30,8 @@ pub const RUN_USAGE: &str = "guarddb run FILE SCRIPT [--stop|--explain]
 /// How `serve` is called.
 pub const SERVE_USAGE: &str = "guarddb serve FILE --port P --connections K [--idle SECONDS]
        guarddb serve FILE --socket PATH --connections K [--idle SECONDS]
-       guarddb serve FILE --port P --clients N [--connections K] [--wait SECONDS] [--idle SECONDS]
-       guarddb serve FILE --socket PATH --clients N [--connections K] [--wait SECONDS] [--idle SECONDS]";
+       guarddb serve FILE --port P --clients N [--connections K] [--wait SECONDS] [--idle SECONDS] [--block SECONDS]
+       guarddb serve FILE --socket PATH --clients N [--connections K] [--wait SECONDS] [--idle SECONDS] [--block SECONDS]";
 
 /// How `check` is called.
 pub const CHECK_USAGE: &str = "guarddb check FILE";
@@ -47,8 +47,8 @@ Usage: guarddb format FILE --pages N --admin NAME [--journal]
        guarddb run --memory NAME SCRIPT [--stop|--explain]
        guarddb serve FILE --port P --connections K [--idle SECONDS]
        guarddb serve FILE --socket PATH --connections K [--idle SECONDS]
-       guarddb serve FILE --port P --clients N [--connections K] [--wait SECONDS] [--idle SECONDS]
-       guarddb serve FILE --socket PATH --clients N [--connections K] [--wait SECONDS] [--idle SECONDS]
+       guarddb serve FILE --port P --clients N [--connections K] [--wait SECONDS] [--idle SECONDS] [--block SECONDS]
+       guarddb serve FILE --socket PATH --clients N [--connections K] [--wait SECONDS] [--idle SECONDS] [--block SECONDS]
        guarddb check FILE
        guarddb describe FILE [ROLE] [--json]
        guarddb copy FILE NEW --pages N [--journal]
@@ -80,11 +80,13 @@ Commands:
           The same on a Unix socket, whose file is made at PATH, of 1 to 107 bytes, and taken
           away at the end: whoever may write to that file may connect
           Example: guarddb serve shop.db --socket shop.sock --connections 10
-  serve FILE --port P --clients N [--connections K] [--wait SECONDS] [--idle SECONDS]
-  serve FILE --socket PATH --clients N [--connections K] [--wait SECONDS] [--idle SECONDS]
+  serve FILE --port P --clients N [--connections K] [--wait SECONDS] [--idle SECONDS] [--block SECONDS]
+  serve FILE --socket PATH --clients N [--connections K] [--wait SECONDS] [--idle SECONDS] [--block SECONDS]
           Serves up to N clients at once, N from 1 to 1000, and K in all, or as many as come
           until the server is ended. With --wait, SECONDS from 0 to 86400, a statement that
-          another client's session keeps from writing waits so long, first come, first served
+          another client's session keeps from writing waits so long, first come, first served.
+          Who keeps another from writing for --block seconds, SECONDS from 1 to 86400, or 30
+          where it is left out, is ended: its sessions are closed, blocks rolled back
           Example: guarddb serve shop.db --socket shop.sock --clients 100 --wait 10
   check FILE
           Opens the database in FILE and says whether it is whole. A FILE of format 1 is of

@@ -1,3 +1,4 @@
-pub mod Steps
+mod Locking
 pub mod Placing
 pub mod Queueing
+pub mod Steps

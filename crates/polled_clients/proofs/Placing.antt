@@ -19,6 +19,7 @@ use Rattle.talks.proofs.Passing.{passes_stay, passes_on}
 use Rattle.polled_clients.proofs.Steps.{continues_stay}
 use Rattle.polled_clients.specs.declared.peer.Peer.{Peer}
 use Rattle.polled_clients.specs.Peers.{conversation_of, Goes}
+use Rattle.polled_clients.specs.declared.need.EndOrder.{EndOrder}
 use Rattle.polled_clients.specs.declared.need.Need.{Need}
 use Rattle.polled_clients.specs.declared.need.Need.TheVariants as need
 use Rattle.polled_clients.specs.ClientStates.{state_of, state_at, GoesOn, Learns, HasNeedHere, HasNeedAt}
@@ -184,15 +185,15 @@ module _ {T C : Type 0} (t : Ghosts T) (k : ChannelGhosts C) where
   pub is_gone : (came c : ℕ) (p : Option (Peer T C)) (closed coming : NamedBytes) → nat_lt c came ≡ true → p ≡ None → IsGone (state_at k came c p closed coming)
   is_gone came c p closed coming has none = rw (has, none) tt
 
-  need_if : (stopped : Bool) (v : Need) (p : Option (Peer T C)) (closed coming : NamedBytes) → HasNeedHere t k stopped v p → HasNeedAt t stopped v (at_if true p closed coming)
-  need_if stopped v None closed coming has = rw (has) tt
-  need_if stopped need.Nothing (Some x) closed coming has = tt
-  need_if stopped need.Step (Some x) closed coming has = has
-  need_if stopped need.Question (Some x) closed coming has = has
-  need_if stopped (need.Left w) (Some x) closed coming has = (has.0, (w, has.0, has.1.0), has.1.1)
+  need_if : (order : EndOrder) (v : Need) (p : Option (Peer T C)) (closed coming : NamedBytes) → HasNeedHere t k order v p → HasNeedAt t order v (at_if true p closed coming)
+  need_if order v None closed coming has = rw (has) tt
+  need_if order need.Nothing (Some x) closed coming has = tt
+  need_if order need.Step (Some x) closed coming has = has
+  need_if order need.Question (Some x) closed coming has = has
+  need_if order (need.Left w) (Some x) closed coming has = (has.0, (w, has.0, has.1.0), has.1.1, has.1.2)
 
-  pub need_at : (stopped : Bool) (came c : ℕ) (v : Need) (p : Option (Peer T C)) (closed coming : NamedBytes) → c < came → HasNeedHere t k stopped v p → HasNeedAt t stopped v (state_at k came c p closed coming)
-  need_at stopped came c v p closed coming less has = subst (λ (b : Bool). HasNeedAt t stopped v (at_if b p closed coming)) (sym (lt-ltb c came less)) (need_if stopped v p closed coming has)
+  pub need_at : (order : EndOrder) (came c : ℕ) (v : Need) (p : Option (Peer T C)) (closed coming : NamedBytes) → c < came → HasNeedHere t k order v p → HasNeedAt t order v (state_at k came c p closed coming)
+  need_at order came c v p closed coming less has = subst (λ (b : Bool). HasNeedAt t order v (at_if b p closed coming)) (sym (lt-ltb c came less)) (need_if order v p closed coming has)
 
   -- ---- all of them: who they are, what had gone out to those that went, and what they send
   abbrev pub all : ℕ → (ℕ → Option (Peer T C)) → (ℕ → NamedBytes) → (ℕ → NamedBytes) → ℕ → ClientState T

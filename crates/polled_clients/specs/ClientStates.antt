@@ -1,5 +1,5 @@
 -- Where each client is.
-use Rattle.std.specs.Prelude.{◌≡◌, ℕ, Bool, true, List, [], ◌∷◌, Option, Some, None, nat_eq, nat_lt, if◌then◌else◌}
+use Rattle.std.specs.Prelude.{◌≡◌, ℕ, true, false, List, [], ◌∷◌, Option, Some, None, nat_eq, nat_lt, if◌then◌else◌}
 use Rattle.channels.specs.declared.channel.Channel.{Ghosts as ChannelGhosts}
 use Rattle.channels.specs.declared.attend.Attend.{Ghosts as AttendGhosts}
 use Rattle.channels.specs.Channels.{NamedBytes}
@@ -13,6 +13,7 @@ use Rattle.talks.specs.Conversations.{ClientState, awaited, there, gone, wanted,
 use Rattle.talks.specs.Clients.{IsLeaving}
 use Rattle.polled_clients.specs.Peers.{conversation_of, Goes, HasNeed}
 use Rattle.polled_clients.specs.declared.peer.Peer.{Peer}
+use Rattle.polled_clients.specs.declared.need.EndOrder.{EndOrder}
 use Rattle.polled_clients.specs.declared.need.Need.{Need}
 use Rattle.polled_clients.specs.declared.need.Need.TheVariants as need
 use Rattle.polled_clients.specs.declared.clients.PolledClients.{PolledClients}
@@ -43,17 +44,17 @@ module _ {T C : Type 0} (t : Ghosts T) (k : ChannelGhosts C) where
   Learns (Some x) r (Some y) = Goes t k x (learnt (t.wants x.talk) r ∷ []) y
 
   -- what a client has to do with the machine, if it is there, is so
-  abbrev pub HasNeedHere : Bool → Need → Option (Peer T C) → Type 0
-  HasNeedHere stopped v None = v ≡ need.Nothing
-  HasNeedHere stopped v (Some x) = HasNeed t k stopped v x
+  abbrev pub HasNeedHere : EndOrder → Need → Option (Peer T C) → Type 0
+  HasNeedHere order v None = v ≡ need.Nothing
+  HasNeedHere order v (Some x) = HasNeed t k order v x
 
 module _ {T : Type 0} (t : Ghosts T) where
   -- what a client has to do with the machine, wherever it is, is so
-  abbrev pub HasNeedAt : Bool → Need → ClientState T → Type 0
-  HasNeedAt stopped need.Nothing p = Unit {0}
-  HasNeedAt stopped need.Step p = (w : Want) × (wanted t p ≡ Some w) × WantsStep w
-  HasNeedAt stopped need.Question p = (w : Want) × (wanted t p ≡ Some w) × WantsQuestion w
-  HasNeedAt stopped (need.Left w) p = (ending p ≡ Some w) × IsLeaving t p × (w ≡ end_cause.Stopped → stopped ≡ true)
+  abbrev pub HasNeedAt : EndOrder → Need → ClientState T → Type 0
+  HasNeedAt order need.Nothing p = Unit {0}
+  HasNeedAt order need.Step p = (w : Want) × (wanted t p ≡ Some w) × WantsStep w × (order.cut_off ≡ false)
+  HasNeedAt order need.Question p = (w : Want) × (wanted t p ≡ Some w) × WantsQuestion w × (order.cut_off ≡ false)
+  HasNeedAt order (need.Left w) p = (ending p ≡ Some w) × IsLeaving t p × (w ≡ end_cause.Stopped → order.stopped ≡ true) × (w ≡ end_cause.HeldTheLock → order.cut_off ≡ true)
 
 -- the step of a client has waited until its time was over
 abbrev pub IsSomeWaited : {T C : Type 0} → Option (Peer T C) → Type 0

@@ -1,2 +1,3 @@
+pub mod LockWatches
 pub mod Peers
 pub mod ClientStates

@@ -1,5 +1,5 @@
 -- A client that is there.
-use Rattle.std.specs.Prelude.{◌≡◌, Bool, true, List, drop, Some}
+use Rattle.std.specs.Prelude.{◌≡◌, true, false, List, drop, Some}
 use Rattle.channels.specs.declared.channel.Channel.{Ghosts as ChannelGhosts}
 use Rattle.channels.specs.Channels.{left}
 use Rattle.talks.specs.declared.talk.Talk.{Ghosts}
@@ -9,6 +9,7 @@ use Rattle.talks.specs.declared.clients.EndCause.TheVariants as end_cause
 use Rattle.talks.specs.Wants.{Learnt, WantsStep, WantsQuestion}
 use Rattle.talks.specs.Conversations.{Conversation, Continues, HasCause, unless_ended}
 use Rattle.polled_clients.specs.declared.peer.Peer.{Peer}
+use Rattle.polled_clients.specs.declared.need.EndOrder.{EndOrder}
 use Rattle.polled_clients.specs.declared.need.Need.{Need}
 use Rattle.polled_clients.specs.declared.need.Need.TheVariants as need
 
@@ -32,12 +33,12 @@ module _ {T C : Type 0} (t : Ghosts T) (k : ChannelGhosts C) where
   Goes x xs y = Continues t (conversation_of k x) xs (conversation_of k y)
 
   -- its connection is to end for this
-  abbrev pub MayEnd : Bool → Peer T C → EndCause → Type 0
-  MayEnd stopped x w = HasCause t w (conversation_of k x) × (w ≡ end_cause.Stopped → stopped ≡ true)
+  abbrev pub MayEnd : EndOrder → Peer T C → EndCause → Type 0
+  MayEnd order x w = HasCause t w (conversation_of k x) × (w ≡ end_cause.Stopped → order.stopped ≡ true) × (w ≡ end_cause.HeldTheLock → order.cut_off ≡ true)
 
   -- what a client has to do with the machine is so
-  abbrev pub HasNeed : Bool → Need → Peer T C → Type 0
-  HasNeed stopped need.Nothing x = Unit {0}
-  HasNeed stopped need.Step x = (w : Want) × (unless_ended x.end_cause (t.wants x.talk) ≡ Some w) × WantsStep w
-  HasNeed stopped need.Question x = (w : Want) × (unless_ended x.end_cause (t.wants x.talk) ≡ Some w) × WantsQuestion w
-  HasNeed stopped (need.Left w) x = (x.end_cause ≡ Some w) × MayEnd stopped x w
+  abbrev pub HasNeed : EndOrder → Need → Peer T C → Type 0
+  HasNeed order need.Nothing x = Unit {0}
+  HasNeed order need.Step x = (w : Want) × (unless_ended x.end_cause (t.wants x.talk) ≡ Some w) × WantsStep w × (order.cut_off ≡ false)
+  HasNeed order need.Question x = (w : Want) × (unless_ended x.end_cause (t.wants x.talk) ≡ Some w) × WantsQuestion w × (order.cut_off ≡ false)
+  HasNeed order (need.Left w) x = (x.end_cause ≡ Some w) × MayEnd order x w

@@ -1,22 +1,23 @@
 //! Clients of a machine over connections of which no call waits: whose turn it is, and who waits.
 
-ghost use Rattle.std.specs.Prelude.{◌≡◌, ◌≢◌, ℕ, List, [], ◌∷◌, Option, Some, None, IfSome, IfOk, nat_eq, true};
+ghost use Rattle.std.specs.Prelude.{◌≡◌, ◌≢◌, ℕ, List, [], ◌∷◌, Option, Some, None, IfSome, IfOk, is_some, nat_eq, true};
 ghost use Rattle.channels.specs.Channels.{NamedBytes};
-ghost use Rattle.channels.specs.Comings.{HasJustCome};
 ghost use Rattle.talks.specs.Wants.{FitsWant, learnt, own};
 ghost use Rattle.talks.specs.Conversations.{Passes, IsGone, awaited, gone, wanted};
-ghost use Rattle.talks.specs.Clients.{IsNext, IsLeaving, Moved, NoneGoes, EndsAs};
+ghost use Rattle.talks.specs.Clients.{CutsOff, is_client, IsNext, IsLeaving, Moved, NoneGoes, EndsAs};
 ghost use Rattle.talks.specs.declared.want.Want.{Want as TheWant};
 ghost use Rattle.indexmap.specs.IndexMap.{get};
 ghost use Rattle.polled_clients.specs.ClientStates.{states, HasNeedAt, HasWaited};
+ghost use Rattle.polled_clients.specs.LockWatches.{contention_of};
 
 use crate::limits::{client_at, look_after, note_look};
-use crate::need::{Need, Pick};
+use crate::lock_watch::{LockWatch, is_lock_refusal, note_holder_look};
+use crate::need::{EndOrder, Need, Pick};
 use crate::peer::Peer;
 use crate::peers::{any, give_up, has_waited, hold, is_nobody, list_owed, rouse, take_turn, teach};
-use crate::turns::{Turns, prepare};
+use crate::turns::Turns;
 use crate::waiting::{first, is_behind, put_last, take_out};
-use channels::attend::{Attend, Taken};
+use channels::attend::Attend;
 use channels::channel::Channel;
 use indexmap::IndexMap;
 use std::alloc::{AllocError, Global};
@@ -44,6 +45,9 @@ pub struct ClientLimits {
     pub wait: Option<Duration>,
     /// How long one may be silent while it is waited for, a second at least. Without it for ever.
     pub idle: Option<Duration>,
+    /// How long one may hold the writer lock once a step of another was held back or refused for it, a
+    /// second at least. Without it for ever.
+    pub block: Option<Duration>,
 }
 
 /// Clients over connections of which no call waits.
@@ -53,18 +57,19 @@ pub struct ClientLimits {
 /// round it is asked who may have something to do; where nobody is listed, that waits.
 #[derive(Drop)]
 pub struct PolledClients<T, C, A, F> {
-    alloc: Global,
-    attend: A,
-    maker: F,
-    limits: ClientLimits,
+    pub(crate) alloc: Global,
+    pub(crate) attend: A,
+    pub(crate) maker: F,
+    pub(crate) limits: ClientLimits,
     // What one is told who comes while as many are there as may be.
-    refusal: Vec<u8>,
-    peers: IndexMap<u32, Peer<T, C>>,
-    came: u32,
+    pub(crate) refusal: Vec<u8>,
+    pub(crate) peers: IndexMap<u32, Peer<T, C>>,
+    pub(crate) came: u32,
     waiting: Vec<u32>,
-    turns: Turns,
-    time: Duration,
-    refusals: u64,
+    lock: LockWatch,
+    pub(crate) turns: Turns,
+    pub(crate) time: Duration,
+    pub(crate) refusals: u64,
     looks: u64,
 }
 
@@ -79,6 +84,7 @@ impl<T: Talk + Drop, C: Channel + Drop, A: Attend<C>, F: TalkMaker<T>> PolledCli
     ) -> PolledClients<T, C, A, F>
         ensures at { (c : ℕ) → states C.Channel A.Attend result c ≡ awaited (A.coming attend c) }
         ensures waiting { result.waiting.items ≡ [] }
+        ensures contention { contention_of result.lock ≡ record { holder = None; cut_off = None; is_limited = is_some limits.block } }
         ensures expected { result.limits.connections ≡ limits.connections }
         ensures refusals { result.refusals ≡ 0 }
         ensures looks { result.looks ≡ 0 }
@@ -92,6 +98,7 @@ impl<T: Talk + Drop, C: Channel + Drop, A: Attend<C>, F: TalkMaker<T>> PolledCli
             peers: IndexMap::new(alloc),
             came: 0,
             waiting: Vec::new(alloc),
+            lock: LockWatch::new(limits.block),
             turns: Turns::new(alloc),
             time: Duration::ZERO,
             refusals: 0,
@@ -114,7 +121,8 @@ impl<T: Talk + Drop, C: Channel + Drop, A: Attend<C>, F: TalkMaker<T>> PolledCli
         ensures waiting { self.new.waiting.items ≡ self.old.waiting.items }
         ensures limits { self.new.limits ≡ self.old.limits }
         ensures looks { self.new.looks ≡ self.old.looks }
-        ensures next { IfSome result (λ n. IsNext T.Talk stopped (states C.Channel A.Attend self.new) self.new.waiting.items (Some self.new.limits.connections) self.new.refusals self.new.looks n) }
+        ensures contention { CutsOff (contention_of self.old.lock) (contention_of self.new.lock) }
+        ensures next { IfSome result (λ n. IsNext T.Talk stopped (states C.Channel A.Attend self.new) self.new.waiting.items (contention_of self.new.lock) (Some self.new.limits.connections) self.new.refusals self.new.looks n) }
     {
         if let Some(finish) = self.finish(stopped) {
             return Some(Next::Ended(finish));
@@ -164,7 +172,8 @@ impl<T: Talk + Drop, C: Channel + Drop, A: Attend<C>, F: TalkMaker<T>> PolledCli
         ensures waiting { self.new.waiting.items ≡ self.old.waiting.items }
         ensures limits { self.new.limits ≡ self.old.limits }
         ensures looks { self.new.looks ≡ self.old.looks }
-        ensures next { IfSome result (λ n. IsNext T.Talk stopped (states C.Channel A.Attend self.new) self.new.waiting.items (Some self.new.limits.connections) self.new.refusals self.new.looks n) }
+        ensures lock { self.new.lock ≡ self.old.lock }
+        ensures next { IfSome result (λ n. IsNext T.Talk stopped (states C.Channel A.Attend self.new) self.new.waiting.items (contention_of self.new.lock) (Some self.new.limits.connections) self.new.refusals self.new.looks n) }
     {
         let client = pick.client;
         match self.turn(pick, stopped) {
@@ -187,12 +196,17 @@ impl<T: Talk + Drop, C: Channel + Drop, A: Attend<C>, F: TalkMaker<T>> PolledCli
         ensures waiting { self.new.waiting.items ≡ self.old.waiting.items }
         ensures limits { self.new.limits ≡ self.old.limits }
         ensures looks { self.new.looks ≡ self.old.looks }
-        ensures need { HasNeedAt T.Talk stopped result (states C.Channel A.Attend self.new pick.client) }
+        ensures lock { self.new.lock ≡ self.old.lock }
+        ensures need { HasNeedAt T.Talk (record { stopped = stopped; cut_off = is_client pick.client self.new.lock.cut_off }) result (states C.Channel A.Attend self.new pick.client) }
     {
         if pick.client >= self.came {
             return Need::Nothing;
         }
-        take_turn(&mut self.peers, pick, stopped, self.time)
+        let order = EndOrder {
+            stopped,
+            cut_off: self.lock.is_cut_off(pick.client),
+        };
+        take_turn(&mut self.peers, pick, order, self.time)
     }
 
     // Before a round: wakes one to whom something may have come, or takes one that comes, or asks
@@ -202,6 +216,7 @@ impl<T: Talk + Drop, C: Channel + Drop, A: Attend<C>, F: TalkMaker<T>> PolledCli
         ensures waiting { self.new.waiting.items ≡ self.old.waiting.items }
         ensures limits { self.new.limits ≡ self.old.limits }
         ensures looks { self.new.looks ≡ self.old.looks }
+        ensures contention { CutsOff (contention_of self.old.lock) (contention_of self.new.lock) }
     {
         if let Some(client) = self.turns.woken.pop() {
             self.wake(client);
@@ -219,9 +234,11 @@ impl<T: Talk + Drop, C: Channel + Drop, A: Attend<C>, F: TalkMaker<T>> PolledCli
         ensures waiting { self.new.waiting.items ≡ self.old.waiting.items }
         ensures limits { self.new.limits ≡ self.old.limits }
         ensures looks { self.new.looks ≡ self.old.looks }
+        ensures contention { CutsOff (contention_of self.old.lock) (contention_of self.new.lock) }
     {
         if self.turns.looks.begin() {
             self.note_time();
+            self.look_at_holder();
             return;
         }
         match self.turns.looks.next(self.peers.len()) {
@@ -230,12 +247,25 @@ impl<T: Talk + Drop, C: Channel + Drop, A: Attend<C>, F: TalkMaker<T>> PolledCli
         }
     }
 
+    // Looks for how long the lock is held that others want, and lists who was cut off.
+    fn look_at_holder(&mut self)
+        ensures moved { Moved T.Talk (states C.Channel A.Attend self.old) (states C.Channel A.Attend self.new) }
+        ensures waiting { self.new.waiting.items ≡ self.old.waiting.items }
+        ensures limits { self.new.limits ≡ self.old.limits }
+        ensures looks { self.new.looks ≡ self.old.looks }
+        ensures contention { CutsOff (contention_of self.old.lock) (contention_of self.new.lock) }
+    {
+        self.lock.look(self.turns.looks.asked(), self.time);
+        note_holder_look(&mut self.turns, &self.lock, self.time);
+    }
+
     // Looks at the clock.
     fn note_time(&mut self)
         ensures moved { Moved T.Talk (states C.Channel A.Attend self.old) (states C.Channel A.Attend self.new) }
         ensures waiting { self.new.waiting.items ≡ self.old.waiting.items }
         ensures limits { self.new.limits ≡ self.old.limits }
         ensures looks { self.new.looks ≡ self.old.looks }
+        ensures lock { self.new.lock ≡ self.old.lock }
     {
         self.time = self.attend.now();
     }
@@ -246,6 +276,7 @@ impl<T: Talk + Drop, C: Channel + Drop, A: Attend<C>, F: TalkMaker<T>> PolledCli
         ensures waiting { self.new.waiting.items ≡ self.old.waiting.items }
         ensures limits { self.new.limits ≡ self.old.limits }
         ensures looks { self.new.looks ≡ self.old.looks }
+        ensures lock { self.new.lock ≡ self.old.lock }
     {
         if let Some(client) = client_at(&self.peers, index) {
             self.look_after(client);
@@ -258,6 +289,7 @@ impl<T: Talk + Drop, C: Channel + Drop, A: Attend<C>, F: TalkMaker<T>> PolledCli
         ensures waiting { self.new.waiting.items ≡ self.old.waiting.items }
         ensures limits { self.new.limits ≡ self.old.limits }
         ensures looks { self.new.looks ≡ self.old.looks }
+        ensures lock { self.new.lock ≡ self.old.lock }
     {
         let idle = self.limits.idle;
         let asked = self.turns.looks.asked();
@@ -272,91 +304,10 @@ impl<T: Talk + Drop, C: Channel + Drop, A: Attend<C>, F: TalkMaker<T>> PolledCli
         ensures waiting { self.new.waiting.items ≡ self.old.waiting.items }
         ensures limits { self.new.limits ≡ self.old.limits }
         ensures looks { self.new.looks ≡ self.old.looks }
+        ensures lock { self.new.lock ≡ self.old.lock }
     {
         rouse(&mut self.peers, client);
         list_owed(&mut self.turns, &self.peers, client);
-    }
-
-    // Takes one that comes, or turns it away where as many are there as may be.
-    fn greet(&mut self)
-        ensures moved { Moved T.Talk (states C.Channel A.Attend self.old) (states C.Channel A.Attend self.new) }
-        ensures waiting { self.new.waiting.items ≡ self.old.waiting.items }
-        ensures limits { self.new.limits ≡ self.old.limits }
-        ensures looks { self.new.looks ≡ self.old.looks }
-    {
-        if self.came >= self.limits.connections || self.refusals > 0 {
-            self.turns.note_nobody();
-        } else if self.peers.len() >= self.limits.at_once {
-            self.turn_away();
-        } else {
-            self.take();
-        }
-    }
-
-    // Tells one that comes that as many are there as may be.
-    fn turn_away(&mut self)
-        ensures moved { Moved T.Talk (states C.Channel A.Attend self.old) (states C.Channel A.Attend self.new) }
-        ensures waiting { self.new.waiting.items ≡ self.old.waiting.items }
-        ensures limits { self.new.limits ≡ self.old.limits }
-        ensures looks { self.new.looks ≡ self.old.looks }
-    {
-        match self.attend.turn_away(&self.refusal) {
-            Taken::Came(()) => {}
-            Taken::Nobody => self.turns.note_nobody(),
-            Taken::Later => self.turns.note_later(self.time),
-            Taken::Failed => self.refusals = self.refusals.saturating_add(1),
-        }
-    }
-
-    // Takes one that comes.
-    fn take(&mut self)
-        ensures moved { Moved T.Talk (states C.Channel A.Attend self.old) (states C.Channel A.Attend self.new) }
-        ensures waiting { self.new.waiting.items ≡ self.old.waiting.items }
-        ensures limits { self.new.limits ≡ self.old.limits }
-        ensures looks { self.new.looks ≡ self.old.looks }
-    {
-        match prepare(&mut self.turns, &self.maker, self.peers.len() + 1) {
-            Ok(talk) => self.take_with(talk),
-            Err(_) => self.turns.note_later(self.time),
-        }
-    }
-
-    // Takes one that comes, for whom there is this conversation.
-    fn take_with(&mut self, talk: T)
-        requires { T.starts talk }
-        ensures moved { Moved T.Talk (states C.Channel A.Attend self.old) (states C.Channel A.Attend self.new) }
-        ensures waiting { self.new.waiting.items ≡ self.old.waiting.items }
-        ensures limits { self.new.limits ≡ self.old.limits }
-        ensures looks { self.new.looks ≡ self.old.looks }
-    {
-        match self.attend.take(self.came) {
-            Taken::Came(channel) => self.admit(talk, channel),
-            Taken::Nobody => self.turns.note_nobody(),
-            Taken::Later => self.turns.note_later(self.time),
-            Taken::Failed => self.refusals = self.refusals.saturating_add(1),
-        }
-    }
-
-    // A client has come.
-    fn admit(&mut self, talk: T, channel: C)
-        requires starts { T.starts talk }
-        requires fresh { HasJustCome C.Channel (A.coming self.old.attend self.old.came) channel }
-        ensures moved { Moved T.Talk (states C.Channel A.Attend self.old) (states C.Channel A.Attend self.new) }
-        ensures waiting { self.new.waiting.items ≡ self.old.waiting.items }
-        ensures limits { self.new.limits ≡ self.old.limits }
-        ensures looks { self.new.looks ≡ self.old.looks }
-    {
-        let client = self.came;
-        let Some(next) = client.checked_add(1) else {
-            return;
-        };
-        let idle = self.limits.idle;
-        let peer = Peer::new(self.alloc, talk, channel, idle.is_some(), self.time);
-        if self.peers.insert(client, peer).is_ok() {
-            self.came = next;
-            self.turns.list(client);
-            note_look(&mut self.turns, &self.peers, client, self.time, idle);
-        }
     }
 
     // Asks who may have something to do, and begins a round.
@@ -365,6 +316,7 @@ impl<T: Talk + Drop, C: Channel + Drop, A: Attend<C>, F: TalkMaker<T>> PolledCli
         ensures waiting { self.new.waiting.items ≡ self.old.waiting.items }
         ensures limits { self.new.limits ≡ self.old.limits }
         ensures looks { self.new.looks ≡ self.old.looks }
+        ensures lock { self.new.lock ≡ self.old.lock }
     {
         self.note_time();
         self.ask();
@@ -377,6 +329,7 @@ impl<T: Talk + Drop, C: Channel + Drop, A: Attend<C>, F: TalkMaker<T>> PolledCli
         ensures waiting { self.new.waiting.items ≡ self.old.waiting.items }
         ensures limits { self.new.limits ≡ self.old.limits }
         ensures looks { self.new.looks ≡ self.old.looks }
+        ensures lock { self.new.lock ≡ self.old.lock }
     {
         self.turns.looks.note_asked(self.time);
         let until = self.first_waits_until();
@@ -391,6 +344,7 @@ impl<T: Talk + Drop, C: Channel + Drop, A: Attend<C>, F: TalkMaker<T>> PolledCli
         ensures waiting { self.new.waiting.items ≡ self.old.waiting.items }
         ensures limits { self.new.limits ≡ self.old.limits }
         ensures looks { self.new.looks ≡ self.old.looks }
+        ensures lock { self.new.lock ≡ self.old.lock }
     {
         self.note_time();
         self.hold_until(client);
@@ -402,6 +356,7 @@ impl<T: Talk + Drop, C: Channel + Drop, A: Attend<C>, F: TalkMaker<T>> PolledCli
         ensures waiting { self.new.waiting.items ≡ self.old.waiting.items }
         ensures limits { self.new.limits ≡ self.old.limits }
         ensures looks { self.new.looks ≡ self.old.looks }
+        ensures lock { self.new.lock ≡ self.old.lock }
     {
         let wait = self.limits.wait.unwrap_or(Duration::ZERO);
         hold(&mut self.peers, client, self.time.saturating_add(wait));
@@ -415,6 +370,7 @@ impl<T: Talk + Drop, C: Channel + Drop, A: Attend<C>, F: TalkMaker<T>> PolledCli
         ensures waiting { self.new.waiting.items ≡ self.old.waiting.items }
         ensures limits { self.new.limits ≡ self.old.limits }
         ensures looks { self.new.looks ≡ self.old.looks }
+        ensures lock { self.new.lock ≡ self.old.lock }
         ensures wants { wanted T.Talk (states C.Channel A.Attend self.new client) ≡ Some TheWant.OutOfMemory }
     {
         give_up(&mut self.peers, client);
@@ -435,6 +391,8 @@ impl<T: Talk + Drop, C: Channel + Drop, A: Attend<C>, F: TalkMaker<T>> ServedCli
     ghost at = { λ x c. states C.Channel A.Attend x c };
 
     ghost waiting = { λ x. x.waiting.items };
+
+    ghost contention = { λ x. contention_of x.lock };
 
     ghost expected = { λ x. Some x.limits.connections };
 
@@ -461,14 +419,19 @@ impl<T: Talk + Drop, C: Channel + Drop, A: Attend<C>, F: TalkMaker<T>> ServedCli
         self.peers.get(&client).unwrap().want()
     }
 
-    fn learn<M: Machine>(&mut self, _machine: &M, client: u32, reply: Reply) {
+    fn learn<M: Machine>(&mut self, machine: &M, client: u32, reply: Reply) {
         take_out(&mut self.waiting, client);
         self.turns.note_change();
+        self.lock
+            .note(machine.holder(), client, is_lock_refusal(&reply));
+        note_holder_look(&mut self.turns, &self.lock, self.time);
         teach(&mut self.peers, client, reply);
         list_owed(&mut self.turns, &self.peers, client);
     }
 
-    fn hold_back(&mut self, client: u32) {
+    fn hold_back<M: Machine>(&mut self, machine: &M, client: u32) {
+        self.lock.note(machine.holder(), client, true);
+        note_holder_look(&mut self.turns, &self.lock, self.time);
         match put_last(&mut self.waiting, client) {
             Ok(()) => self.hold(client),
             Err(_) => self.give_up(client),
@@ -488,6 +451,7 @@ impl<T: Talk + Drop, C: Channel + Drop, A: Attend<C>, F: TalkMaker<T>> ServedCli
 
     fn close(&mut self, client: u32) {
         take_out(&mut self.waiting, client);
+        self.lock.forget(client);
         self.turns.note_change();
         let peer = self.peers.swap_remove(&client).unwrap();
         self.attend.close(client, peer.into_channel());

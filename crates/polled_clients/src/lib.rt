@@ -1,9 +1,12 @@
 //! Clients over connections of which no call waits.
 #![tactic(auto)]
 
+mod arrivals;
 pub mod clients;
+mod ends;
 pub mod held;
 pub mod limits;
+pub mod lock_watch;
 pub mod looks;
 pub mod need;
 pub mod peer;

@@ -22,6 +22,23 @@ pub enum Need {
     Left(EndCause),
 }
 
+/// What ends the connection of a client from outside: the machine has stopped, or it was cut off.
+#[derive(Clone, Copy)]
+pub struct EndOrder {
+    pub stopped: bool,
+    pub cut_off: bool,
+}
+
+impl EndOrder {
+    /// Nothing does.
+    pub fn none() -> EndOrder {
+        EndOrder {
+            stopped: false,
+            cut_off: false,
+        }
+    }
+}
+
 /// Whose turn it is, and whether its event is given out that has waited, by which moment.
 #[derive(Clone, Copy)]
 pub struct Pick {

@@ -1,14 +1,15 @@
 //! A client that is there: the conversation with it, and its connection.
 
-ghost use Rattle.std.specs.Prelude.{◌≡◌, ◌≤◌, ◌+◌, ◌++◌, ℕ, Bool, List, [], ◌∷◌, length, drop, vec_len, vec_capacity, true, false, Option, Some, None, IfSome};
+ghost use Rattle.std.specs.Prelude.{◌≡◌, ◌≤◌, ◌+◌, ◌++◌, ℕ, Bool, List, [], ◌∷◌, length, drop, vec_len, vec_capacity, true, false, Option, Some, None};
 ghost use Rattle.channels.specs.Comings.{HasJustCome};
 ghost use Rattle.talks.specs.Wants.{FitsWant, learnt};
 ghost use Rattle.talks.specs.Conversations.{IsNew, unless_ended};
 ghost use Rattle.talks.specs.declared.want.Want.{Want as TheWant};
-ghost use Rattle.polled_clients.specs.Peers.{conversation_of, Goes, MayEnd, HasNeed};
+ghost use Rattle.polled_clients.specs.Peers.{conversation_of, Goes, HasNeed};
+ghost use Rattle.polled_clients.specs.declared.need.EndOrder.{EndOrder as TheOrder};
 
 use crate::held::{drop_front, keep};
-use crate::need::{Need, is_end, is_late_end, is_message, is_out_of_memory, is_question, is_step};
+use crate::need::{EndOrder, Need, is_late_end, is_message, is_question, is_step};
 use crate::times::{after, earlier, is_past};
 use channels::behind::behind;
 use channels::channel::{Channel, Received};
@@ -31,20 +32,20 @@ const LATE_SECONDS: u64 = 1;
 /// A client that is there.
 #[derive(Drop)]
 pub struct Peer<T, C> {
-    talk: T,
-    channel: C,
+    pub(crate) talk: T,
+    pub(crate) channel: C,
     // What has come of it, of which the first bytes were heard.
     held: Vec<u8>,
     heard: usize,
-    queue: SendQueue,
-    limited: bool,
-    end_cause: Option<EndCause>,
+    pub(crate) queue: SendQueue,
+    pub(crate) limited: bool,
+    pub(crate) end_cause: Option<EndCause>,
     // Whether the last read found that nothing has come.
-    is_quiet: bool,
+    pub(crate) is_quiet: bool,
     // Whether the last write found that nothing is taken.
-    is_blocked: bool,
+    pub(crate) is_blocked: bool,
     // Whether it has passed a limit.
-    is_over: bool,
+    pub(crate) is_over: bool,
     // When it last had a turn, or its limits were looked at.
     time: Duration,
     // Whether bytes have come of it or gone out to it since its limits were looked at, and when they
@@ -84,88 +85,94 @@ impl<T: Talk, C: Channel> Peer<T, C> {
     }
 
     /// Takes its turn: does what there is to do for it, or gives out its step that has waited.
-    pub fn take_turn(&mut self, offered: Option<Duration>, stopped: bool, now: Duration) -> Need
+    pub fn take_turn(&mut self, offered: Option<Duration>, order: EndOrder, now: Duration) -> Need
         ensures goes { Goes T.Talk C.Channel self.old [] self.new }
-        ensures need { HasNeed T.Talk C.Channel stopped result self.new }
+        ensures need { HasNeed T.Talk C.Channel order result self.new }
     {
         self.time = now;
         match offered {
-            Some(asked) => self.offer(asked),
-            None => self.attend(stopped),
+            Some(asked) => self.offer(asked, order),
+            None => self.attend(order),
         }
     }
 
     // Does what there is to do for the client, and tells what it has to do with the machine.
-    fn attend(&mut self, stopped: bool) -> Need
+    fn attend(&mut self, order: EndOrder) -> Need
         ensures goes { Goes T.Talk C.Channel self.old [] self.new }
-        ensures need { HasNeed T.Talk C.Channel stopped result self.new }
+        ensures need { HasNeed T.Talk C.Channel order result self.new }
     {
         match self.end_cause {
             Some(end_cause) => {
-                if self.has_cause(end_cause, stopped) {
+                if self.has_cause(end_cause, order) {
                     return Need::Left(end_cause);
                 }
                 Need::Nothing
             }
-            None => self.proceed(stopped),
+            None => self.proceed(order),
         }
     }
 
     // Does what there is to do for a client whose connection has not ended.
-    fn proceed(&mut self, stopped: bool) -> Need
+    fn proceed(&mut self, order: EndOrder) -> Need
         requires { self.old.end_cause ≡ None }
         ensures goes { Goes T.Talk C.Channel self.old [] self.new }
-        ensures need { HasNeed T.Talk C.Channel stopped result self.new }
+        ensures need { HasNeed T.Talk C.Channel order result self.new }
     {
         self.send_if_due();
-        match self.cause(stopped) {
+        match self.cause(order) {
             Some(end_cause) => {
                 self.end_cause = Some(end_cause);
                 Need::Left(end_cause)
             }
-            None => self.advance(stopped),
+            None => self.advance(order),
         }
     }
 
     // Tells what it wants of the machine, and reads and hears it first where it wants a message.
-    fn advance(&mut self, stopped: bool) -> Need
+    fn advance(&mut self, order: EndOrder) -> Need
         requires { self.old.end_cause ≡ None }
         ensures goes { Goes T.Talk C.Channel self.old [] self.new }
-        ensures need { HasNeed T.Talk C.Channel stopped result self.new }
+        ensures need { HasNeed T.Talk C.Channel order result self.new }
     {
-        if self.is_held_up(stopped) {
+        if self.is_held_up(order) {
             return Need::Nothing;
         }
         if is_message(self.talk.want()) {
-            return self.listen(stopped);
+            return self.listen(order);
         }
         self.need()
     }
 
     // Hears a message, and tells what it wants of the machine then.
-    fn listen(&mut self, stopped: bool) -> Need
+    fn listen(&mut self, order: EndOrder) -> Need
         requires wants { T.wants self.old.talk ≡ TheWant.Message }
+        requires served { order.cut_off ≡ false }
         requires running { self.old.end_cause ≡ None }
         ensures goes { Goes T.Talk C.Channel self.old [] self.new }
-        ensures need { HasNeed T.Talk C.Channel stopped result self.new }
+        ensures need { HasNeed T.Talk C.Channel order result self.new }
     {
         self.hear_next();
         self.need()
     }
 
     // Whether nothing is to be done for it but to send, as once the machine has stopped.
-    fn is_held_up(&self, stopped: bool) -> bool {
-        stopped || self.waits_until.is_some() || self.queue.len() >= QUEUE_SIZE
+    pub(crate) fn is_held_up(&self, order: EndOrder) -> bool
+        ensures { result ≡ false → order.cut_off ≡ false }
+    {
+        order.stopped
+            || order.cut_off
+            || self.waits_until.is_some()
+            || self.queue.len() >= QUEUE_SIZE
     }
 
     // Gives out its step that has waited. Its time is over where that was so when it was asked who had
     // sent something, since what others sent before that is answered.
-    fn offer(&mut self, asked: Duration) -> Need
+    fn offer(&mut self, asked: Duration, order: EndOrder) -> Need
         ensures goes { Goes T.Talk C.Channel self.old [] self.new }
-        ensures need { (stopped : Bool) → HasNeed T.Talk C.Channel stopped result self.new }
+        ensures need { HasNeed T.Talk C.Channel order result self.new }
     {
         self.has_waited = is_past(self.waits_until, asked);
-        if self.end_cause.is_some() {
+        if self.end_cause.is_some() || order.cut_off {
             return Need::Nothing;
         }
         self.need()
@@ -195,7 +202,7 @@ impl<T: Talk, C: Channel> Peer<T, C> {
     // What it wants of the machine.
     fn need(&self) -> Need
         requires { self.now.end_cause ≡ None }
-        ensures { (stopped : Bool) → HasNeed T.Talk C.Channel stopped result self.now }
+        ensures { (order : TheOrder) → order.cut_off ≡ false → HasNeed T.Talk C.Channel order result self.now }
     {
         if is_step(self.talk.want()) {
             return Need::Step;
@@ -228,7 +235,7 @@ impl<T: Talk, C: Channel> Peer<T, C> {
     }
 
     // Whether what was said is to go out later.
-    fn is_late(&self) -> bool {
+    pub(crate) fn is_late(&self) -> bool {
         self.late_until.is_some() && !is_past(self.late_until, self.time)
     }
 
@@ -271,7 +278,7 @@ impl<T: Talk, C: Channel> Peer<T, C> {
     }
 
     // Whether no message stands at the front, neither a whole nor a bad one.
-    fn has_no_front(&self) -> bool
+    pub(crate) fn has_no_front(&self) -> bool
         ensures { result ≡ true → T.front self.now.talk (drop self.now.heard self.now.held.items) ≡ MessageFront.Nothing }
     {
         matches!(
@@ -383,72 +390,6 @@ impl<T: Talk, C: Channel> Peer<T, C> {
         ensures wants { unless_ended self.new.end_cause (T.wants self.new.talk) ≡ Some TheWant.OutOfMemory }
     {
         self.talk.give_up();
-    }
-
-    // Why its connection is to end, if it is.
-    fn cause(&self, stopped: bool) -> Option<EndCause>
-        ensures { IfSome result (λ w. MayEnd T.Talk C.Channel stopped self.now w) }
-    {
-        if self.has_cause(EndCause::Failed, stopped) {
-            return Some(EndCause::Failed);
-        }
-        if self.has_cause(EndCause::Memory, stopped) {
-            return Some(EndCause::Memory);
-        }
-        if self.has_cause(EndCause::Finished, stopped) {
-            return Some(EndCause::Finished);
-        }
-        if !self.can_send() && self.has_cause(EndCause::Stopped, stopped) {
-            return Some(EndCause::Stopped);
-        }
-        if self.has_cause(EndCause::Limit, stopped) {
-            return Some(EndCause::Limit);
-        }
-        if self.has_cause(EndCause::Input, stopped) {
-            return Some(EndCause::Input);
-        }
-        None
-    }
-
-    // Whether its connection is to end for this.
-    fn has_cause(&self, end_cause: EndCause, stopped: bool) -> bool
-        ensures { result ≡ true → MayEnd T.Talk C.Channel stopped self.now end_cause }
-    {
-        match end_cause {
-            EndCause::Input => {
-                is_message(self.talk.want())
-                    && self.has_no_front()
-                    && self.channel.has_ended()
-                    && self.queue.is_empty()
-            }
-            EndCause::Finished => is_end(self.talk.want()) && self.queue.is_empty(),
-            EndCause::Failed => self.channel.has_failed(),
-            EndCause::Limit => self.limited && self.is_over,
-            EndCause::Memory => is_out_of_memory(self.talk.want()),
-            EndCause::Stopped => stopped,
-        }
-    }
-
-    // Whether bytes are to go out, which its connection may take.
-    fn can_send(&self) -> bool {
-        !self.is_blocked && !self.queue.is_empty() && !self.is_late()
-    }
-
-    /// Whether there is something to do for it at once.
-    pub fn owes(&self) -> bool {
-        if self.end_cause.is_some() || self.cause(false).is_some() {
-            return true;
-        }
-        if self.can_send() {
-            return true;
-        }
-        if self.is_held_up(false) {
-            return false;
-        }
-        let want = self.talk.want();
-        is_step(want)
-            || is_question(want)
-            || (is_message(want) && !(self.is_quiet && self.has_no_front()))
     }
 
     /// Looks at its limits. It was read since it was `asked` who had sent something: so it is over

@@ -7,7 +7,7 @@ ghost use Rattle.talks.specs.Conversations.{unless_ended};
 ghost use Rattle.talks.specs.declared.want.Want.{Want as TheWant};
 ghost use Rattle.polled_clients.specs.ClientStates.{GoesOn, Learns, HasNeedHere, IsSomeWaited};
 
-use crate::need::{Need, Pick};
+use crate::need::{EndOrder, Need, Pick};
 use crate::peer::Peer;
 use crate::turns::Turns;
 use channels::channel::Channel;
@@ -20,15 +20,15 @@ use talks::want::Reply;
 pub fn take_turn<T: Talk, C: Channel>(
     peers: &mut IndexMap<u32, Peer<T, C>>,
     pick: Pick,
-    stopped: bool,
+    order: EndOrder,
     now: Duration,
 ) -> Need
     ensures here { GoesOn T.Talk C.Channel (get nat_eq peers.old pick.client) [] (get nat_eq peers.new pick.client) }
     ensures others { (c : ℕ) → c ≢ pick.client → get nat_eq peers.new c ≡ get nat_eq peers.old c }
-    ensures need { HasNeedHere T.Talk C.Channel stopped result (get nat_eq peers.new pick.client) }
+    ensures need { HasNeedHere T.Talk C.Channel order result (get nat_eq peers.new pick.client) }
 {
     match peers.get_mut(&pick.client) {
-        Some(peer) => peer.take_turn(pick.offered, stopped, now),
+        Some(peer) => peer.take_turn(pick.offered, order, now),
         None => Need::Nothing,
     }
 }

@@ -8,4 +8,6 @@ mod outcome;
 mod ranges;
 
 pub use executing::execute;
+pub use joins::is_looked_up;
+pub use outcome::{roles_of, users_of};
 pub use ranges::{RangedSource, range_where, ranged};

@@ -54,8 +54,8 @@ pub(crate) fn answered(
     })
 }
 
-// The roles of a plan, those that its current role is in.
-pub(crate) fn roles_of<'a>(plan: &'a Plan<'_>) -> &'a [&'a str]
+/// The roles of a plan, those that its current role is in.
+pub fn roles_of<'a>(plan: &'a Plan<'_>) -> &'a [&'a str]
     ensures { map (λ role. role.now) result.now ≡ roles_of plan.now }
 {
     match plan {
@@ -66,9 +66,9 @@ pub(crate) fn roles_of<'a>(plan: &'a Plan<'_>) -> &'a [&'a str]
     }
 }
 
-// The users of a statement, as expressions see them, where these are the roles that the current one
-// is in.
-pub(crate) fn users_of<'a>(current: &'a Name, session: &'a Name, roles: &'a [&'a str]) -> Users<'a>
+/// The users of a statement, as expressions see them, where these are the roles that the current one
+/// is in.
+pub fn users_of<'a>(current: &'a Name, session: &'a Name, roles: &'a [&'a str]) -> Users<'a>
     ensures { (memberships : List Membership)
         → ((s : TheName) → has_name s (map (λ role. role.now) roles.now)
         ≡ is_in memberships current.now s)

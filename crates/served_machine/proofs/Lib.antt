@@ -1,3 +1,4 @@
+mod Holding
+pub mod Admitting
 pub mod Refusing
 pub mod Stepping
-pub mod Admitting

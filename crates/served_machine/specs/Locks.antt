@@ -1,5 +1,6 @@
 -- What a step needs of the writer lock.
 use Rattle.std.specs.Prelude.{◌≡◌, ◌==◌, ℕ, Bool, true, false, not, Option, Some, None}
+use Rattle.std.specs.Option.{option_map}
 use Rattle.store.specs.Store.{StoreState}
 use Rattle.abstract_database.specs.Machine.{Holder, client_of}
 use Rattle.abstract_database.specs.Runs.{ReadingRelation, At, MayRunOutOfMemory}
@@ -40,6 +41,11 @@ TakesLock Reads state server c _ = ⊥
 abbrev pub LeavesLock : {S X : Type 0} → ReadingRelation → (S → StoreState) → Server S X → ℕ → Want → Type 0
 LeavesLock Reads state server c (want.Event e) = (w : At) → Represents state server w → AsksForLock Reads w.standing.machine (event_of c e) → ⊥
 LeavesLock Reads state server c _ = Unit {0}
+
+-- who holds the writer lock, by a session of its own; nobody does once a server has stopped
+abbrev pub IsHolder : {S X : Type 0} → (S → StoreState) → Server S X → Option ℕ → Type 0
+IsHolder state server c = (server.stopped ≡ true → c ≡ None)
+    × (server.stopped ≡ false → (w : At) → Represents state server w → c ≡ option_map (λ h. client_of h.session) w.standing.machine.holder)
 
 -- an allocation may fail where it is looked what it needs: it is a statement in an open session, and no session of its client holds the writer lock
 abbrev pub MayLackMemory : {S X : Type 0} → (S → StoreState) → Server S X → ℕ → Want → Type 0

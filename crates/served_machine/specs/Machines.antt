@@ -5,7 +5,7 @@ use Rattle.talks.specs.declared.machine.Machine.{Ghosts}
 use Rattle.served_machine.specs.declared.machine.ServedMachine.{ServedMachine}
 use Rattle.served_machine.specs.Sessions.{HasOwnSession, IsSoundServer}
 use Rattle.served_machine.specs.Served.{TakesStep, TellsClient, ClosesOne}
-use Rattle.served_machine.specs.Locks.{LocksOut, LetsIn, TakesLock, LeavesLock, MayLackMemory as MayLack}
+use Rattle.served_machine.specs.Locks.{LocksOut, LetsIn, TakesLock, LeavesLock, IsHolder, MayLackMemory as MayLack}
 
 -- what a served machine is to those who talk to it
 abbrev pub machine_of : {S X : Type 0} → ReadingRelation → (S → StoreState) → Ghosts (ServedMachine S X)
@@ -21,5 +21,6 @@ machine_of Reads state = record {
   IsFree = λ m c w. LetsIn Reads state m.server c w;
   AsksForLock = λ m c w. TakesLock Reads state m.server c w;
   AsksForNone = λ m c w. LeavesLock Reads state m.server c w;
+  IsHeldBy = λ m c. IsHolder state m.server c;
   MayLackMemory = λ m c w. MayLack state m.server c w;
 }

@@ -103,7 +103,7 @@ impl<S: Store, X: EventHandler> ServedMachine<S, X> {
 impl<S: Store, X: EventHandler> Machine for ServedMachine<S, X> {
     ghost use Rattle.served_machine.specs.Sessions.{HasOwnSession, IsSoundServer};
     ghost use Rattle.served_machine.specs.Served.{TakesStep, TellsClient, ClosesOne};
-    ghost use Rattle.served_machine.specs.Locks.{LocksOut, LetsIn, TakesLock, LeavesLock, MayLackMemory};
+    ghost use Rattle.served_machine.specs.Locks.{LocksOut, LetsIn, TakesLock, LeavesLock, IsHolder, MayLackMemory};
     ghost use Rattle.served_machine.specs.ServedLaws.{steps_sound, tells_sound, closes_sound, steps_open, tells_open, closes_open, steps_stopped, tells_stopped, closes_stopped};
 
     ghost Steps = { λ old c w r new. TakesStep X.Reads S.state c w r old.server new.server };
@@ -127,6 +127,8 @@ impl<S: Store, X: EventHandler> Machine for ServedMachine<S, X> {
     ghost AsksForLock = { λ m c w. TakesLock X.Reads S.state m.server c w };
 
     ghost AsksForNone = { λ m c w. LeavesLock X.Reads S.state m.server c w };
+
+    ghost IsHeldBy = { λ m c. IsHolder S.state m.server c };
 
     ghost MayLackMemory = { λ m c w. MayLackMemory S.state m.server c w };
 
@@ -181,6 +183,13 @@ impl<S: Store, X: EventHandler> Machine for ServedMachine<S, X> {
                 self.server.is_locked_out(client, event)
             }
             _ => Ok(false),
+        }
+    }
+
+    fn holder(&self) -> Option<u32> {
+        match self.server.holder() {
+            Some(holder) => Some(holder.client),
+            None => None,
         }
     }
 

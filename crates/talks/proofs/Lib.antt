@@ -1,4 +1,5 @@
 pub mod Courses
+pub mod CuttingOff
 pub mod Passing
 pub mod Sessions
 pub mod Turning

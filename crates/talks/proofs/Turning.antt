@@ -1,14 +1,14 @@
 -- One turn after the other.
-use Rattle.std.proofs.Common.{◌≡◌, ◌∙◌, ◌⊎◌, ◌≤◌, ◌+◌, ℕ, zero, suc, List, [], ◌∷◌, ◌++◌, length, Option, Some, None, refl, sym, subst, arith, inl, inr}
+use Rattle.std.proofs.Common.{◌≡◌, ◌∙◌, ◌⊎◌, ◌≤◌, ◌+◌, ℕ, true, zero, suc, List, [], ◌∷◌, ◌++◌, length, Option, Some, None, refl, sym, subst, arith, inl, inr}
 use Rattle.talks.specs.declared.talk.Talk.{Ghosts as TalkGhosts}
 use Rattle.talks.specs.declared.talk.MessageFront.TheVariants.{Whole, Bad}
 use Rattle.talks.specs.declared.machine.Machine.{Ghosts as MachineGhosts}
 use Rattle.talks.specs.declared.clients.ServedClients.{Ghosts as ClientsGhosts}
 use Rattle.talks.specs.declared.want.Want.{Want}
 use Rattle.talks.specs.declared.want.Reply.{Reply}
-use Rattle.talks.specs.Wants.{Learnt}
 use Rattle.talks.specs.Conversations.{IsGone, Passes}
-use Rattle.talks.specs.Turns.{Turn, Exchange, own_learnt, learnt_in, WasLetGo, TakesTurn, TakesTurns, Goes, Moves}
+use Rattle.talks.specs.Clients.{Contention, CutsOff}
+use Rattle.talks.specs.Turns.{Turn, leaves, Exchange, own_learnt, learnt_in, WasLetGo, TakesTurn, TakesTurns, Goes, Moves}
 use Rattle.talks.proofs.Passing.{passes_stay, passes_on}
 
 -- a turn more is one more
@@ -17,11 +17,23 @@ one_more most [] t less = omega (arith, less)
 one_more zero (u ∷ turns) t less = omega arith
 one_more (suc most) (u ∷ turns) t less = let rest = one_more most turns t (omega (arith, less)) in omega (arith, rest)
 
+-- one is cut off, and then one
+cut_kept : (a b d : Contention) → b ≡ a → CutsOff b d → CutsOff a d
+cut_kept a b d same next = subst (λ (x : Contention). CutsOff x d) same next
+
+cut_more : (a d : Contention) (c : ℕ) → CutsOff (record a { cut_off = Some c }) d → (a.is_limited ≡ true) × ((e : ℕ) × (a.holder ≡ Some e) × (record a { cut_off = Some c } ≡ record a { cut_off = Some e })) → CutsOff a d
+cut_more a d c (inl same) it = inr (it.0, (it.1.0, it.1.1, same ∙ it.1.2))
+cut_more a d c (inr next) it = inr (next.0, (next.1.0, next.1.1, next.1.2))
+
+pub cut_on : (a b d : Contention) → CutsOff a b → CutsOff b d → CutsOff a d
+cut_on a b d (inl same) next = cut_kept a b d same next
+cut_on a b d (inr it) next = cut_more a d it.1.0 (subst (λ (x : Contention). CutsOff x d) it.1.2 next) (it.0, (it.1.0, it.1.1, refl))
+
 module _ {M T C : Type 0} (m : MachineGhosts M) (t : TalkGhosts T) (k : ClientsGhosts C T)
     (front_more : (s : T) (bytes more : List ℕ) (n : ℕ) → t.front s bytes ≡ Whole n → (n ≤ length bytes) × (t.front s (bytes ++ more) ≡ Whole n))
     (bad_more : (s : T) (bytes more : List ℕ) → t.front s bytes ≡ Bad → t.front s (bytes ++ more) ≡ Bad) where
   pub goes_none : (clients : C) → Goes m t k clients clients
-  goes_none clients = record { moved = record { passed = λ c. passes_stay t front_more bad_more (k.at clients c); gone = λ c is. is }; waiting = refl; expected = refl }
+  goes_none clients = record { moved = record { passed = λ c. passes_stay t front_more bad_more (k.at clients c); gone = λ c is. is }; waiting = refl; contention = inl refl; expected = refl }
 
   pub goes_on : (a b d : C) → Goes m t k a b → Goes m t k b d → Goes m t k a d
   goes_on a b d first next = record {
@@ -30,6 +42,7 @@ module _ {M T C : Type 0} (m : MachineGhosts M) (t : TalkGhosts T) (k : ClientsG
       gone = λ c is. first.moved.gone c (next.moved.gone c is);
     };
     waiting = next.waiting ∙ first.waiting;
+    contention = cut_on (k.contention a) (k.contention b) (k.contention d) first.contention next.contention;
     expected = next.expected ∙ first.expected;
   }
 
@@ -38,7 +51,7 @@ module _ {M T C : Type 0} (m : MachineGhosts M) (t : TalkGhosts T) (k : ClientsG
   turns_goes old new before between after (u ∷ turns) past goes =
       (past.0, past.1, past.2, past.3, past.4, past.5, turns_goes past.1 new past.2 between after turns past.6 goes)
 
-  pub turns_more : (old mid new : M) (before between after : C) (turns : List Turn) (turn : Turn) → TakesTurns m t k old before turns mid between → TakesTurn m t k mid between turn new after → Moves m t k turn between after
+  pub turns_more : (old mid new : M) (before between after : C) (turns : List Turn) (turn : Turn) → TakesTurns m t k old before turns mid between → TakesTurn m t k mid between turn new after → Moves m t k new turn between after
       → TakesTurns m t k old before (turns ++ turn ∷ []) new after
   turns_more old mid new before between after [] turn past takes moves =
       (between, new, after, past.1, subst (λ (s : M). TakesTurn m t k s between turn new after) past.0 takes, moves, (refl, goes_none after))
@@ -46,10 +59,11 @@ module _ {M T C : Type 0} (m : MachineGhosts M) (t : TalkGhosts T) (k : ClientsG
       (past.0, past.1, past.2, past.3, past.4, past.5, turns_more past.1 mid new past.2 between after turns turn past.6 takes moves)
 
   -- a turn in which clients do nothing
-  pub stays_as_it_is : (turn : Turn) (clients : C) → ((c : ℕ) → learnt_in c turn ≡ []) → Moves m t k turn clients clients
-  stays_as_it_is turn clients none = record {
-    passed = λ c. subst (λ (xs : List Learnt). Passes t (k.at clients c) xs (k.at clients c)) (sym (none c)) (passes_stay t front_more bad_more (k.at clients c));
+  pub stays_as_it_is : (machine : M) (client : ℕ) (clients : C) → Moves m t k machine (leaves client) clients clients
+  stays_as_it_is machine client clients = record {
+    passed = λ c. passes_stay t front_more bad_more (k.at clients c);
     alone = λ c is. inl is;
+    contention = refl;
     expected = refl;
   }
 

@@ -1,5 +1,5 @@
 -- What the calls of clients do.
-use Rattle.std.specs.Prelude.{◌≡◌, ◌≢◌, ◌⊎◌, ◌<◌, ◌≤◌, ◌-◌, ◌^◌, ◌==◌, ℕ, Bool, true, false, not, if◌then◌else◌, List, [], ◌∷◌, filter, Option, Some}
+use Rattle.std.specs.Prelude.{◌≡◌, ◌≢◌, ◌⊎◌, ◌<◌, ◌≤◌, ◌-◌, ◌^◌, ◌==◌, ◌&&◌, ◌||◌, ℕ, Bool, true, false, not, if◌then◌else◌, List, [], ◌∷◌, filter, Option, Some, None}
 use Rattle.talks.specs.Wants.{WantsStep, WantsQuestion}
 use Rattle.talks.specs.Conversations.{ClientState, awaited, there, gone, IsGone, IsAwaited, wanted, ending, HasEnded, Passes}
 use Rattle.talks.specs.declared.want.Want.{Want}
@@ -25,6 +25,43 @@ put_last c (d ∷ ds) = if d == c then d ∷ ds else d ∷ put_last c ds
 abbrev pub is_behind : ℕ → List ℕ → Bool
 is_behind c [] = false
 is_behind c (d ∷ ds) = not (d == c)
+
+-- ---- who holds the writer lock that others want
+
+pub record Contention : Type 0 where
+  -- who holds it, for which a step of another was held back or refused since it does
+  pub holder : Option ℕ
+  -- who was cut off, since it had held it so for as long as it may
+  pub cut_off : Option ℕ
+  -- that is limited
+  pub is_limited : Bool
+
+abbrev pub is_client : ℕ → Option ℕ → Bool
+is_client c None = false
+is_client c (Some d) = d == c
+
+-- the holder of whom that is so, where the lock is held by `holder` now: who was it stays so, and `wants` tells that client c was held back or refused
+abbrev pub contending : Option ℕ → ℕ → Bool → Option ℕ → Option ℕ
+contending None c wants old = None
+contending (Some h) c wants old = if is_client h old || (wants && not (h == c)) then Some h else None
+
+abbrev pub contended : Option ℕ → ℕ → Bool → Contention → Contention
+contended holder c wants x = record x { holder = contending holder c wants x.holder }
+
+-- with a client forgotten that was let go
+abbrev pub unless_client : ℕ → Option ℕ → Option ℕ
+unless_client c o = if is_client c o then None else o
+
+abbrev pub forgotten : ℕ → Contention → Contention
+forgotten c x = record x { holder = unless_client c x.holder; cut_off = unless_client c x.cut_off }
+
+-- nobody more was cut off; or that holder was, where that is limited
+abbrev pub CutsOff : Contention → Contention → Type 0
+CutsOff old new = (new ≡ old) ⊎ ((old.is_limited ≡ true) × ((c : ℕ) × (old.holder ≡ Some c) × (new ≡ record old { cut_off = Some c })))
+
+-- this client was not
+abbrev pub IsStillServed : ℕ → Contention → Type 0
+IsStillServed c x = x.cut_off ≢ Some c
 
 -- ---- who is there
 
@@ -73,8 +110,9 @@ module _ {T : Type 0} (k : Ghosts T) where
     pub gone : NoneGoes old new
 
   -- what is to be done next
-  abbrev pub IsNext : Bool → (ℕ → ClientState T) → List ℕ → Option ℕ → ℕ → ℕ → Next → Type 0
-  IsNext stopped at waiting expected refusals looks (next.Step client) = (w : Want) × (wanted k (at client) ≡ Some w) × WantsStep w
-  IsNext stopped at waiting expected refusals looks (next.Question client) = (w : Want) × (wanted k (at client) ≡ Some w) × WantsQuestion w
-  IsNext stopped at waiting expected refusals looks (next.Left client w) = (ending (at client) ≡ Some w) × IsLeaving (at client) × (w ≡ end_cause.Stopped → stopped ≡ true)
-  IsNext stopped at waiting expected refusals looks (next.Ended e) = EndsAs stopped at expected refusals looks e × (LeavesNobody e → waiting ≡ [])
+  abbrev pub IsNext : Bool → (ℕ → ClientState T) → List ℕ → Contention → Option ℕ → ℕ → ℕ → Next → Type 0
+  IsNext stopped at waiting x expected refusals looks (next.Step client) = (w : Want) × (wanted k (at client) ≡ Some w) × WantsStep w × IsStillServed client x
+  IsNext stopped at waiting x expected refusals looks (next.Question client) = (w : Want) × (wanted k (at client) ≡ Some w) × WantsQuestion w × IsStillServed client x
+  IsNext stopped at waiting x expected refusals looks (next.Left client w) = (ending (at client) ≡ Some w) × IsLeaving (at client)
+      × (w ≡ end_cause.Stopped → stopped ≡ true) × (w ≡ end_cause.HeldTheLock → x.cut_off ≡ Some client)
+  IsNext stopped at waiting x expected refusals looks (next.Ended e) = EndsAs stopped at expected refusals looks e × (LeavesNobody e → waiting ≡ [])

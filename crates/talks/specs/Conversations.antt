@@ -107,7 +107,7 @@ module _ {T : Type 0} (k : Ghosts T) where
     pub failures : x.failures ≡ 0
     pub end_cause : x.end_cause ≡ None
 
-  -- each end has its cause; that of Stopped is the machine's
+  -- each end has its cause; that of Stopped is the machine's, and that of HeldTheLock what the client has held
   abbrev pub HasCause : EndCause → Conversation T → Type 0
   HasCause end_cause.Input x = (k.wants x.talk ≡ want.Message) × (k.front x.talk x.held ≡ Nothing) × IsAtEnd x.remaining × (x.unsent ≡ [])
   HasCause end_cause.Finished x = WantsEnd (k.wants x.talk) × (x.unsent ≡ [])
@@ -115,6 +115,7 @@ module _ {T : Type 0} (k : Ghosts T) where
   HasCause end_cause.Limit x = x.limited ≡ true
   HasCause end_cause.Memory x = k.wants x.talk ≡ want.OutOfMemory
   HasCause end_cause.Stopped x = Unit {0}
+  HasCause end_cause.HeldTheLock x = Unit {0}
 
   -- the connection has ended, with its cause
   abbrev pub HasEnded : Conversation T → Type 0

@@ -1,5 +1,5 @@
 -- What was done for clients: one thing after the other.
-use Rattle.std.specs.Prelude.{◌≡◌, ◌⊎◌, ℕ, true, false, List, [], ◌∷◌, ◌++◌, Some}
+use Rattle.std.specs.Prelude.{◌≡◌, ◌≢◌, ◌⊎◌, ℕ, Bool, true, false, List, [], ◌∷◌, ◌++◌, Option, Some}
 use Rattle.talks.specs.declared.want.Want.{Want}
 use Rattle.talks.specs.declared.want.Reply.{Reply}
 use Rattle.talks.specs.declared.talk.Talk.{Ghosts as TalkGhosts}
@@ -7,9 +7,9 @@ use Rattle.talks.specs.declared.machine.Machine.{Ghosts as MachineGhosts}
 use Rattle.talks.specs.declared.clients.ServedClients.{Ghosts as ClientsGhosts}
 use Rattle.talks.specs.declared.clients.EndCause.{EndCause}
 use Rattle.talks.specs.declared.clients.EndCause.TheVariants as end_cause
-use Rattle.talks.specs.Wants.{Learnt, learnt, own, WantsStep, WantsQuestion, OpensSession, RefusesMemory}
+use Rattle.talks.specs.Wants.{Learnt, learnt, own, WantsStep, WantsQuestion, OpensSession, RefusesMemory, refuses_lock}
 use Rattle.talks.specs.Conversations.{IsGone, wanted, ending, Passes}
-use Rattle.talks.specs.Clients.{without, is_behind, IsPutLast, IsLeaving, Moved}
+use Rattle.talks.specs.Clients.{Contention, CutsOff, IsStillServed, contended, forgotten, without, is_behind, IsPutLast, IsLeaving, Moved}
 
 -- what a client wanted of the machine, and what it was told of that
 pub record Exchange : Type 0 where
@@ -58,10 +58,22 @@ LetsGo c (waits client w) = ⊥
 LetsGo c (leaves client) = ⊥
 LetsGo c (ends client w) = client ≡ c
 
+-- since it held the lock that another wants
+abbrev pub LetsGoHolder : ℕ → Turn → Type 0
+LetsGoHolder c (steps d ds) = ⊥
+LetsGoHolder c (asks d) = ⊥
+LetsGoHolder c (waits client w) = ⊥
+LetsGoHolder c (leaves client) = ⊥
+LetsGoHolder c (ends client w) = (client ≡ c) × (w ≡ end_cause.HeldTheLock)
+
 -- one of these turns did
 abbrev pub WasLetGo : ℕ → List Turn → Type 0
 WasLetGo c [] = ⊥
 WasLetGo c (t ∷ turns) = LetsGo c t ⊎ WasLetGo c turns
+
+abbrev pub HolderWasLetGo : ℕ → List Turn → Type 0
+HolderWasLetGo c [] = ⊥
+HolderWasLetGo c (t ∷ turns) = LetsGoHolder c t ⊎ HolderWasLetGo c turns
 
 -- ---- the course of a client
 
@@ -124,6 +136,11 @@ module _ {M T C : Type 0} (m : MachineGhosts M) (t : TalkGhosts T) (k : ClientsG
   waiting_after [] waiting = waiting
   waiting_after (d ∷ ds) waiting = waiting_after ds (without d.client waiting)
 
+  -- they had not been cut off
+  abbrev pub AreServed : C → List Exchange → Type 0
+  AreServed clients [] = Unit {0}
+  AreServed clients (d ∷ ds) = IsStillServed d.client (k.contention clients) × AreServed clients ds
+
   -- no session of a client is open, or the machine has stopped
   abbrev pub HasNone : M → ℕ → Type 0
   HasNone machine c = (m.stopped machine ≡ true) ⊎ ((n : ℕ) (login : List ℕ) → m.Has machine c n login → ⊥)
@@ -131,29 +148,79 @@ module _ {M T C : Type 0} (m : MachineGhosts M) (t : TalkGhosts T) (k : ClientsG
   -- each conversation learnt while the machine stood where its step has led
   abbrev pub TakesTurn : M → C → Turn → M → C → Type 0
   TakesTurn old before (steps d ds) new after = Steps before old (d ∷ ds) new × Learn (m.moment new) before (d ∷ ds) after × (k.waiting after ≡ waiting_after (d ∷ ds) (k.waiting before))
+      × AreServed before (d ∷ ds)
   TakesTurn old before (asks d) new after = Wants before d.client d.want × WantsQuestion d.want × m.Tells old d.client d.want d.reply new × k.learns before (m.moment new) d.client d.reply after × (k.waiting after ≡ without d.client (k.waiting before))
+      × IsStillServed d.client (k.contention before)
   TakesTurn old before (waits c w) new after = Wants before c w × MustWait old before c w × (new ≡ old) × IsPutLast t (k.at after) c (k.waiting before) (k.waiting after)
+      × IsStillServed c (k.contention before)
   TakesTurn old before (leaves c) new after = IsLeaving t (k.at before c) × m.Closes old c new × (after ≡ before)
   TakesTurn old before (ends c w) new after = (ending (k.at before c) ≡ Some w) × IsLeaving t (k.at before c) × (w ≡ end_cause.Stopped → m.stopped old ≡ true)
       × HasNone old c × (new ≡ old) × IsGone (k.at after c) × (k.waiting after ≡ without c (k.waiting before))
+      × (w ≡ end_cause.HeldTheLock → (k.contention before).cut_off ≡ Some c)
 
-  -- what clients do between turns: they come, are heard and sent to
+  -- this client was told of a step, or held back, and it was looked who holds the lock; `wants` tells that it was held back or refused for that
+  abbrev pub Contends : M → ℕ → Bool → Contention → Contention → Type 0
+  Contends machine c wants old new = (holder : Option ℕ) × m.IsHeldBy machine holder × (new ≡ contended holder c wants old)
+
+  abbrev pub ContendsAll : M → List Exchange → Contention → Contention → Type 0
+  ContendsAll machine [] old new = new ≡ old
+  ContendsAll machine (d ∷ ds) old new = (mid : Contention) × Contends machine d.client (refuses_lock d.reply) old mid × ContendsAll machine ds mid new
+
+  -- what a turn does, after which the machine stands so
+  abbrev pub ContendsIn : M → Turn → Contention → Contention → Type 0
+  ContendsIn machine (steps d ds) old new = ContendsAll machine (d ∷ ds) old new
+  ContendsIn machine (asks d) old new = Contends machine d.client (refuses_lock d.reply) old new
+  ContendsIn machine (waits c w) old new = Contends machine c true old new
+  ContendsIn machine (leaves c) old new = new ≡ old
+  ContendsIn machine (ends c w) old new = new ≡ forgotten c old
+
+  -- what clients do between turns: they come, are heard and sent to, and one may be cut off
   pub record Goes (before after : C) : Type 0 where
     pub moved : Moved t (k.at before) (k.at after)
     pub waiting : k.waiting after ≡ k.waiting before
+    pub contention : CutsOff (k.contention before) (k.contention after)
     pub expected : k.expected after ≡ k.expected before
 
-  -- in a turn each client learnt its own, and nobody went who was not let go
-  pub record Moves (turn : Turn) (before after : C) : Type 0 where
+  -- in a turn each client learnt its own, nobody went who was not let go, and nobody was cut off
+  pub record Moves (machine : M) (turn : Turn) (before after : C) : Type 0 where
     pub passed : (c : ℕ) → Passes t (k.at before c) (learnt_in c turn) (k.at after c)
     pub alone : (c : ℕ) → IsGone (k.at after c) → IsGone (k.at before c) ⊎ LetsGo c turn
+    pub contention : ContendsIn machine turn (k.contention before) (k.contention after)
     pub expected : k.expected after ≡ k.expected before
 
   -- one turn after the other, and what clients did before each and at last
   abbrev pub TakesTurns : M → C → List Turn → M → C → Type 0
   TakesTurns old before [] new after = (new ≡ old) × Goes before after
   TakesTurns old before (turn ∷ turns) new after = (mid : C) × (machine : M) × (told : C)
-      × Goes before mid × TakesTurn old mid turn machine told × Moves turn mid told × TakesTurns machine told turns new after
+      × Goes before mid × TakesTurn old mid turn machine told × Moves machine turn mid told × TakesTurns machine told turns new after
+
+  -- ---- who was cut off
+
+  -- another than this client was refused the lock in one of these steps
+  abbrev pub IsRefusedLock : ℕ → List Exchange → Type 0
+  IsRefusedLock c [] = ⊥
+  IsRefusedLock c (d ∷ ds) = ((refuses_lock d.reply ≡ true) × (d.client ≢ c)) ⊎ IsRefusedLock c ds
+
+  -- or held back for it, in this turn
+  abbrev pub IsWantedIn : ℕ → Turn → Type 0
+  IsWantedIn c (steps d ds) = IsRefusedLock c (d ∷ ds)
+  IsWantedIn c (asks d) = IsRefusedLock c (d ∷ [])
+  IsWantedIn c (waits d w) = d ≢ c
+  IsWantedIn c (leaves d) = ⊥
+  IsWantedIn c (ends d w) = ⊥
+
+  -- after a turn that left the machine so, this client holds the lock, and another was held back or refused for it since it does: in this turn, or
+  -- before it, as `Holds` says. The end of another's session leaves it the lock
+  abbrev pub StillHolds : Type 0 → ℕ → Turn → M → Type 0
+  StillHolds Holds c (leaves d) machine = Holds
+  StillHolds Holds c (ends d w) machine = Holds
+  StillHolds Holds c turn machine = m.IsHeldBy machine (Some c) × (IsWantedIn c turn ⊎ Holds)
+
+  -- between two turns this client was cut off, while it held the lock so; `Holds` says that it did before these
+  abbrev pub WasCutOff : Type 0 → ℕ → (old : M) (before : C) (turns : List Turn) (new : M) (after : C) → TakesTurns old before turns new after → Type 0
+  WasCutOff Holds c old before [] new after took = ((k.contention after).cut_off ≡ Some c) × Holds
+  WasCutOff Holds c old before (turn ∷ turns) new after took = (((k.contention took.0).cut_off ≡ Some c) × Holds)
+      ⊎ WasCutOff (StillHolds Holds c turn took.1) c took.1 took.2 turns new after took.6
 
   -- ---- which of them opened a session
 

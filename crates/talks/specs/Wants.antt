@@ -3,7 +3,7 @@ use Rattle.std.specs.Prelude.{◌≡◌, ◌==◌, ℕ, Bool, true, false, List,
 use Rattle.std.specs.declared.alloc.AllocError.{AllocError}
 use Rattle.sql_types.specs.declared.answer.Answer.TheVariants as answer
 use Rattle.sql_types.specs.declared.event.Event.TheVariants as event
-use Rattle.sql_types.specs.declared.state.SqlState.TheVariants.{OutOfMemory}
+use Rattle.sql_types.specs.declared.state.SqlState.TheVariants.{LockNotAvailable, OutOfMemory}
 use Rattle.talks.specs.declared.want.Want.{Want}
 use Rattle.talks.specs.declared.want.Want.TheVariants as want
 use Rattle.talks.specs.declared.want.Reply.{Reply}
@@ -54,6 +54,11 @@ OpensSession _ n role = ⊥
 -- a step is refused for memory
 abbrev pub RefusesMemory : Reply → Type 0
 RefusesMemory r = r ≡ reply.Answer (answer.Refused OutOfMemory)
+
+-- a step is refused since another session holds the writer lock
+abbrev pub refuses_lock : Reply → Bool
+refuses_lock (reply.Answer (answer.Refused LockNotAvailable)) = true
+refuses_lock _ = false
 
 -- this is so, or that; or an allocation failed, where it may
 abbrev pub TellsWhether : Type 0 → Type 0 → Type 0 → Result Bool AllocError → Type 0

@@ -1,9 +1,9 @@
 //! The clients of a machine: the conversation with each, who waits, and why their connections end.
 
 ghost use Rattle.std.specs.Prelude.{◌≡◌, ◌≢◌, true, ℕ, List, [], Option, Some, Bool};
-ghost use Rattle.talks.specs.Wants.{FitsWant, learnt, own};
+ghost use Rattle.talks.specs.Wants.{FitsWant, learnt, own, refuses_lock};
 ghost use Rattle.talks.specs.Conversations.{ClientState, wanted, ending, IsGone, Passes};
-ghost use Rattle.talks.specs.Clients.{IsNext, NoneGoes, GoesAlone, IsPutLast, without, is_behind, EndsAs, IsLeaving, Moved};
+ghost use Rattle.talks.specs.Clients.{Contention, CutsOff, contended, forgotten, IsNext, NoneGoes, GoesAlone, IsPutLast, without, is_behind, EndsAs, IsLeaving, Moved};
 ghost use Rattle.talks.specs.declared.want.Want.{Want as TheWant};
 ghost use Rattle.talks.specs.declared.want.Reply.{Reply as TheReply};
 
@@ -22,6 +22,8 @@ pub enum EndCause {
     Failed,
     /// It has passed a limit that was set.
     Limit,
+    /// It held the writer lock for as long as one may for which another's step was held back or refused.
+    HeldTheLock,
     /// An allocation failed.
     Memory,
     /// The machine has stopped.
@@ -62,6 +64,9 @@ pub trait ServedClients<T: Talk> {
     /// Who waits for the writer lock, the first that came first.
     ghost waiting: { Self → List ℕ };
 
+    /// Who holds the writer lock that others want, and who was cut off for that.
+    ghost contention: { Self → Contention };
+
     /// How many are to come, where that was said.
     ghost expected: { Self → Option ℕ };
 
@@ -79,9 +84,10 @@ pub trait ServedClients<T: Talk> {
 
     /// Waits until something is to be done, and gives it: clients come, are heard and sent to.
     fn next(&mut self, stopped: bool) -> Next
-        ensures next { IsNext T.Talk stopped (at self.new) (waiting self.new) (expected self.new) (refusals self.new) (looks self.new) result }
+        ensures next { IsNext T.Talk stopped (at self.new) (waiting self.new) (contention self.new) (expected self.new) (refusals self.new) (looks self.new) result }
         ensures moved { Moved T.Talk (at self.old) (at self.new) }
         ensures waiting { waiting self.new ≡ waiting self.old }
+        ensures contention { CutsOff (contention self.old) (contention self.new) }
         ensures expected { expected self.new ≡ expected self.old };
 
     /// What the conversation with a client wants.
@@ -97,13 +103,17 @@ pub trait ServedClients<T: Talk> {
             → (c : ℕ) → Passes T.Talk (at self.old c) (own client c (learnt w reply)) (at self.new c) }
         ensures gone { NoneGoes (at self.old) (at self.new) }
         ensures waiting { waiting self.new ≡ without client (waiting self.old) }
+        ensures contention { (holder : Option ℕ) × M.IsHeldBy machine.now holder
+            × (contention self.new ≡ contended holder client (refuses_lock reply) (contention self.old)) }
         ensures expected { expected self.new ≡ expected self.old };
 
     /// Lets a client wait, behind those that do. Where an allocation fails its conversation gives up.
-    fn hold_back(&mut self, client: u32)
+    fn hold_back<M: Machine>(&mut self, machine: &M, client: u32)
         requires { (w : TheWant) × (wanted T.Talk (at self.old client) ≡ Some w) }
         ensures moved { Moved T.Talk (at self.old) (at self.new) }
         ensures waiting { IsPutLast T.Talk (at self.new) client (waiting self.old) (waiting self.new) }
+        ensures contention { (holder : Option ℕ) × M.IsHeldBy machine.now holder
+            × (contention self.new ≡ contended holder client true (contention self.old)) }
         ensures expected { expected self.new ≡ expected self.old };
 
     /// Whether another waits before a client.
@@ -121,5 +131,6 @@ pub trait ServedClients<T: Talk> {
         ensures gone { IsGone (at self.new client) }
         ensures alone { GoesAlone client (at self.old) (at self.new) }
         ensures waiting { waiting self.new ≡ without client (waiting self.old) }
+        ensures contention { contention self.new ≡ forgotten client (contention self.old) }
         ensures expected { expected self.new ≡ expected self.old };
 }

@@ -1,9 +1,9 @@
 //! Laws of conversations, and of what was done for clients.
 
-ghost use Rattle.std.specs.Prelude.{◌++◌, ℕ, List};
+ghost use Rattle.std.specs.Prelude.{◌≡◌, ◌++◌, ℕ, List, None, true};
 ghost use Rattle.talks.specs.Wants.{Learnt};
 ghost use Rattle.talks.specs.Conversations.{Heard};
-ghost use Rattle.talks.specs.Turns.{Turn, TakesTurns, OpenedIn};
+ghost use Rattle.talks.specs.Turns.{Turn, TakesTurns, OpenedIn, HolderWasLetGo, WasCutOff};
 
 use crate::clients::ServedClients;
 use crate::machine::Machine;
@@ -26,4 +26,15 @@ pub fn sessions_are_opened<M: Machine, T: Talk, C: ServedClients<T>>()
         → (took : TakesTurns M.Machine T.Talk C.ServedClients old before turns new after) (c n : ℕ) (login : List ℕ)
         → (M.Has old c n login → ⊥) → M.Has new c n login
         → OpenedIn M.Machine T.Talk C.ServedClients old before turns new after took c n login }
+{}
+
+/// A client that was let go since it held the writer lock had been cut off, which is done only where that
+/// is limited. It held the lock then, and ever since a step of another was held back or refused for it.
+pub fn holders_are_cut_off<M: Machine, T: Talk, C: ServedClients<T>>()
+    ensures { (old : M) (before : C) (turns : List Turn) (new : M) (after : C)
+        → (C.contention before).holder ≡ None → (C.contention before).cut_off ≡ None
+        → (took : TakesTurns M.Machine T.Talk C.ServedClients old before turns new after) (c : ℕ)
+        → HolderWasLetGo c turns
+        → ((C.contention before).is_limited ≡ true)
+        × WasCutOff M.Machine T.Talk C.ServedClients ⊥ c old before turns new after took }
 {}

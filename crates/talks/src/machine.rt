@@ -1,6 +1,6 @@
 //! What answers many conversations, one after the other.
 
-ghost use Rattle.std.specs.Prelude.{◌≡◌, ◌⊎◌, true, false, ℕ, List, Bool};
+ghost use Rattle.std.specs.Prelude.{◌≡◌, ◌⊎◌, true, false, ℕ, List, Bool, Option};
 ghost use Rattle.talks.specs.Wants.{WantsStep, WantsQuestion, FitsWant, OpensSession, RefusesMemory, TellsWhether};
 ghost use Rattle.talks.specs.declared.want.Want.{Want as TheWant};
 ghost use Rattle.talks.specs.declared.want.Reply.{Reply as TheReply};
@@ -43,6 +43,9 @@ pub trait Machine {
     /// It does not ask for it, or another client's does.
     ghost AsksForNone: { Self → ℕ → TheWant → Type 0 };
 
+    /// The client whose session holds the writer lock; or none does, as in a machine that has stopped.
+    ghost IsHeldBy: { Self → Option ℕ → Type 0 };
+
     /// An allocation may fail where it is looked what a step needs.
     ghost MayLackMemory: { Self → ℕ → TheWant → Type 0 };
 
@@ -75,6 +78,11 @@ pub trait Machine {
     fn is_locked_out(&self, client: u32, want: &Want) -> Result<bool, AllocError>
         requires { WantsStep want.now }
         ensures { TellsWhether (IsLockedOut self.now client want.now) (IsFree self.now client want.now) (MayLackMemory self.now client want.now) result };
+
+    /// The client whose session holds the writer lock, or `None` where none does, as in a machine that
+    /// has stopped.
+    fn holder(&self) -> Option<u32>
+        ensures { IsHeldBy self.now result };
 
     /// Whether the step asks for the writer lock, which no session of another client holds. The only
     /// error is that an allocation failed.

@@ -3,7 +3,7 @@
 ghost use Rattle.std.specs.Prelude.{◌≡◌, ◌≢◌, true, false, Option, Some, None, IfSome};
 ghost use Rattle.talks.specs.Wants.{WantsStep, WantsQuestion, TellsWhether};
 ghost use Rattle.talks.specs.Conversations.{wanted, ending};
-ghost use Rattle.talks.specs.Clients.{IsLeaving};
+ghost use Rattle.talks.specs.Clients.{IsLeaving, IsStillServed};
 ghost use Rattle.talks.specs.Turns.{Turn, TakesTurn, Moves, Goes, MayGo, MustWait, Wants};
 ghost use Rattle.talks.specs.Serving.{ServesClients, EndedAs};
 ghost use Rattle.talks.specs.declared.want.Want.{Want as TheWant};
@@ -49,13 +49,13 @@ fn take_step<M: Machine, T: Talk, C: ServedClients<T>>(
     clients: &mut C,
     client: u32,
 )
-    requires { (w : TheWant) × Wants M.Machine T.Talk C.ServedClients clients.old client w × WantsStep w }
+    requires { (w : TheWant) × Wants M.Machine T.Talk C.ServedClients clients.old client w × WantsStep w × IsStillServed client (C.contention clients.old) }
     ensures { (turn : Turn) × TakesTurn M.Machine T.Talk C.ServedClients machine.old clients.old turn machine.new clients.new
-        × Moves M.Machine T.Talk C.ServedClients turn clients.old clients.new }
+        × Moves M.Machine T.Talk C.ServedClients machine.new turn clients.old clients.new }
 {
     match may_go(&*machine, &*clients, client) {
         Ok(true) => make_step(machine, clients, client),
-        Ok(false) => clients.hold_back(client),
+        Ok(false) => clients.hold_back(&*machine, client),
         Err(_) => refuse_step(machine, clients, client),
     }
 }
@@ -66,9 +66,9 @@ fn make_step<M: Machine, T: Talk, C: ServedClients<T>>(
     clients: &mut C,
     client: u32,
 )
-    requires { (w : TheWant) × Wants M.Machine T.Talk C.ServedClients clients.old client w × WantsStep w × MayGo M.Machine T.Talk C.ServedClients machine.old clients.old client w }
+    requires { (w : TheWant) × Wants M.Machine T.Talk C.ServedClients clients.old client w × WantsStep w × MayGo M.Machine T.Talk C.ServedClients machine.old clients.old client w × IsStillServed client (C.contention clients.old) }
     ensures { (turn : Turn) × TakesTurn M.Machine T.Talk C.ServedClients machine.old clients.old turn machine.new clients.new
-        × Moves M.Machine T.Talk C.ServedClients turn clients.old clients.new }
+        × Moves M.Machine T.Talk C.ServedClients machine.new turn clients.old clients.new }
 {
     let reply = machine.step(client, clients.want(client));
     clients.learn(&*machine, client, reply);
@@ -80,9 +80,9 @@ fn refuse_step<M: Machine, T: Talk, C: ServedClients<T>>(
     clients: &mut C,
     client: u32,
 )
-    requires { (w : TheWant) × Wants M.Machine T.Talk C.ServedClients clients.old client w × WantsStep w × M.MayLackMemory machine.old client w }
+    requires { (w : TheWant) × Wants M.Machine T.Talk C.ServedClients clients.old client w × WantsStep w × M.MayLackMemory machine.old client w × IsStillServed client (C.contention clients.old) }
     ensures { (turn : Turn) × TakesTurn M.Machine T.Talk C.ServedClients machine.old clients.old turn machine.new clients.new
-        × Moves M.Machine T.Talk C.ServedClients turn clients.old clients.new }
+        × Moves M.Machine T.Talk C.ServedClients machine.new turn clients.old clients.new }
 {
     let refusal = machine.refuse_for_memory(client, clients.want(client));
     clients.learn(&*machine, client, refusal);
@@ -119,9 +119,9 @@ fn answer_question<M: Machine, T: Talk, C: ServedClients<T>>(
     clients: &mut C,
     client: u32,
 )
-    requires { (w : TheWant) × Wants M.Machine T.Talk C.ServedClients clients.old client w × WantsQuestion w }
+    requires { (w : TheWant) × Wants M.Machine T.Talk C.ServedClients clients.old client w × WantsQuestion w × IsStillServed client (C.contention clients.old) }
     ensures { (turn : Turn) × TakesTurn M.Machine T.Talk C.ServedClients machine.old clients.old turn machine.new clients.new
-        × Moves M.Machine T.Talk C.ServedClients turn clients.old clients.new }
+        × Moves M.Machine T.Talk C.ServedClients machine.new turn clients.old clients.new }
 {
     let told = machine.ask(client, clients.want(client));
     clients.learn(&*machine, client, told);
@@ -137,8 +137,9 @@ fn leave<M: Machine, T: Talk, C: ServedClients<T>>(
     requires ending { ending (C.at clients.old client) ≡ Some end_cause }
     requires leaving { IsLeaving T.Talk (C.at clients.old client) }
     requires stopped { end_cause ≡ EndCause.Stopped → M.stopped machine.old ≡ true }
+    requires cut_off { end_cause ≡ EndCause.HeldTheLock → (C.contention clients.old).cut_off ≡ Some client }
     ensures { (turn : Turn) × TakesTurn M.Machine T.Talk C.ServedClients machine.old clients.old turn machine.new clients.new
-        × Moves M.Machine T.Talk C.ServedClients turn clients.old clients.new }
+        × Moves M.Machine T.Talk C.ServedClients machine.new turn clients.old clients.new }
 {
     if !machine.close_next(client) {
         clients.close(client);

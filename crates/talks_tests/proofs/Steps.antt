@@ -10,7 +10,7 @@ use Rattle.talks.specs.declared.clients.EndCause.TheVariants as end_cause
 use Rattle.talks.specs.Wants.{Learnt, FitsWant}
 use Rattle.talks.specs.Conversations.{Heard, stays, hears, rejects, learns, loses, breaks, Conversation, Continues, EndsOnce, Passes, HasCause, IsGone, wanted, unless_ended}
 use Rattle.talks.specs.Clients.{IsLeaving}
-use Rattle.talks_tests.specs.Memory.{conversation_of, state_at, state_of, HasWish}
+use Rattle.talks_tests.specs.Memory.{conversation_of, state_at, state_of, IsOwnCause, HasWish}
 use Rattle.talks_tests.specs.declared.line.MemoryClient.{MemoryClient}
 use Rattle.talks_tests.specs.declared.line.Stage.{Stage}
 use Rattle.talks_tests.specs.declared.line.Stage.TheVariants as stage
@@ -118,8 +118,9 @@ module _ {T : Type 0} (k : Ghosts T) where
   cause_kept end_cause.Limit x o is = is
   cause_kept end_cause.Memory x o is = is
   cause_kept end_cause.Stopped x o is = is
+  cause_kept end_cause.HeldTheLock x o is = is
 
-  pub leaves : (x y : MemoryClient T) (w : EndCause) → y.stage ≡ stage.There → y.end_cause ≡ Some w → y.talk ≡ x.talk → y.held.items ≡ x.held.items → y.said.items ≡ x.said.items → HasCause k w (conversation_of x) → (w ≡ end_cause.Stopped → ⊥) → HasWish k (wish.Left w) (state_of y)
-  leaves x y w there is talk held said cause running =
+  pub leaves : (x y : MemoryClient T) (w : EndCause) → y.stage ≡ stage.There → y.end_cause ≡ Some w → y.talk ≡ x.talk → y.held.items ≡ x.held.items → y.said.items ≡ x.said.items → HasCause k w (conversation_of x) → IsOwnCause w → HasWish k (wish.Left w) (state_of y)
+  leaves x y w there is talk held said cause own =
       let here : HasCause k w (conversation_of y) = rw (talk, held, said) (cause_kept w x y.end_cause cause) in
-      subst (λ (s : Stage). HasWish k (wish.Left w) (state_at s y)) (sym there) (is, (w, is, here), running)
+      subst (λ (s : Stage). HasWish k (wish.Left w) (state_at s y)) (sym there) (is, (w, is, here), own)

@@ -9,10 +9,10 @@ use Rattle.talks.specs.declared.clients.Next.TheVariants as next
 use Rattle.talks.specs.declared.clients.Finish.TheVariants as finish
 use Rattle.talks.specs.Wants.{Learnt, own}
 use Rattle.talks.specs.Conversations.{ClientState, awaited, Passes, IsGone, IsAwaited, wanted}
-use Rattle.talks.specs.Clients.{NoneGoes, GoesAlone, AllCame, Moved, IsLeaving, IsNext}
+use Rattle.talks.specs.Clients.{NoneGoes, GoesAlone, AllCame, Moved, IsLeaving, IsNext, IsStillServed}
 use Rattle.talks.proofs.Passing.{passes_stay, passes_on}
 use Rattle.talks_tests.specs.Memory.{state_at, state_of, HasWish}
-use Rattle.talks_tests.specs.TwoClients.{at_two, states, NextOf}
+use Rattle.talks_tests.specs.TwoClients.{contention_of, at_two, states, NextOf}
 use Rattle.talks_tests.specs.declared.line.MemoryClient.{MemoryClient}
 use Rattle.talks_tests.specs.declared.line.Stage.{Stage}
 use Rattle.talks_tests.specs.declared.line.Stage.TheVariants as stage
@@ -85,14 +85,18 @@ module _ {T : Type 0} (k : Ghosts T) where
   is_gone : (x : MemoryClient T) → x.stage ≡ stage.Gone → IsGone (state_of x)
   is_gone x is = subst (λ (s : Stage). IsGone (state_at s x)) (sym is) tt
 
-  pub done : (stopped : Bool) (x : TwoClients T) (waiting : List ℕ) → x.first.stage ≡ stage.Gone → x.second.stage ≡ stage.Gone → waiting ≡ [] → IsNext k stopped (states x) waiting (Some 2) 0 x.looks (next.Ended finish.Done)
+  pub done : (stopped : Bool) (x : TwoClients T) (waiting : List ℕ) → x.first.stage ≡ stage.Gone → x.second.stage ≡ stage.Gone → waiting ≡ [] → IsNext k stopped (states x) waiting (contention_of x.contended) (Some 2) 0 x.looks (next.Ended finish.Done)
   done stopped x waiting first second nobody = ((2, refl, came (state_of x.first) (state_of x.second) (is_gone x.first first) (is_gone x.second second)), (λ leaves. nobody))
 
-  pub next_is : (stopped : Bool) (at : ℕ → ClientState T) (waiting : List ℕ) (looks c : ℕ) (v : Wish) (r : Option Next) → NextOf c v r → HasWish k v (at c) → IfSome r (λ n. IsNext k stopped at waiting (Some 2) 0 looks n)
-  next_is stopped at waiting looks c wish.Nothing r is has = rw (is) tt
-  next_is stopped at waiting looks c wish.Step r is has = rw (is) has
-  next_is stopped at waiting looks c wish.Question r is has = rw (is) has
-  next_is stopped at waiting looks c (wish.Left w) r is has = rw (is) (has.0, has.1, λ same. absurd (has.2 same))
+  uncut : (c : ℕ) (holder : Option ℕ) → IsStillServed c (contention_of holder)
+  uncut c holder is = cc
+
+  pub next_is : (stopped : Bool) (at : ℕ → ClientState T) (waiting : List ℕ) (holder : Option ℕ) (looks c : ℕ) (v : Wish) (r : Option Next) → NextOf c v r → HasWish k v (at c)
+      → IfSome r (λ n. IsNext k stopped at waiting (contention_of holder) (Some 2) 0 looks n)
+  next_is stopped at waiting holder looks c wish.Nothing r is has = rw (is) tt
+  next_is stopped at waiting holder looks c wish.Step r is has = rw (is) (has.0, has.1, has.2, uncut c holder)
+  next_is stopped at waiting holder looks c wish.Question r is has = rw (is) (has.0, has.1, has.2, uncut c holder)
+  next_is stopped at waiting holder looks c (wish.Left w) r is has = rw (is) (has.0, has.1, (λ same. absurd (has.2.0 same)), (λ same. absurd (has.2.1 same)))
 
   module _ (front_more : (t : T) (bytes more : List ℕ) (n : ℕ) → k.front t bytes ≡ Whole n → (n ≤ length bytes) × (k.front t (bytes ++ more) ≡ Whole n))
       (bad_more : (t : T) (bytes more : List ℕ) → k.front t bytes ≡ Bad → k.front t (bytes ++ more) ≡ Bad) where

@@ -2,6 +2,7 @@
 use Rattle.std.specs.Prelude.{◌≡◌, false, [], Some}
 use Rattle.talks.specs.declared.talk.Talk.{Ghosts}
 use Rattle.talks.specs.declared.want.Want.{Want}
+use Rattle.talks.specs.declared.clients.EndCause.{EndCause}
 use Rattle.talks.specs.declared.clients.EndCause.TheVariants as end_cause
 use Rattle.talks.specs.Wants.{WantsStep, WantsQuestion}
 use Rattle.talks.specs.Conversations.{Conversation, ClientState, awaited, there, gone, wanted, ending}
@@ -34,9 +35,13 @@ state_at stage.Gone line = gone (Some line.said.items)
 abbrev pub state_of : {T : Type 0} → MemoryClient T → ClientState T
 state_of line = state_at line.stage line
 
+-- a cause that is neither the machine's nor the writer lock's
+abbrev pub IsOwnCause : EndCause → Type 0
+IsOwnCause w = (w ≡ end_cause.Stopped → ⊥) × (w ≡ end_cause.HeldTheLock → ⊥)
+
 -- what a client has to do with the machine is so
 abbrev pub HasWish : {T : Type 0} → Ghosts T → Wish → ClientState T → Type 0
 HasWish k wish.Nothing p = Unit {0}
 HasWish k wish.Step p = (w : Want) × (wanted k p ≡ Some w) × WantsStep w
 HasWish k wish.Question p = (w : Want) × (wanted k p ≡ Some w) × WantsQuestion w
-HasWish k (wish.Left w) p = (ending p ≡ Some w) × IsLeaving k p × (w ≡ end_cause.Stopped → ⊥)
+HasWish k (wish.Left w) p = (ending p ≡ Some w) × IsLeaving k p × IsOwnCause w

@@ -1,7 +1,8 @@
 -- Two clients.
-use Rattle.std.specs.Prelude.{◌≡◌, ◌==◌, ℕ, List, [], ◌∷◌, Option, Some, None, if◌then◌else◌}
+use Rattle.std.specs.Prelude.{◌≡◌, ◌==◌, ℕ, false, List, [], ◌∷◌, Option, Some, None, if◌then◌else◌}
 use Rattle.talks.specs.declared.clients.Next.{Next}
 use Rattle.talks.specs.declared.clients.Next.TheVariants as next
+use Rattle.talks.specs.Clients.{Contention}
 use Rattle.talks.specs.Conversations.{ClientState, awaited}
 use Rattle.talks_tests.specs.declared.line.Wish.{Wish}
 use Rattle.talks_tests.specs.declared.line.Wish.TheVariants as wish
@@ -17,6 +18,10 @@ waiting_of queue.First = 0 ∷ []
 waiting_of queue.Second = 1 ∷ []
 waiting_of queue.FirstSecond = 0 ∷ 1 ∷ []
 waiting_of queue.SecondFirst = 1 ∷ 0 ∷ []
+
+-- nobody is cut off
+abbrev pub contention_of : Option ℕ → Contention
+contention_of holder = record { holder = holder; cut_off = None; is_limited = false }
 
 -- the first at 0, the second at 1; no other is to come
 abbrev pub at_two : {T : Type 0} → ClientState T → ClientState T → ℕ → ClientState T

@@ -1,14 +1,16 @@
 //! Two clients in memory, which take turns.
 
 ghost use Rattle.std.specs.Prelude.{◌≡◌, ◌<◌, ◌+◌, ◌-◌, ◌^◌, ◌==◌, not, ℕ, List, [], ◌∷◌, Some, None, IfSome, true, false};
-ghost use Rattle.talks.specs.Wants.{FitsWant, learnt};
+ghost use Rattle.talks.specs.Wants.{FitsWant, learnt, refuses_lock};
 ghost use Rattle.talks.specs.Conversations.{Passes, IsGone, wanted};
-ghost use Rattle.talks.specs.Clients.{without, put_last, is_behind, IsNext, Moved};
+ghost use Rattle.talks.specs.Clients.{without, put_last, is_behind, is_client, contending, unless_client, IsNext, Moved};
 ghost use Rattle.talks.specs.declared.want.Want.{Want as TheWant};
 ghost use Rattle.talks_tests.specs.Memory.{state_of};
-ghost use Rattle.talks_tests.specs.TwoClients.{waiting_of, states, NextOf};
+ghost use Rattle.talks_tests.specs.TwoClients.{waiting_of, contention_of, states, NextOf};
 
 use crate::line::{BeginsAnew, MemoryClient, Stage, Wish};
+use sql_types::answer::Answer;
+use sql_types::state::SqlState;
 use talks::clients::{Finish, Next, ServedClients};
 use talks::machine::Machine;
 use talks::want::{Reply, Want};
@@ -85,6 +87,8 @@ pub struct TwoClients<T> {
     pub first: MemoryClient<T>,
     pub second: MemoryClient<T>,
     pub queue: Queue,
+    /// Who holds the lock that the other wants.
+    pub contended: Option<u32>,
     /// The second was looked at last.
     pub second_was_last: bool,
     pub looks: u64,
@@ -97,6 +101,7 @@ impl<T> TwoClients<T> {
             first,
             second,
             queue: Queue::Nobody,
+            contended: None,
             second_was_last: true,
             looks: 0,
         }
@@ -112,6 +117,47 @@ impl<T> TwoClients<T> {
             return false;
         }
         matches!(self.queue, Queue::Nobody)
+    }
+}
+
+// Whether it is this client.
+fn is_client(client: u32, other: Option<u32>) -> bool
+    ensures { result ≡ is_client client other }
+{
+    match other {
+        Some(other) => is_same(other, client),
+        None => false,
+    }
+}
+
+// Who holds the lock that another wants, once it is held so.
+fn contending(old: Option<u32>, holder: Option<u32>, client: u32, wants: bool) -> Option<u32>
+    ensures { result ≡ contending holder client wants old }
+{
+    let holder = holder?;
+    if is_client(holder, old) || (wants && !is_same(holder, client)) {
+        return Some(holder);
+    }
+    None
+}
+
+// It is not this client.
+fn unless(other: Option<u32>, client: u32) -> Option<u32>
+    ensures { result ≡ unless_client client other }
+{
+    if is_client(client, other) {
+        return None;
+    }
+    other
+}
+
+// Whether a step was refused for the lock.
+fn refuses_lock(reply: &Reply) -> bool
+    ensures { result ≡ refuses_lock reply.now }
+{
+    match reply {
+        Reply::Answer(Answer::Refused(state)) => matches!(state, SqlState::LockNotAvailable),
+        _ => false,
     }
 }
 
@@ -132,8 +178,9 @@ impl<T: BeginsAnew> TwoClients<T> {
     fn look(&mut self, stopped: bool) -> Option<Next>
         ensures moved { Moved T.Talk (states self.old) (states self.new) }
         ensures waiting { self.new.queue ≡ self.old.queue }
+        ensures contended { self.new.contended ≡ self.old.contended }
         ensures looks { self.new.looks ≡ self.old.looks }
-        ensures next { IfSome result (λ n. IsNext T.Talk stopped (states self.new) (waiting_of self.new.queue) (Some 2) 0 self.new.looks n) }
+        ensures next { IfSome result (λ n. IsNext T.Talk stopped (states self.new) (waiting_of self.new.queue) (contention_of self.new.contended) (Some 2) 0 self.new.looks n) }
     {
         if self.is_done() {
             return Some(Next::Ended(Finish::Done));
@@ -148,8 +195,9 @@ impl<T: BeginsAnew> TwoClients<T> {
     fn look_at_first(&mut self, stopped: bool) -> Option<Next>
         ensures moved { Moved T.Talk (states self.old) (states self.new) }
         ensures waiting { self.new.queue ≡ self.old.queue }
+        ensures contended { self.new.contended ≡ self.old.contended }
         ensures looks { self.new.looks ≡ self.old.looks }
-        ensures next { IfSome result (λ n. IsNext T.Talk stopped (states self.new) (waiting_of self.new.queue) (Some 2) 0 self.new.looks n) }
+        ensures next { IfSome result (λ n. IsNext T.Talk stopped (states self.new) (waiting_of self.new.queue) (contention_of self.new.contended) (Some 2) 0 self.new.looks n) }
     {
         self.second_was_last = false;
         next_of(0, self.first.attend())
@@ -158,8 +206,9 @@ impl<T: BeginsAnew> TwoClients<T> {
     fn look_at_second(&mut self, stopped: bool) -> Option<Next>
         ensures moved { Moved T.Talk (states self.old) (states self.new) }
         ensures waiting { self.new.queue ≡ self.old.queue }
+        ensures contended { self.new.contended ≡ self.old.contended }
         ensures looks { self.new.looks ≡ self.old.looks }
-        ensures next { IfSome result (λ n. IsNext T.Talk stopped (states self.new) (waiting_of self.new.queue) (Some 2) 0 self.new.looks n) }
+        ensures next { IfSome result (λ n. IsNext T.Talk stopped (states self.new) (waiting_of self.new.queue) (contention_of self.new.contended) (Some 2) 0 self.new.looks n) }
     {
         self.second_was_last = true;
         next_of(1, self.second.attend())
@@ -172,6 +221,8 @@ impl<T: BeginsAnew> ServedClients<T> for TwoClients<T> {
     ghost at = { states };
 
     ghost waiting = { λ x. waiting_of x.queue };
+
+    ghost contention = { λ x. contention_of x.contended };
 
     ghost expected = { λ x. Some 2 };
 
@@ -201,7 +252,9 @@ impl<T: BeginsAnew> ServedClients<T> for TwoClients<T> {
         }
     }
 
-    fn learn<M: Machine>(&mut self, _machine: &M, client: u32, reply: Reply) {
+    fn learn<M: Machine>(&mut self, machine: &M, client: u32, reply: Reply) {
+        let refused = refuses_lock(&reply);
+        self.contended = contending(self.contended, machine.holder(), client, refused);
         if client == 0 {
             self.queue = self.queue.without_first();
             self.first.learn(reply);
@@ -211,7 +264,8 @@ impl<T: BeginsAnew> ServedClients<T> for TwoClients<T> {
         }
     }
 
-    fn hold_back(&mut self, client: u32) {
+    fn hold_back<M: Machine>(&mut self, machine: &M, client: u32) {
+        self.contended = contending(self.contended, machine.holder(), client, true);
         if client == 0 {
             self.queue = self.queue.with_first();
         } else {
@@ -228,6 +282,7 @@ impl<T: BeginsAnew> ServedClients<T> for TwoClients<T> {
     }
 
     fn close(&mut self, client: u32) {
+        self.contended = unless(self.contended, client);
         if client == 0 {
             self.queue = self.queue.without_first();
             self.first.close();

@@ -178,6 +178,8 @@ impl Machine for Desk {
 
     ghost AsksForNone = { λ m c w. asks_lock m c w ≡ false };
 
+    ghost IsHeldBy = { λ m c. c ≡ m.lock };
+
     ghost MayLackMemory = { λ m c w. Unit {0} };
 
     ghost steps_sound = { λ old new c w r made sound. sound };
@@ -229,6 +231,10 @@ impl Machine for Desk {
 
     fn is_locked_out(&self, client: u32, want: &Want) -> Result<bool, AllocError> {
         Ok(asks(want) && self.is_held_by_another(client))
+    }
+
+    fn holder(&self) -> Option<u32> {
+        self.lock
     }
 
     fn asks_for_lock(&self, _client: u32, want: &Want) -> Result<bool, AllocError> {

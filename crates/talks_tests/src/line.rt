@@ -5,7 +5,7 @@ ghost use Rattle.talks.specs.Wants.{WantsStep, WantsQuestion, FitsWant, learnt};
 ghost use Rattle.talks.specs.Conversations.{HasCause, Continues, Passes, IsGone, wanted};
 ghost use Rattle.talks.specs.Clients.{IsLeaving};
 ghost use Rattle.talks.specs.declared.want.Want.{Want as TheWant};
-ghost use Rattle.talks_tests.specs.Memory.{conversation_of, state_of, HasWish};
+ghost use Rattle.talks_tests.specs.Memory.{conversation_of, state_of, IsOwnCause, HasWish};
 
 use sql_types::event::Event;
 use std::alloc::Global;
@@ -107,7 +107,7 @@ impl<T: BeginsAnew> MemoryClient<T> {
     fn end_as(&mut self, found: EndCause) -> Wish
         requires there { self.old.stage ≡ Stage.There }
         requires cause { HasCause T.Talk found (conversation_of self.old) }
-        requires running { found ≡ EndCause.Stopped → ⊥ }
+        requires own { IsOwnCause found }
         ensures there { self.new.stage ≡ Stage.There }
         ensures goes_on { Continues T.Talk (conversation_of self.old) [] (conversation_of self.new) }
         ensures wish { HasWish T.Talk result (state_of self.new) }
@@ -128,7 +128,7 @@ impl<T: BeginsAnew> MemoryClient<T> {
 
     // Why the connection is to end, if it is.
     fn cause(&self) -> Option<EndCause>
-        ensures { IfSome result (λ w. HasCause T.Talk w (conversation_of self.now) × (w ≡ EndCause.Stopped → ⊥)) }
+        ensures { IfSome result (λ w. HasCause T.Talk w (conversation_of self.now) × IsOwnCause w) }
     {
         match self.talk.want() {
             Want::End { late: _ } => Some(EndCause::Finished),

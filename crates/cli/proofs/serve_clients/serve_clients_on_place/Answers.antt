@@ -1,7 +1,13 @@
-use Rattle.std.proofs.Common.{rules, ◌∙◌, ap, Some}
+use Rattle.std.proofs.Common.{rules, ◌≡◌, ◌∙◌, ℕ, true, ap, refl, Option, Some, None, is_some}
+use Rattle.std.specs.declared.time.Duration.{Duration}
 use Rattle.std.specs.Io.KnownBytes.{Appends}
 use Rattle.cli.specs.Serving.{listening_text}
+use Rattle.cli.specs.ServingClients.{IsLimitOf, uncontended}
 use Rattle.cli.proofs.serve_clients.serve_clients_on_place.Goals as goal
+
+is_limited : (limit : Option Duration) (seconds : ℕ) → IsLimitOf (Some seconds) limit → uncontended (is_some limit) ≡ uncontended true
+is_limited None seconds is = absurd is
+is_limited (Some limit) seconds is = refl
 
 pub returns : goal.returns
 returns g c =
@@ -13,6 +19,7 @@ returns g c =
         coming = c.new-clients.ensures.at;
         expected = ap Some (c.new-clients.ensures.expected ∙ c.limits.ensures.connections);
         none_waits = c.new-clients.ensures.waiting;
+        none_contends = c.new-clients.ensures.contention ∙ is_limited (c.limits.result).block c.args.many.block c.limits.ensures.block;
         none_refused = c.new-clients.ensures.refusals;
         none_looked = c.new-clients.ensures.looks;
         serves = c.serve_clients_on-left.ensures;

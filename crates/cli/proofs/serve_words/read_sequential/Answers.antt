@@ -3,8 +3,8 @@ use Rattle.clap.specs.Words.{found_of, rows_of}
 use Rattle.cli.proofs.GivenWords.{got_none, got_word, no_serve, not_both}
 use Rattle.cli.proofs.serve_words.read_sequential.Goals as goal
 
-pub read_each-requires : goal.read_each-requires
-read_each-requires c = (c.requires, got_none (found_of c.args.given.now) (codes "wait") c.get_str.result c.get_str.ensures (search rules))
+pub read_unblocked-requires-clause-wait : goal.read_unblocked-requires-clause-wait
+read_unblocked-requires-clause-wait c = got_none (found_of c.args.given.now) (codes "wait") c.get_str.result c.get_str.ensures (search rules)
 
 pub returns-in-Some-clause-refused : goal.returns-in-Some-clause-refused
 returns-in-Some-clause-refused c =

@@ -16,6 +16,7 @@ returns g c =
         c.ask-told.ensures.tells,
         c.learn.ensures.learnt,
         c.learn.ensures.waiting,
+        c.requires.3,
       ),
-      record { passed = c.learn.ensures.passed w c.want.ensures; alone = λ d is. inl (c.learn.ensures.gone d is); expected = c.learn.ensures.expected },
+      record { passed = c.learn.ensures.passed w c.want.ensures; alone = λ d is. inl (c.learn.ensures.gone d is); contention = c.learn.ensures.contention; expected = c.learn.ensures.expected },
     )

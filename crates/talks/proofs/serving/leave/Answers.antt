@@ -8,10 +8,11 @@ pub returns-then-not-close_next : goal.returns-then-not-close_next
 returns-then-not-close_next g c =
     let client = c.args.client in (
       ends client c.args.end_cause,
-      (c.requires.ending, c.requires.leaving, c.requires.stopped, c.close_next.ensures.none c.if-not-close_next.true, c.close_next.ensures.kept c.if-not-close_next.true, c.close.ensures.gone, c.close.ensures.waiting),
+      (c.requires.ending, c.requires.leaving, c.requires.stopped, c.close_next.ensures.none c.if-not-close_next.true, c.close_next.ensures.kept c.if-not-close_next.true, c.close.ensures.gone, c.close.ensures.waiting, c.requires.cut_off),
       record {
         passed = c.close.ensures.passed;
         alone = λ e is. elim (eqb_tells client e) [ inl same ↦ inr same.1 | inr other ↦ inl (c.close.ensures.alone e (λ same. other.1 (sym same)) is) ];
+        contention = c.close.ensures.contention;
         expected = c.close.ensures.expected;
       },
     )
@@ -20,5 +21,5 @@ pub returns-else-not-close_next : goal.returns-else-not-close_next
 returns-else-not-close_next g c = (
   leaves c.args.client,
   (c.requires.leaving, c.close_next.ensures.closed c.if-not-close_next.false, refl),
-  stays_as_it_is g.M.Machine g.T.Talk g.C.ServedClients g.met.T.Talk.front_more g.met.T.Talk.bad_more (leaves c.args.client) c.args.clients.now (λ e. refl),
+  stays_as_it_is g.M.Machine g.T.Talk g.C.ServedClients g.met.T.Talk.front_more g.met.T.Talk.bad_more c.close_next.new.self c.args.client c.args.clients.now,
 )

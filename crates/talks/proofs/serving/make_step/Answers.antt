@@ -26,10 +26,12 @@ returns g c =
         ),
         (c.learn.new.self, c.learn.ensures.learnt, refl),
         c.learn.ensures.waiting,
+        (c.requires.4, tt),
       ),
       record {
         passed = λ e. subst (λ (xs : List Learnt). Passes g.T.Talk (at c.args.clients.now e) xs (at c.learn.new.self e)) (sym (append-nil (learnt_of e d))) (c.learn.ensures.passed w c.want.ensures e);
         alone = λ e is. inl (c.learn.ensures.gone e is);
+        contention = (g.C.ServedClients.contention c.learn.new.self, c.learn.ensures.contention, refl);
         expected = c.learn.ensures.expected;
       },
     )

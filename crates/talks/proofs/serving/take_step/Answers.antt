@@ -18,6 +18,7 @@ returns-in-Ok-false g c =
             (g.M.Machine.MayLackMemory machine client w) r) told (c.may_go.ensures w c.requires.1),
         refl,
         c.hold_back.ensures.waiting,
+        c.requires.3,
       ),
-      record { passed = c.hold_back.ensures.moved.passed; alone = λ e is. inl (c.hold_back.ensures.moved.gone e is); expected = c.hold_back.ensures.expected },
+      record { passed = c.hold_back.ensures.moved.passed; alone = λ e is. inl (c.hold_back.ensures.moved.gone e is); contention = c.hold_back.ensures.contention; expected = c.hold_back.ensures.expected },
     )

@@ -1,3 +1,5 @@
+use Rattle.std.proofs.Common.{inl, refl, ap}
+use Rattle.polled_clients.specs.LockWatches.{contention_of}
 use Rattle.polled_clients.specs.ClientStates.{states}
 use Rattle.polled_clients.proofs.Placing.{moved_none}
 use Rattle.polled_clients.proofs.clients.PolledClients.look.Goals as goal
@@ -16,3 +18,12 @@ returns-in-Some-pick-clause-next g c = c.serve.ensures.next
 
 pub returns-in-None-clause-moved : goal.returns-in-None-clause-moved
 returns-in-None-clause-moved g c = c.gather.ensures.moved
+
+pub returns-in-Some-clause-contention : goal.returns-in-Some-clause-contention
+returns-in-Some-clause-contention g c = inl refl
+
+pub returns-in-Some-pick-clause-contention : goal.returns-in-Some-pick-clause-contention
+returns-in-Some-pick-clause-contention g c = inl (ap contention_of c.serve.ensures.lock)
+
+pub returns-in-None-clause-contention : goal.returns-in-None-clause-contention
+returns-in-None-clause-contention g c = c.gather.ensures.contention

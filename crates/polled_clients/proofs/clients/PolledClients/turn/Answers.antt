@@ -1,7 +1,8 @@
-use Rattle.std.proofs.Common.{arith}
+use Rattle.std.proofs.Common.{Bool, subst, arith}
 use Rattle.std.specs.Prelude.{nat_eq}
 use Rattle.indexmap.specs.IndexMap.{get}
-use Rattle.polled_clients.specs.ClientStates.{states}
+use Rattle.polled_clients.specs.ClientStates.{states, state_at, HasNeedAt}
+use Rattle.polled_clients.specs.declared.need.EndOrder.{EndOrder}
 use Rattle.polled_clients.proofs.Placing.{moved_none, moved_one, need_at}
 use Rattle.polled_clients.proofs.clients.PolledClients.turn.Goals as goal
 
@@ -18,5 +19,7 @@ pub returns-clause-need : goal.returns-clause-need
 returns-clause-need g c =
     let self = c.args.self.now in
     let client = c.args.pick.client in
-    need_at g.T.Talk g.C.Channel c.args.stopped self.came client c.take_turn.result (get nat_eq c.take_turn.new.peers client) (g.A.Attend.closed self.attend client) (g.A.Attend.coming self.attend client) (omega arith)
-    c.take_turn.ensures.need
+    let order : Bool → EndOrder = λ b. record { stopped = c.args.stopped; cut_off = b } in
+    subst (λ (b : Bool). HasNeedAt g.T.Talk (order b) c.take_turn.result (state_at g.C.Channel self.came client (get nat_eq c.take_turn.new.peers client) (g.A.Attend.closed self.attend client) (g.A.Attend.coming self.attend client))) c.is_cut_off.ensures
+    (need_at g.T.Talk g.C.Channel (order c.is_cut_off.result) self.came client c.take_turn.result (get nat_eq c.take_turn.new.peers client) (g.A.Attend.closed self.attend client) (g.A.Attend.coming self.attend client) (omega arith)
+    c.take_turn.ensures.need)

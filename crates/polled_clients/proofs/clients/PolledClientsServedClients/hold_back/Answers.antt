@@ -1,3 +1,6 @@
+use Rattle.std.proofs.Common.{true, ap}
+use Rattle.polled_clients.proofs.Locking.{noted}
+use Rattle.polled_clients.specs.LockWatches.{contention_of}
 use Rattle.std.proofs.Common.{◌∙◌, inl, inr}
 use Rattle.polled_clients.proofs.clients.PolledClientsServedClients.hold_back.Goals as goal
 
@@ -15,3 +18,17 @@ returns-in-Err-clause-moved g c = c.give_up.ensures.moved
 
 pub returns-in-Err-clause-waiting : goal.returns-in-Err-clause-waiting
 returns-in-Err-clause-waiting g c = inr (c.give_up.ensures.waiting ∙ c.in-Err.ensures.err, c.give_up.ensures.wants)
+
+pub returns-in-Ok-clause-contention : goal.returns-in-Ok-clause-contention
+returns-in-Ok-clause-contention g c = (
+  c.holder.result,
+  c.holder.ensures,
+  ap contention_of c.hold.ensures.lock ∙ noted c.holder.result c.args.client true c.args.self.now.lock c.note.new.self c.note.ensures,
+)
+
+pub returns-in-Err-clause-contention : goal.returns-in-Err-clause-contention
+returns-in-Err-clause-contention g c = (
+  c.holder.result,
+  c.holder.ensures,
+  ap contention_of c.give_up.ensures.lock ∙ noted c.holder.result c.args.client true c.args.self.now.lock c.note.new.self c.note.ensures,
+)

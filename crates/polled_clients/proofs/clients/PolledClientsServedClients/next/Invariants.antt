@@ -1,10 +1,12 @@
 use Rattle.std.proofs.Common.{◌≡◌, ◌-◌}
-use Rattle.talks.specs.Clients.{Moved}
+use Rattle.talks.specs.Clients.{CutsOff, Moved}
 use Rattle.polled_clients.specs.ClientStates.{states}
+use Rattle.polled_clients.specs.LockWatches.{contention_of}
 use Rattle.polled_clients.proofs.clients.PolledClientsServedClients.next.Given as goal
 
 abbrev pub invariant-looking : goal.invariant-looking
 invariant-looking g l = Moved g.T.Talk (states g.C.Channel g.A.Attend l.initial.self) (states g.C.Channel g.A.Attend l.self) × (l.self.waiting.items ≡ l.initial.self.waiting.items) × (l.self.limits ≡ l.initial.self.limits)
+    × CutsOff (contention_of l.initial.self.lock) (contention_of l.self.lock)
 
 abbrev pub decreases-looking : goal.decreases-looking
 decreases-looking g l = 18446744073709551615 - l.self.looks
