@@ -134,6 +134,9 @@ class Counts(compare.Bench):
 
 
 def main():
+    if sys.argv[1:] and sys.argv[1].startswith('-'):
+        print(__doc__)
+        return
     work, *patterns = sys.argv[1:] or [tempfile.mkdtemp(prefix='guarddb-counts.', dir='/var/tmp')]
     program = os.path.abspath(os.environ.get('GUARDDB', f'{TOP}/guarddb'))
     os.makedirs(work, exist_ok=True)
