@@ -59,6 +59,7 @@ module _ {D L X C T P : Type 0} (g : Ghosts D) (a : AttendGhosts L C) (t : TalkG
     coming = λ c. it.coming c ∙ ap awaited (coming c);
     expected = it.expected;
     none_waits = it.none_waits;
+    none_contends = it.none_contends;
     none_refused = it.none_refused;
     none_looked = it.none_looked;
     serves = it.serves;
