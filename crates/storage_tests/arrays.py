@@ -8,6 +8,8 @@ are described at the head of src/arrays.rt.
 """
 import random
 
+from images import newer_format
+
 PAGE, SECTOR, MAGIC = 4096, 512, b"GUARDDB1"
 
 
@@ -140,6 +142,7 @@ class Array:
         device.sync()
         sectors = [device.read(0), device.read(1)]
         need(any(sector[:8] == MAGIC for sector in sectors), "NotADatabase")
+        need(newer_format(sectors) is None, "NewerFormat")
         roots = [root_in(sector, parity) for parity, sector in enumerate(sectors)]
         self.number, pages, self.maps, self.form = max(root for root in roots if root)
         need(pages == self.pages, "WrongSize")

@@ -11,6 +11,8 @@ nothing promises, it ends with an error. The calls are described at the head of 
 import typing
 import zlib
 
+from images import newer_format
+
 PAGE, SECTOR = 4096, 512
 ROOM = PAGE - 4  # of the cells of a leaf
 MAGIC = b"GUARDDB1"
@@ -224,6 +226,8 @@ def store_on(image):
     need(64 <= count <= 65536, "WrongSize")
     sectors = [bytes(image[SECTOR * at:SECTOR * (at + 1)]) for at in range(PAGE // SECTOR)]
     need(any(sector.startswith(MAGIC) for sector in sectors[:2]), "NotADatabase")
+    newer = newer_format(sectors[:2])
+    need(newer is None, f"NewerFormat({newer})")
     roots = [root_in(sector, parity) for parity, sector in enumerate(sectors[:2])]
     pages, number, maps, form = max((root for root in roots if root), key=lambda root: root[1])
     need(pages == count, "WrongSize")
