@@ -29,7 +29,8 @@ pub fn sessions_are_opened<M: Machine, T: Talk, C: ServedClients<T>>()
 {}
 
 /// A client that was let go since it held the writer lock had been cut off, which is done only where that
-/// is limited. It held the lock then, and ever since a step of another was held back or refused for it.
+/// is limited. It held the lock then, and after each turn since a step of another was held back or refused
+/// for it, but for turns that only end sessions which others left open.
 pub fn holders_are_cut_off<M: Machine, T: Talk, C: ServedClients<T>>()
     ensures { (old : M) (before : C) (turns : List Turn) (new : M) (after : C)
         → (C.contention before).holder ≡ None → (C.contention before).cut_off ≡ None
