@@ -1,5 +1,5 @@
 -- Spans that are merged are in order, and have all keys that they had.
-use Rattle.std.proofs.Common.{◌≡◌, ◌<◌, ◌+◌, ℕ, Some, None, suc, Bool, true, false, not, ◌&&◌, ◌||◌, if◌then◌else◌, nat_eq, List, [], ◌∷◌, refl, sym, ap, subst, ◌∙◌, arith}
+use Rattle.std.proofs.Common.{◌≡◌, ◌<◌, ◌≤◌, ◌+◌, ℕ, zero, suc, Bool, true, false, not, ◌&&◌, ◌||◌, if◌then◌else◌, nat_eq, List, [], ◌∷◌, get_or, length, refl, sym, ap, subst, ◌∙◌, arith}
 use Rattle.std.specs.List.{insert, prefix_len, AllByRecursion}
 use Rattle.std.proofs.lemmas.Bool.Decides.{nat_tests}
 use Rattle.std.specs.declared.cmp.Ordering.{Ordering}
@@ -10,13 +10,12 @@ use Rattle.store.specs.Records.{key_cmp, is_from, is_not_less, has_prefix}
 use Rattle.store.specs.Walks.{is_within}
 use Rattle.store.proofs.Changes.{key_trans, same_key, itself, reversed, after}
 use Rattle.store.proofs.Walking.{stays_past}
-use Rattle.row_codec.specs.Rows.{row_prefix}
 use Rattle.key_ranges.specs.declared.range.KeyRange.{KeyRange}
 use Rattle.key_ranges.specs.declared.range.KeyRange.TheVariants.{Point, Span, Several}
 use Rattle.key_ranges.specs.declared.spans.KeySpan.{KeySpan}
-use Rattle.key_ranges.specs.Ranges.{is_in, IsRangeOf, IsSpanOf}
+use Rattle.key_ranges.specs.Ranges.{is_in}
 use Rattle.key_ranges.specs.Spans.{Spans, is_in_span, is_in_spans, AreSpansInOrder, SpanBefore}
-use Rattle.key_ranges.specs.TableRanges.{around_all, range_of_spans, several, span_of}
+use Rattle.key_ranges.specs.TableRanges.{around_all, span_of}
 use Rattle.key_ranges.specs.InOrder.{wider, hull, merged, merged_after, put_by_start, by_start, first_start, least_start, widest_stop, StartFrom, StartsNeverFall, MergedLosesNothing, OrderedLosesNothing}
 
 -- ---- numbers
@@ -352,6 +351,29 @@ put_never_falls s (t ∷ ts) falls = subst StartsNeverFall (sym (put_behind s t 
 pub never_falls : (spans : List KeySpan) → StartsNeverFall (by_start spans)
 never_falls [] = tt
 never_falls (s ∷ ss) = put_never_falls s (by_start ss) (never_falls ss)
+
+-- ---- a search among starts that never fall
+
+start_at : (start : List ℕ) (ss : List KeySpan) (j : ℕ) (d : KeySpan) → StartFrom start ss → j < length ss → is_from start (get_or ss j d).start ≡ true
+start_at start [] j d all within = absurd (omega arith)
+start_at start (s ∷ ss) zero d all within = all.0
+start_at start (s ∷ ss) (suc j) d all within = start_at start ss j d all.1 (omega arith)
+
+-- what starts before a key stands before what does not
+pub starts_partitioned : (start : List ℕ) (spans : List KeySpan) → StartsNeverFall spans → (i j : ℕ) (d : KeySpan) → i ≤ j → j < length spans
+    → not (is_from start (get_or spans j d).start) ≡ true → not (is_from start (get_or spans i d).start) ≡ true
+starts_partitioned start [] falls i j d rise within h = absurd (omega arith)
+starts_partitioned start (s ∷ ss) falls zero zero d rise within h = h
+starts_partitioned start (s ∷ ss) falls zero (suc j) d rise within h = go (is_from start s.start) refl
+  where
+    go : (b : Bool) → b ≡ is_from start s.start → not b ≡ true
+    go false e = refl
+    go true e =
+        let later : is_from start (get_or ss j d).start ≡ true = from_trans start s.start (get_or ss j d).start (sym e) (start_at s.start ss j d falls.0 (omega arith)) in
+        let wrong : false ≡ true = ap not (sym later) ∙ h in
+        cc
+starts_partitioned start (s ∷ ss) falls (suc i) zero d rise within h = absurd (omega arith)
+starts_partitioned start (s ∷ ss) falls (suc i) (suc j) d rise within h = starts_partitioned start ss falls.1 i j d (omega arith) (omega arith) h
 
 put_has : (s : KeySpan) (ts : List KeySpan) (key : List ℕ) → (is_in_span s key || is_in_spans ts key) ≡ true → is_in_spans (put_by_start s ts) key ≡ true
 put_has s [] key h = h

@@ -1,5 +1,5 @@
 -- The range of spans that are merged: it has all their keys, and keys of their table alone.
-use Rattle.std.proofs.Common.{◌≡◌, ◌||◌, ℕ, Option, Some, None, Bool, true, false, if◌then◌else◌, List, [], ◌∷◌, refl, sym, ap, subst, ◌∙◌}
+use Rattle.std.proofs.Common.{◌≡◌, ◌||◌, ℕ, Some, None, Bool, true, false, if◌then◌else◌, List, [], ◌∷◌, refl, sym, subst, ◌∙◌}
 use Rattle.std.specs.List.{AllByRecursion}
 use Rattle.std.specs.Ordering.{is_lt}
 use Rattle.store.specs.Records.{key_cmp, is_from, has_prefix}

@@ -7,6 +7,7 @@ pub mod Records
 pub mod Products
 pub mod Unchanged
 pub mod LeftOut
+pub mod Hulls
 pub mod OutsideBoxes
 pub mod TableRanges
 pub mod BoxLists

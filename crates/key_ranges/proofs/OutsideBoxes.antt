@@ -33,7 +33,8 @@ use Rattle.key_ranges.specs.declared.bounds.BoundKind.{BoundKind}
 use Rattle.key_ranges.specs.declared.bounds.BoundKind.TheVariants as kind
 use Rattle.key_ranges.specs.Bounds.{exchanged, constant}
 use Rattle.key_ranges.specs.Ranges.{IsBehind}
-use Rattle.key_ranges.specs.Boxes.{Bound, Box, allows, allows_in, is_bounded_by, is_in_box, is_in_boxes, everything, same_kind, contradicts, contradicts_any, is_void, beside, all_beside, box_limit, pairs, both_boxes, either_boxes, kind_of, has_type, column_has_type, is_comparable, one_box, boxes_by, boxes_at, boxes_if, boxes_between, boxes_or, boxes_compared, boxes_for_roles, boxes_of_roles, boxes_of_name, boxes_of_member, boxes_of, AreRolesFor, IsFalseOutside}
+use Rattle.key_ranges.specs.Boxes.{Bound, Box, allows, allows_in, is_bounded_by, is_in_box, is_in_boxes, around, everything, same_boxes, same_kind, contradicts, contradicts_any, is_void, beside, all_beside, box_limit, pairs, both_boxes, either_boxes, kind_of, has_type, column_has_type, is_comparable, one_box, boxes_by, boxes_at, boxes_if, boxes_between, boxes_or, boxes_compared, boxes_for_roles, boxes_of_roles, boxes_of_name, boxes_of_member, boxes_of, AreRolesFor, IsFalseOutside}
+use Rattle.key_ranges.proofs.Hulls.{none_around}
 use Rattle.key_ranges.proofs.Conditions.{constant_true, held_less, held_greater, held_equal, same_index, same_number}
 
 -- ---- tests
@@ -139,7 +140,7 @@ none_beside row (x ∷ xs) ys h k =
 
 -- a row that is in none of both, and in one of the first, is in none of the second
 pub second_none : (row : Row) (xs ys : List Box) → is_in_boxes row (both_boxes xs ys) ≡ false → is_in_boxes row xs ≡ true → is_in_boxes row ys ≡ false
-second_none row xs ys h k = go (nat_lt box_limit (pairs xs ys)) h
+second_none row xs ys h k = go (nat_lt box_limit (pairs xs ys) || same_boxes xs ys) h
   where
     go : (b : Bool) → is_in_boxes row (if b then xs else all_beside xs ys) ≡ false → is_in_boxes row ys ≡ false
     go true f = let wrong : true ≡ false = sym k ∙ f in cc
@@ -149,9 +150,12 @@ second_none row xs ys h k = go (nat_lt box_limit (pairs xs ys)) h
 either_none : (row : Row) (xs ys : List Box) → is_in_boxes row (either_boxes xs ys) ≡ false → (is_in_boxes row xs ≡ false) × (is_in_boxes row ys ≡ false)
 either_none row xs ys h = go (nat_lt box_limit (length (xs ++ ys))) h
   where
-    go : (b : Bool) → is_in_boxes row (if b then everything else xs ++ ys) ≡ false → (is_in_boxes row xs ≡ false) × (is_in_boxes row ys ≡ false)
-    go true f = cc
-    go false f = neither (is_in_boxes row xs) (is_in_boxes row ys) (sym (any_append (is_in_box row) xs ys) ∙ f)
+    both : is_in_boxes row (xs ++ ys) ≡ false → (is_in_boxes row xs ≡ false) × (is_in_boxes row ys ≡ false)
+    both f = neither (is_in_boxes row xs) (is_in_boxes row ys) (sym (any_append (is_in_box row) xs ys) ∙ f)
+
+    go : (b : Bool) → is_in_boxes row (if b then around (xs ++ ys) else xs ++ ys) ≡ false → (is_in_boxes row xs ≡ false) × (is_in_boxes row ys ≡ false)
+    go true f = both (none_around row (xs ++ ys) f)
+    go false f = both f
 
 -- ---- truths
 
@@ -341,8 +345,8 @@ module _ (layout : Layout) (is : IsLayout layout) (table : ℕ) (users : UserNam
   none_of_roles : (t : List ℕ) (index : ℕ) → value_at row index ≡ Text t → is_in_boxes row (boxes_of_roles roles index) ≡ false → list_any (bytes_eq t) roles ≡ false
   none_of_roles t index e out = go (nat_lt box_limit (length roles)) out
     where
-      go : (b : Bool) → is_in_boxes row (if b then everything else boxes_for_roles roles index) ≡ false → list_any (bytes_eq t) roles ≡ false
-      go true f = cc
+      go : (b : Bool) → is_in_boxes row (if b then around (boxes_for_roles roles index) else boxes_for_roles roles index) ≡ false → list_any (bytes_eq t) roles ≡ false
+      go true f = no_role t index e roles (none_around row (boxes_for_roles roles index) f)
       go false f = no_role t index e roles f
 
   no_member : (index : ℕ) (x : Value) → x ≡ value_at row index → (o : Ordering) → compare_values x (Text []) ≡ Some o → is_in_boxes row (boxes_of_roles roles index) ≡ false → member_value users x ≡ false_value

@@ -1,5 +1,5 @@
 -- The boxes of a condition: outside of all of them it is false, and does not fail.
-use Rattle.std.specs.Prelude.{◌≡◌, ℕ, ◌*◌, ◌^◌, ◌-◌, min, Bool, true, false, not, ◌&&◌, if◌then◌else◌, nat_eq, nat_lt, bytes_eq, slice_get, List, [], ◌∷◌, ◌++◌, map, length, Option, Some, None, Ok}
+use Rattle.std.specs.Prelude.{◌≡◌, ℕ, ◌*◌, ◌^◌, ◌-◌, min, Bool, true, false, not, ◌&&◌, ◌||◌, if◌then◌else◌, nat_eq, nat_lt, bytes_eq, slice_get, List, [], ◌∷◌, ◌++◌, map, length, Option, Some, None, Ok}
 use Rattle.std.specs.Borrow.{Bor}
 use Rattle.std.specs.List.{list_any, list_all}
 use Rattle.std.specs.declared.cmp.Ordering.{Ordering}
@@ -96,13 +96,78 @@ box_limit = 1024
 abbrev pub pairs : List Box → List Box → ℕ
 pairs xs ys = min (length xs * length ys) (2 ^ 64 - 1)
 
--- the boxes of the rows that are in one of the first and in one of the second; the first alone where the pairs are too many
-abbrev pub both_boxes : List Box → List Box → List Box
-both_boxes xs ys = if nat_lt box_limit (pairs xs ys) then xs else all_beside xs ys
+-- whether bounds, and boxes, are the same in the same order
+abbrev pub same_bound : Bound → Bound → Bool
+same_bound a b = same_kind a.kind b.kind && (nat_eq a.column b.column && allows_in kind.Equal (compare_values a.value b.value))
 
--- the boxes of the rows that are in one of the first or in one of the second; all rows where they are too many
+abbrev pub same_box : Box → Box → Bool
+same_box [] [] = true
+same_box (a ∷ x) (b ∷ y) = same_bound a b && same_box x y
+same_box _ _ = false
+
+abbrev pub same_boxes : List Box → List Box → Bool
+same_boxes [] [] = true
+same_boxes (x ∷ xs) (y ∷ ys) = same_box x y && same_boxes xs ys
+same_boxes _ _ = false
+
+-- the boxes of the rows that are in one of the first and in one of the second; the first alone where both are the same, and where the pairs are too many
+abbrev pub both_boxes : List Box → List Box → List Box
+both_boxes xs ys = if nat_lt box_limit (pairs xs ys) || same_boxes xs ys then xs else all_beside xs ys
+
+-- ---- one box around many
+
+abbrev pub lesser_by : Option Ordering → Value → Value → Option Value
+lesser_by None v w = None
+lesser_by (Some o) v w = Some (if is_gt o then w else v)
+
+abbrev pub greater_by : Option Ordering → Value → Value → Option Value
+greater_by None v w = None
+greater_by (Some o) v w = Some (if is_lt o then w else v)
+
+-- of two values the lesser, or the greater; none where one is missing, or they do not compare
+abbrev pub lesser : Option Value → Option Value → Option Value
+lesser (Some v) (Some w) = lesser_by (compare_values v w) v w
+lesser _ _ = None
+
+abbrev pub greater : Option Value → Option Value → Option Value
+greater (Some v) (Some w) = greater_by (compare_values v w) v w
+greater _ _ = None
+
+-- a value that a column of a box does not fall below, or rise above, by the first bound of it that says so
+abbrev pub lowest_in : ℕ → Box → Option Value
+lowest_in index [] = None
+lowest_in index (b ∷ box) = if nat_eq b.column index && not (same_kind b.kind kind.Upper) then Some b.value else lowest_in index box
+
+abbrev pub highest_in : ℕ → Box → Option Value
+highest_in index [] = None
+highest_in index (b ∷ box) = if nat_eq b.column index && not (same_kind b.kind kind.Lower) then Some b.value else highest_in index box
+
+-- the least of these values of boxes, and the greatest, if each has one
+abbrev pub lowest_of : ℕ → Option Value → List Box → Option Value
+lowest_of index least [] = least
+lowest_of index least (x ∷ xs) = lowest_of index (lesser least (lowest_in index x)) xs
+
+abbrev pub highest_of : ℕ → Option Value → List Box → Option Value
+highest_of index greatest [] = greatest
+highest_of index greatest (x ∷ xs) = highest_of index (greater greatest (highest_in index x)) xs
+
+abbrev pub bound_if : BoundKind → ℕ → Option Value → Box
+bound_if k index None = []
+bound_if k index (Some v) = record { kind = k; column = index; value = v } ∷ []
+
+-- one box that has the rows of all, by the bounds of a column
+abbrev pub box_around : ℕ → Box → List Box → Box
+box_around index x xs = bound_if kind.Lower index (lowest_of index (lowest_in index x) xs) ++ bound_if kind.Upper index (highest_of index (highest_in index x) xs)
+
+-- the same, by the column that the first of them bounds first
+abbrev pub around : List Box → List Box
+around [] = nothing
+around ([] ∷ xs) = everything
+around ((b ∷ x) ∷ xs) = box_around b.column (b ∷ x) xs ∷ []
+
+-- the boxes of the rows that are in one of the first or in one of the second; one around all where they are too many
 abbrev pub either_boxes : List Box → List Box → List Box
-either_boxes xs ys = if nat_lt box_limit (length (xs ++ ys)) then everything else xs ++ ys
+either_boxes xs ys = if nat_lt box_limit (length (xs ++ ys)) then around (xs ++ ys) else xs ++ ys
 
 -- ---- the boxes of a condition
 
@@ -167,9 +232,9 @@ boxes_compared layout table users front operator a b =
 abbrev pub boxes_for_roles : List (List ℕ) → ℕ → List Box
 boxes_for_roles roles index = map (λ role. record { kind = kind.Equal; column = index; value = Text role } ∷ []) roles
 
--- all rows where the roles are too many
+-- one around all where the roles are too many
 abbrev pub boxes_of_roles : List (List ℕ) → ℕ → List Box
-boxes_of_roles roles index = if nat_lt box_limit (length roles) then everything else boxes_for_roles roles index
+boxes_of_roles roles index = if nat_lt box_limit (length roles) then around (boxes_for_roles roles index) else boxes_for_roles roles index
 
 abbrev pub boxes_of_name : UserNames → Option Value → List Box
 boxes_of_name users (Some (Text name)) = boxes_if (Boolean (users.is_in name))
@@ -207,3 +272,7 @@ abbrev pub BoxesLoseNothing : Type 0
 BoxesLoseNothing = (layout : Layout) (table : ℕ) (users : UserNames) (roles : List (List ℕ)) (front : List (Bor Row)) (cell : ColumnIndex → Value) (row : Row) (term : Term ColumnIndex)
     → IsLayout layout → AreRolesFor users roles → IsBehind front cell → FitsTable layout row → ((index : ℕ) → cell (record { table = table; column = index }) ≡ value_at row index)
     → IsFalseOutside layout table users cell row term (boxes_of layout table users roles front term)
+
+-- a row that is in one of the boxes is in the one around them
+abbrev pub AroundLosesNothing : Type 0
+AroundLosesNothing = (row : Row) (boxes : List Box) → is_in_boxes row boxes ≡ true → is_in_boxes row (around boxes) ≡ true

@@ -1,12 +1,13 @@
 //! Boxes: alternatives of a condition, of which each is a list of bounds that all hold.
-ghost use Rattle.std.specs.Prelude.{◌≡◌, ◌++◌, ◌∷◌, [], map, nat_lt, IfOk, OnOk};
+ghost use Rattle.std.specs.Prelude.{◌≡◌, ◌++◌, ◌∷◌, [], map, nat_lt, option_to_list, IfOk, OnOk};
 ghost use Rattle.std.specs.Option.{option_map};
 ghost use Rattle.sql_types.specs.Value.{owned};
 ghost use Rattle.key_ranges.specs.BoxCode.{bound_of, box_of};
-ghost use Rattle.key_ranges.specs.Boxes.{all_beside, beside, both_boxes, box_limit, boxes_between, boxes_for_roles, boxes_if, boxes_of_roles, either_boxes, everything, pairs};
+ghost use Rattle.key_ranges.specs.Boxes.{all_beside, beside, both_boxes, box_limit, boxes_between, boxes_for_roles, boxes_if, boxes_of_roles, either_boxes, everything, pairs, same_box, same_boxes};
 
+use crate::around::around;
 use crate::bounds::BoundKind;
-use crate::voids::is_void;
+use crate::voids::{is_void, same_bound};
 use expressions::operators::compare_by;
 use sql_ast::expression::Comparison;
 use sql_types::items::Items;
@@ -48,6 +49,25 @@ impl<'a> KeyBox<'a> {
         self.bounds.as_slice()
     }
 
+    /// The box that has these bounds.
+    pub(crate) fn between(
+        alloc: Global,
+        lower: Option<ColumnBound<'a>>,
+        upper: Option<ColumnBound<'a>>,
+    ) -> Result<KeyBox<'a>, AllocError>
+        ensures { IfOk result (λ between. between
+            ≡ box_of (option_to_list lower.entry) ++ box_of (option_to_list upper.entry)) }
+    {
+        let mut bounds = Vec::new(alloc);
+        if let Some(bound) = lower {
+            bounds.push(bound)?;
+        }
+        if let Some(bound) = upper {
+            bounds.push(bound)?;
+        }
+        Ok(KeyBox { bounds })
+    }
+
     // The bounds of two boxes.
     #[tactic(auto, using(crate::proofs::BoxLists::both_bounds))]
     fn joined(
@@ -78,8 +98,8 @@ fn push_bounds<'a>(
 }
 
 /// The boxes of the rows that are in one of the first and in one of the second: each of the first
-/// beside each of the second, but for those in which two bounds contradict one another. Where these
-/// are too many, the first alone.
+/// beside each of the second, but for those in which two bounds contradict one another. Where both are
+/// the same, or the pairs are too many, the first alone.
 pub(crate) fn both_boxes<'a>(
     alloc: Global,
     first: Items<KeyBox<'a>>,
@@ -87,10 +107,36 @@ pub(crate) fn both_boxes<'a>(
 ) -> Result<Items<KeyBox<'a>>, AllocError>
     ensures { IfOk result (λ both. both ≡ both_boxes first.entry second.now) }
 {
-    if is_past_limit(pairs(first.as_slice(), second)) {
+    if is_past_limit(pairs(first.as_slice(), second)) || same_boxes(first.as_slice(), second) {
         Ok(first)
     } else {
         all_beside(alloc, first.as_slice(), second)
+    }
+}
+
+// Whether boxes are the same in the same order.
+fn same_boxes(first: &[KeyBox<'_>], second: &[KeyBox<'_>]) -> bool
+    ensures { result ≡ same_boxes first.now second.now }
+{
+    match (first.split_first(), second.split_first()) {
+        (None, None) => true,
+        (Some((one, others)), Some((other, rest))) => {
+            same_box(one.bounds(), other.bounds()) && same_boxes(others, rest)
+        }
+        _ => false,
+    }
+}
+
+// Whether bounds are the same in the same order.
+fn same_box(first: &[ColumnBound<'_>], second: &[ColumnBound<'_>]) -> bool
+    ensures { result ≡ same_box (box_of first.now) (box_of second.now) }
+{
+    match (first.split_first(), second.split_first()) {
+        (None, None) => true,
+        (Some((one, others)), Some((other, rest))) => {
+            same_bound(one, other) && same_box(others, rest)
+        }
+        _ => false,
     }
 }
 
@@ -142,8 +188,8 @@ fn push_beside<'a>(
     Ok(())
 }
 
-/// The boxes of the rows that are in one of the first or in one of the second; the box of all rows
-/// where these are too many.
+/// The boxes of the rows that are in one of the first or in one of the second; one around all where
+/// these are too many.
 pub(crate) fn either_boxes<'a>(
     alloc: Global,
     first: Items<KeyBox<'a>>,
@@ -155,7 +201,7 @@ pub(crate) fn either_boxes<'a>(
     let mut others = second.into_vec();
     boxes.append(&mut others)?;
     if is_past_limit(boxes.len() as u64) {
-        everything(alloc)
+        around(alloc, boxes.as_slice())
     } else {
         Ok(Items::from_vec(boxes))
     }
@@ -214,7 +260,7 @@ pub(crate) fn boxes_between<'a>(
     }
 }
 
-/// A box for each role, which a column names; the one that has all rows where these are too many.
+/// A box for each role, which a column names; one around all where these are too many.
 pub(crate) fn boxes_of_roles<'a>(
     alloc: Global,
     roles: &'a [&'a str],
@@ -223,10 +269,11 @@ pub(crate) fn boxes_of_roles<'a>(
     ensures { IfOk result (λ boxes. boxes
         ≡ boxes_of_roles (map (λ role. role.now) roles.now) column) }
 {
+    let boxes = boxes_for_roles(alloc, roles, column)?;
     if is_past_limit(roles.len() as u64) {
-        everything(alloc)
+        around(alloc, boxes.as_slice())
     } else {
-        boxes_for_roles(alloc, roles, column)
+        Ok(boxes)
     }
 }
 

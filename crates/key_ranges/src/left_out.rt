@@ -1,5 +1,5 @@
 //! Laws of rows that a statement leaves unread: each function does nothing, and its clause is proved.
-ghost use Rattle.key_ranges.specs.Boxes.{BoxesLoseNothing};
+ghost use Rattle.key_ranges.specs.Boxes.{AroundLosesNothing, BoxesLoseNothing};
 ghost use Rattle.key_ranges.specs.InOrder.{MergedLosesNothing, OrderedLosesNothing};
 ghost use Rattle.key_ranges.specs.LeftOut.{LeftOutBehindLosesNothing, LeftOutLosesNothing, LeftUnchangedIsNotChosen, LeftUnchangedIsNotMet};
 ghost use Rattle.key_ranges.specs.TableRanges.{TableRangeLosesNothing};
@@ -7,6 +7,11 @@ ghost use Rattle.key_ranges.specs.TableRanges.{TableRangeLosesNothing};
 /// On a row of a table that is in none of the boxes of a condition, the condition is false.
 pub fn false_outside_of_boxes()
     ensures { BoxesLoseNothing }
+{}
+
+/// A row of a table that is in one of several boxes is in the one around them.
+pub fn around_loses_nothing()
+    ensures { AroundLosesNothing }
 {}
 
 /// A SELECT answers, or is refused, as if the rows of a table were not there that its guard hides, or

@@ -2,6 +2,7 @@
 //! the first columns of the key, and that it changes no answer.
 #![tactic(auto)]
 
+mod around;
 mod bounds;
 mod box_ranges;
 mod box_search;
@@ -25,8 +26,9 @@ pub use laws::{
     look_ups_lose_nothing, outside_rows_are_not_chosen, ranges_hold_their_rows, ranges_lose_nothing,
 };
 pub use left_out::{
-    false_outside_of_boxes, left_out_behind_loses_nothing, left_out_loses_nothing,
-    left_unchanged_is_not_chosen, merged_spans_lose_nothing, table_range_loses_nothing,
+    around_loses_nothing, false_outside_of_boxes, left_out_behind_loses_nothing,
+    left_out_loses_nothing, left_unchanged_is_not_chosen, merged_spans_lose_nothing,
+    table_range_loses_nothing,
 };
 pub use range::{KeyRange, is_key_bounded, key_range, key_range_behind};
 pub use spans::{KeySpan, KeySpans};

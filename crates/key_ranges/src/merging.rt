@@ -3,7 +3,7 @@ ghost use Rattle.std.specs.Prelude.{◌≡◌, not, true, false, IfOk, OnOk};
 ghost use Rattle.std.specs.List.{prefix_len};
 ghost use Rattle.store.specs.Records.{has_prefix, is_from};
 ghost use Rattle.store.specs.Walks.{is_within};
-ghost use Rattle.key_ranges.specs.InOrder.{first_start, hull, least_start, merged, put_by_start, wider, widest_stop};
+ghost use Rattle.key_ranges.specs.InOrder.{first_start, hull, least_start, merged, put_by_start, wider, widest_stop, StartsNeverFall};
 ghost use Rattle.key_ranges.specs.Spans.{AreSpansInOrder};
 ghost use Rattle.key_ranges.specs.TableRanges.{around_all, range_of_spans};
 
@@ -13,8 +13,10 @@ use sql_types::items::Items;
 use std::alloc::{AllocError, Global};
 use std::cmp::Ordering;
 
-/// Puts a span among others before those that do not start before it.
+/// Puts a span among others, none of which starts before one that stands before it, before those that do
+/// not start before it.
 pub(crate) fn put_by_start(spans: &mut Vec<KeySpan>, span: KeySpan) -> Result<(), AllocError>
+    requires { StartsNeverFall spans.old.items }
     ensures { OnOk result (spans.new.items ≡ put_by_start span spans.old.items) }
 {
     let place = place_of(spans.as_slice(), span.start.as_slice());
@@ -22,14 +24,16 @@ pub(crate) fn put_by_start(spans: &mut Vec<KeySpan>, span: KeySpan) -> Result<()
     Ok(())
 }
 
-// How many spans at the front start before this key.
+// How many spans start before this key, of which none starts before one that stands before it.
 fn place_of(spans: &[KeySpan], start: &[u8]) -> usize
+    requires { StartsNeverFall spans.now }
     ensures { result ≡ prefix_len (λ span. not (is_from start.now span.start)) spans.now }
 {
-    spans
-        .iter()
-        .take_while(|span| comes_before(span.start.as_slice(), start))
-        .count()
+    spans.partition_point(
+        |span: &KeySpan| -> bool
+            ensures { result ≡ not (is_from start.entry.now span.now.start) }
+        { comes_before(span.start.as_slice(), start) },
+    )
 }
 
 // Whether a key comes before another.

@@ -1,7 +1,7 @@
 //! Bounds that contradict one another.
 ghost use Rattle.std.specs.Prelude.{◌≡◌};
 ghost use Rattle.key_ranges.specs.BoxCode.{bound_of, box_of};
-ghost use Rattle.key_ranges.specs.Boxes.{allows_in, contradicts, contradicts_any, is_void, same_kind};
+ghost use Rattle.key_ranges.specs.Boxes.{allows_in, contradicts, contradicts_any, is_void, same_bound, same_kind};
 
 use crate::bounds::BoundKind;
 use crate::boxes::ColumnBound;
@@ -65,4 +65,13 @@ pub(crate) fn same_kind(kind: BoundKind, other: BoundKind) -> bool
         (BoundKind::Upper, BoundKind::Upper) => true,
         _ => false,
     }
+}
+
+/// Whether two bounds are the same.
+pub(crate) fn same_bound(first: &ColumnBound<'_>, second: &ColumnBound<'_>) -> bool
+    ensures { result ≡ same_bound (bound_of first.now) (bound_of second.now) }
+{
+    same_kind(first.kind, second.kind)
+        && second.column == first.column
+        && allows_in(BoundKind::Equal, compare(first.value, second.value))
 }
