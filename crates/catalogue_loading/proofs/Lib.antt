@@ -9,6 +9,8 @@ pub mod Written
 pub mod PolicyRecordLemmas
 pub mod Checking
 pub mod Orphan
+pub mod KnownPrefixes
+pub mod PrefixChecks
 pub mod Lists
 mod CheckedClauses
 mod Supports

@@ -20,7 +20,7 @@ use store::{Fault, Map};
 
 /// The definitions of a database, read from the records of a map, with the conditions of policies
 /// bound to the columns of their tables. Each record is read once and each policy parsed once; then
-/// one walk over all records looks for orphans.
+/// one record for each kind and each table tells whether there are orphans.
 ///
 /// Device: the map answered it. Damaged: one of the records is none that a database writes, so they
 /// define nothing. That all records are well formed does not make their definitions valid together.

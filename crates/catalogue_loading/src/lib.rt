@@ -7,7 +7,7 @@
 //! The rows of a database in the records of a map: whether each of their records is that of a row
 //! which its table may hold, and of a table that there is.
 //!
-//! Each table's rows are read once, and once more all rows for their tables; no row is kept.
+//! Each table's rows are read once, and once more the first of each table; no row is kept.
 #![tactic(auto)]
 
 mod bytes;
@@ -24,6 +24,7 @@ mod orphans;
 mod parts;
 mod policy_checks;
 mod policy_records;
+mod prefix_checks;
 mod privilege_checks;
 mod record_checks;
 mod record_parts;

@@ -1,19 +1,25 @@
 //! Orphans: records of no kind, and descriptors, policies and rows of a table that there is not. The
 //! other rows are tested table by table.
 
-ghost use Rattle.std.specs.Prelude.{◌≡◌, ◌∷◌, [], ℕ, List, false};
+ghost use Rattle.std.specs.Prelude.{◌≡◌, ◌∷◌, [], ◌||◌, ℕ, List, true};
 ghost use Rattle.std.specs.List.{list_any};
 ghost use Rattle.byteorder.specs.Endian.{big_bytes};
 ghost use Rattle.storage_sizes.specs.Kinds.{kind_byte};
 ghost use Rattle.store.specs.Records.{Records, entries_where, has_prefix};
 ghost use Rattle.stored_database.specs.Records.{is_key_of, is_row_key_of, is_orphan, is_orphan_row};
-ghost use Rattle.stored_database.specs.RecordFormat.{rows_prefix};
+ghost use Rattle.stored_database.specs.RecordFormat.{role_prefix, membership_prefix, table_prefix, rows_prefix};
+ghost use Rattle.catalogue_loading.specs.Orphans.{KnowsPrefix, is_sought, prefix_of};
 ghost use Rattle.catalogue_loading.specs.RecordChecks.{AllPass, IsNoOrphan, IsNoOrphanRow};
 
-use crate::record_checks::RecordTest;
 use row_codec::table_prefix;
 use storage_sizes::RecordKind;
-use store::{EntryRef, begins_with};
+use store::begins_with;
+
+// What the keys of the records of a kind and a table begin with has so many bytes.
+const TABLE_PREFIX_LENGTH: usize = 5;
+
+// What the keys of rows begin with.
+const ROWS_PREFIX: [u8; 1] = [RecordKind::Row as u8];
 
 /// Which orphans are looked for.
 #[derive(Clone, Copy)]
@@ -25,6 +31,18 @@ pub enum Orphans {
     OfRows,
 }
 
+impl Orphans {
+    /// What the keys begin with among which these orphans are.
+    pub fn prefix(self) -> &'static [u8]
+        ensures { result.now ≡ prefix_of self }
+    {
+        match self {
+            Orphans::OfDefinitions => &[],
+            Orphans::OfRows => &ROWS_PREFIX,
+        }
+    }
+}
+
 /// The test that a record is no orphan.
 #[derive(Drop)]
 pub struct OrphanTest<'a> {
@@ -34,36 +52,56 @@ pub struct OrphanTest<'a> {
     pub ids: &'a [u32],
 }
 
-impl<'a> RecordTest for OrphanTest<'a> {
-    ghost use Rattle.catalogue_loading.specs.Orphans.{IsNone};
-
-    ghost Passes = { λ test. IsNone test.orphans test.ids.now };
-
-    fn passes(&self, entry: &EntryRef<'_>) -> bool {
+impl<'a> OrphanTest<'a> {
+    /// What this key begins with that tells that it is no orphan: the byte of its kind, and behind it the number of its table
+    /// where there may be orphans of the kind. No key that begins with it is an orphan. `None`: this key is one. Of rows alone
+    /// it is asked where orphan rows are looked for.
+    pub fn known_prefix<'k>(&self, key: &'k [u8]) -> Option<&'k [u8]>
+        requires { has_prefix (prefix_of self.now.orphans) key.now ≡ true }
+        ensures { KnowsPrefix (is_sought self.now.orphans self.now.ids.now)
+            (prefix_of self.now.orphans) key.now result }
+    {
         match self.orphans {
-            Orphans::OfDefinitions => !is_orphan(self.ids, entry.key),
-            Orphans::OfRows => !is_orphan_row(self.ids, entry.key),
+            Orphans::OfDefinitions => known_definition(self.ids, key),
+            Orphans::OfRows => known_row(self.ids, key),
         }
     }
 }
 
-// Whether a key is of no kind, or of a descriptor or a policy of a table of none of these numbers.
-fn is_orphan(ids: &[u32], key: &[u8]) -> bool
-    ensures { result ≡ is_orphan ids.now key.now }
+// What a key begins with that tells that it is of a kind, and where it is a descriptor or a policy, of a table of one of these
+// numbers.
+fn known_definition<'k>(ids: &[u32], key: &'k [u8]) -> Option<&'k [u8]>
+    ensures { KnowsPrefix (is_orphan ids.now) [] key.now result }
 {
-    if is_of_kind(RecordKind::Role as u8, key) {
-        return false;
+    if is_of_no_table(key) {
+        return Some(&key[..1]);
     }
-    if is_of_kind(RecordKind::Membership as u8, key) {
-        return false;
+    if is_of_a_table(ids, key) {
+        return Some(&key[..TABLE_PREFIX_LENGTH]);
     }
-    if is_of_kind(RecordKind::Table as u8, key) {
-        return false;
+    None
+}
+
+// What a key of a row begins with that tells that it is of a table of one of these numbers.
+fn known_row<'k>(ids: &[u32], key: &'k [u8]) -> Option<&'k [u8]>
+    requires { has_prefix rows_prefix key.now ≡ true }
+    ensures { KnowsPrefix (is_orphan_row ids.now) rows_prefix key.now result }
+{
+    if is_row_of_a_table(ids, key) {
+        return Some(&key[..TABLE_PREFIX_LENGTH]);
     }
-    if is_of_kind(RecordKind::Row as u8, key) {
-        return false;
-    }
-    !is_of_a_table(ids, key)
+    None
+}
+
+// Whether a key is that of a role, a membership, a table or a row, which is no orphan among the definitions.
+fn is_of_no_table(key: &[u8]) -> bool
+    ensures { result ≡ (has_prefix role_prefix key.now || has_prefix membership_prefix key.now
+        || has_prefix table_prefix key.now || has_prefix rows_prefix key.now) }
+{
+    is_of_kind(RecordKind::Role as u8, key)
+        || is_of_kind(RecordKind::Membership as u8, key)
+        || is_of_kind(RecordKind::Table as u8, key)
+        || is_of_kind(RecordKind::Row as u8, key)
 }
 
 // Whether a key is of the table of one of these numbers.
@@ -71,13 +109,6 @@ fn is_of_a_table(ids: &[u32], key: &[u8]) -> bool
     ensures { result ≡ list_any (is_key_of key.now) ids.now }
 {
     ids.iter().any(|id| is_key_of(key, *id))
-}
-
-// Whether a key is that of a row, and of no table of these numbers.
-fn is_orphan_row(ids: &[u32], key: &[u8]) -> bool
-    ensures { result ≡ is_orphan_row ids.now key.now }
-{
-    is_of_kind(RecordKind::Row as u8, key) && !is_row_of_a_table(ids, key)
 }
 
 // Whether a key is that of a row of the table of one of these numbers.

@@ -8,14 +8,14 @@ ghost use Rattle.catalogue_loading.specs.Found.{Finds};
 ghost use Rattle.catalogue_loading.specs.Held.{HasNoOrphan};
 
 use crate::orphan_records::{OrphanTest, Orphans, no_orphan_is_left};
-use crate::record_checks::check_records;
+use crate::prefix_checks::check_prefixes;
 use catalogue::numbers::table_ids;
 use catalogue::table::TableDefinition;
 use std::alloc::Global;
 use store::{Fault, Map};
 
-/// Reads all records, and finds no orphan where these are the tables. Device: the map answered it.
-/// Damaged: one of the records is an orphan.
+/// Finds no orphan among all records where these are the tables, by one record for each kind and each table. Device: the map
+/// answered it. Damaged: one of the records is an orphan.
 pub(crate) fn check_orphans<M: Map>(
     alloc: Global,
     map: &mut M,
@@ -33,5 +33,5 @@ pub(crate) fn check_orphans<M: Map>(
         orphans: Orphans::OfDefinitions,
         ids: &ids,
     };
-    check_records(map, &[], &test)
+    check_prefixes(map, &test)
 }

@@ -10,12 +10,12 @@ ghost use Rattle.catalogue_loading.specs.RecordChecks.{ChecksRecords, IsNoOrphan
 ghost use Rattle.catalogue_loading.specs.RowChecks.{ChecksTables};
 
 use crate::orphan_records::{OrphanTest, Orphans};
+use crate::prefix_checks::check_prefixes;
 use crate::record_checks::check_records;
 use crate::row_records::RowTest;
 use catalogue::numbers::table_ids;
 use catalogue::table::TableDefinition;
 use std::alloc::Global;
-use storage_sizes::RecordKind;
 use store::{Fault, Map};
 
 /// Whether each record of a row of these tables is that of a row which its table may hold. Device:
@@ -47,8 +47,8 @@ fn check_table<M: Map>(map: &mut M, table: &TableDefinition) -> Result<(), Fault
     check_records(map, &test.prefix(), &test)
 }
 
-/// Whether each record of a row is of one of these tables. Device: the map answered it. Damaged: one
-/// of the records is of none.
+/// Whether each record of a row is of one of these tables, by the first record of each table. Device: the map answered it.
+/// Damaged: one of the records is of none.
 pub(crate) fn check_orphans<M: Map>(
     alloc: Global,
     map: &mut M,
@@ -65,5 +65,5 @@ pub(crate) fn check_orphans<M: Map>(
         orphans: Orphans::OfRows,
         ids: ids.as_slice(),
     };
-    check_records(map, &[RecordKind::Row as u8], &test)
+    check_prefixes(map, &test)
 }
