@@ -35,7 +35,7 @@ use Rattle.executor.proofs.FoundOrder.{found_may_be}
 
 -- ---- all rows are counted
 
-passes_each : {X : Type 0} (p : X → Outcome) (xs : List X) → ((x : X) → Among x xs → p x ≡ Ok (Boolean true)) → passing p xs ≡ Ok xs
+pub passes_each : {X : Type 0} (p : X → Outcome) (xs : List X) → ((x : X) → Among x xs → p x ≡ Ok (Boolean true)) → passing p xs ≡ Ok xs
 passes_each p [] all = refl
 passes_each p (x ∷ xs) all = rw (all x (inl refl)) (rw (passes_each p xs (λ y among. all y (inr among))) refl)
 

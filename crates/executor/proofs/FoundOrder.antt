@@ -47,7 +47,7 @@ use Rattle.executor.specs.FoundOrder.{BeginAlike, ComparesAs, GoesOnBetween, Hav
 
 -- ---- keys with one front
 
-front_of : (p k : List ℕ) → has_prefix p k ≡ true → (rest : List ℕ) × (k ≡ p ++ rest)
+pub front_of : (p k : List ℕ) → has_prefix p k ≡ true → (rest : List ℕ) × (k ≡ p ++ rest)
 front_of [] k h = (k, refl)
 front_of (x ∷ p) [] h = cc
 front_of (x ∷ p) (y ∷ k) h =
@@ -101,10 +101,10 @@ same_text s t xs ys free_s free_t same =
     sym first.0 ∙ second.0
 
 -- a column of this type
-abbrev of_kind : ColumnType → Column
+abbrev pub of_kind : ColumnType → Column
 of_kind kind = record { name = []; column_type = kind; not_null = true }
 
-fits_alone : (kind : ColumnType) (v : Value) → IsOfType kind v → FitsColumns (of_kind kind ∷ []) (v ∷ [])
+pub fits_alone : (kind : ColumnType) (v : Value) → IsOfType kind v → FitsColumns (of_kind kind ∷ []) (v ∷ [])
 fits_alone kind v of = record { width = refl; each = go }
   where
     go : (index : ℕ) → FitsColumnIfAny (slice_get (of_kind kind ∷ []) index) (value_at (v ∷ []) index)
@@ -125,7 +125,7 @@ same_order kind v w of_v of_w same =
     ∙ itself (key_cell w ++ []))
 
 -- two values of one type are the same where the cells of both stand at the front of the same bytes
-same_cell : (t : ColumnType) (v w : Value) (r s : List ℕ) → IsOfType t v → IsOfType t w → key_cell v ++ r ≡ key_cell w ++ s → v ≡ w
+pub same_cell : (t : ColumnType) (v w : Value) (r s : List ℕ) → IsOfType t v → IsOfType t w → key_cell v ++ r ≡ key_cell w ++ s → v ≡ w
 same_cell type.BigInt (Int a) (Int b) r s p q same =
     let order : int_cmp a b ≡ Equal = same_order type.BigInt (Int a) (Int b) p q (ap (λ (zs : List ℕ). take 8 zs) same) in
     compared_equal (Int a) (Int b) (ap (λ o. Some o) order)
@@ -159,7 +159,7 @@ same_cell type.Boolean (Boolean true) (Text t) r s p q same = absurd q
 
 -- ---- one column
 
-of_column : (o : Option Column) (c : Column) (v : Value) → o ≡ Some c → is_not_null o ≡ true → FitsColumnIfAny o v → IsOfType c.column_type v
+pub of_column : (o : Option Column) (c : Column) (v : Value) → o ≡ Some c → is_not_null o ≡ true → FitsColumnIfAny o v → IsOfType c.column_type v
 of_column o c v is marked fits =
     of_type_fits c v (subst (λ (x : Option Column). is_not_null x ≡ true) is marked) (subst (λ (x : Option Column). FitsColumnIfAny x v) is fits)
 
@@ -234,7 +234,7 @@ same_prefix p q r s long_p long_q same =
     sym (take-append_seam p r) ∙ ap (λ n. take n (p ++ r)) (long_p ∙ sym long_q) ∙ ap (λ (zs : List ℕ). take (length q) zs) same ∙ take-append_seam q s
 
 -- the key of a row in a span goes on behind the prefix of the table
-goes_behind_prefix : (id : ℕ) (layout : Layout) (start stop s t : List ℕ) → HaveOnePrefix start stop s t → (row : Row) → FitsColumns layout.columns row
+pub goes_behind_prefix : (id : ℕ) (layout : Layout) (start stop s t : List ℕ) → HaveOnePrefix start stop s t → (row : Row) → FitsColumns layout.columns row
     → is_in (Span start stop) (row_prefix id ++ row_key layout row) ≡ true → GoesOnBetween layout (row_prefix id) s t layout.key row
 goes_behind_prefix id layout start stop s t one row fits inside =
     let key : List ℕ = row_prefix id ++ row_key layout row in

@@ -1,5 +1,5 @@
 -- Row security and conditions that read known columns alone come to the same on each row with their values.
-use Rattle.std.proofs.Common.{◌≡◌, ℕ, zero, suc, nat_eq, Bool, true, false, not, ◌||◌, is_some, if◌then◌else◌, List, [], ◌∷◌, ◌++◌, map, fold, Some, Result, Ok, Err, Bor, refl, sym, ap, subst, ◌∙◌}
+use Rattle.std.proofs.Common.{◌≡◌, ℕ, zero, suc, nat_eq, Bool, true, false, not, ◌||◌, is_some, ◌⊎◌, if◌then◌else◌, List, [], ◌∷◌, ◌++◌, map, fold, Option, Some, None, Result, Ok, Err, Bor, refl, sym, ap, subst, ◌∙◌, inl, inr}
 use Rattle.std.specs.List.{list_all, list_any}
 use Rattle.sql_types.specs.declared.value.Value.{Value}
 use Rattle.sql_types.specs.declared.value.Value.TheVariants.{Null, Int, Text, Bool as Boolean}
@@ -8,9 +8,10 @@ use Rattle.sql_types.specs.Row.{Row, value_at}
 use Rattle.sql_types.specs.Value.{owned}
 use Rattle.sql_ast.specs.declared.columns.Column.{Column}
 use Rattle.sql_ast.specs.declared.scope.ColumnIndex.{ColumnIndex}
+use Rattle.sql_ast.specs.Fits.{FitsTable}
 use Rattle.sql_ast.specs.Layout.{Layout, IsLayout, is_not_null_at}
 use Rattle.sql_ast.specs.Term.{Term, literal, column, current_user, session_user, comparison, operation, minus, conjunction, disjunction, negation, null_test, not_null_test, member_test}
-use Rattle.std.specs.Prelude.{slice_get, OnOk}
+use Rattle.std.specs.Prelude.{slice_get, IfSome, OnOk}
 use Rattle.expressions.specs.Meaning.{UserNames, value_of, member_value, and_then, or_else}
 use Rattle.expressions.specs.Operators.{compared, calculated, negated, not_value, is_null}
 use Rattle.expressions.specs.Outcome.{Outcome, with_value, with_both}
@@ -22,7 +23,6 @@ use Rattle.abstract_database.specs.Guards.{any_of, formula}
 use Rattle.guards.specs.declared.guard.Formula.{Formula}
 use Rattle.guards.specs.Guards.{Cells, cells_of, formula_value, guard_value, row_guard, terms as lent_terms}
 use Rattle.guards.specs.Truths.{is_met, and_all}
-use Rattle.gathering.specs.declared.query.Query.{Query}
 use Rattle.gathering.specs.Passed.{alone}
 use Rattle.gathering.specs.Queries.{terms}
 use Rattle.gathering.specs.Reads.{names}
@@ -35,12 +35,17 @@ use Rattle.executor.specs.declared.found_order.SharedCell.{SharedCell}
 use Rattle.executor.specs.declared.known_columns.KnownColumn.{KnownColumn}
 use Rattle.executor.specs.declared.known_columns.KnownColumns.{KnownColumns}
 use Rattle.executor.specs.declared.known_columns.Unknown.{Unknown}
-use Rattle.executor.specs.FoundOrder.{BeginAlike, HaveOnePrefix}
-use Rattle.executor.specs.Known.{known_value, or_null, known_cell, is_unknown, HasValues, KnowsMore, AreTrue, lent_name, formula_names, formulas_name, LetsAllThrough}
-use Rattle.executor.proofs.FoundOrder.{value_is, goes_onward, goes_in_span}
+use Rattle.executor.specs.Certain.{BeginsWithCell, HasValues, IsNotBelow, IsNotAbove, HasKnown}
+use Rattle.executor.specs.FoundOrder.{BeginAlike, HaveOnePrefix, IsInsideIfAny}
+use Rattle.executor.specs.Known.{known_value, or_null, known_cell, is_unknown, AreTrue, IsKnownInside, IsLetThrough, KnowsMore, lent_name, formula_names, formulas_name, LetsAllThrough, LetsSpanThrough, LetsSpansThrough}
+use Rattle.executor.proofs.CellBounds.{at_least, at_most}
+use Rattle.executor.proofs.FoundOrder.{value_is, goes_onward, goes_behind_prefix, inside_span}
 use Rattle.key_ranges.specs.declared.range.KeyRange.{KeyRange}
-use Rattle.key_ranges.specs.declared.range.KeyRange.TheVariants.{Span}
-use Rattle.row_codec.specs.Rows.{row_prefix}
+use Rattle.key_ranges.specs.declared.range.KeyRange.TheVariants.{Span, Several}
+use Rattle.key_ranges.specs.declared.spans.KeySpan.{KeySpan}
+use Rattle.key_ranges.specs.Ranges.{is_in, is_inside}
+use Rattle.key_ranges.specs.Spans.{is_in_span, is_in_spans, Spans}
+use Rattle.row_codec.specs.Rows.{row_key, row_prefix}
 use Rattle.abstract_database.specs.Queries.{condition_value}
 
 -- ---- expressions that name no column of a kind
@@ -115,7 +120,7 @@ module _ (kind : ColumnIndex → Bool) where
 
 -- ---- known columns
 
-known_is : (row : Row) (ks : List KnownColumn) (index : ℕ) → HasValues row ks → is_some (known_value index ks) ≡ true → value_at row index ≡ or_null (known_value index ks)
+pub known_is : (row : Row) (ks : List KnownColumn) (index : ℕ) → HasValues row ks → is_some (known_value index ks) ≡ true → value_at row index ≡ or_null (known_value index ks)
 known_is row [] index has e = cc
 known_is row (k ∷ ks) index has e = go (nat_eq k.index index) refl e (λ there. known_is row ks index has.1 there)
   where
@@ -151,7 +156,7 @@ module _ (row : Row) (unknown : Unknown) (has : HasValues row unknown.known.now.
 
 -- ---- conditions that are true
 
-is_true_if_met : (o : Outcome) → is_met o ≡ Ok true → o ≡ Ok (Boolean true)
+pub is_true_if_met : (o : Outcome) → is_met o ≡ Ok true → o ≡ Ok (Boolean true)
 is_true_if_met (Ok (Boolean true)) e = refl
 is_true_if_met (Ok (Boolean false)) e = cc
 is_true_if_met (Ok Null) e = cc
@@ -159,45 +164,112 @@ is_true_if_met (Ok (Int n)) e = cc
 is_true_if_met (Ok (Text t)) e = cc
 is_true_if_met (Err code) e = cc
 
-pub true_of_known : (table : Target) (users : UserNames) (q : Query) (unknown : Unknown) → formulas_name (is_unknown unknown) table.guard.now.existing ≡ false
-    → list_any (λ (c : TypedTerm). names (is_unknown unknown) c.term) q.conditions ≡ false
+pub true_of_known : (table : Target) (users : UserNames) (cs : List TypedTerm) (unknown : Unknown) → formulas_name (is_unknown unknown) table.guard.now.existing ≡ false
+    → list_any (λ (c : TypedTerm). names (is_unknown unknown) c.term) cs ≡ false
     → is_met (guard_value (users_of table) table.guard.now.existing (known_cell unknown.known.now)) ≡ Ok true
-    → and_all truth.True (map (value_on (known_cell unknown.known.now) users) q.conditions) ≡ Ok truth.True → AreTrue unknown.known.now table users q
-true_of_known table users q unknown guard conditions seen met row has = record {
+    → and_all truth.True (map (value_on (known_cell unknown.known.now) users) cs) ≡ Ok truth.True → AreTrue unknown.known.now table users cs
+true_of_known table users cs unknown guard conditions seen met row is_known = let has = is_known.values in record {
   seen = is_true_if_met (sees table row)
       (ap is_met (guard_same (is_unknown unknown) (users_of table) (cells_of (row ∷ [])) (known_cell unknown.known.now) (same_cells row unknown has) table.guard.now.existing guard) ∙ seen);
-  met = is_true_if_met _ (all_met (map (bound_value users (alone row)) (terms q.conditions)) ∙ ap when_met (ap (and_all truth.True) (outcomes_same row unknown has users q.conditions conditions) ∙ met));
+  met = is_true_if_met _ (all_met (map (bound_value users (alone row)) (terms cs)) ∙ ap when_met (ap (and_all truth.True) (outcomes_same row unknown has users cs conditions) ∙ met));
 }
 
 -- ---- columns of a key
 
-pub none_more : (layout : Layout) (start stop key : List ℕ) (ks : List KnownColumn) → KnowsMore layout start stop key ks ks
-none_more layout start stop key ks front row marked goes has = has
+pub none_more : (layout : Layout) (start stop key : List ℕ) (known : KnownColumns) → KnowsMore layout start stop key known known
+none_more layout start stop key known front row marked goes is_known = is_known
 
 push_value : (row : Row) (ks : List KnownColumn) (k : KnownColumn) → HasValues row ks → value_at row k.index ≡ owned k.value → HasValues row (ks ++ k ∷ [])
 push_value row [] k has is = (is, tt)
 push_value row (x ∷ ks) k has is = (has.0, push_value row ks k has.1 is)
 
 -- one column more, and then the others
-pub known_more : (layout : Layout) (index : ℕ) (others : List ℕ) (c : Column) (is : slice_get layout.columns index ≡ Some c) (start stop : List ℕ) (cell : SharedCell) (old mid new : List KnownColumn) (k : KnownColumn)
-    → BeginAlike c.column_type start stop cell → k.index ≡ index → k.value ≡ cell.value → mid ≡ old ++ k ∷ [] → KnowsMore layout cell.start.now cell.stop.now others mid new
+pub known_more : (layout : Layout) (index : ℕ) (others : List ℕ) (c : Column) (is : slice_get layout.columns index ≡ Some c) (start stop : List ℕ) (cell : SharedCell) (old new : KnownColumns) (mid : List KnownColumn) (k : KnownColumn)
+    → BeginAlike c.column_type start stop cell → k.index ≡ index → k.value ≡ cell.value → mid ≡ old.columns ++ k ∷ []
+    → KnowsMore layout cell.start.now cell.stop.now others (record { columns = mid; least = old.least; greatest = old.greatest }) new
     → KnowsMore layout start stop (index ∷ others) old new
-known_more layout index others c is start stop cell old mid new k alike at holds pushed later front row marked goes has =
+known_more layout index others c is start stop cell old new mid k alike at holds pushed later front row marked goes is_known =
     let parts = and_parts (is_not_null_at layout.columns index) (list_all (is_not_null_at layout.columns) others) marked in
     let value : value_at row k.index ≡ owned k.value =
     ap (value_at row) at ∙ value_is layout index others c is start stop cell alike front parts.0 row goes ∙ ap owned (sym holds) in
     later _ row parts.1 (goes_onward layout index others c is start stop cell alike front parts.0 row goes)
-    (subst (HasValues row) (sym pushed) (push_value row old k has value))
+    (record { values = subst (HasValues row) (sym pushed) (push_value row old.columns k is_known.values value); least = is_known.least; greatest = is_known.greatest })
 
--- each row of a span has the values that are known, so it is let through where they are
-pub all_through : (table : Target) (users : UserNames) (q : Query) (range : Bor KeyRange) (start stop s t : List ℕ) (found : KnownColumns) → table.range ≡ Some range → range.now ≡ Span start stop → IsLayout table.columns.now
-    → HaveOnePrefix start stop s t → KnowsMore table.columns.now s t table.columns.now.key [] found.columns → AreTrue found table users q → LetsAllThrough table users q
-all_through table users q range start stop s t found ranged is layout one knows are_true row may =
-    are_true row (knows (row_prefix table.id) row layout.key_not_null (goes_in_span table range start stop s t ranged is one row may) tt)
+-- the bounds of a column, and no more columns
+pub bounds_more : (layout : Layout) (index : ℕ) (others : List ℕ) (c : Column) (is : slice_get layout.columns index ≡ Some c) (start stop : List ℕ) (old : KnownColumns) (least greatest : Option KnownColumn)
+    → IfSome least (BeginsWithCell index c.column_type start) → IfSome greatest (BeginsWithCell index c.column_type stop)
+    → KnowsMore layout start stop (index ∷ others) old (record { columns = old.columns; least = least; greatest = greatest })
+bounds_more layout index others c is start stop old least greatest of_least of_greatest front row marked goes is_known =
+    let parts = and_parts (is_not_null_at layout.columns index) (list_all (is_not_null_at layout.columns) others) marked in
+    record { values = is_known.values; least = from_below least of_least parts.0; greatest = from_above greatest of_greatest parts.0 }
+  where
+    from_below : (o : Option KnownColumn) → IfSome o (BeginsWithCell index c.column_type start) → is_not_null_at layout.columns index ≡ true → IsNotBelow row o
+    from_below None begins m = tt
+    from_below (Some k) begins m = at_least layout index others c is m front start stop row goes k begins
+
+    from_above : (o : Option KnownColumn) → IfSome o (BeginsWithCell index c.column_type stop) → is_not_null_at layout.columns index ≡ true → IsNotAbove row o
+    from_above None begins m = tt
+    from_above (Some k) begins m = at_most layout index others c is m front start stop row goes k begins
+
+-- where nothing was known before, all that is new is known of each row of a span
+pub inside_known : (id : ℕ) (layout : Layout) (start stop s t : List ℕ) (old new : KnownColumns) → old ≡ record { columns = []; least = None; greatest = None } → IsLayout layout → HaveOnePrefix start stop s t
+    → KnowsMore layout s t layout.key old new → IsKnownInside id layout start stop new
+inside_known id layout start stop s t old new empty is_layout one knows row fits inside =
+    knows (row_prefix id) row is_layout.key_not_null (goes_behind_prefix id layout start stop s t one row fits.columns inside)
+    (subst (λ k. HasKnown k row) (sym empty) (record { values = tt; least = tt; greatest = tt }))
+
+-- so the rows of the span are let through where they are by what is known of them
+pub span_through : (table : Target) (users : UserNames) (cs : List TypedTerm) (start stop : List ℕ) (known : KnownColumns) → IsKnownInside table.id table.columns.now start stop known → AreTrue known table users cs → LetsSpanThrough table users cs start stop
+span_through table users cs start stop known inside are_true row fits is_in = are_true row (inside row fits is_in)
+
+-- the rows that the target may find are those of its span
+pub all_of_span : (table : Target) (users : UserNames) (cs : List TypedTerm) (range : Bor KeyRange) (start stop : List ℕ) → table.range ≡ Some range → range.now ≡ Span start stop → LetsSpanThrough table users cs start stop → LetsAllThrough table users cs
+all_of_span table users cs range start stop ranged is through row may = through row may.fits (inside_span table range start stop ranged is row may)
+
+-- or of its spans
+pub all_of_spans : (table : Target) (users : UserNames) (cs : List TypedTerm) (range : Bor KeyRange) (spans : Spans) (all : List KeySpan) → table.range ≡ Some range → range.now ≡ Several spans → all ≡ spans.spans → LetsSpansThrough table users cs all → LetsAllThrough table users cs
+all_of_spans table users cs range spans all ranged is same through row may =
+    through row may.fits
+    (subst (λ (l : List KeySpan). is_in_spans l (row_prefix table.id ++ row_key table.columns.now row) ≡ true) (sym same)
+    (subst (λ (r : KeyRange). is_in r (row_prefix table.id ++ row_key table.columns.now row) ≡ true) is
+    (subst (λ (r : Option (Bor KeyRange)). IsInsideIfAny table.id table.columns.now r row) ranged may.inside)))
+
+-- rows of the spans that still come, or they are let through
+abbrev pub StillComes : Target → UserNames → List TypedTerm → List KeySpan → List KeySpan → Type 0
+StillComes table users cs all left = (row : Row) → FitsTable table.columns.now row → is_in_spans all (row_prefix table.id ++ row_key table.columns.now row) ≡ true
+    → IsLetThrough table users cs row ⊎ (is_in_spans left (row_prefix table.id ++ row_key table.columns.now row) ≡ true)
+
+-- at first all still come
+pub all_come : (table : Target) (users : UserNames) (cs : List TypedTerm) (all left : List KeySpan) → left ≡ all → StillComes table users cs all left
+all_come table users cs all left same row fits inside = inr (subst (λ (l : List KeySpan). is_in_spans l (row_prefix table.id ++ row_key table.columns.now row) ≡ true) (sym same) inside)
+
+-- those of one span are let through
+pub one_through : (table : Target) (users : UserNames) (cs : List TypedTerm) (all left : List KeySpan) (s : KeySpan) (rest : List KeySpan) → left ≡ s ∷ rest → StillComes table users cs all left → LetsSpanThrough table users cs s.start s.stop
+    → StillComes table users cs all rest
+one_through table users cs all left s rest is come through row fits inside = go (come row fits inside)
+  where
+    key : List ℕ
+    key = (row_prefix table.id ++ row_key table.columns.now row)
+
+    of : (b : Bool) → is_in_span s key ≡ b → (b || is_in_spans rest key) ≡ true → IsLetThrough table users cs row ⊎ (is_in_spans rest key ≡ true)
+    of true here e = inl (through row fits here)
+    of false here e = inr e
+
+    go : IsLetThrough table users cs row ⊎ (is_in_spans left key ≡ true) → IsLetThrough table users cs row ⊎ (is_in_spans rest key ≡ true)
+    go (inl let_through) = inl let_through
+    go (inr later) = of (is_in_span s key) refl (subst (λ (l : List KeySpan). is_in_spans l key ≡ true) is later)
+
+-- where none still come, all are let through
+pub none_come : (table : Target) (users : UserNames) (cs : List TypedTerm) (all left : List KeySpan) → left ≡ [] → StillComes table users cs all left → LetsSpansThrough table users cs all
+none_come table users cs all left is come row fits inside = go (come row fits inside)
+  where
+    go : IsLetThrough table users cs row ⊎ (is_in_spans left (row_prefix table.id ++ row_key table.columns.now row) ≡ true) → IsLetThrough table users cs row
+    go (inl let_through) = let_through
+    go (inr later) = let e : is_in_spans [] (row_prefix table.id ++ row_key table.columns.now row) ≡ true = subst (λ (l : List KeySpan). is_in_spans l (row_prefix table.id ++ row_key table.columns.now row) ≡ true) is later in cc
 
 -- where there is no guard and no condition
-pub none_stops : (table : Target) (users : UserNames) (q : Query) → table.guard.now.existing ≡ [] → q.conditions ≡ [] → LetsAllThrough table users q
-none_stops table users q unguarded unconditional row may = record {
+pub none_stops : (table : Target) (users : UserNames) (cs : List TypedTerm) → table.guard.now.existing ≡ [] → cs ≡ [] → LetsAllThrough table users cs
+none_stops table users cs unguarded unconditional row may = record {
   seen = ap (λ (fs : List Formula). row_guard (users_of table) fs row) unguarded;
   met = ap (λ (cs : List TypedTerm). condition_value users (terms cs) (alone row)) unconditional;
 }

@@ -1,7 +1,10 @@
 pub mod ByParts
 pub mod FoundOrder
+pub mod CellBounds
 pub mod Known
+pub mod Certainty
 pub mod CountedRows
+pub mod Unguarded
 pub mod EachLookedUp
 pub mod InOrder
 pub mod InPlace

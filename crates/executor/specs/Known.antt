@@ -1,17 +1,19 @@
 -- Columns of a table whose values are known of each row of a span, and a count of rows that conditions let pass by these alone.
-use Rattle.std.specs.Prelude.{◌≡◌, ℕ, zero, suc, nat_eq, Bool, true, not, ◌||◌, is_some, if◌then◌else◌, IsTrue, List, [], ◌∷◌, Option, Some, None, Ok}
+use Rattle.std.specs.Prelude.{◌≡◌, ℕ, zero, suc, nat_eq, Bool, true, not, ◌||◌, is_some, if◌then◌else◌, IsTrue, List, [], ◌∷◌, ◌++◌, Option, Some, None, Ok}
 use Rattle.std.specs.Borrow.{Bor}
-use Rattle.std.specs.List.{list_all, list_any, AllByRecursion}
+use Rattle.std.specs.List.{list_all, list_any}
 use Rattle.sql_types.specs.declared.value.Value.{Value}
 use Rattle.sql_types.specs.declared.value.Value.TheVariants.{Null, Bool as Boolean}
-use Rattle.sql_types.specs.Row.{Row, value_at}
+use Rattle.sql_types.specs.Row.{Row}
 use Rattle.sql_types.specs.Value.{owned}
 use Rattle.sql_ast.specs.declared.scope.ColumnIndex.{ColumnIndex}
+use Rattle.sql_ast.specs.Fits.{FitsTable}
 use Rattle.sql_ast.specs.Layout.{Layout, is_not_null_at}
 use Rattle.expressions.specs.Meaning.{UserNames}
 use Rattle.expressions.specs.Types.{TypedTerm}
 use Rattle.abstract_database.specs.Queries.{condition_value}
 use Rattle.guards.specs.declared.guard.Formula.{Formula}
+use Rattle.guards.specs.declared.guard.Guard.{Guard}
 use Rattle.gathering.specs.declared.query.OutputList.TheVariants.{Count}
 use Rattle.gathering.specs.declared.query.Query.{Query}
 use Rattle.gathering.specs.Passed.{alone}
@@ -22,6 +24,12 @@ use Rattle.table_rows.specs.Targets.{sees}
 use Rattle.executor.specs.declared.known_columns.KnownColumn.{KnownColumn}
 use Rattle.executor.specs.declared.known_columns.KnownColumns.{KnownColumns}
 use Rattle.executor.specs.declared.known_columns.Unknown.{Unknown}
+use Rattle.row_codec.specs.Rows.{row_key, row_prefix}
+use Rattle.key_ranges.specs.declared.range.KeyRange.TheVariants.{Span}
+use Rattle.key_ranges.specs.declared.spans.KeySpan.{KeySpan}
+use Rattle.key_ranges.specs.Ranges.{is_inside}
+use Rattle.key_ranges.specs.Spans.{is_in_spans}
+use Rattle.executor.specs.Certain.{HasKnown}
 use Rattle.executor.specs.FoundOrder.{GoesOnBetween, MayBeFound}
 
 -- ---- known columns
@@ -44,13 +52,13 @@ known_cell known (suc table) column = Null
 abbrev pub is_unknown : Unknown → ColumnIndex → Bool
 is_unknown u c = not (nat_eq c.table 0) || not (is_some (known_value c.column u.known.now.columns))
 
--- the row has these values in these columns
-abbrev pub HasValues : Row → List KnownColumn → Type 0
-HasValues row known = AllByRecursion (λ k. value_at row k.index ≡ owned k.value) known
+-- more is known of a row whose columns of the key go on between start and stop
+abbrev pub KnowsMore : Layout → List ℕ → List ℕ → List ℕ → KnownColumns → KnownColumns → Type 0
+KnowsMore layout start stop key old new = (front : List ℕ) (row : Row) → IsTrue (list_all (is_not_null_at layout.columns) key) → GoesOnBetween layout front start stop key row → HasKnown old row → HasKnown new row
 
--- a row has more values that are known, where its columns of the key go on between start and stop
-abbrev pub KnowsMore : Layout → List ℕ → List ℕ → List ℕ → List KnownColumn → List KnownColumn → Type 0
-KnowsMore layout start stop key old new = (front : List ℕ) (row : Row) → IsTrue (list_all (is_not_null_at layout.columns) key) → GoesOnBetween layout front start stop key row → HasValues row old → HasValues row new
+-- all that is new is known of each row of a table whose key is in a span
+abbrev pub IsKnownInside : ℕ → Layout → List ℕ → List ℕ → KnownColumns → Type 0
+IsKnownInside id layout start stop known = (row : Row) → FitsTable layout row → is_inside id layout (Span start stop) row ≡ true → HasKnown known row
 
 -- ---- conditions that read no other columns
 
@@ -67,19 +75,31 @@ formulas_name kind fs = list_any (formula_names kind) fs
 -- ---- rows that are counted
 
 -- the guard lets the row pass, and the conditions are true of it
-pub record IsLetThrough (table : Target) (users : UserNames) (q : Query) (row : Row) : Type 0 where
+pub record IsLetThrough (table : Target) (users : UserNames) (conditions : List TypedTerm) (row : Row) : Type 0 where
   pub seen : sees table row ≡ Ok (Boolean true)
-  pub met : condition_value users (terms q.conditions) (alone row) ≡ Ok (Boolean true)
+  pub met : condition_value users (terms conditions) (alone row) ≡ Ok (Boolean true)
 
--- so they do with each row that has these values
-abbrev pub AreTrue : KnownColumns → Target → UserNames → Query → Type 0
-AreTrue known table users q = (row : Row) → HasValues row known.columns → IsLetThrough table users q row
+-- so they do with each row of which this is known
+abbrev pub AreTrue : KnownColumns → Target → UserNames → List TypedTerm → Type 0
+AreTrue known table users conditions = (row : Row) → HasKnown known row → IsLetThrough table users conditions row
+
+-- so they do with each row whose key is in a span
+abbrev pub LetsSpanThrough : Target → UserNames → List TypedTerm → List ℕ → List ℕ → Type 0
+LetsSpanThrough table users conditions start stop = (row : Row) → FitsTable table.columns.now row → is_inside table.id table.columns.now (Span start stop) row ≡ true → IsLetThrough table users conditions row
+
+-- or in one of several
+abbrev pub LetsSpansThrough : Target → UserNames → List TypedTerm → List KeySpan → Type 0
+LetsSpansThrough table users conditions spans = (row : Row) → FitsTable table.columns.now row → is_in_spans spans (row_prefix table.id ++ row_key table.columns.now row) ≡ true → IsLetThrough table users conditions row
 
 -- so they do with each row that the target may find
-abbrev pub LetsAllThrough : Target → UserNames → Query → Type 0
-LetsAllThrough table users q = (row : Row) → MayBeFound table row → IsLetThrough table users q row
+abbrev pub LetsAllThrough : Target → UserNames → List TypedTerm → Type 0
+LetsAllThrough table users conditions = (row : Row) → MayBeFound table row → IsLetThrough table users conditions row
 
 -- a query over one table counts all rows that may be found: neither a policy nor a condition leaves one out
 pub record CountsFound (table : Target) (users : UserNames) (q : Query) : Type 0 where
   pub count : q.list ≡ Count
-  pub pass : LetsAllThrough table users q
+  pub pass : LetsAllThrough table users q.conditions
+
+-- a target with this guard in place of its own
+abbrev pub without : Target → Bor Guard → Target
+without table guard = record { id = table.id; columns = table.columns; guard = guard; users = table.users; range = table.range }

@@ -3,3 +3,4 @@ pub mod Selected
 pub mod ByParts
 pub mod FoundOrder
 pub mod Known
+pub mod Certain

@@ -35,7 +35,7 @@ pub(crate) fn counts_found(
 {
     match query.list {
         OutputList::Rows(_) => Ok(false),
-        OutputList::Count => all_pass(alloc, table, users, query),
+        OutputList::Count => all_pass(alloc, table, users, query.conditions.as_slice()),
     }
 }
 

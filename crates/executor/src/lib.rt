@@ -2,6 +2,7 @@
 #![tactic(auto)]
 
 mod by_look_ups;
+mod certain;
 mod counted;
 mod found_order;
 mod in_place;

@@ -1,20 +1,31 @@
-use Rattle.std.proofs.Common.{rules, ◌≡◌, ℕ, List, [], subst}
-use Rattle.key_ranges.specs.declared.range.KeyRange.TheVariants.{Span}
+use Rattle.std.proofs.Common.{rules, ◌≡◌, Bool}
+use Rattle.std.specs.Prelude.{IsTrue}
+use Rattle.std.proofs.lemmas.Result.{IfOk-weaker}
+use Rattle.key_ranges.specs.declared.range.KeyRange.TheVariants.{Span, Several}
 use Rattle.expressions.specs.Rows.{names_of}
-use Rattle.executor.specs.declared.known_columns.KnownColumn.{KnownColumn}
-use Rattle.executor.specs.Known.{KnowsMore}
-use Rattle.executor.proofs.Known.{all_through}
+use Rattle.executor.specs.Known.{LetsAllThrough, LetsSpanThrough, LetsSpansThrough}
+use Rattle.executor.proofs.Known.{all_of_span, all_of_spans}
 use Rattle.executor.proofs.known_columns.all_pass.Goals as goal
 
-pub returns-in_ok-push_known-in-Some : goal.returns-in_ok-push_known-in-Some
-returns-in_ok-push_known-in-Some c = λ true_is.
+pub returns-in-Some-Span : goal.returns-in-Some-Span
+returns-in-Some-Span c =
     let table = c.args.table.now in
+    let users = names_of c.args.users.now in
+    let conditions = c.args.conditions.now in
+    let range = c.in-Some-Span.field-0 in
     let start = c.as_slice.result.now in
     let stop = c.as_slice-in-Some-Span.result.now in
-    let s = c.in-Some.start.now in
-    let t = c.in-Some.stop.now in
-    let is_span : c.in-Some-Span.field-0.now ≡ Span start stop = search rules in
-    let knows = subst (λ (key : List ℕ). KnowsMore table.columns.now s t key [] c.push_known.new.known) c.key-key.ensures.key
-    (subst (λ (old : List KnownColumn). KnowsMore table.columns.now s t c.key-key.result.now old c.push_known.new.known) c.new-columns.ensures c.in_ok-push_known-in-Some.ensures) in
-    all_through table (names_of c.args.users.now) c.args.query.now c.in-Some-Span.field-0 start stop s t (record { columns = c.push_known.new.known }) c.in-Some-Span.is is_span c.key-key.ensures.layout c.in-Some.ensures knows
-    (c.are_true.ensures true_is)
+    let is_span : range.now ≡ Span start stop = search rules in
+    IfOk-weaker c.passes_in_span.result (λ all. IsTrue all → LetsSpanThrough table users conditions start stop) (λ all. IsTrue all → LetsAllThrough table users conditions)
+    (λ all through is. all_of_span table users conditions range start stop c.in-Some-Span.is is_span (through is)) c.passes_in_span.ensures
+
+pub returns-in-Some-Several : goal.returns-in-Some-Several
+returns-in-Some-Several c =
+    let table = c.args.table.now in
+    let users = names_of c.args.users.now in
+    let conditions = c.args.conditions.now in
+    let range = c.in-Some-Several.field-0 in
+    let spans = c.as_slice-in-Some-Several.result.now in
+    let is_several : range.now ≡ Several c.in-Some-Several.spans = search rules in
+    IfOk-weaker c.passes_in_spans.result (λ all. IsTrue all → LetsSpansThrough table users conditions spans) (λ all. IsTrue all → LetsAllThrough table users conditions)
+    (λ all through is. all_of_spans table users conditions range c.in-Some-Several.spans spans c.in-Some-Several.is is_several c.as_slice-in-Some-Several.ensures.spans (through is)) c.passes_in_spans.ensures

@@ -15,8 +15,8 @@ returns-in-Ok-true c = λ met.
     let users = names_of c.args.users.now in
     let unknown : Unknown = record { known = c.args.known } in
     let seen_is : c.sees.result ≡ Ok true = search rules in
-    true_of_known c.args.table.now users c.args.query.now unknown
+    true_of_known c.args.table.now users c.args.conditions.now unknown
     (ap (formulas_name (is_unknown unknown)) (sym c.as_slice.ensures) ∙ sym c.formulas_name.ensures ∙ c.if-formulas_name.false)
-    (ap (λ (cs : List TypedTerm). list_any (λ (d : TypedTerm). names (is_unknown unknown) d.term) cs) (sym c.as_slice-conditions.ensures) ∙ sym c.any_names.ensures ∙ c.if-any_names.false)
+    (sym c.any_names.ensures ∙ c.if-any_names.false)
     (sym c.sees.ensures ∙ seen_is)
-    (ap (λ (cs : List TypedTerm). and_all truth.True (map (value_on (known_cell c.args.known.now) users) cs)) (sym c.as_slice-conditions.ensures) ∙ c.are_met.ensures met)
+    (c.are_met.ensures met)
