@@ -12,6 +12,7 @@ pub mod InRanges
 pub mod JoinedRows
 pub mod LookedUp
 pub mod MoreRanges
+pub mod InsideRange
 pub mod NullColumns
 pub mod OneTables
 pub mod OuterWalk

@@ -4,3 +4,4 @@ pub mod ByParts
 pub mod FoundOrder
 pub mod Known
 pub mod Certain
+pub mod Narrowed

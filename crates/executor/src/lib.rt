@@ -11,6 +11,7 @@ mod inner_lookup;
 mod joined_rows;
 mod known_columns;
 mod looked_up;
+mod narrowed;
 mod one_table;
 mod outer_walk;
 mod selection;

@@ -48,9 +48,9 @@ joins_first index (first ∷ key) conditions = any_joins (record { table = index
 abbrev pub is_looked_up : UserNames → List TypedTerm → ℕ → List ℕ → Bool
 is_looked_up users conditions index key = joins_first index key conditions && not (is_first_bounded (bounds_of index users [] conditions) key)
 
--- a SELECT looks in the range that the guard and its conditions leave of each table, but for those that may be looked up
+-- a SELECT looks in the range that the guard and its conditions leave of each table
 abbrev pub range_among : UserNames → List (List ℕ) → List TypedTerm → ℕ → Source → Option KeyRange
-range_among users roles conditions index s = if is_looked_up users conditions index s.table.now.definition.layout.key then None else range_left index users roles s conditions
+range_among users roles conditions index s = range_left index users roles s conditions
 
 -- the same of those of the tables that come from this index in FROM on
 abbrev pub ranges_among : UserNames → List (List ℕ) → List TypedTerm → ℕ → List Source → List (Option KeyRange)

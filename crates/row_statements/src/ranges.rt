@@ -4,9 +4,8 @@ ghost use Rattle.std.specs.Option.{option_copied};
 ghost use Rattle.expressions.specs.Rows.{names_of};
 ghost use Rattle.row_statements.specs.Targeted.{IsRangedTargetOf, AreTargetsOf};
 ghost use Rattle.key_ranges.specs.BoxCode.{role_names};
-ghost use Rattle.row_statements.specs.Ranges.{range_among, range_left, range_where, ranges_among, AreRanged, IsRangeAmong, IsRangeWhere};
+ghost use Rattle.row_statements.specs.Ranges.{range_left, range_where, ranges_among, AreRanged, IsRangeAmong, IsRangeWhere};
 
-use crate::joins::is_looked_up;
 use expressions::eval::Users;
 use expressions::types::Typed;
 use key_ranges::{KeyRange, table_range};
@@ -78,9 +77,8 @@ pub fn range_where(
 }
 
 /// The tables of a SELECT, each with the range of keys in which its rows are looked for: the one
-/// that row security and the conditions leave of it, as [`table_range`] says. There is none where a
-/// condition compares the first column of the key by `=` to a column of a table before, and none
-/// bounds it otherwise: then keys may be looked up behind the rows of that table.
+/// that row security and the conditions leave of it, as [`table_range`] says, whatever rows the tables
+/// before it have.
 pub fn ranged<'a>(
     alloc: Global,
     sources: &'a [Source<'a>],
@@ -93,28 +91,10 @@ pub fn ranged<'a>(
 {
     let mut ranged = Items::new(alloc);
     for (index, source) in sources.iter().enumerate() {
-        let range = range_among(alloc, source, index, conditions, users)?;
+        let range = range_of(alloc, source, index, conditions, users)?;
         ranged.push(RangedSource { source, range })?;
     }
     Ok(ranged)
-}
-
-// The range of keys in which a SELECT looks for the rows of a table, which has this index in FROM.
-fn range_among(
-    alloc: Global,
-    source: &Source<'_>,
-    index: usize,
-    conditions: &[Typed],
-    users: &Users<'_>,
-) -> Result<Option<KeyRange>, AllocError>
-    ensures exact { IfOk result (λ range. range ≡ range_among (names_of users.now)
-        (role_names users.now) conditions.now index source.now) }
-    ensures safe { IfOk result (IsRangeAmong (names_of users.now) conditions.now index source.now) }
-{
-    if is_looked_up(index, source.table.columns().key(), conditions, users) {
-        return Ok(None);
-    }
-    range_of(alloc, source, index, conditions, users)
 }
 
 // The tables of a plan with their ranges, as what carries it out takes them.
