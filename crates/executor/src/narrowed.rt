@@ -114,7 +114,14 @@ fn span_inside(
             start: first,
             stop: last,
         } => {
-            push_both(alloc, &mut parts, start, stop, first.as_slice(), last.as_slice())?;
+            push_both(
+                alloc,
+                &mut parts,
+                start,
+                stop,
+                first.as_slice(),
+                last.as_slice(),
+            )?;
             Ok(parts)
         }
         KeyRange::Several(spans) => {
