@@ -164,7 +164,7 @@ class Package(unittest.TestCase):
 
     def test_the_manual_has_each_command(self):
         page = self.read('usr/share/man/man1/guarddb.1.gz')
-        for command in ('format', 'run', 'serve', 'check', 'describe', 'copy', 'journal'):
+        for command in ('format', 'run', 'serve', 'check', 'describe', 'explain', 'copy', 'journal'):
             self.assertRegex(page, rf'(?m)^\.B {command} ')
         for title in ('NAME', 'SYNOPSIS', 'COMMANDS', 'OPTIONS', 'EXIT STATUS', 'FILES'):
             self.assertIn(f'.SH {title}\n', page)

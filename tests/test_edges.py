@@ -152,7 +152,8 @@ class Files(InAFolder):
         data[data.index(b'ann', GRANTS, GRANTS + SECTOR) + 2] ^= 1
         self.write('db', bytes(data))
         commands = [('check', self.db), ('run', self.db, self.write('script', 'open r root\n')), ('describe', self.db),
-                    ('copy', self.db, self.path('new'), '--pages', str(PAGES)), ('journal', self.db, 'off'), ('journal', self.db, 'on'),
+                    ('explain', self.db, 'root', 'SELECT 1'), ('copy', self.db, self.path('new'), '--pages', str(PAGES)),
+                    ('journal', self.db, 'off'), ('journal', self.db, 'on'),
                     ('serve', self.db, '--socket', self.path('at'), '--connections', '1')]
         for words in commands:
             with self.subTest(words[0]):
@@ -453,7 +454,8 @@ class Pages(InAFolder):
             os.symlink(os.path.join(TOP, name), self.path(name))
         os.symlink(PROGRAM, self.path('guarddb'))
         first, second = self.commands()
-        self.assertEqual([words[1] for words in first], ['--unproved', 'format', 'run', 'check', 'describe', 'copy', 'clients/shell.py', 'serve'])
+        self.assertEqual([words[1] for words in first], ['--unproved', 'format', 'run', 'check', 'describe', 'explain', 'copy', 'clients/shell.py',
+                                                      'serve'])
         for words in first[1:-1]:
             self.ends_well(words, '\\q\n')
         server = subprocess.Popen(first[-1], cwd=self.folder, stdout=subprocess.DEVNULL, stderr=subprocess.PIPE)

@@ -41,8 +41,9 @@ class Formats(unittest.TestCase):
         told = (1, '', f'guarddb: {fault}\nguarddb: {self.db}: {reason}\n')
         other = os.path.join(self.folder, 'new')
         served = ('serve', self.db, '--port', str(free_port()), '--connections', '1')
-        for words in (('check', self.db), ('describe', self.db), ('run', self.db, '/dev/null'), served,
-                      ('copy', self.db, other, '--pages', '64'), ('journal', self.db, 'on'), ('journal', self.db, 'off')):
+        for words in (('check', self.db), ('describe', self.db), ('explain', self.db, 'root', 'SELECT 1'),
+                      ('run', self.db, '/dev/null'), served, ('copy', self.db, other, '--pages', '64'), ('journal', self.db, 'on'),
+                      ('journal', self.db, 'off')):
             with self.subTest(name, command=words[0]):
                 self.assertEqual(run(*words), told)
         with open(self.db, 'rb') as file:

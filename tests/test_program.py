@@ -755,7 +755,7 @@ class Program(unittest.TestCase):
         """Words that a command does not take show how it is called, and words of no command how the program is, by the lines of its help."""
         usage = run('--help')[1].split('\n\n')[1].removeprefix('Usage: ').split('\n')
         lines = [line.strip() for line in usage]
-        for command in ('format', 'copy', 'journal', 'run', 'serve', 'check', 'describe'):
+        for command in ('format', 'copy', 'journal', 'run', 'serve', 'check', 'describe', 'explain'):
             own = [line for line in lines if line.startswith(f'guarddb {command} ')]
             self.assertTrue(own)
             for words in ((command,), (command, '--no-such-option'), (command, 'a', 'b', 'c', 'd')):

@@ -118,6 +118,15 @@ class Streams(unittest.TestCase):
             self.only_reads(path, closed, text, 'describe', path)
         self.for_each(attempt)
 
+    def test_explain(self):
+        def attempt(closed, path):
+            self.set_up(path)
+            words = ('explain', path, 'root', 'SELECT * FROM t')
+            status, text, messages = run(*words)
+            self.assertEqual((status, messages), (0, ''))
+            self.only_reads(path, closed, text, *words)
+        self.for_each(attempt)
+
     def test_copy(self):
         """A copy is made, though that cannot be told."""
         def attempt(closed, path):
@@ -205,8 +214,9 @@ class Streams(unittest.TestCase):
         script = self.script("open r root\nr: INSERT INTO t VALUES (1, 'a')\n")
         with open(path, 'rb') as file:
             before = file.read()
-        commands = (('run', path, script), ('check', path), ('describe', path), ('journal', path, 'on'), ('run', link, script),
-                    ('copy', path, self.path('new'), '--pages', '64'), ('serve', path, '--port', str(free_port()), '--connections', '1'))
+        commands = (('run', path, script), ('check', path), ('describe', path), ('explain', path, 'root', 'SELECT * FROM t'),
+                    ('journal', path, 'on'), ('run', link, script), ('copy', path, self.path('new'), '--pages', '64'),
+                    ('serve', path, '--port', str(free_port()), '--connections', '1'))
         for words, mode, stream in itertools.product(commands, ('ab', 'r+b'), ('stdout', 'stderr')):
             with self.subTest(words=words, mode=mode, stream=stream), open(path, mode) as output:
                 streams = {'stdout': subprocess.PIPE, 'stderr': subprocess.PIPE, stream: output}
@@ -238,7 +248,8 @@ class Streams(unittest.TestCase):
         script, and that a database was checked, are: whoever asks for them wants to know."""
         path = self.path('db')
         self.set_up(path)
-        for words in (('describe', path), ('describe', path, 'root'), ('describe', path, '--json'), ('--help',), ('--version',)):
+        for words in (('describe', path), ('describe', path, 'root'), ('describe', path, '--json'), ('explain', path, 'root', 'SELECT 1'),
+                      ('--help',), ('--version',)):
             with self.subTest(words=words):
                 self.assertEqual(self.left_alone(*words), (1, ''))
         for words in (('check', path), ('run', path, self.script(READS))):

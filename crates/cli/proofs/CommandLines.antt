@@ -81,6 +81,7 @@ module _ (words : TheWords) (name : TheWord) (rows : List Row) (fits : fault_of 
   order_asks (order.ServeClients file place many) has = (has.0, has.1, gives_of _ has.2, has.3, has.4)
   order_asks (order.Check file) has = gives_of _ has
   order_asks (order.Describe file role json) has = (gives_of _ has.0, has.1)
+  order_asks (order.Explain file asked) has = gives_of _ has
   order_asks order.Help has = absurd has
   order_asks order.Version has = absurd has
 
@@ -115,6 +116,7 @@ asks_by words e (Ok (order.ServeSocket file socket connections idle)) kinds read
 asks_by words e (Ok (order.ServeClients file place many)) kinds read = absurd read
 asks_by words e (Ok (order.Check file)) kinds read = absurd read
 asks_by words e (Ok (order.Describe file role json)) kinds read = absurd read
+asks_by words e (Ok (order.Explain file asked)) kinds read = absurd read
 asks_by words e (Err u) kinds read = tt
 
 refuses_by : (words : TheWords) (e : Error) (r : Result Invocation UsageFault) → HasKind (fault_of program_app words) e → IsReadFrom e r → IfErr r (Refuses words)

@@ -31,6 +31,7 @@ told_with_reason about (fault.Net cause) a b = two_lines (fault_name (fault.Net 
 told_with_reason about (fault.ScriptUnread cause) a b = two_lines (fault_name (fault.ScriptUnread cause)) (subject_text about) (reason_text (fault.ScriptUnread cause))
 told_with_reason about (fault.ScriptNotUtf8 line byte) a b = two_lines (fault_name (fault.ScriptNotUtf8 line byte)) (subject_text about) (reason_text (fault.ScriptNotUtf8 line byte))
 told_with_reason about fault.NoRole a b = two_lines (fault_name fault.NoRole) (subject_text about) (reason_text fault.NoRole)
+told_with_reason about (fault.Statement why) a b = two_lines (fault_name (fault.Statement why)) (subject_text about) (reason_text (fault.Statement why))
 told_with_reason about fault.FirstFormat a b = two_lines (fault_name fault.FirstFormat) (subject_text about) (reason_text fault.FirstFormat)
 told_with_reason about fault.NoSwitchRoom a b = two_lines (fault_name fault.NoSwitchRoom) (subject_text about) (reason_text fault.NoSwitchRoom)
 told_with_reason about fault.NoSwitchNumber a b = two_lines (fault_name fault.NoSwitchNumber) (subject_text about) (reason_text fault.NoSwitchNumber)

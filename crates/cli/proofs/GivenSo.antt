@@ -24,6 +24,7 @@ module _ (G : Given → Type 0) (words : Given) (gives : G words) where
   ordered_so (order.ServeClients file place many) has = (has.0, has.1, so _ has.2, has.3, has.4)
   ordered_so (order.Check file) has = so _ has
   ordered_so (order.Describe file role json) has = (so _ has.0, has.1)
+  ordered_so (order.Explain file asked) has = so _ has
   ordered_so order.Help has = absurd has
   ordered_so order.Version has = absurd has
 

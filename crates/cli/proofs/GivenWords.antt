@@ -6,7 +6,7 @@ use Rattle.clap.specs.Words.{Row, first_of, first_value, one_of, one_text, rows_
 use Rattle.clap.proofs.WalkLemmas.{first_value-rows, one_text-rows}
 use Rattle.clap.specs.declared.parser.matches.Found.{Found}
 use Rattle.sql_types.specs.Name.{IsName}
-use Rattle.cli.specs.CommandLine.{TheWord, Given, Format, Copy, Journal, Run, RunMemory, Serve, ServeSocket, ServeClients, GivenPlace, AtPort, AtSocket, GivenCounts, Check, Describe, HasPlaceWord, HasWords, GivesAs, IsFlag, IsRoleName, lent_word}
+use Rattle.cli.specs.CommandLine.{TheWord, Given, Format, Copy, Journal, Run, RunMemory, Serve, ServeSocket, ServeClients, GivenPlace, AtPort, AtSocket, GivenCounts, Check, Describe, Explain, HasPlaceWord, HasWords, GivesAs, IsFlag, IsRoleName, lent_word}
 
 module _ (f : Found) (id : List ℕ) (r : Option (Bor (List ℕ))) (got : option_map (λ s. s.now) r ≡ first_value f id) where
   -- what a getter gives is the word that the rows have
@@ -102,6 +102,7 @@ no_format rows lacks (ServeSocket file socket connections idle) gives = other_na
 no_format rows lacks (ServeClients file place counts) gives = other_name _ _ gives.named (λ e. omega (arith, e))
 no_format rows lacks (Check file) gives = other_name _ _ gives.named (λ e. omega (arith, e))
 no_format rows lacks (Describe file role json) gives = other_name _ _ gives.named (λ e. omega (arith, e))
+no_format rows lacks (Explain file role statement session json) gives = other_name _ _ gives.named (λ e. omega (arith, e))
 
 pub no_run : (rows : List Row) → ((file script : TheWord) (stop explain : Bool) → HasWords rows (Run file script stop explain) → ⊥) → ((admin script : TheWord) (stop explain : Bool) → HasWords rows (RunMemory admin script stop explain) → ⊥) → (given : Given) → GivesAs (codes "run") rows given → ⊥
 no_run rows fewer lacks (Format file pages admin journal) gives = other_name _ _ gives.named (λ e. omega (arith, e))
@@ -114,6 +115,7 @@ no_run rows fewer lacks (ServeSocket file socket connections idle) gives = other
 no_run rows fewer lacks (ServeClients file place counts) gives = other_name _ _ gives.named (λ e. omega (arith, e))
 no_run rows fewer lacks (Check file) gives = other_name _ _ gives.named (λ e. omega (arith, e))
 no_run rows fewer lacks (Describe file role json) gives = other_name _ _ gives.named (λ e. omega (arith, e))
+no_run rows fewer lacks (Explain file role statement session json) gives = other_name _ _ gives.named (λ e. omega (arith, e))
 
 pub no_serve : (rows : List Row) → ((file port connections : TheWord) (idle : Option TheWord) → HasWords rows (Serve file port connections idle) → ⊥) → ((file socket connections : TheWord) (idle : Option TheWord) → HasWords rows (ServeSocket file socket connections idle) → ⊥) → ((file : TheWord) (place : GivenPlace) (counts : GivenCounts) → HasWords rows (ServeClients file place counts) → ⊥) → (given : Given) → GivesAs (codes "serve") rows given → ⊥
 no_serve rows port socket many (Format file pages admin journal) gives = other_name _ _ gives.named (λ e. omega (arith, e))
@@ -126,6 +128,7 @@ no_serve rows port socket many (ServeSocket file path connections idle) gives = 
 no_serve rows port socket many (ServeClients file place counts) gives = many file place counts gives.words
 no_serve rows port socket many (Check file) gives = other_name _ _ gives.named (λ e. omega (arith, e))
 no_serve rows port socket many (Describe file role json) gives = other_name _ _ gives.named (λ e. omega (arith, e))
+no_serve rows port socket many (Explain file role statement session json) gives = other_name _ _ gives.named (λ e. omega (arith, e))
 
 pub no_check : (rows : List Row) → ((file : TheWord) → HasWords rows (Check file) → ⊥) → (given : Given) → GivesAs (codes "check") rows given → ⊥
 no_check rows lacks (Format file pages admin journal) gives = other_name _ _ gives.named (λ e. omega (arith, e))
@@ -138,6 +141,7 @@ no_check rows lacks (ServeSocket file socket connections idle) gives = other_nam
 no_check rows lacks (ServeClients file place counts) gives = other_name _ _ gives.named (λ e. omega (arith, e))
 no_check rows lacks (Check file) gives = lacks file gives.words
 no_check rows lacks (Describe file role json) gives = other_name _ _ gives.named (λ e. omega (arith, e))
+no_check rows lacks (Explain file role statement session json) gives = other_name _ _ gives.named (λ e. omega (arith, e))
 
 pub no_describe : (rows : List Row) → ((file : TheWord) (role : Option TheWord) (json : Bool) → HasWords rows (Describe file role json) → ⊥) → (given : Given) → GivesAs (codes "describe") rows given → ⊥
 no_describe rows lacks (Format file pages admin journal) gives = other_name _ _ gives.named (λ e. omega (arith, e))
@@ -150,6 +154,7 @@ no_describe rows lacks (ServeSocket file socket connections idle) gives = other_
 no_describe rows lacks (ServeClients file place counts) gives = other_name _ _ gives.named (λ e. omega (arith, e))
 no_describe rows lacks (Check file) gives = other_name _ _ gives.named (λ e. omega (arith, e))
 no_describe rows lacks (Describe file role json) gives = lacks file role json gives.words
+no_describe rows lacks (Explain file role statement session json) gives = other_name _ _ gives.named (λ e. omega (arith, e))
 
 pub no_copy : (rows : List Row) → ((file new pages : TheWord) (journal : Bool) → HasWords rows (Copy file new pages journal) → ⊥) → (given : Given) → GivesAs (codes "copy") rows given → ⊥
 no_copy rows lacks (Format file pages admin journal) gives = other_name _ _ gives.named (λ e. omega (arith, e))
@@ -162,6 +167,7 @@ no_copy rows lacks (ServeSocket file socket connections idle) gives = other_name
 no_copy rows lacks (ServeClients file place counts) gives = other_name _ _ gives.named (λ e. omega (arith, e))
 no_copy rows lacks (Check file) gives = other_second _ _ gives.named (λ e. omega (arith, e))
 no_copy rows lacks (Describe file role json) gives = other_name _ _ gives.named (λ e. omega (arith, e))
+no_copy rows lacks (Explain file role statement session json) gives = other_name _ _ gives.named (λ e. omega (arith, e))
 
 pub no_journal : (rows : List Row) → ((file state : TheWord) → HasWords rows (Journal file state) → ⊥) → (given : Given) → GivesAs (codes "journal") rows given → ⊥
 no_journal rows lacks (Format file pages admin journal) gives = other_name _ _ gives.named (λ e. omega (arith, e))
@@ -174,3 +180,17 @@ no_journal rows lacks (ServeSocket file socket connections idle) gives = other_n
 no_journal rows lacks (ServeClients file place counts) gives = other_name _ _ gives.named (λ e. omega (arith, e))
 no_journal rows lacks (Check file) gives = other_name _ _ gives.named (λ e. omega (arith, e))
 no_journal rows lacks (Describe file role json) gives = other_name _ _ gives.named (λ e. omega (arith, e))
+no_journal rows lacks (Explain file role statement session json) gives = other_name _ _ gives.named (λ e. omega (arith, e))
+
+pub no_explain : (rows : List Row) → ((file role statement : TheWord) (session : Option TheWord) (json : Bool) → HasWords rows (Explain file role statement session json) → ⊥) → (given : Given) → GivesAs (codes "explain") rows given → ⊥
+no_explain rows lacks (Format file pages admin journal) gives = other_name _ _ gives.named (λ e. omega (arith, e))
+no_explain rows lacks (Copy file new pages journal) gives = other_name _ _ gives.named (λ e. omega (arith, e))
+no_explain rows lacks (Journal file state) gives = other_name _ _ gives.named (λ e. omega (arith, e))
+no_explain rows lacks (Run file script stop explain) gives = other_name _ _ gives.named (λ e. omega (arith, e))
+no_explain rows lacks (RunMemory admin script stop explain) gives = other_name _ _ gives.named (λ e. omega (arith, e))
+no_explain rows lacks (Serve file port connections idle) gives = other_name _ _ gives.named (λ e. omega (arith, e))
+no_explain rows lacks (ServeSocket file socket connections idle) gives = other_name _ _ gives.named (λ e. omega (arith, e))
+no_explain rows lacks (ServeClients file place counts) gives = other_name _ _ gives.named (λ e. omega (arith, e))
+no_explain rows lacks (Check file) gives = other_name _ _ gives.named (λ e. omega (arith, e))
+no_explain rows lacks (Describe file role json) gives = other_name _ _ gives.named (λ e. omega (arith, e))
+no_explain rows lacks (Explain file role statement session json) gives = lacks file role statement session json gives.words

@@ -66,6 +66,7 @@ pub data Given : Type 0 where
   ServeClients : (file : TheWord) (place : GivenPlace) (counts : GivenCounts) → Given
   Check : (file : TheWord) → Given
   Describe : (file : TheWord) (role : Option TheWord) (json : Bool) → Given
+  Explain : (file role statement : TheWord) (session : Option TheWord) (json : Bool) → Given
 
 abbrev pub command_of : Given → TheWord
 command_of (Format file pages admin journal) = codes "format"
@@ -78,6 +79,7 @@ command_of (ServeSocket file socket connections idle) = codes "serve"
 command_of (ServeClients file place counts) = codes "serve"
 command_of (Check file) = codes "check"
 command_of (Describe file role json) = codes "describe"
+command_of (Explain file role statement session json) = codes "explain"
 
 -- whether a flag is given: its value is `true` then, and else `false` or none
 pub record IsFlag (value : Option TheWord) (given : Bool) : Type 0 where
@@ -111,7 +113,8 @@ pub record HasCounts (rows : List Row) (counts : GivenCounts) : Type 0 where
   pub block : first_of (codes "block") rows ≡ counts.block
 
 -- the words stand where the command takes them: `format` and `copy` have `--journal` or not; `run` has two words without `--memory`, and one with it;
--- `serve` has a port or a socket, and `--idle` or not; `describe` has a role or none, and `--json` or not
+-- `serve` has a port or a socket, and `--idle` or not; `describe` has a role or none, and `--json` or not;
+-- `explain` has `--session` or not, and `--json` or not
 abbrev pub HasWords : List Row → Given → Type 0
 HasWords rows (Format file pages admin journal) = (first_of (codes "file") rows ≡ Some file) × (first_of (codes "pages") rows ≡ Some pages) × (first_of (codes "admin") rows ≡ Some admin) × IsFlag (one_of (codes "journal") rows) journal
 HasWords rows (Copy file new pages journal) = (first_of (codes "file") rows ≡ Some file) × (first_of (codes "new") rows ≡ Some new) × (first_of (codes "pages") rows ≡ Some pages) × IsFlag (one_of (codes "journal") rows) journal
@@ -123,6 +126,7 @@ HasWords rows (ServeSocket file socket connections idle) = (first_of (codes "fil
 HasWords rows (ServeClients file place counts) = (first_of (codes "file") rows ≡ Some file) × HasPlaceWord rows place × HasCounts rows counts
 HasWords rows (Check file) = first_of (codes "file") rows ≡ Some file
 HasWords rows (Describe file role json) = (first_of (codes "file") rows ≡ Some file) × (first_of (codes "role") rows ≡ role) × IsFlag (one_of (codes "json") rows) json
+HasWords rows (Explain file role statement session json) = (first_of (codes "file") rows ≡ Some file) × (first_of (codes "role") rows ≡ Some role) × (first_of (codes "statement") rows ≡ Some statement) × (first_of (codes "session") rows ≡ session) × IsFlag (one_of (codes "json") rows) json
 
 -- what follows the command of this name gives it these words
 pub record GivesAs (name : TheWord) (rows : List Row) (given : Given) : Type 0 where
@@ -205,6 +209,7 @@ IsOrdered G (order.ServeSocket file socket connections idle) = (count : TheWord)
 IsOrdered G (order.ServeClients file place many) = (at : GivenPlace) × (counts : GivenCounts) × G (ServeClients file.now at counts) × IsPlaceFor at place × AreCountsGiven counts many
 IsOrdered G (order.Check file) = G (Check file.now)
 IsOrdered G (order.Describe file role json) = G (Describe file.now (lent_word role) json) × IsRoleName (lent_word role)
+IsOrdered G (order.Explain file asked) = G (Explain file.now asked.role.now asked.statement.now (lent_word asked.session) asked.json)
 IsOrdered G order.Help = ⊥
 IsOrdered G order.Version = ⊥
 

@@ -1,8 +1,8 @@
 -- The commands by their names, and how each is called.
 use Rattle.std.specs.Prelude.{ℕ, List, codes, Option, Some, None}
 use Rattle.cli.specs.declared.command_name.CommandName.{CommandName}
-use Rattle.cli.specs.declared.command_name.CommandName.TheVariants.{Format, Copy, Journal, Run, Serve, Check, Describe}
-use Rattle.cli.specs.declared.texts.TheConstants.{CHECK_USAGE, COPY_USAGE, DESCRIBE_USAGE, FORMAT_USAGE, JOURNAL_USAGE, RUN_USAGE, SERVE_USAGE, USAGE}
+use Rattle.cli.specs.declared.command_name.CommandName.TheVariants.{Format, Copy, Journal, Run, Serve, Check, Describe, Explain}
+use Rattle.cli.specs.declared.texts.TheConstants.{CHECK_USAGE, COPY_USAGE, DESCRIBE_USAGE, EXPLAIN_USAGE, FORMAT_USAGE, JOURNAL_USAGE, RUN_USAGE, SERVE_USAGE, USAGE}
 
 -- its name, as a word of a command line
 abbrev pub command_word : CommandName → List ℕ
@@ -13,6 +13,7 @@ command_word Run = codes "run"
 command_word Serve = codes "serve"
 command_word Check = codes "check"
 command_word Describe = codes "describe"
+command_word Explain = codes "explain"
 
 -- how it is called; without a command, how the program is
 abbrev pub usage_for : Option CommandName → List ℕ
@@ -23,4 +24,5 @@ usage_for (Some Run) = RUN_USAGE.now
 usage_for (Some Serve) = SERVE_USAGE.now
 usage_for (Some Check) = CHECK_USAGE.now
 usage_for (Some Describe) = DESCRIBE_USAGE.now
+usage_for (Some Explain) = EXPLAIN_USAGE.now
 usage_for None = USAGE.now

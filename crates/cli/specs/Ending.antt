@@ -11,6 +11,7 @@ use Rattle.wire.specs.declared.listener.Served.{Served}
 use Rattle.wire.specs.declared.listener.Served.TheVariants as served
 use Rattle.cli.specs.declared.fault.CommandFault.{CommandFault}
 use Rattle.cli.specs.declared.fault.CommandFault.TheVariants as fault
+use Rattle.cli.specs.StatementFaults.{statement_reason}
 use Rattle.cli.specs.declared.ending.Subject.{Subject}
 use Rattle.cli.specs.declared.ending.Subject.TheVariants as subject
 use Rattle.cli.specs.declared.ending.Ending.{Ending}
@@ -52,6 +53,7 @@ fault_name (fault.Net cause) = codes "Net"
 fault_name (fault.ScriptUnread cause) = codes "Script"
 fault_name (fault.ScriptNotUtf8 line byte) = codes "Script"
 fault_name fault.NoRole = codes "NoRole"
+fault_name (fault.Statement why) = codes "Statement"
 fault_name fault.FirstFormat = codes "Format"
 fault_name fault.NoSwitchRoom = codes "Full"
 fault_name fault.NoSwitchNumber = codes "Number"
@@ -76,17 +78,19 @@ reason_text (fault.Net cause) = cause_text cause
 reason_text (fault.ScriptUnread cause) = cause_text cause
 reason_text (fault.ScriptNotUtf8 line byte) = codes "line " ++ (decimal line ++ (codes ", byte " ++ (decimal byte ++ codes ": not UTF-8")))
 reason_text fault.NoRole = codes "no role of the database has this name"
+reason_text (fault.Statement why) = statement_reason why
 reason_text fault.FirstFormat = codes "of format 1; 'guarddb check' brings it to format 2, which can have a journal"
 reason_text fault.NoSwitchRoom = codes "no room is left for this; copy it to a larger file"
 reason_text fault.NoSwitchNumber = codes "no commit number is left for this"
 reason_text fault.PrintedTo = codes "standard output or standard error goes to it; send that elsewhere"
 reason_text fault.Output = codes "closed, or it takes no more"
 
--- the file or the place
+-- the file, the place or the statement
 abbrev pub subject_text : Subject → List ℕ
 subject_text (subject.Named name) = name.now
 subject_text (subject.Partial name) = name.now ++ codes ".partial"
 subject_text (subject.Port port) = codes "127.0.0.1:" ++ decimal port
+subject_text subject.Statement = codes "the statement"
 
 -- the program's name, a text, and a newline
 abbrev pub message : List ℕ → List ℕ

@@ -16,6 +16,8 @@ pub mod ServingClients
 pub mod Switching
 pub mod CopyCommand
 pub mod Describing
+pub mod ExplainCommand
+pub mod StatementFaults
 pub mod Ending
 pub mod Printing
 pub mod Program

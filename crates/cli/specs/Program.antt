@@ -37,6 +37,7 @@ use Rattle.cli.specs.declared.ending.Subject.TheVariants as subject
 use Rattle.cli.specs.Ending.{caller_status, ending_of, ending_of_serving, name_message, fault_status, Exits, ExitsAfter, HasTold}
 use Rattle.cli.specs.CopyCommand.{Copies}
 use Rattle.cli.specs.Describing.{Describes}
+use Rattle.cli.specs.ExplainCommand.{ExplainsStatement}
 use Rattle.cli.specs.Printing.{EndsBy, IsPrinted, Prints}
 use Rattle.cli.specs.Running.{RunsOverNew}
 use Rattle.cli.specs.ScriptNotes.{HasToldNotes}
@@ -239,7 +240,7 @@ pub record ServesMany (X : Type 0) {D L C T P : Type 0} (g : Ghosts D) (a : Atte
 
 -- `X` decides events, `g` is what is said of the devices of files, `k` of the sink that takes answers, `c` of the sinks of connections,
 -- `listening` of listeners, `a` of those that are polled, `t` of conversations, `p` of clients that come to such a listener, and `state` of systems. The script that was named was run over the database that was named, or why not was told; a
--- database in a file was made, copied, checked, described or served, or its journal was turned on or off; or a text was printed
+-- database in a file was made, copied, checked, described or served, a statement over it was explained, or its journal was turned on or off; or a text was printed
 module _ (X : Type 0) {D L K C S H T P : Type 0} (g : Ghosts D) (k : SinkGhosts K) (c : SinkGhosts C) (a : AttendGhosts L H) (t : TalkGhosts T) (p : ClientsGhosts P T) (Reads : ReadingRelation) (listening : L → Option Listening) (state : S → SystemState D L) (old : SystemState D L) where
   abbrev pub IsPerformed : Invocation → Exit → SystemState D L → K → K → Known → Known → Type 0
   IsPerformed (order.Format file pages admin journal) exit new out_before out_after err_before err_after =
@@ -262,6 +263,8 @@ module _ (X : Type 0) {D L K C S H T P : Type 0} (g : Ghosts D) (k : SinkGhosts 
       Checks X g old (subject.Named file) file.now exit new (k.held out_before) (k.held out_after) err_before err_after
   IsPerformed (order.Describe file role json) exit new out_before out_after err_before err_after =
       Describes g old file role exit new (k.held out_before) (k.held out_after) err_before err_after
+  IsPerformed (order.Explain file asked) exit new out_before out_after err_before err_after =
+      ExplainsStatement g old file asked exit new (k.held out_before) (k.held out_after) err_before err_after
   IsPerformed order.Help exit new out_before out_after err_before err_after =
       Prints HELP.now exit (k.held out_before) (k.held out_after) err_before err_after × IsSame old new
   IsPerformed order.Version exit new out_before out_after err_before err_after =

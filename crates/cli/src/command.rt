@@ -8,6 +8,8 @@ ghost use Rattle.cli.specs.Numbers.{IsNumberFor};
 ghost use Rattle.cli.specs.Usage.{usage_reason};
 
 use crate::error_reason::ErrorReason;
+use crate::explain_command::AskedStatement;
+use crate::explain_words::read_explain;
 use crate::grammar::program_command;
 use crate::number::NumberOption;
 use crate::refusals::{OnRefusal, at_refusal};
@@ -97,6 +99,13 @@ pub enum Invocation<'a> {
         role: Option<&'a str>,
         json: bool,
     },
+    /// `explain FILE ROLE STATEMENT`: prints in which keys STATEMENT looks for rows of the database in FILE
+    /// as ROLE, and which policies apply. With `--session LOGIN` the session was opened for LOGIN, and with
+    /// `--json` it prints JSON.
+    Explain {
+        file: &'a str,
+        asked: AskedStatement<'a>,
+    },
     /// `--help` or `-h`, also after a command: prints the help.
     Help,
     /// `--version` or `-V`: prints the version.
@@ -168,8 +177,8 @@ impl fmt::Display for UsageFault<'_> {
 }
 
 /// The order that the words after the program's name give, as `clap` reads them: one of the commands
-/// `format`, `copy`, `journal`, `run`, `serve`, `check` and `describe` with its words and options, each given
-/// once; or a flag for help or the version. Words that give none are refused: by `Grammar`, `Form`, `Serving`,
+/// `format`, `copy`, `journal`, `run`, `serve`, `check`, `describe` and `explain` with its words and options, each
+/// given once; or a flag for help or the version. Words that give none are refused: by `Grammar`, `Form`, `Serving`,
 /// `ServingClients`, `Number`, `Path`, `Name` or `Switch`.
 /// `Memory` may come of any words.
 pub fn read_command<'a>(
@@ -217,6 +226,7 @@ fn read_given<'a>(name: &str, given: &ArgMatches<'a>) -> Result<Invocation<'a>, 
         "serve" => read_serve(given),
         "check" => read_check(given),
         "describe" => read_describe(given),
+        "explain" => read_explain(given),
         _ => Err(UsageFault::Form),
     }
 }

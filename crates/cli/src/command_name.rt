@@ -5,8 +5,8 @@ ghost use Rattle.cli.specs.CommandNames.{command_word, usage_for};
 ghost use Rattle.cli.specs.declared.command_name.CommandName.{CommandName as TheCommand};
 
 use crate::texts::{
-    CHECK_USAGE, COPY_USAGE, DESCRIBE_USAGE, FORMAT_USAGE, JOURNAL_USAGE, RUN_USAGE, SERVE_USAGE,
-    USAGE,
+    CHECK_USAGE, COPY_USAGE, DESCRIBE_USAGE, EXPLAIN_USAGE, FORMAT_USAGE, JOURNAL_USAGE, RUN_USAGE,
+    SERVE_USAGE, USAGE,
 };
 
 /// A command of the program.
@@ -19,6 +19,7 @@ pub enum CommandName {
     Serve,
     Check,
     Describe,
+    Explain,
 }
 
 /// The command of this name. `None`: there is none.
@@ -34,6 +35,7 @@ pub fn command_named(name: &str) -> Option<CommandName>
         "serve" => Some(CommandName::Serve),
         "check" => Some(CommandName::Check),
         "describe" => Some(CommandName::Describe),
+        "explain" => Some(CommandName::Explain),
         _ => None,
     }
 }
@@ -50,6 +52,7 @@ pub(crate) fn usage_of(command: Option<CommandName>) -> &'static str
         Some(CommandName::Serve) => SERVE_USAGE,
         Some(CommandName::Check) => CHECK_USAGE,
         Some(CommandName::Describe) => DESCRIBE_USAGE,
+        Some(CommandName::Explain) => EXPLAIN_USAGE,
         None => USAGE,
     }
 }

@@ -20,6 +20,8 @@ pub enum Subject<'a> {
     Partial(&'a str),
     /// A port of 127.0.0.1.
     Port(u16),
+    /// A statement of the command line.
+    Statement,
 }
 
 impl fmt::Display for Subject<'_> {
@@ -30,6 +32,7 @@ impl fmt::Display for Subject<'_> {
             Subject::Named(name) => write!(f, "{name}"),
             Subject::Partial(name) => write!(f, "{name}.partial"),
             Subject::Port(port) => write!(f, "127.0.0.1:{port}"),
+            Subject::Statement => write!(f, "the statement"),
         }
     }
 }

@@ -2,7 +2,7 @@
 
 ghost use Rattle.std.specs.Prelude.{IfOk};
 ghost use Rattle.clap.specs.Words.{new_app};
-ghost use Rattle.cli.specs.CommandGrammar.{HasBelow, IsArg, IsCommand, word_rule, option_rule, format_app, copy_app, journal_app, run_app, serve_app, check_app, describe_app, flag_rule, bare_app, program_app};
+ghost use Rattle.cli.specs.CommandGrammar.{HasBelow, IsArg, IsCommand, word_rule, option_rule, format_app, copy_app, journal_app, run_app, serve_app, check_app, describe_app, explain_app, flag_rule, bare_app, program_app};
 
 use crate::texts::{USAGE, VERSION_NUMBER};
 use clap::{Arg, ArgAction, Command};
@@ -18,7 +18,8 @@ pub(crate) fn program_command<'a>(alloc: Global) -> Result<Command<'a>, AllocErr
     let command = with_below(command, check_command(alloc))?;
     let command = with_below(command, describe_command(alloc))?;
     let command = with_below(command, copy_command(alloc))?;
-    with_below(command, journal_command(alloc))
+    let command = with_below(command, journal_command(alloc))?;
+    with_below(command, explain_command(alloc))
 }
 
 /// The command with this one below it, where that was made.
@@ -119,6 +120,18 @@ fn journal_command<'a>(alloc: Global) -> Result<Command<'a>, AllocError>
     command(alloc, "journal")
         .arg(word(alloc, "file", "FILE", true))?
         .arg(word(alloc, "state", "on|off", true))
+}
+
+/// `explain FILE ROLE STATEMENT [--session LOGIN] [--json]`.
+fn explain_command<'a>(alloc: Global) -> Result<Command<'a>, AllocError>
+    ensures { IfOk result (IsCommand explain_app) }
+{
+    command(alloc, "explain")
+        .arg(word(alloc, "file", "FILE", true))?
+        .arg(word(alloc, "role", "ROLE", true))?
+        .arg(word(alloc, "statement", "STATEMENT", true))?
+        .arg(option(alloc, "session", "LOGIN", false))?
+        .arg(flag(alloc, "json"))
 }
 
 /// A command of this name, without words.

@@ -8,6 +8,7 @@ use crate::command_name::CommandName;
 use crate::copy_command::copy;
 use crate::describing::describe;
 use crate::ending::{Ending, Exit, Subject, exit_after, exit_with};
+use crate::explain_command::explain_statement;
 use crate::fault::CommandFault;
 use crate::format::format_file;
 use crate::journal_command::switch;
@@ -64,7 +65,8 @@ const CHECKED: &str = "ok CHECK\n";
 /// moment. A file of format 1 cannot have one: the fault is `FirstFormat`.
 ///
 /// `describe` writes nothing to the file. Where the database has no role of the name that is asked
-/// for, the fault is `NoRole`.
+/// for, the fault is `NoRole`. So it is of `explain`, which writes nothing either; where the statement is
+/// refused before it reads a row, or is none over rows, the fault is `Statement`.
 ///
 /// A script is run without a word on its refusals, whatever is asked for: `explain` tells of them.
 ///
@@ -144,6 +146,9 @@ pub fn perform<Y: System, X: EventHandler + Drop, K: TakesText, E: Write>(
         Invocation::Check { file } => check(system, alloc, handler, *file, out, err),
         Invocation::Describe { file, role, json } => {
             describe(system, alloc, *file, *role, *json, out, err)
+        }
+        Invocation::Explain { file, asked } => {
+            explain_statement(system, alloc, *file, *asked, out, err)
         }
         Invocation::Help => print_for(HELP, out, err),
         Invocation::Version => print_for(VERSION, out, err),

@@ -10,6 +10,7 @@ pub const USAGE: &str = "guarddb format FILE --pages N --admin NAME [--journal]
        guarddb serve FILE --socket PATH --clients N [--connections K] [--wait SECONDS] [--idle SECONDS] [--block SECONDS]
        guarddb check FILE
        guarddb describe FILE [ROLE] [--json]
+       guarddb explain FILE ROLE STATEMENT [--session LOGIN] [--json]
        guarddb copy FILE NEW --pages N [--journal]
        guarddb journal FILE on|off
        guarddb < SCRIPT";
@@ -39,6 +40,9 @@ pub const CHECK_USAGE: &str = "guarddb check FILE";
 /// How `describe` is called.
 pub const DESCRIBE_USAGE: &str = "guarddb describe FILE [ROLE] [--json]";
 
+/// How `explain` is called.
+pub const EXPLAIN_USAGE: &str = "guarddb explain FILE ROLE STATEMENT [--session LOGIN] [--json]";
+
 /// What `--help` prints.
 pub const HELP: &str = "Guarddb: a SQL server for several sessions over one database
 
@@ -51,6 +55,7 @@ Usage: guarddb format FILE --pages N --admin NAME [--journal]
        guarddb serve FILE --socket PATH --clients N [--connections K] [--wait SECONDS] [--idle SECONDS] [--block SECONDS]
        guarddb check FILE
        guarddb describe FILE [ROLE] [--json]
+       guarddb explain FILE ROLE STATEMENT [--session LOGIN] [--json]
        guarddb copy FILE NEW --pages N [--journal]
        guarddb journal FILE on|off
        guarddb < SCRIPT
@@ -97,6 +102,12 @@ Commands:
           ROLE what that role may do to each table and column, and which policies apply to it.
           With --json it prints JSON. FILE is not written, of format 1 neither
           Example: guarddb describe shop.db bob
+  explain FILE ROLE STATEMENT [--session LOGIN] [--json]
+          Prints in which keys of its tables STATEMENT looks for rows as ROLE: a SELECT, INSERT,
+          UPDATE or DELETE, which is not run. Prints which policies apply, and why a whole table
+          is read. With --session it is run in a session of LOGIN after SET ROLE ROLE, else in
+          one of ROLE. With --json it prints JSON. FILE is not written, of format 1 neither
+          Example: guarddb explain shop.db bob 'SELECT count(*) FROM orders'
   copy FILE NEW --pages N [--journal]
           Copies the database in FILE to NEW, a new file of N pages, N from 64 to 65536: a
           backup, a larger file or a smaller one. FILE is not written, of format 1 neither, and

@@ -162,7 +162,8 @@ fn are_told_to_database(system: &RealSystem<'_, HostRuntime>, order: &Invocation
             file,
             role: _,
             json: _,
-        } => system.tells_to(*file),
+        }
+        | Invocation::Explain { file, asked: _ } => system.tells_to(*file),
         Invocation::Copy {
             file,
             new,

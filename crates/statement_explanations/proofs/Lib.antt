@@ -1,0 +1,2 @@
+mod KeyCells
+mod Telling

@@ -1,0 +1,4 @@
+pub mod Asking
+pub mod Explained
+pub mod Explanations
+pub mod Keys
