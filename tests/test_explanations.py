@@ -177,7 +177,7 @@ class Explanations(unittest.TestCase):
         self.reads('ann', 'SELECT l.x FROM notes a JOIN lines l ON l.note = a.k WHERE a.k = 3',
                    ('a', 'look-up', None, "tenant = 'ann' AND k = 3"), ('l', 'span', None, "tenant = 'ann'"))
         self.reads('ann', 'SELECT l.x FROM notes a JOIN lines l ON l.tenant = a.tenant AND l.note = a.k',
-                   ('a', 'span', None, "tenant = 'ann'"), ('l', 'look-ups behind rows', None))
+                   ('a', 'span', None, "tenant = 'ann'"), ('l', 'look-ups behind rows', None, "tenant = 'ann'"))
         self.assertEqual([row[4] for row in self.asked('ann', 'SELECT l.x FROM notes a JOIN lines l ON l.note = a.k WHERE a.k = 3')],
                          ['tenant = current_user', 'l.note = a.k', 'a.k = 3'] * 2)
         self.reads('ann', 'SELECT 1 + 2')
