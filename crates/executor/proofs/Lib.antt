@@ -11,6 +11,7 @@ pub mod InPlace
 pub mod InRanges
 pub mod JoinedRows
 pub mod LookedUp
+pub mod LoneRows
 pub mod MoreRanges
 pub mod InsideRange
 pub mod NullColumns
