@@ -5,7 +5,7 @@ use Rattle.sector_device.specs.declared.device.Device.{Ghosts}
 use Rattle.stored_database.specs.Definitions.{Definitions}
 use Rattle.statement_explanations.specs.declared.explained.Acting.{Acting}
 use Rattle.statement_explanations.specs.declared.explained.ExplainFault.{ExplainFault}
-use Rattle.statement_explanations.specs.declared.explained.ExplainFault.TheVariants as unexplained
+use Rattle.statement_explanations.specs.declared.explained.ExplainFault.TheVariants as explain_fault
 use Rattle.statement_explanations.specs.Explained.{IsExplained, asked_session}
 use Rattle.wire.specs.ScriptRun.{Known}
 use Rattle.systems.specs.Systems.{SystemState}
@@ -28,17 +28,17 @@ acting_of asked = record { role = asked.role; session = asked.session }
 
 -- why it is not explained, as a fault of the command
 abbrev pub fault_of_statement : ExplainFault → CommandFault
-fault_of_statement unexplained.NoRole = fault.NoRole
-fault_of_statement unexplained.NoSession = fault.NoRole
-fault_of_statement unexplained.NotOverRows = fault.Statement statement.NotOverRows
-fault_of_statement (unexplained.Refused code) = fault.Statement (statement.Refused code)
+fault_of_statement explain_fault.NoRole = fault.NoRole
+fault_of_statement explain_fault.NoSession = fault.NoRole
+fault_of_statement explain_fault.NotOverRows = fault.Statement statement.NotOverRows
+fault_of_statement (explain_fault.Refused code) = fault.Statement (statement.Refused code)
 
 -- what that is about: the role that is missing, or the statement
 abbrev pub statement_subject : AskedStatement → ExplainFault → Subject
-statement_subject asked unexplained.NoRole = subject.Named asked.role
-statement_subject asked unexplained.NoSession = subject.Named (unwrap_or asked.session asked.role)
-statement_subject asked unexplained.NotOverRows = subject.Statement
-statement_subject asked (unexplained.Refused code) = subject.Statement
+statement_subject asked explain_fault.NoRole = subject.Named asked.role
+statement_subject asked explain_fault.NoSession = subject.Named (unwrap_or asked.session asked.role)
+statement_subject asked explain_fault.NotOverRows = subject.Statement
+statement_subject asked (explain_fault.Refused code) = subject.Statement
 
 -- how it ended, and what that is about
 abbrev pub Ended : Type 0
