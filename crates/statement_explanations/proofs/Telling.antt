@@ -1,6 +1,6 @@
 -- What is told of the members of a list while it is gone through.
-use Rattle.std.proofs.Common.{◌≡◌, ◌<◌, ◌+◌, ◌∙◌, ℕ, suc, Bool, true, false, cond, List, [], ◌∷◌, ◌++◌, map, filter, take, length, get_or, Option, sym, ap, subst, refl, append_assoc, append-nil, arith}
-use Rattle.std.proofs.lemmas.List.{map-append, take_more, length-take-le}
+use Rattle.std.proofs.Common.{◌≡◌, ◌<◌, ◌+◌, ◌∙◌, ℕ, Bool, true, false, cond, List, [], ◌∷◌, ◌++◌, map, filter, take, length, get_or, Option, sym, ap, subst, refl, append_assoc, append-nil, arith}
+use Rattle.std.proofs.lemmas.List.{take_more, length-take-le}
 use Rattle.expressions.specs.Meaning.{UserNames}
 use Rattle.expressions.specs.Types.{TypedTerm}
 use Rattle.stored_database.specs.Definitions.{Definitions}

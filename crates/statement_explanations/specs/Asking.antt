@@ -1,5 +1,5 @@
 -- What a plan asks of the rows of its tables.
-use Rattle.std.specs.Prelude.{ℕ, Bool, true, false, List, [], ◌∷◌, map, option_to_list, Option, Some, None}
+use Rattle.std.specs.Prelude.{ℕ, Bool, true, false, List, [], ◌∷◌, option_to_list, Option, None}
 use Rattle.sql_ast.specs.declared.privilege.Action.{Action}
 use Rattle.sql_ast.specs.declared.privilege.Action.TheVariants as action
 use Rattle.expressions.specs.Meaning.{UserNames}

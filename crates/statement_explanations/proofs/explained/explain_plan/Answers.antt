@@ -1,4 +1,4 @@
-use Rattle.std.proofs.Common.{◌≡◌, ◌∙◌, ℕ, List, ap, refl, subst, sym}
+use Rattle.std.proofs.Common.{◌≡◌, ◌∙◌, List, ap, refl, subst, sym}
 use Rattle.expressions.specs.Meaning.{UserNames}
 use Rattle.expressions.specs.Rows.{names_of}
 use Rattle.key_ranges.specs.BoxCode.{role_names}
