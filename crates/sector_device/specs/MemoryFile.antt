@@ -1,5 +1,5 @@
 -- A file in memory: its bytes, and those of its last sync. A stop leaves one or the other.
-use Rattle.std.specs.Prelude.{◌≡◌, ◌⊎◌, ℕ, List, length}
+use Rattle.std.specs.Prelude.{false, ◌≡◌, ◌⊎◌, ℕ, List, length}
 use Rattle.std.proofs.Common.{⊎_elim, ap, ◌∙◌}
 use Rattle.sector_device.specs.RawFile.{FileState}
 
@@ -8,6 +8,7 @@ abbrev pub file_in_memory : List ℕ → List ℕ → FileState
 file_in_memory bytes synced = record {
   bytes = bytes;
   time = record { moment = 0; stops = λ a b x. ⊥; left = λ x. (x ≡ bytes) ⊎ (x ≡ synced) };
+  has_failed_sync = false;
 }
 
 -- a stop leaves no more and no fewer bytes

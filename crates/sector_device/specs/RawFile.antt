@@ -1,5 +1,5 @@
 -- What a file of bytes is to the device that stands over it, and what its calls do.
-use Rattle.std.specs.Prelude.{◌≡◌, ◌≤◌, ◌⊎◌, ◌+◌, ◌*◌, ℕ, List, ◌++◌, length, take, drop}
+use Rattle.std.specs.Prelude.{Bool, ◌≡◌, ◌≤◌, ◌⊎◌, ◌+◌, ◌*◌, ℕ, List, ◌++◌, length, take, drop}
 use Rattle.storage_sizes.specs.Sizes.{sector_size}
 use Rattle.sector_device.specs.Timeline.{Timeline, Elapses}
 
@@ -9,6 +9,8 @@ pub record FileState : Type 1 where
   pub bytes : List ℕ
   -- the bytes that stops leave
   pub time : Timeline (List ℕ)
+  -- whether a sync of it has failed since it was opened: then a system may count bytes as synced that are not
+  pub has_failed_sync : Bool
 
 -- the bytes of a sector's length from an offset on
 abbrev pub bytes_at : ℕ → List ℕ → List ℕ

@@ -1,5 +1,5 @@
 //! A device over a file of bytes.
-ghost use Rattle.std.specs.Prelude.{◌≤◌, ◌*◌, length};
+ghost use Rattle.std.specs.Prelude.{◌≡◌, ◌≤◌, ◌*◌, false, length};
 ghost use Rattle.std.proofs.Common.{refl};
 ghost use Rattle.sector_device.specs.FileState.{file_device};
 
@@ -19,17 +19,18 @@ pub struct FileDevice<F: RawFile = SystemFile> {
     failures: u64,
     has_failed_sync: bool,
     ghost inside: { F.faithful file → 512 * sectors ≤ length (F.state file).bytes },
+    ghost works: { F.faithful file → has_failed_sync ≡ false → (F.state file).has_failed_sync ≡ false },
 }
 
 impl<F: RawFile> FileDevice<F> {
-    ghost use Rattle.std.specs.Prelude.{◌≡◌, false};
     ghost use Rattle.sector_device.specs.FileState.{sectors_in};
     ghost use Rattle.sector_device.specs.FileDevice.{file_of, file_device_state, has_failed_sync};
 
-    /// A device over this file, which has so many bytes: of no sectors unless these are whole
-    /// pages, 65,536 at most.
+    /// A device over this file, which has so many bytes and none of whose syncs has failed: of no
+    /// sectors unless these are whole pages, 65,536 at most.
     pub(crate) fn over(file: F, bytes: u64) -> FileDevice<F>
-        requires { F.faithful file → bytes ≡ length (F.state file).bytes }
+        requires length { F.faithful file → bytes ≡ length (F.state file).bytes }
+        requires works { F.faithful file → (F.state file).has_failed_sync ≡ false }
         ensures sectors { (file_device_state result).sectors ≡ sectors_in bytes }
         ensures failures { (file_device_state result).failures ≡ 0 }
         ensures file { file_of result ≡ file }

@@ -40,10 +40,11 @@ fn fault_of(error: io::Error) -> FileFault
 }
 
 impl<F: RawFile + Drop> FileDevice<F> {
-    /// A device over a file, of no sectors unless the file's length is a whole number of pages,
-    /// 65,536 at most. `Device` where the file does not give its length, and `Memory` where an
-    /// allocation failed.
+    /// A device over a file none of whose syncs has failed, of no sectors unless the file's length is a
+    /// whole number of pages, 65,536 at most. `Device` where the file does not give its length, and
+    /// `Memory` where an allocation failed.
     pub fn stand_over(file: F) -> Result<FileDevice<F>, FileFault>
+        requires { F.faithful file → (F.state file).has_failed_sync ≡ false }
         ensures sectors { F.faithful file → IfOk result
             (λ d. (file_device_state d).sectors ≡ sectors_in (length (F.state file).bytes)) }
         ensures file { IfOk result (λ d. file_of d ≡ file) }

@@ -1,5 +1,5 @@
 //! Files of bytes, as the device over one sees it.
-ghost use Rattle.std.specs.Prelude.{◌≡◌, ◌↔◌, ℕ, List, length, OnOk, IfOk};
+ghost use Rattle.std.specs.Prelude.{◌≡◌, false, ◌↔◌, ℕ, List, length, OnOk, IfOk};
 ghost use Rattle.sector_device.specs.Timeline.{IsPresent};
 ghost use Rattle.sector_device.specs.RawFile.{FileState, FileOnlyReads, FileWrites, IsSectorAt, IsFileSynced, bytes_at, put};
 ghost use Rattle.sector_device.specs.FilePage.{IsPageAt, FileWritesPage, page_bytes_at};
@@ -23,6 +23,8 @@ pub trait RawFile {
     /// Reads the bytes from `offset` on. After an error nothing is promised of `bytes`.
     fn read_at(&mut self, offset: u64, bytes: &mut [u8; SECTOR_SIZE]) -> io::Result<()>
         ensures history { faithful self.old ↔ faithful self.new }
+        ensures works { faithful self.old
+            → (state self.new).has_failed_sync ≡ (state self.old).has_failed_sync }
         ensures only_reads { faithful self.old → FileOnlyReads (state self.old) (state self.new) }
         ensures bytes { faithful self.old
             → OnOk result (bytes.new ≡ bytes_at offset (state self.old).bytes) };
@@ -31,6 +33,8 @@ pub trait RawFile {
     /// written whole or not at all, whenever the file stops.
     fn write_at(&mut self, offset: u64, bytes: &[u8; SECTOR_SIZE]) -> io::Result<()>
         ensures history { faithful self.old ↔ faithful self.new }
+        ensures works { faithful self.old
+            → (state self.new).has_failed_sync ≡ (state self.old).has_failed_sync }
         ensures writes { faithful self.old → IsSectorAt offset (state self.old)
             → FileWrites offset bytes.now (state self.old) (state self.new) }
         ensures written { faithful self.old → IsSectorAt offset (state self.old)
@@ -39,6 +43,8 @@ pub trait RawFile {
     /// Reads a page's bytes from `offset` on. After an error nothing is promised of `bytes`.
     fn read_page_at(&mut self, offset: u64, bytes: &mut [u8; PAGE_SIZE]) -> io::Result<()>
         ensures history { faithful self.old ↔ faithful self.new }
+        ensures works { faithful self.old
+            → (state self.new).has_failed_sync ≡ (state self.old).has_failed_sync }
         ensures only_reads { faithful self.old → FileOnlyReads (state self.old) (state self.new) }
         ensures bytes { faithful self.old
             → OnOk result (bytes.new ≡ page_bytes_at offset (state self.old).bytes) };
@@ -47,16 +53,23 @@ pub trait RawFile {
     /// them, by itself, is written whole or not at all, whenever the file stops.
     fn write_page_at(&mut self, offset: u64, bytes: &[u8; PAGE_SIZE]) -> io::Result<()>
         ensures history { faithful self.old ↔ faithful self.new }
+        ensures works { faithful self.old
+            → (state self.new).has_failed_sync ≡ (state self.old).has_failed_sync }
         ensures writes { faithful self.old → (first : ℕ) → IsPageAt first offset (state self.old)
             → FileWritesPage first bytes.now (state self.old) (state self.new) }
         ensures written { faithful self.old → (first : ℕ) → IsPageAt first offset (state self.old)
             → OnOk result ((state self.new).bytes ≡ put offset bytes.now (state self.old).bytes) };
 
-    /// Makes what was written last. After an error nothing counts as synced.
+    /// Makes what was written last. After an error nothing counts as synced. Once it has failed no later
+    /// `Ok` says anything, until the file is opened again: a system may count as written what is not on
+    /// the disk.
     fn sync(&mut self) -> io::Result<()>
         ensures history { faithful self.old ↔ faithful self.new }
         ensures only_reads { faithful self.old → FileOnlyReads (state self.old) (state self.new) }
-        ensures synced { faithful self.old → OnOk result (IsFileSynced (state self.new)) };
+        ensures works { faithful self.old → OnOk result
+            ((state self.new).has_failed_sync ≡ (state self.old).has_failed_sync) }
+        ensures synced { faithful self.old → (state self.old).has_failed_sync ≡ false
+            → OnOk result (IsFileSynced (state self.new)) };
 
     /// A stop may leave the bytes that are there.
     ghost bytes_left: { (file : Self) → faithful file → (state file).time.left (state file).bytes };

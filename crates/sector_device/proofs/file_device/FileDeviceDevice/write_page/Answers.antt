@@ -20,6 +20,9 @@ invariant_of-self-in-Ok g c = record {
       let within : 512 * c.args.first + 4096 ≤ length (g.F.RawFile.state d.file).bytes = omega (arith, d.inside faithful, c.requires) in
       let place : IsPageAt c.args.first (512 * c.args.first) (g.F.RawFile.state d.file) = record { aligned = refl; inside = within } in
       omega (arith, d.inside faithful, (c.write_page_at.ensures.writes faithful c.args.first place).bytes.length);
+  works = λ after none.
+      let faithful = c.write_page_at.ensures.history.1 after in
+      c.write_page_at.ensures.works faithful ∙ c.args.self.now.works faithful none;
 }
 
 pub invariant_of-self-in-Err : goal.invariant_of-self-in-Err
@@ -30,6 +33,9 @@ invariant_of-self-in-Err g c = record {
       let within : 512 * c.args.first + 4096 ≤ length (g.F.RawFile.state d.file).bytes = omega (arith, d.inside faithful, c.requires) in
       let place : IsPageAt c.args.first (512 * c.args.first) (g.F.RawFile.state d.file) = record { aligned = refl; inside = within } in
       omega (arith, d.inside faithful, (c.write_page_at.ensures.writes faithful c.args.first place).bytes.length);
+  works = λ after none.
+      let faithful = c.write_page_at.ensures.history.1 after in
+      c.write_page_at.ensures.works faithful ∙ c.args.self.now.works faithful none;
 }
 
 pub returns-in-Ok-clause-writes : goal.returns-in-Ok-clause-writes
