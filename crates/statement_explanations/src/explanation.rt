@@ -12,7 +12,8 @@ use sql_types::items::Items;
 pub enum TableReading<'a> {
     /// All of them are read.
     Whole,
-    /// Those with these keys are read.
+    /// Those with these keys are read. Of a joined table some of these keys alone may be looked up, behind
+    /// the rows of the tables before.
     Within(&'a KeyRange),
     /// A condition compares the first column of the key by `=` to a column of a table before, and none
     /// bounds it otherwise. So keys are looked up behind the rows of the tables before, where these are
