@@ -58,8 +58,13 @@ pub mod RefusedAlike
 pub mod OthersLeftOut
 pub mod ClosedLemmas
 pub mod ToldApart
+pub mod PatternLemmas
+pub mod DeliveryLemmas
+pub mod PatternInstance
+pub mod HiddenKeys
 pub mod ToldRuns
 pub mod ToldStores
+pub mod StorePatternLemmas
 pub mod ToldUnseen
 pub mod TwoTenants
 pub mod HiddenAnswers

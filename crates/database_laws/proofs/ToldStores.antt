@@ -36,7 +36,7 @@ pub data Did (Reads : ReadingRelation) (old new : Counts) (m : Machine) (event :
   stays : (code : SqlState) → x ≡ answer.Refused code → CountsAsNotIssued old new code → MayStay Reads m event code → next ≡ m → Did Reads old new m event x next
   fails : x ≡ answer.Refused IoError → HasFailed old new → MayCallStore m event → next ≡ record m { stopped = true } → Did Reads old new m event x next
 
-did : (Reads : ReadingRelation) (old new : Counts) (m : Machine) (event : Event TheText) (x : Answer) (next : Machine) → IsStep Reads old new m event x next → Did Reads old new m event x next
+pub did : (Reads : ReadingRelation) (old new : Counts) (m : Machine) (event : Event TheText) (x : Answer) (next : Machine) → IsStep Reads old new m event x next → Did Reads old new m event x next
 did Reads old new m event x next (by_transition is) = moves is
 did Reads old new m event x next (step.for_memory e kept may) = stays OutOfMemory e for_memory (without_memory refl may) kept
 did Reads old new m event x next (step.for_space e kept may rises) = stays DiskFull e (for_space rises) (without_commit may) kept
@@ -81,18 +81,18 @@ number_read Reads m (executes n text) read (reading, is, reads) = ap (λ (e : Ev
 
 module _ (Reads : ReadingRelation) (Leave LeaveOther : Stops) (once : ReadsOnce Reads) (a : Tenant) where
   -- what is read over one machine is read over the other
-  read_there : (m k : Machine) → IsAlikeTo a m k → (event : Event TheText) (x : Event Reading) → is_text_of a event ≡ true → IsReadAs Reads m event x → IsReadAs Reads k event x
+  pub read_there : (m k : Machine) → IsAlikeTo a m k → (event : Event TheText) (x : Event Reading) → is_text_of a event ≡ true → IsReadAs Reads m event x → IsReadAs Reads k event x
   read_there m k st (opens n l) x own read = read
   read_there m k st (closes n) x own read = read
   read_there m k st (executes n text) x own (reading, is, reads) =
       (reading, is, λ may. reads (st.stopped ∙ may.0, subst (λ (o : Option Session). IsSome o) (sym (for_one a m k st n own).session) may.1))
 
-  opens_own : (m : Machine) (event : Event TheText) (read : Event Reading) → IsReadAs Reads m event read → OpensAsOwn a m event → OpensItsOwn a m (happens read)
+  pub opens_own : (m : Machine) (event : Event TheText) (read : Event Reading) → IsReadAs Reads m event read → OpensAsOwn a m event → OpensItsOwn a m (happens read)
   opens_own m (opens n l) read is own = subst (λ (e : Event Reading). OpensItsOwn a m (happens e)) (sym is) own
   opens_own m (closes n) read is own = subst (λ (e : Event Reading). OpensItsOwn a m (happens e)) (sym is) tt
   opens_own m (executes n text) read (reading, is, reads) own = subst (λ (e : Event Reading). OpensItsOwn a m (happens e)) (sym is) tt
 
-  own_read : (m : Machine) (event : Event TheText) (read : Event Reading) → IsReadAs Reads m event read → (b : Bool) → is_text_of a event ≡ b → is_of a (happens read) ≡ b
+  pub own_read : (m : Machine) (event : Event TheText) (read : Event Reading) → IsReadAs Reads m event read → (b : Bool) → is_text_of a event ≡ b → is_of a (happens read) ≡ b
   own_read m event read is b own = ap a.sessions (number_read Reads m event read is) ∙ own
 
   -- where a commit of the same text might be refused over the other machine, the refusal leaves this one
@@ -132,7 +132,7 @@ module _ (Reads : ReadingRelation) (Leave LeaveOther : Stops) (once : ReadsOnce 
           ∙ ap (λ (r : Reading). (transition m (executes i r)).answer) (sym (reads_m ∙ ap (λ (z : Statement). Ok z) is)) ∙ refuses_so))
       by_block (Failed role) b how = absurd how
 
-  runs_still : (k : Machine) (event : Event TheText) → MayRunOutOfMemory k event → k.stopped ≡ false
+  pub runs_still : (k : Machine) (event : Event TheText) → MayRunOutOfMemory k event → k.stopped ≡ false
   runs_still k (opens i l) may = may.0
   runs_still k (executes i text) may = may.0.0
   runs_still k (closes i) may = absurd may
@@ -151,11 +151,11 @@ module _ (Reads : ReadingRelation) (Leave LeaveOther : Stops) (once : ReadsOnce 
 
   -- ---- an event of another
 
-  data Passed (m n k : Machine) (x : Answer) : Type 0 where
+  pub data Passed (m n k : Machine) (x : Answer) : Type 0 where
     passes : IsAlikeTo a n k → AreSound n → Passed m n k x
-    ends : x ≡ answer.Refused IoError → Passed m n k x
+    ends : x ≡ answer.Refused IoError → n.stopped ≡ true → Passed m n k x
 
-  passed : (old new : Counts) (m n k : Machine) (event : Event TheText) (x : Answer) → IsAlikeTo a m k → AreSound m → is_text_of a event ≡ false → SameApparentRowsForPairs a.pairs m.committed n.committed →
+  pub passed : (old new : Counts) (m n k : Machine) (event : Event TheText) (x : Answer) → IsAlikeTo a m k → AreSound m → is_text_of a event ≡ false → SameApparentRowsForPairs a.pairs m.committed n.committed →
       Did Reads old new m event x n → Passed m n k x
   passed old new m n k event x st on other hides (moves is) =
       let here : n ≡ after m is.as_read = ap (λ (t : Transition). t.machine) is.is in
@@ -164,11 +164,11 @@ module _ (Reads : ReadingRelation) (Leave LeaveOther : Stops) (once : ReadsOnce 
       (after_another a m k st is.as_read (own_read m event is.as_read is.read false other) (subst (λ (z : Machine). SameApparentRowsForPairs a.pairs m.committed z.committed) here hides)))
       (subst AreSound (sym here) (sound_after m is.as_read on))
   passed old new m n k event x st on other hides (stays code e place may kept) = passes (subst (λ (z : Machine). IsAlikeTo a z k) (sym kept) st) (subst AreSound (sym kept) on)
-  passed old new m n k event x st on other hides (fails e broke may kept) = ends e
+  passed old new m n k event x st on other hides (fails e broke may kept) = ends e (ap (λ (z : Machine). z.stopped) kept)
 
   -- ---- an own event
 
-  data Went (w v n j : At) (event : Event TheText) (x y : Answer) : Type 0 where
+  pub data Went (w v n j : At) (event : Event TheText) (x y : Answer) : Type 0 where
     part : (read : Event Reading) → IsReadAs Reads w.standing.machine event read → IsExceptionFor a w.standing.machine v.standing.machine (happens read) → (AreRefusedAlike Reads event x y → ⊥) → Went w v n j event x y
     refused : IsInPlace w.counts n.counts x ⊎ IsInPlace v.counts j.counts y → (AreRefusedAlike Reads event x y → ⊥) → Went w v n j event x y
     goes : x ≡ y → IsAlikeTo a n.standing.machine j.standing.machine → AreSound n.standing.machine → AreSound j.standing.machine → Went w v n j event x y
@@ -270,7 +270,7 @@ module _ (Reads : ReadingRelation) (Leave LeaveOther : Stops) (once : ReadsOnce 
     other_went none (stays c e p may here) d = refused (inl (not_issued c e p)) (λ alike. none (alike.0, alike.1, alike.2))
     other_went none (fails e p may here) d = refused (inl (failed e p)) (λ alike. none (alike.0, alike.1, alike.2))
 
-    went : Did Reads w.counts n.counts m event x n.standing.machine → Did Reads v.counts j.counts k event y j.standing.machine → Went w v n j event x y
+    pub went : Did Reads w.counts n.counts m event x n.standing.machine → Did Reads v.counts j.counts k event y j.standing.machine → Went w v n j event x y
     went d e = elim (one_refusal_or_not x y) [ inl one ↦ one_went one d e | inr none ↦ other_went none d e ]
 
   -- ---- runs
@@ -324,7 +324,7 @@ module _ (Reads : ReadingRelation) (Leave LeaveOther : Stops) (once : ReadsOnce 
           at (passed v.counts j.counts v.standing.machine j.standing.machine w.standing.machine f y (turned a w.standing.machine v.standing.machine st) on_v other (keeps.0.1 other) (did Reads v.counts j.counts v.standing.machine f y j.standing.machine it.step)) where
             at : Passed v.standing.machine j.standing.machine w.standing.machine y → Tells w v (event ∷ events) (x ∷ answers) (f ∷ fs) (y ∷ told)
             at (passes next on_j) = untold_there j other it (on j other_end (turned a j.standing.machine w.standing.machine next) on_j its keeps.1 (equal ∙ ap (λ (b : Bool). cond b (f ∷ own_texts a fs) (own_texts a fs)) other))
-            at (ends e) = failed_there other e
+            at (ends e stops) = failed_there other e
 
   abbrev NoneMore : List (Event TheText) → List Answer → Type 0
   NoneMore others told = (w v other_end : At) → IsAlikeTo a w.standing.machine v.standing.machine → AreSound v.standing.machine → (ran_there : RanBy (Happens Reads LeaveOther) v others told other_end) →
@@ -341,7 +341,7 @@ module _ (Reads : ReadingRelation) (Leave LeaveOther : Stops) (once : ReadsOnce 
         at (passed v.counts j.counts v.standing.machine j.standing.machine w.standing.machine f y (turned a w.standing.machine v.standing.machine st) on_v other (keeps.0.1 other) (did Reads v.counts j.counts v.standing.machine f y j.standing.machine it.step)) where
           at : Passed v.standing.machine j.standing.machine w.standing.machine y → Tells w v [] [] (f ∷ fs) (y ∷ told)
           at (passes next on_j) = untold_there j other it (on w j other_end (turned a j.standing.machine w.standing.machine next) on_j its keeps.1 (equal ∙ ap (λ (b : Bool). cond b (f ∷ own_texts a fs) (own_texts a fs)) other))
-          at (ends e) = failed_there other e
+          at (ends e stops) = failed_there other e
 
   runs : (events : List (Event TheText)) (answers : List Answer) (end : At) → Goes events answers end
   runs [] [] end w v other_end others told st on_w on_v ran ran_there keep keeps equal = none_more others told w v other_end st on_v ran_there keeps equal
@@ -356,7 +356,7 @@ module _ (Reads : ReadingRelation) (Leave LeaveOther : Stops) (once : ReadsOnce 
         at (passed w.counts n.counts w.standing.machine n.standing.machine v.standing.machine event x st on_w other (keep.0.1 other) (did Reads w.counts n.counts w.standing.machine event x n.standing.machine it.step)) where
           at : Passed w.standing.machine n.standing.machine v.standing.machine x → Tells w v (event ∷ events) (x ∷ answers) others told
           at (passes next on_n) = untold_here n other it (go n v other_end others told next on_n on_v its ran_there keep.1 keeps (sym (ap (λ (b : Bool). cond b (event ∷ own_texts a events) (own_texts a events)) other) ∙ equal))
-          at (ends e) = failed_here other e
+          at (ends e stops) = failed_here other e
 
 pub told_by_stores : (Reads : ReadingRelation) (Leave LeaveOther : Stops) → what_stores_tell_a_tenant Reads Leave LeaveOther
 told_by_stores Reads Leave LeaveOther once a w v end other_end events others answers told st on_w on_v ran ran_there keep keeps equal =
@@ -381,4 +381,4 @@ goes_unseen Reads Leave once a w v next event x st on_w other hides here =
   where
     at : Passed Reads Leave Leave once a w.standing.machine next.standing.machine v.standing.machine x → IsAlikeTo a next.standing.machine v.standing.machine ⊎ (x ≡ answer.Refused IoError)
     at (passes alike on_n) = inl alike
-    at (ends e) = inr e
+    at (ends e stops) = inr e

@@ -133,7 +133,7 @@ alone true c e = refl
 alone false true e = cc
 alone false false e = cc
 
-acts_as_ann : (pair : UserPair) → MayActAs first by_ann pair → ann ≡ pair
+pub acts_as_ann : (pair : UserPair) → MayActAs first by_ann pair → ann ≡ pair
 acts_as_ann pair acts =
     let login : codes "ann" ≡ pair.session = bytes_same (codes "ann") pair.session acts.0 in
     let own : codes "ann" ≡ pair.current = bytes_same (codes "ann") pair.current (one_name (bytes_eq (codes "ann") pair.current) (by_membership (ap (λ (n : TheName). may_set_role first n pair.current) login ∙ acts.1))) in
@@ -202,10 +202,10 @@ one_or_two number h = by (nat_eq number 1) (nat_eq number 2) refl refl h where
   by false false e f g = cc
 
 -- what holds of both numbers
-of_both : (P : ℕ → Type 0) → P 1 → P 2 → (number : ℕ) → (nat_eq number 1 || nat_eq number 2) ≡ true → P number
+pub of_both : (P : ℕ → Type 0) → P 1 → P 2 → (number : ℕ) → (nat_eq number 1 || nat_eq number 2) ≡ true → P number
 of_both P p q number h = elim (one_or_two number h) [ inl is ↦ subst P is p | inr is ↦ subst P is q ]
 
-idle_acts : ActsWithin by_ann (idle as_tenants "ann")
+pub idle_acts : ActsWithin by_ann (idle as_tenants "ann")
 idle_acts = record { now = refl; reset = refl; rolled_back = tt }
 
 -- machines with both sessions are alike to a tenant that acts as these pairs

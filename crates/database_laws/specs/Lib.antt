@@ -10,8 +10,11 @@ pub mod OutOfSight
 pub mod Closed
 pub mod Told
 pub mod ToldApart
+pub mod Patterns
 pub mod ToldStores
+pub mod StorePatterns
 pub mod TwoTenants
+pub mod HiddenKeys
 pub mod Selections
 pub mod RowChanges
 pub mod Refusals

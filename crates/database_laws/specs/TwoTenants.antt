@@ -34,6 +34,7 @@ use Rattle.database_laws.specs.OnePolicy.{HasPoliciesForAll, SpeaksOfKeys}
 use Rattle.database_laws.specs.HiddenRuns.{MachinesAlikeForSession, AreSound, answer_to}
 use Rattle.database_laws.specs.OutOfSight.{IsOutOfSight, IsOfTenants}
 use Rattle.database_laws.specs.Told.{Tenant, IsAlikeTo, happens, IsToldAlike}
+use Rattle.database_laws.specs.Patterns.{is_listed, pattern, own_answers}
 
 -- CREATE TABLE notes (tenant TEXT, k BIGINT, PRIMARY KEY (tenant, k)), with row security enabled and forced
 abbrev pub notes : TableOf
@@ -189,3 +190,15 @@ pub record MeetThePremises : Type 0 where
   pub sound_machines : AreSound (opened_by_ann first) × AreSound (opened_by_ann second)
   pub parts : PartsHere
   pub told : (answer_to (opened_by_ann first) ann_asks ≡ her_note) × (answer_to (opened_by_ann second) ann_asks ≡ her_note)
+
+-- ---- patterns
+
+-- the answers to ann's SELECT
+abbrev pub her_answers : Database → List Answer
+her_answers db = own_answers of_ann (opened_by_ann db) (happens ann_asks ∷ [])
+
+-- over the two machines in which her own rows differ they have one pattern and are not the same: so these are not alike to her
+pub record PartsAtSelect : Type 0 where
+  pub patterns : pattern is_listed (her_answers first) ≡ pattern is_listed (her_answers with_her_other)
+  pub answers : her_answers first ≡ her_answers with_her_other → ⊥
+  pub machines : IsAlikeTo of_ann (opened_by_ann first) (opened_by_ann with_her_other) → ⊥

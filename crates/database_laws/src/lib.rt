@@ -8,6 +8,7 @@ pub mod column_privileges;
 pub mod definitions;
 pub mod grants;
 pub mod memberships;
+pub mod patterns;
 pub mod privileges;
 pub mod queries;
 pub mod rights;
