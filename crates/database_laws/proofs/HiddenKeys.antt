@@ -11,7 +11,7 @@ use Rattle.sql_ast.specs.declared.statement.RowStatement.{RowStatement}
 use Rattle.sql_ast.specs.declared.statement.RowStatement.TheVariants as over_rows
 use Rattle.expressions.specs.Types.{is_of}
 use Rattle.abstract_database.specs.Lists.{TheName, Among}
-use Rattle.abstract_database.specs.Database.{TableOf, Table, Database, definition_named, rows_named}
+use Rattle.abstract_database.specs.Database.{TableOf, Table, Database, definition_named}
 use Rattle.abstract_database.specs.Changes.{keeps_not_null}
 use Rattle.abstract_database.specs.Statements.{UserPair, as_seen}
 use Rattle.abstract_database.specs.Machine.{Event, executes, Reading, Machine, seen}
@@ -122,10 +122,10 @@ insert_listed m event is (by_definition number x unhides carried) = clash (sym i
 insert_listed m event is (by_role number e leaves) = stays_hers m number e is leaves
 
 all_listed : (m : Machine) → AllTellListedOnly of_ann m two_inserts
-all_listed m = (λ own. insert_listed m (ann_inserts 1) refl, λ own. insert_listed (after m (ann_inserts 1)) (ann_inserts 2) refl, tt)
+all_listed m = (λ own. insert_listed m (ann_inserts 1) refl, (λ own. insert_listed (after m (ann_inserts 1)) (ann_inserts 2) refl, tt))
 
 all_hers : (m : Machine) → OthersKeepOutOfSight of_ann m two_inserts
-all_hers m = ((λ own. tt, λ foreign. absurd (clash foreign)), (λ own. tt, λ foreign. absurd (clash foreign)), tt)
+all_hers m = ((λ own. tt, λ foreign. absurd (clash foreign)), ((λ own. tt, λ foreign. absurd (clash foreign)), tt))
 
 abbrev has_declared : List Act → Bool
 has_declared [] = false

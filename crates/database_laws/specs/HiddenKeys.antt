@@ -21,7 +21,7 @@ use Rattle.sql_ast.specs.declared.statement.RowStatement.TheVariants as over_row
 use Rattle.sql_ast.specs.Term.{literal, column, current_user, comparison}
 use Rattle.abstract_database.specs.Database.{TableOf, Database}
 use Rattle.abstract_database.specs.Privileges.{all_actions, owner_descriptor}
-use Rattle.abstract_database.specs.Machine.{executes}
+use Rattle.abstract_database.specs.Machine.{Event, executes, Reading, Machine}
 use Rattle.database_laws.specs.HiddenRuns.{AreSound}
 use Rattle.database_laws.specs.Told.{Act, happens, IsAlikeTo, OthersKeepOutOfSight}
 use Rattle.database_laws.specs.Patterns.{own_answers, AllTellListedOnly, AreDeclaredAlike}

@@ -63,7 +63,7 @@ TellsListedOnly a m (happens event) = a.sessions (number_of event) ≡ true → 
 TellsListedOnly a m (declares event) = Unit {0}
 TellsListedOnly a m restarts = Unit {0}
 
--- so is each act of a run
+-- no act of a run is
 abbrev pub AllTellListedOnly : Tenant → Machine → List Act → Type 0
 AllTellListedOnly a m [] = Unit {0}
 AllTellListedOnly a m (x ∷ later) = TellsListedOnly a m x × AllTellListedOnly a (follows m x) later

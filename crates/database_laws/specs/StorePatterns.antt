@@ -31,11 +31,11 @@ own_told a (event ∷ events) (x ∷ answers) = if is_text_of a event then x ∷
 abbrev pub ReadsForNoStore : ReadingRelation → Type 0
 ReadsForNoStore Reads = (text : TheText) (code : SqlState) → is_of_stores code ≡ true → Reads text (Err code) → ⊥
 
--- the event, as it is read over a machine that has not stopped, tells nothing without a listed refusal
+-- the event, as it is read over a machine that has not stopped, tells by listed refusals alone
 abbrev pub TextTellsListedOnly : ReadingRelation → Tenant → Machine → Event TheText → Type 0
 TextTellsListedOnly Reads a m event = m.stopped ≡ false → (read : Event Reading) → IsReadAs Reads m event read → TellsUnlisted a m read → ⊥
 
--- so is each own event of a run
+-- so does each own event of a run
 abbrev pub AllTextsTellListedOnly : (Reads : ReadingRelation) (Leave : Stops) → Tenant → (w end : At) (events : List (Event TheText)) (answers : List Answer) → RanBy (Happens Reads Leave) w events answers end → Type 0
 AllTextsTellListedOnly Reads Leave a w end [] [] ran = Unit {0}
 AllTextsTellListedOnly Reads Leave a w end (event ∷ events) (x ∷ answers) ran =

@@ -35,8 +35,9 @@ pub fn patterns_leave_answers_open()
     ensures { PartsAtSelect }
 {}
 
-/// The number of the listed refusals does not determine the answers, nor do their codes in order: over two sound
-/// machines that are alike to a tenant it inserts two keys and meets one refusal, of the one key or of the other.
+/// The number of the listed refusals does not determine the answers, nor do their codes in order. Two machines meet
+/// the premises of `patterns_determine_answers`; over each a tenant inserts two keys and meets one refusal, of the
+/// one key or of the other.
 pub fn places_of_refusals_tell()
     ensures { PlacesTell }
 {}
