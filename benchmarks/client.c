@@ -1,6 +1,7 @@
 /* client guarddb PORT|PATH FILE [ROLE], client postgres FOLDER FILE [ROLE [DATABASE]]: sends the lines of FILE as statements, each once
    the answer to the one before is there, in a session of ROLE (root). Prints how many there were, how many rows came, and the
-   microseconds that it took. */
+   microseconds that it took. Where the environment has LATENCIES, it prints instead what half of the statements took at most, and what
+   99 of 100 did, in microseconds. */
 #include <arpa/inet.h>
 #include <netinet/tcp.h>
 #include <stdint.h>
@@ -122,6 +123,12 @@ static void open_postgres(const char *folder, const char *role, const char *data
     read_postgres();
 }
 
+static long micros_between(struct timespec a, struct timespec z) {
+    return (z.tv_sec - a.tv_sec) * 1000000L + (z.tv_nsec - a.tv_nsec) / 1000;
+}
+
+static int by_size(const void *a, const void *b) { return (*(const long *)a > *(const long *)b) - (*(const long *)a < *(const long *)b); }
+
 int main(int argc, char **argv) {
     if (argc < 4 || argc > 6) fail("client guarddb PORT|PATH FILE [ROLE], or client postgres FOLDER FILE [ROLE [DATABASE]]");
     const char *role = argc > 4 ? argv[4] : "root", *database = argc > 5 ? argv[5] : "postgres";
@@ -137,11 +144,20 @@ int main(int argc, char **argv) {
         lines[count++] = line;
     }
     if (is_guarddb) open_guarddb(argv[2], role); else open_postgres(argv[2], role, database);
-    struct timespec a, z;
+    long *each = calloc(count + 1, sizeof *each);
+    struct timespec a, before, z;
     clock_gettime(CLOCK_MONOTONIC, &a);
+    z = a;
     for (size_t i = 0; i < count; i++) {
+        before = z;
         if (is_guarddb) ask_guarddb(2, lines[i], strlen(lines[i])); else ask_postgres(lines[i], strlen(lines[i]));
+        clock_gettime(CLOCK_MONOTONIC, &z);
+        each[i] = micros_between(before, z);
     }
-    clock_gettime(CLOCK_MONOTONIC, &z);
-    printf("%zu statements %ld rows %ld us\n", count, rows, (z.tv_sec - a.tv_sec) * 1000000L + (z.tv_nsec - a.tv_nsec) / 1000);
+    if (getenv("LATENCIES")) {
+        qsort(each, count, sizeof *each, by_size);
+        printf("half %ld us, of 100 99 %ld us\n", each[count / 2], each[count * 99 / 100]);
+        return 0;
+    }
+    printf("%zu statements %ld rows %ld us\n", count, rows, micros_between(a, z));
 }

@@ -148,6 +148,9 @@ def reads():
     yield Work('scan', 'file', full, scans(40))
     yield Work('by key', 'socket', full, by_key(10_000))
     yield Work('by key, policy', 'socket', 'policy', by_key(10_000))
+    yield Work('tenant, count', 'socket', 'tenants', ['SELECT count(*) FROM t'] * 1_000)
+    yield Work('tenant, by key', 'socket', 'tenants', [f'SELECT x FROM t WHERE k = {random.randrange(ROWS // 200)}' for _ in range(1_000)])
+    yield Work('tenant, order by key limit 2', 'socket', 'tenants', ['SELECT k FROM t ORDER BY k LIMIT 2'] * 1_000)
     yield Work('scan', 'socket', full, scans(20))
     yield Work('order by x limit 10', 'socket', full, [ordered + 'x LIMIT 10'] * 10)
 

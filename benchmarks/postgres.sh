@@ -31,7 +31,7 @@ start_postgres() {
   cd "$work/postgres"
   if ! as_postgres "$bin/initdb" -D "$work/postgres/data" -U root -A trust -E UTF8 --locale=C >>"$work/log" 2>&1 ||
      ! as_postgres "$bin/pg_ctl" -D "$work/postgres/data" -l "$work/postgres/log" -w \
-         -o "-c listen_addresses='' -c unix_socket_directories='$work/postgres'" start >>"$work/log" 2>&1; then
+         -o "-c listen_addresses='' -c max_connections=300 -c unix_socket_directories='$work/postgres'" start >>"$work/log" 2>&1; then
     echo "$0: PostgreSQL cannot be started here, so Guarddb is measured alone; $work/log says why" >&2
     return 1
   fi

@@ -2,9 +2,9 @@
 """What remains after a sync that failed, and a power failure behind it: python3 tests/test_failed_syncs.py
 
 Once a sync has failed Linux counts the pages as clean: whoever reads the file finds them, the next sync succeeds, and they are not on the
-medium. tests/failing_disk.c does that to one file. Each sync of a run fails in turn; another run follows, and then the power fails, so
-that the file is what the medium has. What was answered by then is there. The library is compiled by `cc`; where there is none this is left
-out, and a line says so. The program is the one in the environment variable GUARDDB; without it nothing is tried.
+medium. tests/failing_disk.c does that to one file. Each sync of a run fails in turn; another run follows, or a server, and then the power
+fails, so that the file is what the medium has. What was answered by then is there, by a read too. The library is compiled by `cc`; where
+there is none this is left out, and a line says so. The program is the one in the environment variable GUARDDB; without it nothing is tried.
 """
 import contextlib
 import os
@@ -19,6 +19,7 @@ import guarddb
 
 COMPILER = shutil.which('cc')
 SETUP = 'open r root\nr: CREATE TABLE t (k BIGINT PRIMARY KEY, x TEXT)\n'
+READS = 'open r root\nr: SELECT k FROM t\n'
 ROWS = 5
 
 
@@ -63,9 +64,14 @@ class FailedSyncs(unittest.TestCase):
     def keys(self):
         """The keys in the file, and that it is whole."""
         self.assertEqual(run('check', self.db), (0, 'ok CHECK\n', ''))
-        status, printed, _ = run('run', self.db, '/dev/stdin', given='open r root\nr: SELECT k FROM t\n')
+        status, printed, _ = run('run', self.db, '/dev/stdin', given=READS)
         self.assertEqual(status, 0)
-        return {int(line) for line in printed.splitlines()[2:]}
+        return self.shown(printed.splitlines())
+
+    def shown(self, answers):
+        """The keys that the last answer of a script showed, a SELECT; none where it was not answered."""
+        at = next((at for at, answer in enumerate(answers) if answer.startswith('rows ')), len(answers))
+        return {int(line) for line in answers[at + 1:]}
 
     def told(self, answers, first):
         """The keys whose INSERT was answered by ok; the first answer is that of the session."""
@@ -107,6 +113,43 @@ class FailedSyncs(unittest.TestCase):
         _, messages = server.communicate(timeout=PATIENCE)
         self.assertEqual((server.returncode, messages, set(refused) - {'58030'}), (1, 'guarddb: stopped\n', set()))
         return kept
+
+    def shown_by_server(self, *words):
+        """The keys that a server showed."""
+        socket_path = os.path.join(self.folder, 'at')
+        server = subprocess.Popen([PROGRAM, 'serve', self.db, '--socket', socket_path, '--connections', '1', *words], stderr=subprocess.PIPE,
+                                  text=True, env=os.environ | self.disk(0))
+        self.assertEqual(server.stderr.readline(), f'guarddb: listening on {socket_path}\n')
+        with guarddb.connect(socket_path, timeout=PATIENCE) as connection:
+            rows = connection.open('root').ask('SELECT k FROM t')
+        server.communicate(timeout=PATIENCE)
+        self.assertEqual(server.returncode, 0)
+        return {int(row[0]) for row in rows}
+
+    def test_what_was_shown_is_there(self):
+        """Each sync of a run fails in turn. Then a run or a server reads, and the power fails: what it showed is there, also of a commit that
+        was refused. Each reader shows such a row at least once."""
+        def run_reads(*words):
+            done = subprocess.run([PROGRAM, 'run', *words, self.db, '/dev/stdin'], input=READS.encode(), capture_output=True,
+                                  env=os.environ | self.disk(0), check=False)
+            return self.shown(done.stdout.decode().splitlines())
+
+        readers = {'run': run_reads, 'run --explain': lambda: run_reads('--explain'), 'serve': self.shown_by_server,
+                   'serve --clients': lambda: self.shown_by_server('--clients', '2')}
+        for journal in (False, True):
+            for name, reader in readers.items():
+                refused = set()
+                for fails in range(2, 30):
+                    with self.subTest(journal=journal, reader=name, fails=fails):
+                        self.make(journal)
+                        first = self.run_on_disk(inserts(1, ROWS), fails)
+                        rows = reader()
+                        refused |= rows - self.told(first, 1)
+                        self.fail_power()
+                        self.assertLessEqual(rows, self.keys())
+                    if 'refused 58030' not in first and first:
+                        break
+                self.assertTrue(refused, (journal, name))
 
     def test_what_was_answered_is_there(self):
         """Each sync of a run fails in turn. Then the power fails: at once, or after another run that reads, or that writes."""

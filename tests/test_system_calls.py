@@ -21,6 +21,7 @@ import unittest
 from program import IS_FAKE, PATIENCE, PROGRAM, free_port, make_database, run
 import guarddb
 
+NAMING = 'openat,link,linkat,unlink,unlinkat,fsync,fdatasync'
 TRACED = 'openat,flock,ftruncate,fallocate,pread64,pwrite64,pwritev,write,writev,fsync,fdatasync'
 WRITES = ('ftruncate', 'fallocate', 'pwrite64', 'pwritev', 'write', 'writev')
 SYNCS = ('fsync', 'fdatasync')
@@ -49,6 +50,24 @@ def calls_on(path, trace):
         if call and names.get(call[2]):
             size, place = (None, None) if call[1] in SYNCS else (int(call[4]), int(call[3] or 0))
             found.append(Call(call[1], names[call[2]], size, place))
+    return found
+
+
+def names_and_syncs(folder, trace):
+    """The names in a folder that came and went, and what was synced, in their order: ('link', FROM, TO), ('unlink', NAME) and
+    ('sync', NAME), where `.` is the folder."""
+    found, opened = [], {}
+    for line in trace.splitlines():
+        call = re.match(r'(?:\d+ +)?(\w+)\((.*)\)\s*= (\d+)', line)
+        if not call:
+            continue
+        paths = [os.path.relpath(path, folder) for path in re.findall(r'"([^"]*)"', call[2]) if (path + '/').startswith(folder)]
+        if call[1] == 'openat':
+            opened[call[3]] = paths[0] if paths else None
+        elif call[1].startswith(('link', 'unlink')):
+            found.append((call[1].removesuffix('at'), *paths))
+        elif call[1] in SYNCS and opened.get(call[2]):
+            found.append(('sync', opened[call[2]]))
     return found
 
 
@@ -104,10 +123,10 @@ class Files(unittest.TestCase):
 
     @unittest.skipUnless(HAS_STRACE, 'there is no strace')
     def test_a_file_that_is_locked_before_its_zeros(self):
-        """Where the lock is refused, nothing is written and the file is taken away."""
+        """Where the lock is refused, nothing is written and the file is taken away, which its folder is synced for."""
         calls, printed = self.traced('format', self.path('db'), '--pages', str(PAGES), '--admin', 'root',
                                      inject=('-e', 'inject=flock:error=EAGAIN:when=1'))
-        self.assertEqual((printed, writes_and_syncs(calls)), ('', []))
+        self.assertEqual((printed, writes_and_syncs(calls)), ('', [Call('fsync', 'folder', None, None)]))
         self.assertFalse(os.path.exists(self.path('db')))
 
     @unittest.skipUnless(HAS_STRACE, 'there is no strace')
@@ -131,18 +150,151 @@ class Files(unittest.TestCase):
                 self.assertEqual(printed, '')
                 self.assertFalse(os.path.exists(self.path('db')))
 
+    def bytes_of_file(self):
+        with open(self.path('db'), 'rb') as file:
+            return file.read()
+
     @unittest.skipUnless(HAS_STRACE, 'there is no strace')
     def test_a_file_that_is_read(self):
-        """After an opening without a commit nothing was written."""
+        """Before a run or a server answers, page 0 is written again as it is read, and synced, behind all that an opening reads. Without a
+        commit nothing else is written, and `check` and `describe` write nothing at all."""
         make_database(self.path('db'), pages=PAGES)
         self.assertEqual(run('run', self.path('db'), self.script(SETUP))[0], 0)
+        before = self.bytes_of_file()
         reads = self.script('open r root\nr: SELECT * FROM t\nr: SELECT count(*) FROM t WHERE k > 1\n')
-        for words, answers in [(('check', self.path('db')), 'ok CHECK\n'),
-                               (('run', self.path('db'), reads), 'ok OPEN\nrows 0\nrows 1\n0\n')]:
-            calls, printed = self.traced(*words)
-            self.assertEqual(printed, answers)
-            self.assertIn(Call('open', 'file', False, None), calls)
-            self.assertEqual([call for call in calls if call.name in WRITES], [])
+        rows = 'ok OPEN\nrows 0\nrows 1\n0\n'
+        for words, answers, answering in [(('check', self.path('db')), 'ok CHECK\n', False), (('describe', self.path('db')), None, False),
+                                          (('run', self.path('db'), reads), rows, True),
+                                          (('run', '--explain', self.path('db'), reads), rows, True)]:
+            with self.subTest(words):
+                calls, printed = self.traced(*words)
+                self.assertEqual(printed, answers or printed)
+                self.assertIn(Call('open', 'file', False, None), calls)
+                first = next((at for at, call in enumerate(calls) if call.name in WRITES), len(calls))
+                self.assertEqual(calls[first - 1:first + 2] if answering else [], RENEWAL if answering else calls[first:])
+                self.assertEqual(writes_and_syncs(calls[first + 2:]), [])
+                self.assertEqual(self.bytes_of_file(), before)
+
+    @unittest.skipUnless(HAS_STRACE, 'there is no strace')
+    def test_a_server_that_only_reads(self):
+        """So it is of a server, before it listens."""
+        make_database(self.path('db'), pages=PAGES)
+        place, trace = self.path('socket'), self.path('trace')
+        for more in ((), ('--clients', '2')):
+            words = ['serve', self.path('db'), '--socket', place, '--connections', '1', *more]
+            with subprocess.Popen(['strace', '-f', '-s', '0', '-o', trace, '-e', f'trace={TRACED},listen', PROGRAM, *words],
+                                  stderr=subprocess.PIPE) as server:
+                self.assertEqual(server.stderr.readline().decode(), f'guarddb: listening on {place}\n')
+                with guarddb.connect(place, wait=PATIENCE, timeout=PATIENCE) as connection:
+                    connection.open('root')
+                self.assertEqual(server.wait(timeout=PATIENCE), 0)
+            with open(trace, encoding='utf-8', errors='replace') as file:
+                lines = re.sub(r'^\d+ +', '', file.read(), flags=re.M)
+            opening = calls_on(self.path('db'), re.split(r'^listen\(', lines, maxsplit=1, flags=re.M)[0])
+            self.assertEqual(opening[-3:], RENEWAL)
+            self.assertEqual(writes_and_syncs(calls_on(self.path('db'), lines)), writes_and_syncs(opening))
+
+    @unittest.skipUnless(HAS_STRACE, 'there is no strace')
+    def test_a_file_that_is_refused(self):
+        """Nothing is written: of a file that is no database, of one with another size, and of one that is damaged."""
+        for damage in ('zeros', 'size', 'map'):
+            make_database(self.path('db'), pages=PAGES)
+            with open(self.path('db'), 'r+b') as file:
+                if damage == 'size':
+                    file.truncate(PAGE * (PAGES - 1))
+                else:
+                    file.seek(0 if damage == 'zeros' else PAGE)
+                    file.write(bytes(PAGE * (1 if damage == 'zeros' else PAGES - 1)))
+            before = self.bytes_of_file()
+            for words in (('run', self.path('db'), self.script(SETUP)), ('serve', self.path('db'), '--socket', self.path('s'), '--connections', '1'),
+                          ('check', self.path('db')), ('run', '--explain', self.path('db'), self.script(SETUP))):
+                with self.subTest(damage=damage, words=words):
+                    calls, printed = self.traced(*words)
+                    self.assertEqual((printed, [call for call in calls if call.name in WRITES]), ('', []))
+                    self.assertEqual(self.bytes_of_file(), before)
+            os.remove(self.path('db'))
+
+    @unittest.skipUnless(HAS_STRACE, 'there is no strace')
+    def test_a_first_page_that_cannot_be_written(self):
+        """Nothing is answered, and the file is as it was: where its write is refused, and where its sync fails."""
+        make_database(self.path('db'), pages=PAGES)
+        before = self.bytes_of_file()
+        for fault in ('pwrite64:error=ENOSPC:when=1', 'fdatasync:error=EIO:when=2'):
+            for words in (('run', self.path('db'), self.script(SETUP)), ('serve', self.path('db'), '--socket', self.path('s'), '--connections', '1')):
+                with self.subTest(fault=fault, words=words):
+                    calls, printed = self.traced(*words, inject=('-e', f'inject={fault}'))
+                    self.assertEqual(printed, '')
+                    failed = max(at for at, call in enumerate(calls) if call.name == fault.split(':')[0])
+                    self.assertEqual(writes_and_syncs(calls[failed + 1:]), [])
+                    self.assertEqual(self.bytes_of_file(), before)
+                    self.assertEqual(run('check', self.path('db')), (0, 'ok CHECK\n', ''))
+
+    def named(self, *words, fault=None):
+        """The names that came and went in a run, with the syncs, and what it printed."""
+        trace, inject = self.path('trace'), ['-e', f'inject={fault}'] if fault else []
+        done = subprocess.run(['strace', '-f', '-s', '0', '-o', trace, '-e', f'trace={NAMING}', *inject, PROGRAM, *words],
+                              capture_output=True, check=False)
+        with open(trace, encoding='utf-8', errors='replace') as file:
+            return names_and_syncs(self.folder, file.read()), done.stdout.decode()
+
+    def copied(self, **more):
+        return self.named('copy', self.path('db'), self.path('new'), '--pages', str(PAGES), **more)
+
+    @unittest.skipUnless(HAS_STRACE, 'there is no strace')
+    def test_a_copy_gets_its_name(self):
+        """It is whole on the disk before it has the name; and the folder is synced for the name that came, and for the one that went. Once
+        that is gone the copy is made, whatever the last sync says."""
+        make_database(self.path('db'), pages=PAGES)
+        named = [('link', 'new.partial', 'new'), ('sync', '.'), ('unlink', 'new.partial'), ('sync', '.')]
+        done, printed = self.copied()
+        self.assertEqual(printed, 'ok COPY\n')
+        self.assertEqual(done[-5:], [('sync', 'new.partial'), *named])
+        os.remove(self.path('new'))
+        folder_syncs = [at for at, call in enumerate(done) if call == ('sync', '.')]
+        self.assertEqual(len(folder_syncs), 3)
+        _, printed = self.copied(fault='fsync:error=EIO:when=4')
+        self.assertEqual(printed, 'ok COPY\n')
+        self.assertEqual(run('check', self.path('new')), (0, 'ok CHECK\n', ''))
+        os.remove(self.path('new'))
+        done, printed = self.copied(fault='fsync:error=EIO:when=3')
+        self.assertEqual(printed, '')
+        self.assertEqual(done[-4:], [('unlink', 'new'), ('sync', '.'), ('unlink', 'new.partial'), ('sync', '.')])
+        self.assertEqual(sorted(os.listdir(self.folder)), ['db', 'trace'])
+
+    @unittest.skipUnless(HAS_STRACE, 'there is no strace')
+    def test_what_is_taken_away_is_synced(self):
+        """A copy that has no room, and a new file whose pages cannot be written."""
+        make_database(self.path('db'), pages=2 * PAGES)
+        script = 'open r root\nr: CREATE TABLE t (k BIGINT PRIMARY KEY, x TEXT)\n'
+        rows = ''.join(f"r: INSERT INTO t VALUES ({k}, '{'x' * 1000}')\n" for k in range(250))
+        self.assertEqual(run('run', self.path('db'), self.script(script + rows))[0], 0)
+        done, printed = self.copied()
+        self.assertEqual((printed, done[-2:]), ('', [('unlink', 'new.partial'), ('sync', '.')]))
+        done, printed = self.named('format', self.path('new'), '--pages', str(PAGES), '--admin', 'root', fault='fsync:error=EIO:when=1')
+        self.assertEqual((printed, done[-2:]), ('', [('unlink', 'new'), ('sync', '.')]))
+
+    @unittest.skipUnless(HAS_STRACE, 'there is no strace')
+    def test_two_names_of_one_file(self):
+        """A stop between the name that came and the one that goes leaves both. The next command that may write the file takes the
+        second away; nothing else of that name goes, and no command that only reads takes it away."""
+        db, partial = self.path('db'), self.path('db.partial')
+        make_database(db, pages=PAGES)
+        script = self.script('open r root\n')
+        for words in (('check', db), ('run', db, script), ('journal', db, 'on')):
+            os.link(db, partial)
+            done, _ = self.named(*words)
+            self.assertEqual([call for call in done if call[-1] != 'db'], [('unlink', 'db.partial'), ('sync', '.')], words)
+            self.assertFalse(os.path.exists(partial))
+        os.link(db, partial)
+        self.assertEqual([call for call in self.named('describe', db)[0] if call[-1] != 'db'], [])
+        os.remove(partial)
+        for make in (lambda: shutil.copy(db, partial), lambda: os.symlink(db, partial), lambda: os.link(script, partial)):
+            make()
+            os.link(db, self.path('third'))
+            self.assertEqual(run('check', db), (0, 'ok CHECK\n', ''))
+            self.assertTrue(os.path.lexists(partial))
+            os.remove(partial)
+            os.remove(self.path('third'))
 
     def is_commit(self, calls):
         """Pages, a sync, the root, a sync."""
@@ -155,7 +307,7 @@ class Files(unittest.TestCase):
 
     @unittest.skipUnless(HAS_STRACE, 'there is no strace')
     def test_commits(self):
-        """Page 0 is written again and synced before the first commit of a run, and not before the second. An opening syncs once."""
+        """Page 0 is written again and synced by the opening, once, and not before a commit. Before that an opening syncs once."""
         make_database(self.path('db'), pages=PAGES)
         calls, printed = self.traced('run', self.path('db'), self.script(SETUP + 'r: INSERT INTO t VALUES (1)\n'))
         self.assertEqual(printed, 'ok OPEN\nok CREATE TABLE\nok INSERT 1\n')
@@ -171,7 +323,7 @@ class Files(unittest.TestCase):
     @unittest.skipUnless(HAS_STRACE, 'there is no strace')
     def test_a_record_is_one_write(self):
         """With a journal each commit writes page 0 at once and syncs, also where its record has three sectors; before the first one page 0
-        is written again."""
+        is written again, by the opening."""
         make_database(self.path('db'), pages=PAGES, journal=True)
         script = 'open r root\nr: CREATE TABLE t (k BIGINT PRIMARY KEY, x TEXT)\nr: INSERT INTO t VALUES (1, \'%s\')\n' % ('x' * 1000)
         calls, printed = self.traced('run', self.path('db'), self.script(script))
@@ -182,9 +334,9 @@ class Files(unittest.TestCase):
 
     @unittest.skipUnless(HAS_STRACE, 'there is no strace')
     def test_a_sync_that_fails(self):
-        """That of the opening, of page 0, of the pages, of the root: the server stops, and writes nothing more; the file holds a
-        database. Page 0 was written with the bytes that it had."""
-        for number, answers in [(1, ''), (2, 'ok OPEN\nrefused 58030\n'), (3, 'ok OPEN\nrefused 58030\n'), (4, 'ok OPEN\nrefused 58030\n')]:
+        """The first of the opening, that of page 0, of the pages, of the root: the server is not opened or stops, and writes nothing more;
+        the file holds a database. Page 0 was written with the bytes that it had."""
+        for number, answers in [(1, ''), (2, ''), (3, 'ok OPEN\nrefused 58030\n'), (4, 'ok OPEN\nrefused 58030\n')]:
             make_database(self.path('db'), pages=PAGES)
             with open(self.path('db'), 'rb') as file:
                 before = file.read()

@@ -300,3 +300,11 @@ module _ {D L S : Type 0} (g : Ghosts D) (state : S → SystemState D L) (old ne
   pub copies_file : (result : Result (Unit {0}) CopyRefusal) → CopiesBeside g (state first) partial target pages device result left (state last) → CopiesFile g state old path target pages result new
   copies_file (Ok x) copied = copied_file copied
   copies_file (Err fault) uncopied = inr (inr (uncopied_file fault uncopied))
+
+-- a system stays faithful while a copy is made
+module _ {D L : Type 0} (g : Ghosts D) (old : SystemState D L) (partial target : List ℕ) (pages : ℕ) (device left : D) (new : SystemState D L) where
+  pub still_faithful : (result : Result (Unit {0}) CopyRefusal) → CopiesBeside g old partial target pages device result left new → old.faithful → new.faithful
+  still_faithful (Ok x) copied is = (copied.others is).faithful is
+  still_faithful (Err fault) (inl none) is = (none.same is).faithful is
+  still_faithful (Err fault) (inr (inl stopped)) is = (stopped.taken.others is).faithful is
+  still_faithful (Err fault) (inr (inr unnamed)) is = (unnamed.taken.others is).faithful is

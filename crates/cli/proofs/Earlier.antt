@@ -62,6 +62,7 @@ module _ (X : Type 0) {D L K : Type 0} (g : Ghosts D) (k : SinkGhosts K) (Reads 
     pub ran_from : (end : ScriptEnd) → IsFileRun X g k Reads mid path script out_before told err_before end new out_after err_after → IsFileRun X g k Reads old path script out_before told err_before end new out_after err_after
     ran_from end it = record {
       file = opened_from told err_before err_after it.file;
+      renewed = λ is. it.renewed ((same is).faithful is);
       left = it.left;
       runs = it.runs;
       closed = λ is. it.closed ((same is).faithful is);

@@ -1,5 +1,6 @@
 -- The connections that were served over the database that was opened, at the place that was asked for.
 use Rattle.std.proofs.Common.{◌≤◌, ◌∙◌, ℕ, Bool, List, Result, Ok, Err, Option, sym, subst}
+use Rattle.sector_device.specs.Device.{IsSynced}
 use Rattle.sector_device.specs.declared.device.Device.{Ghosts}
 use Rattle.systems.specs.declared.place.ListenPlace.{ListenPlace}
 use Rattle.systems.specs.Places.{the_place}
@@ -12,7 +13,7 @@ use Rattle.wire.specs.ScriptRun.{Known}
 use Rattle.wire.specs.declared.listener.Served.{Served}
 use Rattle.wire.specs.Listening.{Listening}
 use Rattle.databases.specs.declared.database.Opened.{Opened}
-use Rattle.databases.specs.Openings.{device_under}
+use Rattle.databases.specs.Openings.{device_under, state_under}
 use Rattle.cli.specs.declared.fault.CommandFault.{CommandFault}
 use Rattle.cli.specs.declared.fault.CommandFault.TheVariants.{Exists, InUse, Memory, Device, WrongSize, NotADatabase, NewerFormat, Damaged, Full, Number, PrintedTo, Net, Partial, NoRoom, ScriptUnread, ScriptNotUtf8, NoRole, Statement, FirstFormat, NoSwitchRoom, NoSwitchNumber, Output}
 use Rattle.cli.specs.Files.{ChangesDevice, IsOpenedAt}
@@ -78,7 +79,7 @@ module _ {D L X C : Type 0} (g : Ghosts D) (c : SinkGhosts C) (Reads : ReadingRe
 -- ---- once the database was opened
 
 module _ (X : Type 0) {D L C : Type 0} (g : Ghosts D) (c : SinkGhosts C) (Reads : ReadingRelation) (listening : L → Option Listening) (old mid end new : SystemState D L) (path : List ℕ) (place : ListenPlace) (asked : ℕ) (told : Bool) (before noted after : Known)
-    (opened : Opened D X g) (at : IsOpenedAt g old path opened mid) (tells : TellsMigration opened.was_migrated path told before noted) where
+    (opened : Opened D X g) (at : IsOpenedAt g old path opened mid) (renewed : old.faithful → IsSynced (state_under opened.server)) (tells : TellsMigration opened.was_migrated path told before noted) where
   -- the device, where the place was not bound
   device_changed : (left : D) → IsNotBound g c Reads listening mid place asked opened.server noted left end after → (end.faithful → IsOpen end path → HasDevice new path left) → (end.faithful → IsSameBut path end new)
       → old.faithful → ChangesDevice g old path at.device (device_under opened.server) new
@@ -93,6 +94,7 @@ module _ (X : Type 0) {D L C : Type 0} (g : Ghosts D) (c : SinkGhosts C) (Reads 
   served_so (Ok served) left closed closing counts it = record {
     noted = noted;
     file = record { device = at.device; opened = opened; is_opened = at.is_opened; tells = tells };
+    renewed = renewed;
     bound = it.bound;
     kind = it.between.kind;
     asked_for = λ is. it.between.asked ((at.others is).faithful is);

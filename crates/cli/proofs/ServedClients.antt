@@ -1,5 +1,6 @@
 -- The clients that were served over the database that was opened, at the place that was asked for.
 use Rattle.std.proofs.Common.{arith, ◌≡◌, ◌≤◌, ◌∙◌, ap, sym, subst, inl, inr, ℕ, Bool, List, Result, Ok, Err}
+use Rattle.sector_device.specs.Device.{IsSynced}
 use Rattle.sector_device.specs.declared.device.Device.{Ghosts}
 use Rattle.channels.specs.declared.attend.Attend.{Ghosts as AttendGhosts}
 use Rattle.channels.specs.Channels.{KeepsAll}
@@ -15,7 +16,7 @@ use Rattle.talks.specs.declared.serving.ServeEnd.{ServeEnd}
 use Rattle.talks.specs.Conversations.{awaited}
 use Rattle.wire.specs.ScriptRun.{Known}
 use Rattle.databases.specs.declared.database.Opened.{Opened}
-use Rattle.databases.specs.Openings.{device_under}
+use Rattle.databases.specs.Openings.{device_under, state_under}
 use Rattle.cli.specs.declared.fault.CommandFault.{CommandFault}
 use Rattle.cli.specs.declared.fault.CommandFault.TheVariants.{Exists, InUse, Memory, Device, WrongSize, NotADatabase, NewerFormat, Damaged, Full, Number, PrintedTo, Net, Partial, NoRoom, ScriptUnread, ScriptNotUtf8, NoRole, Statement, FirstFormat, NoSwitchRoom, NoSwitchNumber, Output}
 use Rattle.cli.specs.declared.serve_clients.ManyClients.{ManyClients}
@@ -98,7 +99,7 @@ module _ {D L X C T P : Type 0} (g : Ghosts D) (a : AttendGhosts L C) (t : TalkG
 -- ---- once the database was opened
 
 module _ (X : Type 0) {D L C T P : Type 0} (g : Ghosts D) (a : AttendGhosts L C) (t : TalkGhosts T) (p : ClientsGhosts P T) (Reads : ReadingRelation) (old mid end new : SystemState D L) (path : List ℕ) (place : ListenPlace) (many : ManyClients) (told : Bool) (before noted after : Known)
-    (opened : Opened D X g) (at : IsOpenedAt g old path opened mid) (tells : TellsMigration opened.was_migrated path told before noted) where
+    (opened : Opened D X g) (at : IsOpenedAt g old path opened mid) (renewed : old.faithful → IsSynced (state_under opened.server)) (tells : TellsMigration opened.was_migrated path told before noted) where
   -- the device, where the place was not bound
   left_changed : (left : D) → IsUnboundAt g a t p Reads mid place many opened.server noted left end after → (end.faithful → IsOpen end path → HasDevice new path left) → (end.faithful → IsSameBut path end new)
       → old.faithful → ChangesDevice g old path at.device (device_under opened.server) new
@@ -130,6 +131,7 @@ module _ (X : Type 0) {D L C T P : Type 0} (g : Ghosts D) (a : AttendGhosts L C)
   clients_served_so (Ok finish) left closed closing counts it = record {
     noted = noted;
     file = record { device = at.device; opened = opened; is_opened = at.is_opened; tells = tells };
+    renewed = renewed;
     bound = it.bound;
     kind = it.between.kind;
     asked_for = λ is. it.between.asked ((at.others is).faithful is);

@@ -1,5 +1,6 @@
 -- What checks and runs over the database in a file do.
 use Rattle.std.specs.Prelude.{◌≡◌, ℕ, Bool, true, List, MatchResult}
+use Rattle.sector_device.specs.Device.{IsSynced}
 use Rattle.sector_device.specs.declared.device.Device.{Ghosts}
 use Rattle.systems.specs.Systems.{SystemState}
 use Rattle.abstract_database.specs.Runs.{ReadingRelation}
@@ -9,7 +10,7 @@ use Rattle.wire.specs.declared.sink.Sink.{Ghosts as SinkGhosts}
 use Rattle.wire.specs.Closing.{LeavesNoSession}
 use Rattle.wire.specs.ScriptRun.{Known}
 use Rattle.databases.specs.declared.database.Opened.{Opened}
-use Rattle.databases.specs.Openings.{IsOpenedOn, device_under}
+use Rattle.databases.specs.Openings.{IsOpenedOn, device_under, state_under}
 use Rattle.databases.specs.Runs.{RunsScriptFrom}
 use Rattle.cli.specs.declared.fault.CommandFault.{CommandFault}
 use Rattle.cli.specs.declared.opened.CommandEnd.{CommandEnd}
@@ -46,10 +47,11 @@ module _ (X : Type 0) {D L : Type 0} (g : Ghosts D) (old : SystemState D L) (pat
 
 -- `k` is what is said of the sink that takes the answers
 module _ (X : Type 0) {D L K : Type 0} (g : Ghosts D) (k : SinkGhosts K) (Reads : ReadingRelation) (old : SystemState D L) (path : List ℕ) where
-  -- the script was run over the database that was opened, and the file is there as the run has left it; no session is open, unless
-  -- the server has stopped
+  -- the script was run over the database that was opened, of which a stop left each sector as it was read before the first line, and the
+  -- file is there as the run has left it; no session is open, unless the server has stopped
   pub record IsFileRun (script : List ℕ) (out_before : K) (told : Bool) (err_before : Known) (end : ScriptEnd) (new : SystemState D L) (out_after : K) (err_after : Known) : Type 0 where
     pub file : IsFileOpened X g old path told err_before err_after
+    pub renewed : old.faithful → IsSynced (state_under file.opened.server)
     pub left : D
     pub runs : RunsScriptFrom g k Reads file.opened.server script out_before end left out_after
     pub closed : old.faithful → LeavesNoSession store_state runs.last

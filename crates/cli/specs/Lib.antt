@@ -6,6 +6,7 @@ pub mod Usage
 pub mod Commands
 pub mod CopyFaults
 pub mod Copying
+pub mod CopyNames
 pub mod Faults
 pub mod Files
 pub mod Formatting

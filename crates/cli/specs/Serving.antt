@@ -1,6 +1,7 @@
 -- What serving the database in a file at a place does.
 use Rattle.std.specs.Prelude.{◌≡◌, ◌≢◌, ◌≤◌, ◌++◌, ℕ, Bool, List, codes, decimal, Option, Result, Ok, Err}
 use Rattle.std.specs.Io.KnownBytes.{Appends}
+use Rattle.sector_device.specs.Device.{IsSynced}
 use Rattle.sector_device.specs.declared.device.Device.{Ghosts}
 use Rattle.systems.specs.declared.place.ListenPlace.{ListenPlace}
 use Rattle.systems.specs.declared.place.ListenPlace.TheVariants.{Port, Socket}
@@ -13,7 +14,7 @@ use Rattle.wire.specs.declared.sink.Sink.{Ghosts as SinkGhosts}
 use Rattle.wire.specs.ScriptRun.{Known}
 use Rattle.wire.specs.declared.listener.Served.{Served}
 use Rattle.wire.specs.Listening.{Listening}
-use Rattle.databases.specs.Openings.{device_under}
+use Rattle.databases.specs.Openings.{device_under, state_under}
 use Rattle.databases.specs.Runs.{ServesFrom}
 use Rattle.cli.specs.declared.fault.CommandFault.{CommandFault}
 use Rattle.cli.specs.declared.fault.CommandFault.TheVariants.{Net, Output}
@@ -101,11 +102,12 @@ pub record ChangesBoth {D L : Type 0} (old : SystemState D L) (path : List ℕ) 
 
 -- `X` decides events, and `path` is that of the file
 module _ (X : Type 0) {D L C : Type 0} (g : Ghosts D) (c : SinkGhosts C) (Reads : ReadingRelation) (listening : L → Option Listening) (old : SystemState D L) (path : List ℕ) (place : ListenPlace) (asked : ℕ) where
-  -- the database was opened and the place bound, it was told where, and the connections that came to its listener were served, so
-  -- many at most; the file is there as the server has left it
+  -- the database was opened, of which a stop left each sector as it was read then, and the place bound, it was told where, and the
+  -- connections that came to its listener were served, so many at most; the file is there as the server has left it
   pub record IsFileServed (told : Bool) (before : Known) (served : Served) (new : SystemState D L) (after : Known) : Type 0 where
     pub noted : Known
     pub file : IsFileOpened X g old path told before noted
+    pub renewed : old.faithful → IsSynced (state_under file.opened.server)
     pub bound : ListenPlace
     pub kind : IsOfKind (the_place place) (the_place bound)
     pub asked_for : old.faithful → IsBoundFor (the_place place) (the_place bound)

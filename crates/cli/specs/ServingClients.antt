@@ -4,6 +4,7 @@ use Rattle.std.specs.Duration.{as_nanos}
 use Rattle.std.specs.Option.{unwrap_or}
 use Rattle.std.specs.declared.time.Duration.{Duration}
 use Rattle.std.specs.Io.KnownBytes.{Appends}
+use Rattle.sector_device.specs.Device.{IsSynced}
 use Rattle.sector_device.specs.declared.device.Device.{Ghosts}
 use Rattle.sql_types.specs.declared.answer.Answer.TheVariants.{Refused}
 use Rattle.sql_types.specs.declared.state.SqlState.TheVariants.{TooManyConnections}
@@ -24,7 +25,7 @@ use Rattle.talks.specs.declared.clients.ServedClients.{Ghosts as ClientsGhosts}
 use Rattle.talks.specs.declared.serving.ServeEnd.{ServeEnd}
 use Rattle.talks.specs.Clients.{Contention}
 use Rattle.talks.specs.Conversations.{awaited, gone}
-use Rattle.databases.specs.Openings.{device_under}
+use Rattle.databases.specs.Openings.{device_under, state_under}
 use Rattle.databases.specs.Runs.{ServesClientsFrom}
 use Rattle.cli.specs.declared.fault.CommandFault.{CommandFault}
 use Rattle.cli.specs.declared.fault.CommandFault.TheVariants.{Memory, Net, Output}
@@ -143,10 +144,12 @@ module _ {D X L C T P : Type 0} (g : Ghosts D) (a : AttendGhosts L C) (t : TalkG
 
 -- `X` decides events, and `path` is that of the file
 module _ (X : Type 0) {D L C T P : Type 0} (g : Ghosts D) (a : AttendGhosts L C) (t : TalkGhosts T) (p : ClientsGhosts P T) (Reads : ReadingRelation) (old : SystemState D L) (path : List ℕ) (place : ListenPlace) (many : ManyClients) where
-  -- the database was opened and the place bound, it was told where, and those that came there were served; the file is there as the server has left it
+  -- the database was opened, of which a stop left each sector as it was read then, and the place bound, it was told where, and those that
+  -- came there were served; the file is there as the server has left it
   pub record AreServedOver (told : Bool) (before : Known) (end : ServeEnd) (new : SystemState D L) (after : Known) : Type 0 where
     pub noted : Known
     pub file : IsFileOpened X g old path told before noted
+    pub renewed : old.faithful → IsSynced (state_under file.opened.server)
     pub bound : ListenPlace
     pub kind : IsOfKind (the_place place) (the_place bound)
     pub asked_for : old.faithful → IsBoundFor (the_place place) (the_place bound)

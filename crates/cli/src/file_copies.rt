@@ -5,7 +5,9 @@ ghost use Rattle.sector_device.specs.Device.{KeepsHistory};
 ghost use Rattle.cow_pages.specs.Held.{KeepsContent};
 ghost use Rattle.copies.specs.DatabaseCopies.{CopiesDatabase};
 ghost use Rattle.cli.specs.CopyFaults.{of_partial};
+ghost use Rattle.cli.specs.CopyNames.{LeavesCopy, LeavesCopyOf};
 ghost use Rattle.cli.specs.Copying.{CopiesBeside, CopiesFile, Renames, partial_path};
+ghost use Rattle.systems.specs.Systems.{LeavesAlso};
 
 use crate::copy_fault::CopyRefusal;
 use crate::fault::CommandFault;
@@ -25,9 +27,10 @@ const PARTIAL: &str = ".partial";
 /// copied in format 2. Both files are closed then.
 ///
 /// The copy is made in a file of its own, which has the name of the target with `.partial` after it.
-/// It gets its name once it is whole, and replaces nothing. So at no moment is there anything at
-/// `target` but the whole copy. After an error nothing is left of it, as far as the system removes
-/// it. What the system has for it is told how far a large copy is.
+/// It gets its name once it is whole, and replaces nothing. So a stop at any moment leaves nothing of
+/// the name `target`, or a whole copy; the other name may be left beside. After an error nothing is
+/// left of it, as far as the system removes it. What the system has for it is told how far a large
+/// copy is.
 ///
 /// `New` with `WrongSize`: the number of pages is not from 64 to 65,536; no file is opened. `File`:
 /// what `read_file` refuses of the file. `New`: `Exists`, where there is something of the name
@@ -42,8 +45,10 @@ pub fn copy_file<Y: System>(
     target: &str,
     pages: u32,
 ) -> Result<(), CopyRefusal>
-    ensures { CopiesFile Y.Device.Device Y.state (Y.state system.old) path.now target.now pages result
-        (Y.state system.new) }
+    ensures copies { CopiesFile Y.Device.Device Y.state (Y.state system.old) path.now target.now pages
+        result (Y.state system.new) }
+    ensures left { (Y.state system.old).faithful → target.now ≢ path.now
+        → LeavesCopy Y.Device.Device path.now target.now (Y.state system.old) (Y.state system.new) }
 {
     if pages > MAX_PAGES {
         return Err(CopyRefusal::New(CommandFault::WrongSize));
@@ -70,8 +75,10 @@ fn copy_beside<Y: System>(
     pages: u32,
 ) -> (Y::Device, Result<(), CopyRefusal>)
     requires { pages ≤ MAX_PAGES }
-    ensures { CopiesBeside Y.Device.Device (Y.state system.old) (partial_path target.now)
+    ensures copies { CopiesBeside Y.Device.Device (Y.state system.old) (partial_path target.now)
         target.now pages device result.1 result.0 (Y.state system.new) }
+    ensures left { (Y.state system.old).faithful → (Y.Device.state device).faithful
+        → LeavesCopyOf Y.Device.Device device target.now (Y.state system.old) (Y.state system.new) }
 {
     let found = match system.has_name(target) {
         Ok(found) => found,
@@ -107,8 +114,10 @@ fn copy_as<Y: System>(
 ) -> (Y::Device, Result<(), CopyRefusal>)
     requires size { pages ≤ MAX_PAGES }
     requires names { target.now ≢ partial.now }
-    ensures { CopiesBeside Y.Device.Device (Y.state system.old) partial.now target.now pages device
-        result.1 result.0 (Y.state system.new) }
+    ensures copies { CopiesBeside Y.Device.Device (Y.state system.old) partial.now target.now pages
+        device result.1 result.0 (Y.state system.new) }
+    ensures left { (Y.state system.old).faithful → (Y.Device.state device).faithful
+        → LeavesCopyOf Y.Device.Device device target.now (Y.state system.old) (Y.state system.new) }
 {
     let blank = match system.make(partial, pages) {
         Ok(blank) => blank,
@@ -159,7 +168,10 @@ fn rename_copy<Y: System>(
     target: &str,
     copy: Y::Device,
 ) -> Result<(), CopyRefusal>
-    ensures { Renames (Y.state system.old) partial.now target.now copy result (Y.state system.new) }
+    ensures renames { Renames (Y.state system.old) partial.now target.now copy result
+        (Y.state system.new) }
+    ensures left { (Y.state system.old).faithful → target.now ≢ partial.now
+        → LeavesAlso target.now copy (Y.state system.old) (Y.state system.new) }
 {
     match system.rename(partial, target, copy) {
         Ok(()) => Ok(()),

@@ -1,12 +1,14 @@
 //! The database in a file, which is opened for a command.
 
-ghost use Rattle.std.specs.Prelude.{◌≡◌, true, Err, OnOk};
+ghost use Rattle.std.specs.Prelude.{◌≡◌, true, Err, IfOk, OnOk};
 ghost use Rattle.std.specs.Io.KnownBytes.{Appends};
-ghost use Rattle.cli.specs.Files.{OpensAt};
+ghost use Rattle.sector_device.specs.Device.{IsSynced};
+ghost use Rattle.databases.specs.Openings.{state_under};
+ghost use Rattle.cli.specs.Files.{IsOpenedAt, OpensAt};
 ghost use Rattle.cli.specs.Migrations.{TellsMigration, migration_text};
 
 use crate::fault::CommandFault;
-use databases::{Opened, open_database};
+use databases::{Opened, open_database, renewed};
 use journal_store::{DeviceStore, MAX_CACHE_PAGES};
 use sector_device::Device;
 use server::decide::EventHandler;
@@ -37,11 +39,57 @@ impl<T> CommandEnd<T> {
     }
 }
 
-/// Opens the database in the file at `path`, whose events `handler` decides, with the largest cache.
-/// Where it is refused the file is closed again.
+/// Opens the database in the file at `path`, whose events `handler` decides, with the largest cache,
+/// to answer from it: once it is accepted its first page is brought to the medium as it is read.
+/// Where it is refused, or that fails, the file is closed again.
+///
+/// The faults are those of `open_to_check_in`, and then `Device`, where that failed.
+pub(crate) fn open_database_in<Y: System, X: EventHandler + Drop>(
+    system: &mut Y,
+    alloc: Global,
+    handler: X,
+    path: &str,
+) -> Result<Opened<Y::Device, X>, CommandFault>
+    ensures opens { OpensAt Y.Device.Device (Y.state system.old) path.now result
+        (Y.state system.new) }
+    ensures renewed { (Y.state system.old).faithful
+        → IfOk result (λ opened. IsSynced (state_under opened.server)) }
+{
+    match open_to_check_in(system, alloc, handler, path) {
+        Ok(opened) => renew_in(system, path, opened),
+        Err(fault) => Err(fault),
+    }
+}
+
+// Brings the first page of the device below a database that was just opened to the medium, as it is
+// read. Where that fails the file is closed again. It is not inlined: else the servers that it moves
+// would have room on the stack while the database is opened, which takes most of the stack.
+#[inline(never)]
+fn renew_in<Y: System, X: EventHandler + Drop>(
+    system: &mut Y,
+    path: &str,
+    opened: Opened<Y::Device, X>,
+) -> Result<Opened<Y::Device, X>, CommandFault>
+    ensures opens { (first : Y) → IsOpenedAt Y.Device.Device (Y.state first) path.now opened
+        (Y.state system.old)
+        → OpensAt Y.Device.Device (Y.state first) path.now result (Y.state system.new) }
+    ensures renewed { (state_under opened.server).faithful
+        → IfOk result (λ ready. IsSynced (state_under ready.server)) }
+{
+    match renewed(opened) {
+        Ok(ready) => Ok(ready),
+        Err((device, fault)) => {
+            system.close(path, device);
+            Err(CommandFault::from(fault))
+        }
+    }
+}
+
+/// Opens the database in the file at `path`, whose events `handler` decides, with the largest cache,
+/// to answer nothing from it. Where it is refused the file is closed again.
 ///
 /// The faults are those of `System::open`, and then those of `open_database`.
-pub(crate) fn open_database_in<Y: System, X: EventHandler + Drop>(
+pub(crate) fn open_to_check_in<Y: System, X: EventHandler + Drop>(
     system: &mut Y,
     alloc: Global,
     handler: X,

@@ -2,7 +2,7 @@
 
 ghost use Rattle.cli.specs.Commands.{ChecksFile, RunsFile};
 
-use crate::opened::{CommandEnd, open_database_in, tell_migration};
+use crate::opened::{CommandEnd, open_database_in, open_to_check_in, tell_migration};
 use databases::run_script_on;
 use server::decide::EventHandler;
 use std::alloc::Global;
@@ -32,7 +32,7 @@ pub fn check_file<Y: System, X: EventHandler + Drop, E: Write>(
     ensures { ChecksFile X Y.Device.Device (Y.state system.old) path.now (E.contents err.old) result
         (Y.state system.new) (E.contents err.new) }
 {
-    let opened = match open_database_in(system, alloc, handler, path) {
+    let opened = match open_to_check_in(system, alloc, handler, path) {
         Ok(opened) => opened,
         Err(fault) => return CommandEnd::unopened(fault),
     };
@@ -47,8 +47,8 @@ pub fn check_file<Y: System, X: EventHandler + Drop, E: Write>(
 /// Runs a script over the database in the file at `path`, whose events `handler` decides: each
 /// answer is told to `out` once its event is carried out, before the next line is read. However the
 /// script ends, the sessions that are still open are then closed, unless the server has stopped, and
-/// so is the file. Before the first line `err` is told that the file was migrated, where it was, as
-/// at `check_file`.
+/// so is the file. Before the first line a stop leaves each sector of the file as it was read, and
+/// `err` is told that the file was migrated, where it was, as at `check_file`.
 ///
 /// The faults are those of `check_file`: then no line is run and nothing is told to `out`.
 pub fn run_file<Y: System, X: EventHandler + Drop, K: TakesText, E: Write>(

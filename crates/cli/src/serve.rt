@@ -33,7 +33,8 @@ pub struct Limits {
 /// events `handler` decides: so many at most, one after the other. `err` is told first that the file
 /// was migrated, where it was, as at `check_file`, and then, before the first connection, where the
 /// server listens, as `guarddb: listening on 127.0.0.1:P`, which names the port that was
-/// bound, or `guarddb: listening on PATH`. Connections come as the system's listener takes them,
+/// bound, or `guarddb: listening on PATH`. By then a stop leaves each sector of the file as it was
+/// read. Connections come as the system's listener takes them,
 /// with the limit that `limits` has. However it ends, the place is given up and the file is closed.
 ///
 /// The faults are first those of `check_file`, and then `Net`, where the place is not bound, and

@@ -13,3 +13,4 @@ pub mod DeviceLiving
 mod Made
 pub mod DeviceOpening
 pub mod Telling
+pub mod StillOpened

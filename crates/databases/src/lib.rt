@@ -10,6 +10,7 @@ mod making;
 mod new_database;
 mod on_device;
 mod over_store;
+mod renewing;
 mod runs;
 mod stopping;
 
@@ -23,5 +24,6 @@ pub use making::make_database;
 pub use new_database::a_stop_leaves_none_or_the_new_one;
 pub use on_device::live;
 pub use over_store::live_over;
+pub use renewing::renewed;
 pub use runs::{run_script_on, serve_clients_on, serve_database};
 pub use stopping::{either_may_be_left, steps_run_at_moments, told_answers_are_done};

@@ -24,3 +24,4 @@ pub mod SwitchJournaled
 pub mod Kept
 pub mod Rid
 pub mod TurningOn
+pub mod Renewing

@@ -21,7 +21,7 @@ module _ {D : Type 0} {g : Ghosts D} where
   looks_history (Pages s) (Journaled t) looks = absurd looks
   looks_history (Journaled s) (Pages t) looks = absurd looks
 
-  looks_content : (present : (device : D) → (g.state device).faithful → IsPresent (timeline (g.state device))) (s t : DeviceStore D g) → OnlyLooksInto s t → (state_under s).faithful
+  pub looks_content : (present : (device : D) → (g.state device).faithful → IsPresent (timeline (g.state device))) (s t : DeviceStore D g) → OnlyLooksInto s t → (state_under s).faithful
       → KeepsContent (state_under s) (state_under t)
   looks_content present (Pages s) (Pages t) nothing faithful = nothing.content (record { faithful = faithful; present = present (device_of_pages (pages_of s)) faithful })
   looks_content present (Journaled s) (Journaled t) keeps faithful = keeps.nothing.content (record { faithful = faithful; present = present (held_device s) faithful })

@@ -18,6 +18,7 @@ mod on;
 mod opening;
 mod places;
 mod reads;
+mod renewal;
 mod room;
 mod stores;
 mod switch_fault;

@@ -11,6 +11,7 @@ mod laws;
 mod page_store;
 mod read_only;
 mod refusals;
+mod renewal;
 mod reserve;
 mod tree_store;
 

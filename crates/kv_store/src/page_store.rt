@@ -6,7 +6,7 @@ ghost use Rattle.kv_store.specs.TreeStore.{pages_of as tree_pages};
 use crate::tree_store::TreeStore;
 use cow_pages::{DEFAULT_CACHE_PAGES, MAX_CACHE_PAGES, OpenFault};
 use page_tree::TreeWalk;
-use sector_device::Device;
+use sector_device::{Device, ProtectedSectors};
 use std::alloc::Global;
 use store::{Batch, Entry, EntryRef, Map, RecordFormat, Store, StoreFault};
 
@@ -288,5 +288,30 @@ impl<D: Device> Store for PageStore<D> {
             → OnOk result ((store_state self.new).number ≡ (store_state self.old).number + 1) }
     {
         self.tree.commit_migration(batch)
+    }
+}
+
+impl<D: ProtectedSectors> PageStore<D> {
+    ghost use Rattle.std.specs.Prelude.{◌≡◌, IfErr, OnOk};
+    ghost use Rattle.sector_device.specs.Device.{IsSynced};
+    ghost use Rattle.cow_pages.specs.Cow.{device_below};
+    ghost use Rattle.store.specs.Steps.{Goes};
+    ghost use Rattle.kv_store.specs.PageStore.{pages_of, store_state};
+    ghost use Rattle.kv_store.specs.TreeStore.{CountsRead, IsStill};
+    ghost use Rattle.kv_store.specs.Unwritten.{WritesNothing};
+
+    /// Writes the first page of the device again as it is read, and brings it to the medium. To whoever reads the store or
+    /// what a stop leaves of it, it is a read; after `Ok` a stop leaves each sector as it is read. `Device`: as at
+    /// `TreeStore::renew`.
+    pub fn renew(&mut self) -> Result<(), StoreFault>
+        ensures preserved { WritesNothing (pages_of self.old) (pages_of self.new) }
+        ensures goes { Goes (λ _. Unit {0}) result (store_state self.old) (store_state self.new) }
+        ensures still { IsStill result self.old.tree self.new.tree }
+        ensures counts { CountsRead result self.old.tree self.new.tree }
+        ensures fault { IfErr result (λ fault. fault ≡ StoreFault.Device) }
+        ensures synced { (device_below (pages_of self.old)).faithful
+            → OnOk result (IsSynced (device_below (pages_of self.new))) }
+    {
+        self.tree.renew()
     }
 }

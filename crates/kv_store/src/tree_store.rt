@@ -130,7 +130,7 @@ impl<D: Device> TreeStore<D> {
 
     // The answer to a fault of a read: Memory where an allocation failed and the device works, or else Device, which is
     // counted, and stays.
-    fn refuse_read(&mut self, fault: PageFault) -> StoreFault
+    pub(crate) fn refuse_read(&mut self, fault: PageFault) -> StoreFault
         ensures pages { self.new.pages ≡ self.old.pages }
         ensures cursor { self.new.cursor ≡ self.old.cursor }
         ensures fulls { self.new.fulls ≡ self.old.fulls }

@@ -9,6 +9,7 @@ unsaid failures = record {
   devices = λ path. Absent;
   texts = λ path. None;
   is_named = λ path. false;
+  left = λ path device. ⊥;
   listeners = λ place. Absent;
   failures = failures;
 }

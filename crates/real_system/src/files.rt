@@ -1,7 +1,9 @@
 //! Devices over files of the system that are locked.
 
+use crate::new_files::remove_partial_name;
 use crate::streams::Outputs;
 use sector_device::{FileDevice, FileFault, SystemCause, SystemFile};
+use std::alloc::Global;
 use std::fs::{self, File, OpenOptions, TryLockError};
 use std::io;
 use std::rt::Files;
@@ -9,8 +11,9 @@ use systems::{Access, OpenPathFault};
 
 /// A device over the file at `path`, which is opened and locked. To be read it is opened beside others
 /// that read it, and no write of the device succeeds. To be written it is opened by this process
-/// alone. It stays locked until the device is dropped. The device has no sectors unless the file's
-/// length is a whole number of pages, 65,536 at most.
+/// alone; then the file loses the name that a copy had until it was whole, if a stop left it that one
+/// beside its own. It stays locked until the device is dropped. The device has no sectors unless the
+/// file's length is a whole number of pages, 65,536 at most.
 ///
 /// `Missing`: there is no file of that name. `PrintedTo`: it is one of these outputs, so what is printed
 /// would be written over it or behind it. `InUse`: another process holds a lock that does not go with
@@ -18,6 +21,7 @@ use systems::{Access, OpenPathFault};
 /// not since an allocation failed.
 pub(crate) fn open_file(
     rt: &impl Files<File = File>,
+    alloc: Global,
     path: &str,
     access: Access,
     outputs: &Outputs,
@@ -29,25 +33,35 @@ pub(crate) fn open_file(
         }
         Err(error) => return Err(system_fault(&error)),
     };
-    match file.metadata() {
-        Ok(found) if outputs.has(&found) => return Err(OpenPathFault::PrintedTo),
-        Ok(_) => {}
+    let found = match file.metadata() {
+        Ok(found) => found,
         Err(error) => return Err(system_fault(&error)),
-    }
-    let locked = match access {
-        Access::Read => file.try_lock_shared(),
-        Access::Write => file.try_lock(),
     };
-    match locked {
-        Ok(()) => {}
-        Err(TryLockError::WouldBlock) => return Err(OpenPathFault::InUse),
-        Err(TryLockError::Error(error)) => return Err(system_fault(&error)),
+    if outputs.has(&found) {
+        return Err(OpenPathFault::PrintedTo);
+    }
+    lock(&file, access)?;
+    if access == Access::Write {
+        remove_partial_name(rt, alloc, path, &found);
     }
     match FileDevice::stand_over(SystemFile::opened(file)) {
         Ok(device) => Ok(device),
         Err(FileFault::Memory) => Err(OpenPathFault::Memory),
         Err(FileFault::Device(cause)) => Err(OpenPathFault::Device(cause)),
         Err(FileFault::Exists) => Err(OpenPathFault::Device(SystemCause::Other)),
+    }
+}
+
+// Locks a file: to be read beside others that read it, to be written by this process alone.
+fn lock(file: &File, access: Access) -> Result<(), OpenPathFault> {
+    let locked = match access {
+        Access::Read => file.try_lock_shared(),
+        Access::Write => file.try_lock(),
+    };
+    match locked {
+        Ok(()) => Ok(()),
+        Err(TryLockError::WouldBlock) => Err(OpenPathFault::InUse),
+        Err(TryLockError::Error(error)) => Err(system_fault(&error)),
     }
 }
 

@@ -3,16 +3,21 @@
 ghost use Rattle.std.specs.Prelude.{◌≡◌, ◌≤◌, ◌*◌, IfOk};
 ghost use Rattle.sector_device.specs.FileDevice.{file_device_state};
 
+use crate::file_id::{FileId, file_at};
 use sector_device::{Device, FileDevice, FileFault, SystemCause, SystemFile};
-use std::fs::{self, File, OpenOptions, Permissions, TryLockError};
+use std::alloc::{AllocError, Global};
+use std::fs::{self, File, Metadata, OpenOptions, Permissions, TryLockError};
 use std::io;
-use std::os::unix::fs::{FileExt, OpenOptionsExt, PermissionsExt};
+use std::os::unix::fs::{FileExt, MetadataExt, OpenOptionsExt, PermissionsExt};
 use std::path::Path;
 use std::rt::Files;
 use storage_sizes::{MAX_PAGES, PAGE_SIZE, SECTORS_PER_PAGE};
 
 /// The mode of a new file: its owner alone may read and write it. What policies hide stands in it.
 const PRIVATE: u32 = 0o600;
+
+/// What follows the name of a copy until it is whole.
+const PARTIAL: &str = ".partial";
 
 /// How many pages of zeros are written at once.
 const PAGES_AT_ONCE: u32 = 16;
@@ -47,7 +52,7 @@ pub(crate) fn make_file(
     let made = fill(rt, file, path, pages);
     if made.is_err() {
         // The fault is that of the making; a file that stays is seen at the next try.
-        let _ = fs::remove_file(rt, path);
+        let _ = remove_name(rt, path);
     }
     made
 }
@@ -105,6 +110,43 @@ fn sync_folder(rt: &impl Files<File = File>, path: &str) -> io::Result<()> {
     File::open(rt, folder)?.sync_all()
 }
 
+/// Takes a name away, and brings that to the disk. An error: it is still there. That the folder is not
+/// brought to the disk is none: the name is gone, though a power failure may bring it back.
+pub(crate) fn remove_name(rt: &impl Files<File = File>, path: &str) -> io::Result<()> {
+    fs::remove_file(rt, path)?;
+    // What was asked for is done; what a stop may leave is in the page of promises.
+    let _ = sync_folder(rt, path);
+    Ok(())
+}
+
+/// Takes away the name that a copy had until it was whole, where it is one more name of the file at
+/// `path`: a stop came while the copy got its name. Anything else of that name is left, a link too.
+/// No error is told: the file is the same under either name.
+pub(crate) fn remove_partial_name(
+    rt: &impl Files<File = File>,
+    alloc: Global,
+    path: &str,
+    found: &Metadata,
+) {
+    if found.nlink() < 2 {
+        return;
+    }
+    let Ok(partial) = partial_name(alloc, path) else {
+        return;
+    };
+    if file_at(rt, partial.as_str()) == Some(FileId::of(found)) {
+        // A name that stays is seen at the next opening.
+        let _ = remove_name(rt, partial.as_str());
+    }
+}
+
+// The name that a copy has until it is whole. The only error is that an allocation failed.
+fn partial_name(alloc: Global, path: &str) -> Result<String, AllocError> {
+    let mut name = String::from_str(alloc, path)?;
+    name.push_str(PARTIAL)?;
+    Ok(name)
+}
+
 /// Whether there is something of this name, be it a link to nothing. A path without a byte can name
 /// nothing, which is an error.
 pub(crate) fn is_there(rt: &impl Files<File = File>, path: &str) -> io::Result<bool> {
@@ -121,7 +163,8 @@ pub(crate) fn is_there(rt: &impl Files<File = File>, path: &str) -> io::Result<b
 /// Gives the file at `from` the name `to`, in the same folder, in place of its own. Nothing is ever
 /// replaced: `Exists` where there is something of the name `to`. The file has its new name on the
 /// disk before it loses the other, so a stop leaves one of them or both. After an error it has the
-/// old one alone, as far as the system takes the new one away.
+/// old one alone, as far as the system takes the new one away. Once it has lost the old one there is
+/// no error.
 pub(crate) fn rename_new(
     rt: &impl Files<File = File>,
     from: &str,
@@ -138,16 +181,16 @@ pub(crate) fn rename_new(
         Ok(()) => Ok(()),
         Err(error) => {
             // The fault is that of the name; a file that stays is seen at the next try.
-            let _ = fs::remove_file(rt, to);
+            let _ = remove_name(rt, to);
             Err(new_fault(&error))
         }
     }
 }
 
-// Brings the second name of a file to the disk, and takes the first away.
+// Brings the second name of a file to the disk, and takes the first away. An error: it is still there.
 fn leave_name(rt: &impl Files<File = File>, from: &str, to: &str) -> io::Result<()> {
     sync_folder(rt, to)?;
-    fs::remove_file(rt, from)
+    remove_name(rt, from)
 }
 
 // The fault of a call of the system on a new file.

@@ -3,7 +3,7 @@
 use crate::file_id::{FileId, file_at};
 use crate::files::open_file;
 use crate::listening::PlaceListener;
-use crate::new_files::{is_there, make_file, rename_new};
+use crate::new_files::{is_there, make_file, remove_name, rename_new};
 use crate::progress::PrintedProgress;
 use crate::real_listener::RealListener;
 use crate::socket::remove_made;
@@ -116,7 +116,7 @@ impl<
         path: &str,
         access: Access,
     ) -> Result<WriteProtected<FileDevice<SystemFile>>, OpenPathFault> {
-        match open_file(self.rt, path, access, &self.outputs) {
+        match open_file(self.rt, self.alloc, path, access, &self.outputs) {
             Ok(device) => Ok(WriteProtected::new(device)),
             Err(OpenPathFault::Device(cause)) => {
                 self.failures = self.failures.saturating_add(1);
@@ -149,7 +149,7 @@ impl<
         path: &str,
         _device: WriteProtected<FileDevice<SystemFile>>,
     ) -> Result<(), SystemCause> {
-        match fs::remove_file(self.rt, path) {
+        match remove_name(self.rt, path) {
             Ok(()) => Ok(()),
             Err(error) => {
                 self.failures = self.failures.saturating_add(1);
@@ -212,6 +212,8 @@ impl<
     }
 
     ghost faithful_devices = { λ system path device never. absurd never };
+
+    ghost left_now = { λ system path device never. absurd never };
 
     ghost no_device = { λ system path never. absurd never };
 

@@ -7,3 +7,4 @@ pub mod Executed
 pub mod LockedOut
 pub mod Clients
 pub mod Attempts
+pub mod Exchanged

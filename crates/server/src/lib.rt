@@ -2,6 +2,7 @@
 //! leaves of its database.
 #![tactic(auto)]
 
+mod changing;
 pub mod decide;
 pub mod decision;
 pub mod execute;

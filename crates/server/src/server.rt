@@ -6,7 +6,6 @@ ghost use Rattle.sql_types.specs.declared.answer.Answer.{Answer as TheAnswer};
 ghost use Rattle.storage_sizes.specs.declared.record_format.RecordFormat.TheVariants.{V2};
 ghost use Rattle.store.specs.Store.{KeepsHistory};
 ghost use Rattle.abstract_database.specs.Machine.{own_number, own_sessions};
-ghost use Rattle.server.specs.Session.{with_block_changed};
 ghost use Rattle.server.specs.Writers.{definitions_under};
 ghost use Rattle.abstract_database.specs.Database.{Database};
 ghost use Rattle.abstract_database.specs.Runs.{At};
@@ -14,16 +13,18 @@ ghost use Rattle.stored_database.specs.Definitions.{Definitions};
 ghost use Rattle.stored_database.specs.Records.{Shows};
 ghost use Rattle.server.specs.Standing.{event_of, Represents, at_start};
 ghost use Rattle.server.specs.Runs.{Steps, Runs};
-ghost use Rattle.server.specs.Decisions.{Attempts, Carries, CommitsLists, Concerns, after_change, store_fault_of};
+ghost use Rattle.server.specs.Decisions.{Attempts, Carries, CommitsLists, store_fault_of};
 ghost use Rattle.server.specs.Attempts.{answer_to, after_attempt};
+ghost use Rattle.server.specs.Exchanged.{over_store};
 ghost use Rattle.server.specs.declared.decision.SessionChange.{SessionChange as TheChange};
 ghost use Rattle.server.specs.declared.writer.Writer.{Writer as TheWriter};
 ghost use Rattle.server.specs.declared.decision.Decision.TheVariants as decisions;
 
+use crate::changing::change_sessions;
 use crate::decide::{Context, EventHandler};
 use crate::decision::{Decision, SessionChange};
 use crate::numbers::own_at;
-use crate::session::{BlockChange, Session};
+use crate::session::Session;
 use crate::writer::Writer;
 use catalogue::change::SchemaChange;
 use catalogue::definitions::Catalogue;
@@ -66,6 +67,35 @@ impl<S: Drop, X: Drop> Drop for Server<S, X> {
             sessions: _,
             stopped: _,
         } = self;
+    }
+}
+
+impl<S, X> Server<S, X> {
+    /// The store, and the same server over another one in its place. What stands in the server's memory
+    /// is true of the store that it had: whoever gives it another one answers for that.
+    pub fn exchange_store<T>(self, other: T) -> (S, Server<T, X>)
+        ensures store { result.0 ≡ self.store }
+        ensures server { result.1 ≡ over_store other self }
+    {
+        let Server {
+            alloc,
+            store,
+            handler,
+            catalogue,
+            writer,
+            sessions,
+            stopped,
+        } = self;
+        let exchanged = Server {
+            alloc,
+            store: other,
+            handler,
+            catalogue,
+            writer,
+            sessions,
+            stopped,
+        };
+        (store, exchanged)
     }
 }
 
@@ -466,32 +496,4 @@ pub(crate) fn store_fault(fault: Fault) -> StoreFault
         Fault::Memory => StoreFault::Memory,
         Fault::Device | Fault::Damaged => StoreFault::Device,
     }
-}
-
-// Changes one session, which takes no memory.
-fn change_sessions(sessions: &mut IndexMap<u64, Session>, change: SessionChange)
-    ensures { Concerns change sessions.old.entries
-        → sessions.new.entries ≡ after_change change sessions.old.entries }
-{
-    match change {
-        SessionChange::Keep => {}
-        SessionChange::Put(number, session) => match sessions.insert(number, session) {
-            Ok(_) => {}
-            Err(_) => {}
-        },
-        SessionChange::Block(number, change) => change_block(sessions, number, change),
-        SessionChange::Close(number) => {
-            sessions.shift_remove(&number);
-        }
-    }
-}
-
-// Changes the block of a session, if it is open.
-fn change_block(sessions: &mut IndexMap<u64, Session>, number: u64, change: BlockChange)
-    ensures { sessions.new.entries ≡ with_block_changed change number sessions.old.entries }
-{
-    let Some(index) = sessions.get_index_of(&number) else {
-        return;
-    };
-    sessions[index].change_block(change);
 }

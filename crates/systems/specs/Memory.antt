@@ -1,9 +1,9 @@
 -- A system in memory, as its callers see it.
-use Rattle.std.specs.Prelude.{◌==◌, if◌then◌else◌, ℕ, List, Option, Some, None}
+use Rattle.std.specs.Prelude.{◌==◌, ◌≡◌, if◌then◌else◌, ℕ, List, Option, Some, None}
 use Rattle.systems.specs.declared.entries.NamedContent.{NamedContent}
 use Rattle.systems.specs.declared.listener.MemListener.{MemListener}
 use Rattle.systems.specs.Places.{ThePlace, ThePort, TheSocket}
-use Rattle.systems.specs.Systems.{At, Free, Open, Taken, SystemState}
+use Rattle.systems.specs.Systems.{At, Absent, Free, Shared, Open, Reading, Taken, SystemState}
 use Rattle.systems.specs.Entries.{content_of, device_in, text_in, is_something}
 
 -- a listener, or none where it is bound
@@ -16,6 +16,15 @@ abbrev pub listener_at : ℕ → Option MemListener → ThePlace → At MemListe
 listener_at port listener (ThePort asked) = if asked == port then listener_in listener else Taken
 listener_at port listener (TheSocket path) = Taken
 
+-- a stop leaves the device that nobody has open to write it; of one that is open nothing is said
+abbrev pub LeavesThere : {D : Type 0} → At D → D → Type 0
+LeavesThere Absent device = ⊥
+LeavesThere (Free there) device = device ≡ there
+LeavesThere (Shared there) device = device ≡ there
+LeavesThere Open device = ⊥
+LeavesThere Reading device = ⊥
+LeavesThere Taken device = ⊥
+
 -- what its entries name, with a listener at a port
 abbrev pub memory_state : {D : Type 0} → List (NamedContent D) → ℕ → Option MemListener → ℕ → SystemState D MemListener
 memory_state entries port listener failures = record {
@@ -23,6 +32,7 @@ memory_state entries port listener failures = record {
   devices = λ path. device_in (content_of entries path);
   texts = λ path. text_in (content_of entries path);
   is_named = λ path. is_something (content_of entries path);
+  left = λ path device. LeavesThere (device_in (content_of entries path)) device;
   listeners = listener_at port listener;
   failures = failures;
 }

@@ -26,6 +26,9 @@ pub record SystemState (D L : Type 0) : Type 1 where
   pub texts : List ℕ → Option (List ℕ)
   -- whether there is something of this name
   pub is_named : List ℕ → Bool
+  -- what a stop may have left as the device of each path, at any moment so far; of one that this program has open to write it nothing is
+  -- said
+  pub left : List ℕ → D → Type 0
   -- the listener of each place
   pub listeners : ThePlace → At L
   -- how often a call of it has failed, up to 2 ^ 64 - 1
@@ -135,6 +138,24 @@ pub record IsSameButAt {D L : Type 0} (changed : ThePlace) (old new : SystemStat
   pub texts : (path : List ℕ) → new.texts path ≡ old.texts path
   pub names : (path : List ℕ) → TheSocket path ≢ changed → new.is_named path ≡ old.is_named path
   pub listeners : (place : ThePlace) → place ≢ changed → new.listeners place ≡ old.listeners place
+
+-- ---- what a stop leaves
+
+-- at this path a stop leaves no other device than before, at any moment between the two
+abbrev pub LeavesNoMore : {D L : Type 0} → List ℕ → SystemState D L → SystemState D L → Type 0
+LeavesNoMore {D} path old new = (device : D) → new.left path device → old.left path device
+
+-- at this path it leaves what it might have left before, or this device
+abbrev pub LeavesAlso : {D L : Type 0} → List ℕ → D → SystemState D L → SystemState D L → Type 0
+LeavesAlso {D} path given old new = (device : D) → new.left path device → old.left path device ⊎ (device ≡ given)
+
+-- at no path it leaves another device than before
+abbrev pub LeavesAll : {D L : Type 0} → SystemState D L → SystemState D L → Type 0
+LeavesAll old new = (path : List ℕ) → LeavesNoMore path old new
+
+-- at no path but this one
+abbrev pub LeavesOthers : {D L : Type 0} → List ℕ → SystemState D L → SystemState D L → Type 0
+LeavesOthers changed old new = (path : List ℕ) → path ≢ changed → LeavesNoMore path old new
 
 -- ---- new devices
 

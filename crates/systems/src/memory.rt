@@ -58,8 +58,8 @@ impl<D: Drop> MemSystem<D> {
 
 impl System for MemSystem<WriteProtected<HistoryDevice>> {
     ghost use Rattle.std.specs.Prelude.{◌≡◌, ◌≢◌, ◌≤◌, ◌⊎◌, ◌*◌, List, IfOk, IfErr, OnOk, OnErr};
-    ghost use Rattle.systems.specs.Entries.{content_of};
-    ghost use Rattle.systems.specs.MemoryLaws.{no_device_in, no_text_in};
+    ghost use Rattle.systems.specs.Entries.{content_of, device_in};
+    ghost use Rattle.systems.specs.MemoryLaws.{left_here, no_device_in, no_text_in};
 
     type Device = WriteProtected<HistoryDevice>;
 
@@ -237,6 +237,9 @@ impl System for MemSystem<WriteProtected<HistoryDevice>> {
     }
 
     ghost faithful_devices = { λ system path device faithful has. tt };
+
+    ghost left_now = { λ system path device faithful has.
+        left_here (device_in (content_of system.entries.items path)) device has };
 
     ghost no_device = { λ system path faithful unnamed.
         no_device_in (content_of system.entries.items path) unnamed };

@@ -3,7 +3,7 @@
 ghost use Rattle.std.specs.Prelude.{◌≡◌, ◌≢◌, None, ◌≤◌, ◌*◌, ℕ, List, IfOk, IfErr, OnOk, OnErr};
 ghost use Rattle.channels.specs.Channels.{KeepsAll};
 ghost use Rattle.systems.specs.Places.{ThePlace, the_place, IsOfKind, IsBoundFor};
-ghost use Rattle.systems.specs.Systems.{At, Absent, SystemState, HasDevice, IsHeldFrom, IsOpen, IsOpenFor, IsReadable, IsReading, MayOpen, IsNamed, IsUnnamed, HasText, Hears, IsBound, Rose, IsSame, IsSameBut, IsSameButAt, IsSameButBoth, HoldsZeros};
+ghost use Rattle.systems.specs.Systems.{At, Absent, SystemState, HasDevice, IsHeldFrom, IsOpen, IsOpenFor, IsReadable, IsReading, MayOpen, IsNamed, IsUnnamed, HasText, Hears, IsBound, Rose, IsSame, IsSameBut, IsSameButAt, IsSameButBoth, HoldsZeros, LeavesAll, LeavesAlso, LeavesNoMore, LeavesOthers};
 
 use crate::access::Access;
 use crate::fault::{OpenPathFault, TextFault};
@@ -57,7 +57,8 @@ pub trait System {
             (λ fault. fault ≡ TextFault.Missing → IsUnnamed (state self.old) path.now) }
         ensures cause { IfErr result (λ fault. fault ≢ TextFault.Missing
             → fault ≢ TextFault.Memory → Rose (state self.old).failures (state self.new).failures) }
-        ensures same { (state self.old).faithful → IsSame (state self.old) (state self.new) };
+        ensures same { (state self.old).faithful → IsSame (state self.old) (state self.new) }
+        ensures left { (state self.old).faithful → LeavesAll (state self.old) (state self.new) };
 
     /// Whether there is something of this name. An error: the system does not say.
     fn has_name(&mut self, path: &str) -> Result<bool, SystemCause>
@@ -65,7 +66,8 @@ pub trait System {
         ensures said { (state self.old).faithful
             → IfOk result (λ is. (state self.old).is_named path.now ≡ is) }
         ensures cause { OnErr result (Rose (state self.old).failures (state self.new).failures) }
-        ensures same { (state self.old).faithful → IsSame (state self.old) (state self.new) };
+        ensures same { (state self.old).faithful → IsSame (state self.old) (state self.new) }
+        ensures left { (state self.old).faithful → LeavesAll (state self.old) (state self.new) };
 
     /// Opens the device of a path, and locks it, until it is closed: to be read, beside others that
     /// read it, or to be read and written, by nobody else.
@@ -93,7 +95,9 @@ pub trait System {
         ensures others { (state self.old).faithful
             → IsSameBut path.now (state self.old) (state self.new) }
         ensures kept { (state self.old).faithful
-            → OnErr result (IsSame (state self.old) (state self.new)) };
+            → OnErr result (IsSame (state self.old) (state self.new)) }
+        ensures left { (state self.old).faithful
+            → LeavesOthers path.now (state self.old) (state self.new) };
 
     /// Closes the device that was opened or made at a path, which is then there as it was left. Of one
     /// that was opened to be read it may be that others read it.
@@ -104,7 +108,9 @@ pub trait System {
         ensures released { (state self.old).faithful → IsReading (state self.old) path.now
             → IsReadable (state self.new) path.now device }
         ensures others { (state self.old).faithful
-            → IsSameBut path.now (state self.old) (state self.new) };
+            → IsSameBut path.now (state self.old) (state self.new) }
+        ensures left { (state self.old).faithful
+            → LeavesOthers path.now (state self.old) (state self.new) };
 
     /// Makes a device of so many pages of zeros at a path, of which there was nothing, and opens and
     /// locks it. Nobody but the user of this program may ever open it.
@@ -129,7 +135,9 @@ pub trait System {
         ensures others { (state self.old).faithful
             → IsSameBut path.now (state self.old) (state self.new) }
         ensures kept { (state self.old).faithful
-            → OnErr result (IsSame (state self.old) (state self.new)) };
+            → OnErr result (IsSame (state self.old) (state self.new)) }
+        ensures left { (state self.old).faithful
+            → LeavesOthers path.now (state self.old) (state self.new) };
 
     /// Takes the device away that was made at a path. After an error it is closed, and there as it
     /// was left.
@@ -141,11 +149,13 @@ pub trait System {
             → OnErr result (HasDevice (state self.new) path.now device) }
         ensures cause { OnErr result (Rose (state self.old).failures (state self.new).failures) }
         ensures others { (state self.old).faithful
-            → IsSameBut path.now (state self.old) (state self.new) };
+            → IsSameBut path.now (state self.old) (state self.new) }
+        ensures left { (state self.old).faithful
+            → LeavesOthers path.now (state self.old) (state self.new) };
 
     /// Gives the device that was made at `from` the name `to`, of which there was nothing, in place of
-    /// `from`, and closes it. A stop leaves nothing of the name `to`, or the device as it was left; of
-    /// `from` it may leave it too.
+    /// `from`, and closes it. A stop at any moment, during the call or after it, leaves nothing of the
+    /// name `to`, or the device as it is handed over; of `from` it may leave it too.
     ///
     /// After an error all is as it was: the device is open, and handed back. `Exists`: there is
     /// something of the name `to`. `Memory`: an allocation failed. `Device`: the system does not
@@ -171,7 +181,11 @@ pub trait System {
             → IsSameButBoth from.now to.now (state self.old) (state self.new) }
         ensures kept { (state self.old).faithful
             → OnErr result (IsSame (state self.old) (state self.new)) }
-        ensures handed_back { IfErr result (λ it. it.0 ≡ device) };
+        ensures handed_back { IfErr result (λ it. it.0 ≡ device) }
+        ensures left { (state self.old).faithful → (path : List ℕ) → path ≢ from.now
+            → path ≢ to.now → LeavesNoMore path (state self.old) (state self.new) }
+        ensures left_there { (state self.old).faithful
+            → LeavesAlso to.now device (state self.old) (state self.new) };
 
     /// Binds a place, and answers who listens there and which place that is. A connection may be
     /// idle for so long. An error: the system does not bind it.
@@ -192,7 +206,8 @@ pub trait System {
             (λ it. IsSameButAt (the_place it.1) (state self.old) (state self.new)) }
         ensures cause { OnErr result (Rose (state self.old).failures (state self.new).failures) }
         ensures kept { (state self.old).faithful
-            → OnErr result (IsSame (state self.old) (state self.new)) };
+            → OnErr result (IsSame (state self.old) (state self.new)) }
+        ensures left { (state self.old).faithful → LeavesAll (state self.old) (state self.new) };
 
     /// Unbinds a place that was bound, with who listens there as it was left. The file of a socket is
     /// taken away, if it is still the one that was made.
@@ -202,7 +217,8 @@ pub trait System {
             → IsBound (state self.old) (the_place place.entry)
             → Hears (state self.new) (the_place place.entry) listener }
         ensures others { (state self.old).faithful
-            → IsSameButAt (the_place place.entry) (state self.old) (state self.new) };
+            → IsSameButAt (the_place place.entry) (state self.old) (state self.new) }
+        ensures left { (state self.old).faithful → LeavesAll (state self.old) (state self.new) };
 
     /// Makes a listener one of which no call waits. An error: the system does not.
     fn poll(&mut self, listener: &mut Self::Listener) -> Result<(), SystemCause>
@@ -211,12 +227,18 @@ pub trait System {
         ensures listening { Self.Listener.listening listener.new ≡ Self.Listener.listening listener.old }
         ensures counts { (state self.old).failures ≤ (state self.new).failures }
         ensures cause { OnErr result (Rose (state self.old).failures (state self.new).failures) }
-        ensures same { (state self.old).faithful → IsSame (state self.old) (state self.new) };
+        ensures same { (state self.old).faithful → IsSame (state self.old) (state self.new) }
+        ensures left { (state self.old).faithful → LeavesAll (state self.old) (state self.new) };
 
     /// The devices of a faithful system are faithful.
     ghost faithful_devices: { (system : Self) (path : List ℕ) (device : Self.Device)
         → (state system).faithful → IsReadable (state system) path device
         → (Self.Device.state device).faithful };
+
+    /// A stop may leave what is at a path, where nobody has it open to write it.
+    ghost left_now: { (system : Self) (path : List ℕ) (device : Self.Device)
+        → (state system).faithful → IsReadable (state system) path device
+        → (state system).left path device };
 
     /// A path of which there is nothing names no device.
     ghost no_device: { (system : Self) (path : List ℕ) → (state system).faithful

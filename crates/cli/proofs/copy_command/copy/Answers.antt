@@ -16,7 +16,7 @@ returns g c =
     record {
       copied = copied;
       given = given;
-      copies = copied_with g.Y.Device.Device g.Y.System.state (g.Y.System.state c.args.system.now) c.args.file.now c.args.new.now c.args.pages c.args.journal copied given made left c.copy_file-copied.ensures c.give_journal-given.ensures;
+      copies = copied_with g.Y.Device.Device g.Y.System.state (g.Y.System.state c.args.system.now) c.args.file.now c.args.new.now c.args.pages c.args.journal copied given made left c.copy_file-copied.ensures.copies c.give_journal-given.ensures;
       ending = c.end_of_copy-ending.result;
       answered = ending;
       ends = subst (λ (about : Subject). Exits about c.end_of_copy-ending.result c.exit_with.result before after) c.subject_of_copy.ensures

@@ -8,7 +8,7 @@ use Rattle.cli.proofs.explained_runs.explain_file.Goals as goal
 
 pub returns : goal.returns
 returns g c =
-    let at = c.in-Ok.ensures in
+    let at = c.in-Ok.ensures.opens in
     inr (record {
       told = c.tell_migration-told.result;
       heard = c.tell_migration-told.new.err;
@@ -18,6 +18,7 @@ returns g c =
       fresh = subst (λ (lines : List (List ℕ)). IsFresh c.args.run lines c.tell_migration-told.result c.args.out c.tell_migration-told.new.err c.explainer-sink.result) c.requires c.explainer-sink.ensures;
       ran = record {
         file = record { device = at.device; opened = c.in-Ok.opened; is_opened = at.is_opened; tells = c.tell_migration-told.ensures };
+        renewed = c.in-Ok.ensures.renewed;
         left = c.run_script_on-left.result.0;
         runs = c.run_script_on-left.ensures;
         closed = λ is. c.run_script_on-left.ensures.closed (none_open _ c.in-Ok.opened (at.is_opened is));

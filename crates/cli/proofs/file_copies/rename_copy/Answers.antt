@@ -6,11 +6,11 @@ use Rattle.cli.proofs.Copied.{stands_against}
 use Rattle.cli.proofs.Taken.{done_or_failed}
 use Rattle.cli.proofs.file_copies.rename_copy.Goals as goal
 
-pub returns-in-Ok : goal.returns-in-Ok
-returns-in-Ok g c = record { free = c.in-Ok.ensures.new; named = c.in-Ok.ensures.renamed; gone = c.in-Ok.ensures.gone; others = c.in-Ok.ensures.others; counts = c.in-Ok.ensures.counts }
+pub returns-in-Ok-clause-renames : goal.returns-in-Ok-clause-renames
+returns-in-Ok-clause-renames g c = record { free = c.in-Ok.ensures.new; named = c.in-Ok.ensures.renamed; gone = c.in-Ok.ensures.gone; others = c.in-Ok.ensures.others; counts = c.in-Ok.ensures.counts }
 
-pub returns-in-Err : goal.returns-in-Err
-returns-in-Err g c =
+pub returns-in-Err-clause-renames : goal.returns-in-Err-clause-renames
+returns-in-Err-clause-renames g c =
     let old = g.Y.System.state c.args.system.now in
     let mid = g.Y.System.state c.rename.new.self in
     let new = g.Y.System.state c.remove.new.self in
@@ -30,3 +30,10 @@ returns-in-Err g c =
       others = λ is. same_then_but partial old mid new (kept is) (c.remove.ensures.others ((kept is).faithful is));
       counts = omega (arith, c.in-Err.ensures.counts, c.remove.ensures.counts);
     }
+
+pub returns-in-Ok-clause-left : goal.returns-in-Ok-clause-left
+returns-in-Ok-clause-left g c = λ is differ x now. c.rename.ensures.left_there is x now
+
+pub returns-in-Err-clause-left : goal.returns-in-Err-clause-left
+returns-in-Err-clause-left g c = λ is differ x now.
+    c.rename.ensures.left_there is x (c.remove.ensures.left ((c.in-Err.ensures.kept is).faithful is) c.args.target.now differ x now)

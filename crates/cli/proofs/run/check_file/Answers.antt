@@ -14,6 +14,6 @@ returns g c =
     record {
       file = record { device = at.device; opened = c.in-Ok.opened; is_opened = at.is_opened; tells = c.tell_migration-told.ensures };
       changes = λ is. subst (λ left. ChangesDevice g.Y.Device.Device old c.args.path.now at.device left new) under
-          (closed_again g.Y.Device.Device c.args.path.now at.device c.into_device.result old (g.Y.System.state c.open_database_in.new.system) new (at.named is) (at.is_open is) (at.others is) c.close.ensures.closed
+          (closed_again g.Y.Device.Device c.args.path.now at.device c.into_device.result old (g.Y.System.state c.open_to_check_in.new.system) new (at.named is) (at.is_open is) (at.others is) c.close.ensures.closed
           c.close.ensures.others is);
     }

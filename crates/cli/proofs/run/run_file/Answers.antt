@@ -4,9 +4,10 @@ use Rattle.cli.proofs.run.run_file.Goals as goal
 
 pub returns : goal.returns
 returns g c =
-    let at = c.in-Ok.ensures in
+    let at = c.in-Ok.ensures.opens in
     record {
       file = record { device = at.device; opened = c.in-Ok.opened; is_opened = at.is_opened; tells = c.tell_migration-told.ensures };
+      renewed = c.in-Ok.ensures.renewed;
       left = c.run_script_on-left.result.0;
       runs = c.run_script_on-left.ensures;
       closed = λ is. c.run_script_on-left.ensures.closed (none_open _ c.in-Ok.opened (at.is_opened is));

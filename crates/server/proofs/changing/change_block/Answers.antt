@@ -1,7 +1,7 @@
 use Rattle.std.proofs.Common.{rules, ◌≡◌, sym, Some}
 use Rattle.abstract_database.specs.Machine.{session_of}
 use Rattle.server.proofs.Blocks.{block_changed}
-use Rattle.server.proofs.server.change_block.Goals as goal
+use Rattle.server.proofs.changing.change_block.Goals as goal
 
 pub returns : goal.returns
 returns c =
