@@ -44,12 +44,8 @@ LAWS = {
 COMING = {
     'scram::Mock::of_verifier': 'a server that keeps the secret of its mocks in its table of passwords',
     'server::Server::step_read': 'a statement that was described before it runs',
-    'postgres_texts::refusal_text': "PostgreSQL's protocol",
-    'postgres_texts::warning_text': 'the same',
-    'postgres_texts::ends_session': 'the same',
-    'postgres_texts::is_reserved': 'the same',
+    'postgres_texts::ends_session': "settings that a client of PostgreSQL's protocol sets, and faults that end its session",
     'postgres_texts::SessionSetting::named': 'the same',
-    'postgres_texts::SessionSetting::initial_value': 'the same',
     'postgres_texts::SessionSetting::is_told': 'the same',
     'postgres_texts::SessionSetting::value_of': 'the same',
 }

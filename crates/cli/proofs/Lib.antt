@@ -2,6 +2,7 @@ pub mod BuiltCommands
 pub mod CommandLines
 pub mod GivenSo
 pub mod GivenWords
+pub mod GivenPlaces
 mod Blank
 pub mod Changes
 mod Copied

@@ -27,9 +27,9 @@ abbrev pub run_app : App
 run_app = with_rule (with_rule (with_rule (with_rule (with_rule (new_app (codes "run")) (option_rule (codes "memory") false)) (word_rule (codes "first") false)) (word_rule (codes "second") false)) (flag_rule (codes "stop"))) (flag_rule (codes "explain"))
 
 -- `serve`, with a word or without, and with each of `--port P`, `--socket PATH`, `--connections K`, `--idle SECONDS`, `--clients N`,
--- `--wait SECONDS` and `--block SECONDS` or without
+-- `--wait SECONDS`, `--block SECONDS` and `--at PLACE` or without
 abbrev pub serve_app : App
-serve_app = with_rule (with_rule (with_rule (with_rule (with_rule (with_rule (with_rule (with_rule (new_app (codes "serve")) (word_rule (codes "file") false)) (option_rule (codes "port") false)) (option_rule (codes "socket") false)) (option_rule (codes "connections") false)) (option_rule (codes "idle") false)) (option_rule (codes "clients") false)) (option_rule (codes "wait") false)) (option_rule (codes "block") false)
+serve_app = with_rule (with_rule (with_rule (with_rule (with_rule (with_rule (with_rule (with_rule (with_rule (new_app (codes "serve")) (word_rule (codes "file") false)) (option_rule (codes "port") false)) (option_rule (codes "socket") false)) (option_rule (codes "connections") false)) (option_rule (codes "idle") false)) (option_rule (codes "clients") false)) (option_rule (codes "wait") false)) (option_rule (codes "block") false)) (option_rule (codes "at") false)
 
 -- `check FILE`
 abbrev pub check_app : App

@@ -1,5 +1,5 @@
 -- What the words of a command line ask for, as `clap` reads them.
-use Rattle.std.specs.Prelude.{◌≡◌, ◌≢◌, ◌≤◌, ℕ, Bool, true, false, List, [], map, length, codes, Option, Some, None, Result, Ok, Err}
+use Rattle.std.specs.Prelude.{◌≡◌, ◌≢◌, ℕ, Bool, true, false, List, [], map, codes, Option, Some, None, Result, Ok, Err}
 use Rattle.std.specs.Option.{option_map}
 use Rattle.std.specs.Borrow.{Bor}
 use Rattle.clap.specs.Words.{IsAmong, Row, first_of, fault_of, kind_of, one_of, subcommand_of}
@@ -16,10 +16,13 @@ use Rattle.cli.specs.declared.number.NumberOption.TheVariants.{Pages, Port, Conn
 use Rattle.cli.specs.CommandGrammar.{program_app}
 use Rattle.cli.specs.Numbers.{IsNumberFor, NoNumberFor}
 use Rattle.cli.specs.declared.refusals.OnRefusal.{OnRefusal}
+use Rattle.cli.specs.declared.place_words.PlaceKind.{PlaceKind}
+use Rattle.cli.specs.declared.place_words.PlaceKind.TheVariants as kinds
 use Rattle.cli.specs.declared.serve_clients.ManyClients.{ManyClients}
 use Rattle.cli.specs.declared.serve_words.CountWords.{CountWords}
-use Rattle.systems.specs.declared.place.ListenPlace.{ListenPlace}
-use Rattle.systems.specs.declared.place.ListenPlace.TheVariants.{Port as APort, Socket as ASocket}
+use Rattle.cli.specs.declared.served_place.Protocol.TheVariants.{Frames, Postgres}
+use Rattle.cli.specs.declared.served_place.ServedPlace.{ServedPlace}
+use Rattle.cli.specs.PlaceWords.{HasNoComma, IsFolderServed, IsPortServed, IsSocketFolder, IsSocketPath, IsSocketServed, place_word}
 use Rattle.cli.specs.Refusals.{at_refusal}
 
 abbrev pub TheWord : Type 0
@@ -38,10 +41,11 @@ lent_word word = option_map (λ w. w.now) word
 
 -- ---- what the words say
 
--- the word for a place
+-- the word for a place: of `--port`, of `--socket`, or what stands behind the colon in that of `--at`
 pub data GivenPlace : Type 0 where
   AtPort : TheWord → GivenPlace
   AtSocket : TheWord → GivenPlace
+  At : PlaceKind → TheWord → GivenPlace
 
 -- the words for the numbers of a server of many clients
 pub record GivenCounts : Type 0 where
@@ -97,12 +101,13 @@ IsAtRefusal rows on = (stop explain : Bool) × AreRunFlags rows stop explain × 
 
 -- `serve` has no word of a server of many clients
 abbrev pub HasNoClients : List Row → Type 0
-HasNoClients rows = (first_of (codes "clients") rows ≡ None) × (first_of (codes "wait") rows ≡ None) × (first_of (codes "block") rows ≡ None)
+HasNoClients rows = (first_of (codes "clients") rows ≡ None) × (first_of (codes "wait") rows ≡ None) × (first_of (codes "block") rows ≡ None) × (first_of (codes "at") rows ≡ None)
 
--- it has a port, or a socket
+-- it has a port, a socket, or a place of `--at`
 abbrev pub HasPlaceWord : List Row → GivenPlace → Type 0
-HasPlaceWord rows (AtPort port) = (first_of (codes "port") rows ≡ Some port) × (first_of (codes "socket") rows ≡ None)
-HasPlaceWord rows (AtSocket socket) = (first_of (codes "port") rows ≡ None) × (first_of (codes "socket") rows ≡ Some socket)
+HasPlaceWord rows (AtPort port) = (first_of (codes "port") rows ≡ Some port) × (first_of (codes "socket") rows ≡ None) × (first_of (codes "at") rows ≡ None)
+HasPlaceWord rows (AtSocket socket) = (first_of (codes "port") rows ≡ None) × (first_of (codes "socket") rows ≡ Some socket) × (first_of (codes "at") rows ≡ None)
+HasPlaceWord rows (At kind rest) = (first_of (codes "port") rows ≡ None) × (first_of (codes "socket") rows ≡ None) × (first_of (codes "at") rows ≡ Some (place_word kind rest)) × HasNoComma (place_word kind rest)
 
 -- it has the numbers of a server of many clients
 pub record HasCounts (rows : List Row) (counts : GivenCounts) : Type 0 where
@@ -146,11 +151,6 @@ EndsReading k words = IsAmong k (fault_of program_app words)
 
 -- ---- orders
 
--- a path that the system takes for a socket's
-pub record IsSocketPath (path : TheWord) : Type 0 where
-  pub filled : 1 ≤ length path
-  pub short : length path ≤ 107
-
 -- the word that switches a journal on or off
 abbrev pub switch_word : Bool → TheWord
 switch_word true = codes "on"
@@ -184,12 +184,15 @@ pub record AreCountsGiven (counts : GivenCounts) (many : ManyClients) : Type 0 w
   pub idle : IsSomeNumber Idle counts.idle many.idle
   pub block : IsBlockFor counts.block many.block
 
--- the place where a server listens: a port of this number, or a path that the system takes for a socket's
-abbrev pub IsPlaceFor : GivenPlace → ListenPlace → Type 0
-IsPlaceFor (AtPort word) (APort port) = IsNumberFor Port word port
-IsPlaceFor (AtSocket word) (ASocket path) = (word ≡ path.now) × IsSocketPath path.now
-IsPlaceFor (AtPort word) (ASocket path) = ⊥
-IsPlaceFor (AtSocket word) (APort port) = ⊥
+-- the place where a server listens: a port of this number, a path that the system takes for a socket's, or a folder that has one; and the protocol
+-- by which it speaks there
+abbrev pub IsPlaceFor : GivenPlace → ServedPlace → Type 0
+IsPlaceFor (AtPort word) served = IsPortServed Frames word served
+IsPlaceFor (AtSocket word) served = IsSocketServed word served
+IsPlaceFor (At kinds.Port word) served = IsPortServed Frames word served
+IsPlaceFor (At kinds.Socket word) served = IsSocketServed word served
+IsPlaceFor (At kinds.PostgresPort word) served = IsPortServed Postgres word served
+IsPlaceFor (At kinds.PostgresFolder word) served = IsFolderServed word served
 
 -- the role, where one is given: a name that a role can have
 abbrev pub IsRoleName : Option TheWord → Type 0
@@ -231,7 +234,13 @@ name_in _ = None
 abbrev pub path_in : Given → Option TheWord
 path_in (ServeSocket file socket connections idle) = Some socket
 path_in (ServeClients file (AtSocket socket) counts) = Some socket
+path_in (ServeClients file (At kinds.Socket socket) counts) = Some socket
 path_in _ = None
+
+-- and for the folder of one
+abbrev pub folder_in : Given → Option TheWord
+folder_in (ServeClients file (At kinds.PostgresFolder folder) counts) = Some folder
+folder_in _ = None
 
 abbrev pub switch_in : Given → Option TheWord
 switch_in (Journal file state) = Some state
@@ -254,6 +263,8 @@ number_in Connections (ServeSocket file socket connections idle) = Some connecti
 number_in Idle (Serve file port connections idle) = idle
 number_in Idle (ServeSocket file socket connections idle) = idle
 number_in Port (ServeClients file (AtPort port) counts) = Some port
+number_in Port (ServeClients file (At kinds.Port port) counts) = Some port
+number_in Port (ServeClients file (At kinds.PostgresPort port) counts) = Some port
 number_in option (ServeClients file place counts) = count_in option counts
 number_in _ _ = None
 
@@ -267,8 +278,10 @@ abbrev pub IsUnfit : (Given → Type 0) → UsageFault → Type 0
 IsUnfit G usage.Form = (given : Given) → G given → ⊥
 IsUnfit G usage.Serving = (given : Given) → G given → ⊥
 IsUnfit G usage.ServingClients = (given : Given) → G given → ⊥
+IsUnfit G usage.ServingAt = (given : Given) → G given → ⊥
 IsUnfit G (usage.Number option word) = (given : Given) × G given × (number_in option given ≡ Some word.now) × NoNumberFor option word.now
 IsUnfit G (usage.Path path) = (given : Given) × G given × (path_in given ≡ Some path.now) × (IsSocketPath path.now → ⊥)
+IsUnfit G (usage.Folder folder) = (given : Given) × G given × (folder_in given ≡ Some folder.now) × (IsSocketFolder folder.now → ⊥)
 IsUnfit G (usage.Name name) = (given : Given) × G given × (name_in given ≡ Some name.now) × (IsName name.now → ⊥)
 IsUnfit G (usage.Switch word) = (given : Given) × G given × (switch_in given ≡ Some word.now) × IsNoSwitch word.now
 IsUnfit G _ = ⊥
@@ -277,6 +290,23 @@ IsUnfit G _ = ⊥
 abbrev pub IsNoNumber : NumberOption → Option TheWord → UsageFault → Type 0
 IsNoNumber asked given (usage.Number option word) = (option ≡ asked) × (given ≡ Some word.now) × NoNumberFor asked word.now
 IsNoNumber asked given _ = ⊥
+
+-- a word that is no path of a socket
+abbrev pub IsNoPath : TheWord → UsageFault → Type 0
+IsNoPath word (usage.Path path) = (word ≡ path.now) × (IsSocketPath path.now → ⊥)
+IsNoPath word _ = ⊥
+
+-- and one that is no folder of one
+abbrev pub IsNoFolder : TheWord → UsageFault → Type 0
+IsNoFolder word (usage.Folder folder) = (word ≡ folder.now) × (IsSocketFolder folder.now → ⊥)
+IsNoFolder word _ = ⊥
+
+-- what stands behind the colon in a word of `--at` names no place of that kind
+abbrev pub IsNoPlace : PlaceKind → TheWord → UsageFault → Type 0
+IsNoPlace kinds.Port word fault = IsNoNumber Port (Some word) fault
+IsNoPlace kinds.Socket word fault = IsNoPath word fault
+IsNoPlace kinds.PostgresPort word fault = IsNoNumber Port (Some word) fault
+IsNoPlace kinds.PostgresFolder word fault = IsNoFolder word fault
 
 -- one of the words for numbers gives none
 abbrev pub IsNoCount : GivenCounts → UsageFault → Type 0
@@ -299,6 +329,7 @@ Refuses words (usage.Grammar e) = IsMistake e × EndsReading (kind_of e) words
 Refuses words usage.Form = HasWrongForm words
 Refuses words usage.Serving = HasWrongForm words
 Refuses words usage.ServingClients = HasWrongForm words
+Refuses words usage.ServingAt = HasWrongForm words
 Refuses words usage.Memory = Unit {0}
 Refuses words u = IsUnfit (Gives words) u
 

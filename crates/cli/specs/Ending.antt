@@ -9,6 +9,7 @@ use Rattle.wire.specs.declared.script_run.ScriptEnd.TheVariants as end
 use Rattle.wire.specs.ScriptRun.{Known}
 use Rattle.wire.specs.declared.listener.Served.{Served}
 use Rattle.wire.specs.declared.listener.Served.TheVariants as served
+use Rattle.systems.specs.Places.{postgres_socket}
 use Rattle.cli.specs.declared.fault.CommandFault.{CommandFault}
 use Rattle.cli.specs.declared.fault.CommandFault.TheVariants as fault
 use Rattle.cli.specs.StatementFaults.{statement_reason}
@@ -91,6 +92,7 @@ subject_text (subject.Named name) = name.now
 subject_text (subject.Partial name) = name.now ++ codes ".partial"
 subject_text (subject.Port port) = codes "127.0.0.1:" ++ decimal port
 subject_text subject.Statement = codes "the statement"
+subject_text (subject.PostgresFolder folder) = postgres_socket folder.now
 
 -- the program's name, a text, and a newline
 abbrev pub message : List ℕ → List ℕ

@@ -1,5 +1,6 @@
 pub mod CarryingOut
 pub mod CommandGrammar
+pub mod PlaceWords
 pub mod CommandLine
 pub mod Numbers
 pub mod Usage

@@ -26,7 +26,7 @@ use Rattle.cli.specs.Commands.{ChecksFile, RunsFile}
 use Rattle.cli.specs.Formatting.{FormatsFile}
 use Rattle.cli.specs.Serving.{ServesFile}
 use Rattle.systems.specs.declared.place.ListenPlace.{ListenPlace}
-use Rattle.systems.specs.declared.place.ListenPlace.TheVariants.{Port, Socket}
+use Rattle.systems.specs.declared.place.ListenPlace.TheVariants.{Port, Socket, PostgresFolder}
 use Rattle.systems.specs.Systems.{IsSame, SystemState}
 use Rattle.cli.specs.declared.fault.CommandFault.TheVariants as fault
 use Rattle.cli.specs.declared.ending.Ending.{Ending}
@@ -48,6 +48,8 @@ use Rattle.talks.specs.declared.clients.Finish.TheVariants as finish
 use Rattle.talks.specs.declared.serving.ServeEnd.{ServeEnd}
 use Rattle.talks.specs.declared.serving.ServeEnd.TheVariants as clients
 use Rattle.cli.specs.declared.serve_clients.ManyClients.{ManyClients}
+use Rattle.cli.specs.declared.served_place.Protocol.TheVariants.{Frames, Postgres}
+use Rattle.cli.specs.declared.served_place.ServedPlace.{ServedPlace}
 use Rattle.cli.specs.ServingClients.{ServesClientsFile}
 use Rattle.cli.specs.Script.{IsReadAt, Source, ill_encoded}
 use Rattle.cli.specs.JournalCommand.{Switches}
@@ -198,6 +200,7 @@ ending_of_server (Err f) = ending.Fault f
 abbrev pub place_subject : ListenPlace → Subject
 place_subject (Port port) = subject.Port port
 place_subject (Socket path) = subject.Named path
+place_subject (PostgresFolder folder) = subject.PostgresFolder folder
 
 -- what a fault of a server is about: the place, once the database is open, where it is not bound
 abbrev pub fault_subject : Subject → ListenPlace → CommandFault → Subject
@@ -236,12 +239,18 @@ pub record ServesMany (X : Type 0) {D L C T P : Type 0} (g : Ghosts D) (a : Atte
   pub serves : ServesClientsFile X g a t p Reads old path place many err_before end new heard
   pub ends : ExitsAfter end.told (server_subject file place (outcome_of_clients end.outcome)) (ending_of_server (outcome_of_clients end.outcome)) exit heard err_after
 
+-- the same by the protocol of the place: `t` is what is said of conversations in frames, and `p` of the clients that have them; `u` and `q` are the same of PostgreSQL's protocol
+pub record ServesManyAt (X : Type 0) {D L C T P U Q : Type 0} (g : Ghosts D) (a : AttendGhosts L C) (t : TalkGhosts T) (p : ClientsGhosts P T) (u : TalkGhosts U) (q : ClientsGhosts Q U) (Reads : ReadingRelation) (old : SystemState D L) (file : Subject) (path : List ℕ) (place : ServedPlace) (many : ManyClients) (exit : Exit) (new : SystemState D L) (err_before err_after : Known) : Type 0 where
+  pub in_frames : place.protocol ≡ Frames → ServesMany X g a t p Reads old file path place.place many exit new err_before err_after
+  pub by_postgres : place.protocol ≡ Postgres → ServesMany X g a u q Reads old file path place.place many exit new err_before err_after
+
 -- ---- what a command does
 
 -- `X` decides events, `g` is what is said of the devices of files, `k` of the sink that takes answers, `c` of the sinks of connections,
--- `listening` of listeners, `a` of those that are polled, `t` of conversations, `p` of clients that come to such a listener, and `state` of systems. The script that was named was run over the database that was named, or why not was told; a
+-- `listening` of listeners, `a` of those that are polled, `t` of conversations in frames, `p` of clients that come to such a listener and have them, `u` and `q` the same of
+-- PostgreSQL's protocol, and `state` of systems. The script that was named was run over the database that was named, or why not was told; a
 -- database in a file was made, copied, checked, described or served, a statement over it was explained, or its journal was turned on or off; or a text was printed
-module _ (X : Type 0) {D L K C S H T P : Type 0} (g : Ghosts D) (k : SinkGhosts K) (c : SinkGhosts C) (a : AttendGhosts L H) (t : TalkGhosts T) (p : ClientsGhosts P T) (Reads : ReadingRelation) (listening : L → Option Listening) (state : S → SystemState D L) (old : SystemState D L) where
+module _ (X : Type 0) {D L K C S H T P U Q : Type 0} (g : Ghosts D) (k : SinkGhosts K) (c : SinkGhosts C) (a : AttendGhosts L H) (t : TalkGhosts T) (p : ClientsGhosts P T) (u : TalkGhosts U) (q : ClientsGhosts Q U) (Reads : ReadingRelation) (listening : L → Option Listening) (state : S → SystemState D L) (old : SystemState D L) where
   abbrev pub IsPerformed : Invocation → Exit → SystemState D L → K → K → Known → Known → Type 0
   IsPerformed (order.Format file pages admin journal) exit new out_before out_after err_before err_after =
       DoesFormat g k old (subject.Named file) file.now pages admin.now journal exit new out_before out_after err_before err_after
@@ -258,7 +267,7 @@ module _ (X : Type 0) {D L K C S H T P : Type 0} (g : Ghosts D) (k : SinkGhosts 
   IsPerformed (order.ServeSocket file socket connections idle) exit new out_before out_after err_before err_after =
       Serves X g c Reads listening old (subject.Named file) file.now (Socket socket) connections exit new err_before err_after × (out_after ≡ out_before)
   IsPerformed (order.ServeClients file place many) exit new out_before out_after err_before err_after =
-      ServesMany X g a t p Reads old (subject.Named file) file.now place many exit new err_before err_after × (out_after ≡ out_before)
+      ServesManyAt X g a t p u q Reads old (subject.Named file) file.now place many exit new err_before err_after × (out_after ≡ out_before)
   IsPerformed (order.Check file) exit new out_before out_after err_before err_after =
       Checks X g old (subject.Named file) file.now exit new (k.held out_before) (k.held out_after) err_before err_after
   IsPerformed (order.Describe file role json) exit new out_before out_after err_before err_after =

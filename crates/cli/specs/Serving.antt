@@ -4,7 +4,7 @@ use Rattle.std.specs.Io.KnownBytes.{Appends}
 use Rattle.sector_device.specs.Device.{IsSynced}
 use Rattle.sector_device.specs.declared.device.Device.{Ghosts}
 use Rattle.systems.specs.declared.place.ListenPlace.{ListenPlace}
-use Rattle.systems.specs.declared.place.ListenPlace.TheVariants.{Port, Socket}
+use Rattle.systems.specs.declared.place.ListenPlace.TheVariants.{Port, Socket, PostgresFolder}
 use Rattle.systems.specs.Places.{IsBoundFor, IsOfKind, ThePlace, TheSocket, the_place}
 use Rattle.systems.specs.Systems.{HasDevice, Hears, IsSame, IsSameButAt, Rose, SystemState}
 use Rattle.abstract_database.specs.Runs.{ReadingRelation}
@@ -26,6 +26,7 @@ use Rattle.cli.specs.Files.{ChangesDevice}
 abbrev pub listening_text : ListenPlace → List ℕ
 listening_text (Port port) = codes "guarddb: listening on 127.0.0.1:" ++ (decimal port ++ codes "\n")
 listening_text (Socket path) = codes "guarddb: listening on " ++ (path.now ++ codes "\n")
+listening_text (PostgresFolder folder) = codes "guarddb: listening on " ++ (folder.now ++ codes "/.s.PGSQL.5432\n")
 
 -- ---- a listener
 

@@ -1,5 +1,5 @@
 -- What serving many clients at once at a place, over the database in a file, does.
-use Rattle.std.specs.Prelude.{◌≡◌, ◌==◌, ◌≤◌, ◌⊎◌, ◌*◌, ◌^◌, ◌-◌, ℕ, Bool, true, List, [], Option, Some, None, Result, Ok, Err, if◌then◌else◌}
+use Rattle.std.specs.Prelude.{◌≡◌, ◌==◌, ◌≤◌, ◌⊎◌, ◌*◌, ◌^◌, ◌-◌, ℕ, Bool, true, List, [], codes, Option, Some, None, Result, Ok, Err, if◌then◌else◌}
 use Rattle.std.specs.Duration.{as_nanos}
 use Rattle.std.specs.Option.{unwrap_or}
 use Rattle.std.specs.declared.time.Duration.{Duration}
@@ -20,6 +20,8 @@ use Rattle.wire.specs.AnswerFrames.{answer_frames}
 use Rattle.wire.specs.AnswerText.{answer_text}
 use Rattle.wire.specs.ScriptRun.{Known}
 use Rattle.polled_clients.specs.declared.clients.ClientLimits.{ClientLimits}
+use Rattle.postgres_messages.specs.Backend.{error_response, reply_bytes}
+use Rattle.postgres_messages.specs.declared.backend.Severity.TheVariants.{Fatal}
 use Rattle.talks.specs.declared.talk.Talk.{Ghosts as TalkGhosts}
 use Rattle.talks.specs.declared.clients.ServedClients.{Ghosts as ClientsGhosts}
 use Rattle.talks.specs.declared.serving.ServeEnd.{ServeEnd}
@@ -31,6 +33,8 @@ use Rattle.cli.specs.declared.fault.CommandFault.{CommandFault}
 use Rattle.cli.specs.declared.fault.CommandFault.TheVariants.{Memory, Net, Output}
 use Rattle.cli.specs.declared.opened.CommandEnd.{CommandEnd}
 use Rattle.cli.specs.declared.serve_clients.ManyClients.{ManyClients}
+use Rattle.cli.specs.declared.served_place.Protocol.{Protocol}
+use Rattle.cli.specs.declared.served_place.Protocol.TheVariants.{Frames, Postgres}
 use Rattle.cli.specs.Commands.{IsFileOpened, IsFileUnopened}
 use Rattle.cli.specs.Files.{ChangesDevice}
 use Rattle.cli.specs.Serving.{ChangesBoth, IsBoundBetween, listening_text}
@@ -62,9 +66,10 @@ pub record AreLimits (many : ManyClients) (limits : ClientLimits) : Type 0 where
 abbrev pub uncontended : Bool → Contention
 uncontended limited = record { holder = None; cut_off = None; is_limited = limited }
 
--- what one is told who comes while as many are served at once as may be
-abbrev pub crowded_said : List ℕ
-crowded_said = answer_frames 0 (answer_text (Refused TooManyConnections))
+-- what one is told who comes while as many are served at once as may be: a refusal of session 0, or the error by which PostgreSQL says so
+abbrev pub crowded_said : Protocol → List ℕ
+crowded_said Frames = answer_frames 0 (answer_text (Refused TooManyConnections))
+crowded_said Postgres = reply_bytes (error_response (record { severity = Fatal; code = codes "53300"; message = codes "sorry, too many clients already"; position = None }))
 
 -- `a` is what is said of listeners that are polled, `t` of conversations, and `p` of clients that come to such a listener
 module _ {D X L C T P : Type 0} (g : Ghosts D) (a : AttendGhosts L C) (t : TalkGhosts T) (p : ClientsGhosts P T) (Reads : ReadingRelation) where

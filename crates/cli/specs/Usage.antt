@@ -13,6 +13,10 @@ name_reason name = codes "'" ++ (name ++ codes "' is no name: NAME has 1 to 63 b
 abbrev pub path_reason : List ℕ → List ℕ
 path_reason path = codes "'" ++ (path ++ codes "' cannot name a socket: PATH has 1 to 107 bytes")
 
+-- why a folder is refused
+abbrev pub folder_reason : List ℕ → List ℕ
+folder_reason folder = codes "'" ++ (folder ++ codes "' cannot have the file of a socket: FOLDER has 1 to 93 bytes")
+
 -- why a word for a number is refused
 abbrev pub number_reason : NumberOption → List ℕ → List ℕ
 number_reason option word = number_rule option ++ (codes ", not '" ++ (word ++ codes "'"))
@@ -27,8 +31,10 @@ usage_reason (usage.Grammar e) = None
 usage_reason usage.Form = Some (codes "run takes FILE SCRIPT, or --memory NAME SCRIPT")
 usage_reason usage.Serving = Some (codes "serve takes FILE, either --port P or --socket PATH, and --connections K")
 usage_reason usage.ServingClients = Some (codes "serve --clients N takes FILE, and either --port P or --socket PATH")
+usage_reason usage.ServingAt = Some (codes "serve --at PLACE takes FILE and --clients N, and no port or socket; PLACE is port:P, socket:PATH, pgport:P or pgsocket:FOLDER")
 usage_reason (usage.Number option word) = Some (number_reason option word.now)
 usage_reason (usage.Path path) = Some (path_reason path.now)
+usage_reason (usage.Folder folder) = Some (folder_reason folder.now)
 usage_reason (usage.Name name) = Some (name_reason name.now)
 usage_reason (usage.Switch word) = Some (switch_reason word.now)
 usage_reason usage.Encoding = Some (codes "a word is not UTF-8")

@@ -2,15 +2,16 @@
 
 ghost use Rattle.cli.specs.CarryingOut.{IsCarriedOut};
 
+use crate::client_talks::{FrameTalks, PostgresTalks};
 use crate::command::Invocation;
 use crate::ending::Performed;
 use crate::explained_runs::explain;
 use crate::program::perform;
 use crate::refusals::explained_run;
-use crate::serve_clients::FrameTalks;
 use channels::attend::Attend;
 use frame_talks::frame_talk::FrameTalk;
 use polled_clients::clients::PolledClients;
+use postgres_talks::postgres_talk::PostgresTalk;
 use sector_device::Device;
 use server::decide::EventHandler;
 use std::alloc::Global;
@@ -36,6 +37,8 @@ pub fn carry_out<Y: System, X: EventHandler + Drop, K: TakesText + Drop, E: Writ
     ensures { IsCarriedOut X Y.Device.Device K.Sink Y.Listener.Sink.Sink Y.Listener.Attend
         ⟦<FrameTalk as Talk>⟧
         ⟦<PolledClients<FrameTalk, Y::Channel, Y::Listener, FrameTalks> as ServedClients<FrameTalk>>⟧
+        ⟦<PostgresTalk as Talk>⟧
+        ⟦<PolledClients<PostgresTalk, Y::Channel, Y::Listener, PostgresTalks> as ServedClients<PostgresTalk>>⟧
         E.contents X.Reads
         Y.Listener.listening Y.state (Y.state system.old) order.now out err (Y.state system.new)
         result }

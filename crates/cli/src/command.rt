@@ -3,8 +3,9 @@
 ghost use Rattle.std.specs.Prelude.{◌≡◌, ◌↔◌, IsTrue, IfOk, IfErr, Some, codes};
 ghost use Rattle.clap.specs.Words.{found_of, rows_of};
 ghost use Rattle.sql_types.specs.Name.{IsName};
-ghost use Rattle.cli.specs.CommandLine.{IsAtRefusal, Asks, Refuses, Journal, GivesAs, IsOrdered, IsUnfit, IsNoNumber, IsReadFrom, IsSocketPath, lent_words};
+ghost use Rattle.cli.specs.CommandLine.{IsAtRefusal, Asks, Refuses, Journal, GivesAs, IsOrdered, IsUnfit, IsNoNumber, IsReadFrom, lent_words};
 ghost use Rattle.cli.specs.Numbers.{IsNumberFor};
+ghost use Rattle.cli.specs.PlaceWords.{IsSocketPath};
 ghost use Rattle.cli.specs.Usage.{usage_reason};
 
 use crate::error_reason::ErrorReason;
@@ -15,12 +16,12 @@ use crate::number::NumberOption;
 use crate::refusals::{OnRefusal, at_refusal};
 use crate::serve_clients::ManyClients;
 use crate::serve_words::read_serve;
+use crate::served_place::ServedPlace;
 use clap::ArgMatches;
 use clap::error::{Error, ErrorKind};
 use sql_types::name::MAX_NAME_LENGTH;
 use std::alloc::Global;
 use std::fmt;
-use systems::ListenPlace;
 
 /// What a command line asks for. Words are as they were given; numbers are in the range of their
 /// option.
@@ -82,10 +83,12 @@ pub enum Invocation<'a> {
     /// `serve FILE --port P --clients N` or `serve FILE --socket PATH --clients N`: serves so many clients
     /// at once, with `--connections K` so many in all. With `--wait SECONDS` a statement may wait for the
     /// writer lock, and with `--idle SECONDS` a client ends that sends nothing for so long. One ends, too,
-    /// that keeps another from writing for `--block SECONDS`, or half a minute.
+    /// that keeps another from writing for `--block SECONDS`, or half a minute. `serve FILE --at PLACE
+    /// --clients N` is the same with `port:P` and `socket:PATH`; with `pgport:P` and `pgsocket:FOLDER` clients
+    /// are spoken to by PostgreSQL's protocol.
     ServeClients {
         file: &'a str,
-        place: ListenPlace<'a>,
+        place: ServedPlace<'a>,
         many: ManyClients,
     },
     /// `check FILE`: opens the database in FILE, and says whether it is whole.
@@ -124,10 +127,15 @@ pub enum UsageFault<'a> {
     Serving,
     /// Beside `--clients` N the words after `serve` are not FILE, and either `--port` P or `--socket` PATH.
     ServingClients,
+    /// Beside `--at` PLACE the words after `serve` are not FILE and `--clients` N, or they have a port or a
+    /// socket, or PLACE is none.
+    ServingAt,
     /// The word for a number is no decimal number in the range of its option.
     Number { option: NumberOption, word: &'a str },
     /// PATH of a socket is empty or has over 107 bytes.
     Path(&'a str),
+    /// FOLDER of a socket for PostgreSQL's clients is empty or has over 93 bytes.
+    Folder(&'a str),
     /// NAME is empty, has over 63 bytes or a zero byte.
     Name(&'a str),
     /// The word after FILE of `journal` is neither `on` nor `off`.
@@ -157,9 +165,21 @@ impl fmt::Display for UsageFault<'_> {
                     "serve --clients N takes FILE, and either --port P or --socket PATH"
                 )
             }
+            UsageFault::ServingAt => {
+                write!(
+                    f,
+                    "serve --at PLACE takes FILE and --clients N, and no port or socket; PLACE is port:P, socket:PATH, pgport:P or pgsocket:FOLDER"
+                )
+            }
             UsageFault::Number { option, word } => write!(f, "{option}, not '{word}'"),
             UsageFault::Path(path) => {
                 write!(f, "'{path}' cannot name a socket: PATH has 1 to 107 bytes")
+            }
+            UsageFault::Folder(folder) => {
+                write!(
+                    f,
+                    "'{folder}' cannot have the file of a socket: FOLDER has 1 to 93 bytes"
+                )
             }
             UsageFault::Name(name) => {
                 write!(
@@ -179,7 +199,7 @@ impl fmt::Display for UsageFault<'_> {
 /// The order that the words after the program's name give, as `clap` reads them: one of the commands
 /// `format`, `copy`, `journal`, `run`, `serve`, `check`, `describe` and `explain` with its words and options, each
 /// given once; or a flag for help or the version. Words that give none are refused: by `Grammar`, `Form`, `Serving`,
-/// `ServingClients`, `Number`, `Path`, `Name` or `Switch`.
+/// `ServingClients`, `ServingAt`, `Number`, `Path`, `Folder`, `Name` or `Switch`.
 /// `Memory` may come of any words.
 pub fn read_command<'a>(
     alloc: Global,

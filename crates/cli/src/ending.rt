@@ -22,6 +22,8 @@ pub enum Subject<'a> {
     Port(u16),
     /// A statement of the command line.
     Statement,
+    /// The socket of a folder for PostgreSQL's clients.
+    PostgresFolder(&'a str),
 }
 
 impl fmt::Display for Subject<'_> {
@@ -33,6 +35,7 @@ impl fmt::Display for Subject<'_> {
             Subject::Partial(name) => write!(f, "{name}.partial"),
             Subject::Port(port) => write!(f, "127.0.0.1:{port}"),
             Subject::Statement => write!(f, "the statement"),
+            Subject::PostgresFolder(folder) => write!(f, "{folder}/.s.PGSQL.5432"),
         }
     }
 }

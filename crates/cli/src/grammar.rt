@@ -69,7 +69,8 @@ fn run_command<'a>(alloc: Global) -> Result<Command<'a>, AllocError>
 
 /// `serve FILE --port P --connections K` and `serve FILE --socket PATH --connections K`, with `--idle
 /// SECONDS` or without; and both with `--clients N`, and `--wait SECONDS` and `--block SECONDS` or
-/// without. Which of these it is, and what is missing, is decided once the words are read.
+/// without; and, in place of a port or a socket, `--at PLACE`. Which of these it is, and what is missing,
+/// is decided once the words are read.
 fn serve_command<'a>(alloc: Global) -> Result<Command<'a>, AllocError>
     ensures { IfOk result (IsCommand serve_app) }
 {
@@ -81,7 +82,8 @@ fn serve_command<'a>(alloc: Global) -> Result<Command<'a>, AllocError>
         .arg(option(alloc, "idle", "SECONDS", false))?
         .arg(option(alloc, "clients", "N", false))?
         .arg(option(alloc, "wait", "SECONDS", false))?
-        .arg(option(alloc, "block", "SECONDS", false))
+        .arg(option(alloc, "block", "SECONDS", false))?
+        .arg(option(alloc, "at", "PLACE", false))
 }
 
 /// `check FILE`.

@@ -4,13 +4,14 @@ ghost use Rattle.systems.specs.MemSystem.{system_state};
 ghost use Rattle.cli.specs.CarryingOut.{IsCarriedOut};
 
 use crate::carrying_out::carry_out;
+use crate::client_talks::{FrameTalks, PostgresTalks};
 use crate::command::Invocation;
 use crate::ending::Performed;
-use crate::serve_clients::FrameTalks;
 use channels::attend::Attend;
 use channels::memory::MemChannel;
 use frame_talks::frame_talk::FrameTalk;
 use polled_clients::clients::PolledClients;
+use postgres_talks::postgres_talk::PostgresTalk;
 use sector_device::{Device, HistoryDevice, WriteProtected};
 use server::decide::EventHandler;
 use std::alloc::Global;
@@ -37,6 +38,8 @@ pub fn carry_out_in_memory<X: EventHandler + Drop, K: TakesText + Drop, E: Write
     ensures carried_out { IsCarriedOut X ⟦<WriteProtected<HistoryDevice> as Device>⟧ K.Sink
         ⟦<FrameSink<Vec<u8>> as Sink>⟧ ⟦<MemListener as Attend<MemChannel>>⟧ ⟦<FrameTalk as Talk>⟧
         ⟦<PolledClients<FrameTalk, MemChannel, MemListener, FrameTalks> as ServedClients<FrameTalk>>⟧
+        ⟦<PostgresTalk as Talk>⟧
+        ⟦<PolledClients<PostgresTalk, MemChannel, MemListener, PostgresTalks> as ServedClients<PostgresTalk>>⟧
         E.contents X.Reads ⟦<MemListener as Listen>⟧.listening
         system_state (system_state system.old) order.now out err (system_state system.new) result }
 {

@@ -5,6 +5,7 @@
 #![tactic(auto)]
 
 pub mod carrying_out;
+pub mod client_talks;
 pub mod command;
 pub mod command_name;
 mod copy_command;
@@ -24,6 +25,7 @@ pub mod in_memory;
 mod journal_command;
 pub mod number;
 mod opened;
+pub mod place_words;
 mod printing;
 pub mod program;
 mod reading;
@@ -36,6 +38,7 @@ pub mod script_note;
 mod serve;
 pub mod serve_clients;
 mod serve_words;
+pub mod served_place;
 pub mod statement_fault;
 mod switching;
 pub mod texts;

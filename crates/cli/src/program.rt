@@ -1,8 +1,9 @@
 //! What the program does for a command: its output, its messages and its exit status.
 
 ghost use Rattle.std.specs.Prelude.{◌≡◌};
-ghost use Rattle.cli.specs.Program.{ending_of_server, place_subject, server_subject, Checks, DoesFormat, Formats, IsAnswered, IsPerformed, Serves, ServesMany, outcome_of_clients};
+ghost use Rattle.cli.specs.Program.{ending_of_server, place_subject, server_subject, Checks, DoesFormat, Formats, IsAnswered, IsPerformed, Serves, ServesMany, ServesManyAt, outcome_of_clients};
 
+use crate::client_talks::{FrameTalks, PostgresTalks, Speaker};
 use crate::command::{Invocation, UsageFault, is_name};
 use crate::command_name::CommandName;
 use crate::copy_command::copy;
@@ -17,12 +18,14 @@ use crate::printing::{print_for, print_text};
 use crate::run::check_file;
 use crate::runs::{run_over_file, run_read_in_memory};
 use crate::serve::{Limits, serve_file};
-use crate::serve_clients::{FrameTalks, ManyClients, serve_clients_file};
+use crate::serve_clients::{ManyClients, serve_clients_file};
+use crate::served_place::{Protocol, ServedPlace};
 use crate::texts::{HELP, VERSION};
 use crate::usage::report_usage;
 use channels::attend::Attend;
 use frame_talks::frame_talk::FrameTalk;
-use polled_clients::clients::PolledClients;
+use polled_clients::clients::{PolledClients, TalkMaker};
+use postgres_talks::postgres_talk::PostgresTalk;
 use sector_device::Device;
 use server::decide::EventHandler;
 use sql_types::name::Name;
@@ -85,6 +88,8 @@ pub fn perform<Y: System, X: EventHandler + Drop, K: TakesText, E: Write>(
     ensures { IsPerformed X Y.Device.Device K.Sink Y.Listener.Sink.Sink Y.Listener.Attend
         ⟦<FrameTalk as Talk>⟧
         ⟦<PolledClients<FrameTalk, Y::Channel, Y::Listener, FrameTalks> as ServedClients<FrameTalk>>⟧
+        ⟦<PostgresTalk as Talk>⟧
+        ⟦<PolledClients<PostgresTalk, Y::Channel, Y::Listener, PostgresTalks> as ServedClients<PostgresTalk>>⟧
         X.Reads Y.Listener.listening Y.state (Y.state system.old) order.now result (Y.state system.new) out.old out.new
         (E.contents err.old) (E.contents err.new) }
 {
@@ -141,7 +146,7 @@ pub fn perform<Y: System, X: EventHandler + Drop, K: TakesText, E: Write>(
             err,
         ),
         Invocation::ServeClients { file, place, many } => {
-            serve_many(system, alloc, handler, *file, *place, *many, err)
+            serve_at(system, alloc, handler, *file, *place, *many, err)
         }
         Invocation::Check { file } => check(system, alloc, handler, *file, out, err),
         Invocation::Describe { file, role, json } => {
@@ -249,23 +254,61 @@ fn serve<Y: System, X: EventHandler + Drop, E: Write>(
     exit_after(told, end_of_server(outcome), about, err)
 }
 
+// Serves many clients at once at a place, each by the protocol of that, over the database in a file, and
+// tells how that ended.
+fn serve_at<Y: System, X: EventHandler + Drop, E: Write>(
+    system: &mut Y,
+    alloc: Global,
+    handler: X,
+    file: &str,
+    place: ServedPlace<'_>,
+    many: ManyClients,
+    err: &mut E,
+) -> Exit
+    ensures { ServesManyAt X Y.Device.Device Y.Listener.Attend ⟦<FrameTalk as Talk>⟧
+        ⟦<PolledClients<FrameTalk, Y::Channel, Y::Listener, FrameTalks> as ServedClients<FrameTalk>>⟧
+        ⟦<PostgresTalk as Talk>⟧
+        ⟦<PolledClients<PostgresTalk, Y::Channel, Y::Listener, PostgresTalks> as ServedClients<PostgresTalk>>⟧
+        X.Reads (Y.state system.old) (Subject.Named file.entry) file.now place.entry many
+        result (Y.state system.new) (E.contents err.old) (E.contents err.new) }
+{
+    let ServedPlace { place, protocol } = place;
+    match protocol {
+        Protocol::Frames => {
+            let speaker = FrameTalks::new(alloc);
+            serve_many(system, alloc, handler, file, place, speaker, many, err)
+        }
+        Protocol::Postgres => {
+            let speaker = PostgresTalks::new(alloc);
+            serve_many(system, alloc, handler, file, place, speaker, many, err)
+        }
+    }
+}
+
 // Serves many clients at once at a place over the database in a file, and tells how that ended.
-fn serve_many<Y: System, X: EventHandler + Drop, E: Write>(
+fn serve_many<
+    Y: System,
+    X: EventHandler + Drop,
+    T: Talk + Drop,
+    F: TalkMaker<T> + Speaker + Drop,
+    E: Write,
+>(
     system: &mut Y,
     alloc: Global,
     handler: X,
     file: &str,
     place: ListenPlace<'_>,
+    speaker: F,
     many: ManyClients,
     err: &mut E,
 ) -> Exit
-    ensures { ServesMany X Y.Device.Device Y.Listener.Attend ⟦<FrameTalk as Talk>⟧
-        ⟦<PolledClients<FrameTalk, Y::Channel, Y::Listener, FrameTalks> as ServedClients<FrameTalk>>⟧
+    ensures { ServesMany X Y.Device.Device Y.Listener.Attend T.Talk
+        ⟦<PolledClients<T, Y::Channel, Y::Listener, F> as ServedClients<T>>⟧
         X.Reads (Y.state system.old) (Subject.Named file.entry) file.now place.entry many
         result (Y.state system.new) (E.contents err.old) (E.contents err.new) }
 {
     let CommandEnd { outcome, told } = serve_clients_file(
-        system, alloc, handler, file, place, many, err,
+        system, alloc, handler, file, place, speaker, many, err,
     );
     let outcome = outcome_of_clients(outcome);
     let about = subject_of_server(outcome, file, place);
@@ -316,6 +359,7 @@ fn subject_of_place(place: ListenPlace<'_>) -> Subject<'_>
     match place {
         ListenPlace::Port(port) => Subject::Port(port),
         ListenPlace::Socket(path) => Subject::Named(path),
+        ListenPlace::PostgresFolder(folder) => Subject::PostgresFolder(folder),
     }
 }
 

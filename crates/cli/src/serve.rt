@@ -121,5 +121,8 @@ pub(crate) fn tell_place<E: Write>(place: ListenPlace<'_>, err: &mut E) -> io::R
     match place {
         ListenPlace::Port(port) => writeln!(err, "guarddb: listening on 127.0.0.1:{port}"),
         ListenPlace::Socket(path) => writeln!(err, "guarddb: listening on {path}"),
+        ListenPlace::PostgresFolder(folder) => {
+            writeln!(err, "guarddb: listening on {folder}/.s.PGSQL.5432")
+        }
     }
 }

@@ -1,24 +1,21 @@
 //! A server of many clients at once at a place of a system, over a database in a file.
 
-ghost use Rattle.std.specs.Prelude.{◌≡◌, IfOk};
-ghost use Rattle.cli.specs.ServingClients.{asked_wait, crowded_said, AreLimits, IsLimitOf, ServesClientsAt, ServesClientsFile, ServesClientsOn};
+ghost use Rattle.std.specs.Prelude.{◌≡◌};
+ghost use Rattle.cli.specs.ServingClients.{asked_wait, AreLimits, IsLimitOf, ServesClientsAt, ServesClientsFile, ServesClientsOn};
 
+use crate::client_talks::Speaker;
 use crate::fault::CommandFault;
 use crate::opened::{CommandEnd, open_database_in, tell_migration};
 use crate::serve::tell_place;
 use channels::attend::Attend;
 use channels::channel::Channel;
 use databases::serve_clients_on;
-use frame_talks::frame_talk::FrameTalk;
-use frame_talks::said::say_answer;
 use journal_store::{DeviceStore, JournalDevice};
 use polled_clients::clients::{ClientLimits, PolledClients, TalkMaker};
 use sector_device::Device;
 use server::decide::EventHandler;
 use server::server::Server;
-use sql_types::answer::Answer;
-use sql_types::state::SqlState;
-use std::alloc::{AllocError, Global};
+use std::alloc::Global;
 use std::io::Write;
 use std::time::Duration;
 use systems::{ListenPlace, System};
@@ -75,21 +72,9 @@ fn limit_of(seconds: Option<u32>) -> Option<Duration>
     }
 }
 
-/// Conversations of frames, one for each client that comes.
-#[derive(Drop)]
-pub struct FrameTalks {
-    alloc: Global,
-}
-
-impl TalkMaker<FrameTalk> for FrameTalks {
-    fn make(&self) -> Result<FrameTalk, AllocError> {
-        Ok(FrameTalk::new(self.alloc))
-    }
-}
-
 /// Serves many clients at once, which come to a place of the system, over the database in the file at
-/// `path`, whose events `handler` decides. Each speaks in frames, as at `serve_file`, and is told its
-/// own answers alone. Who comes while as many are served at once as may be is told so, and closed.
+/// `path`, whose events `handler` decides. `speaker` makes the conversation with each, which is told its own
+/// answers alone. Who comes while as many are served at once as may be is told so, and closed.
 /// `err` is told as at `serve_file`. However it ends, the place is given up and the file is closed.
 ///
 /// It ends once as many clients came as are served in all, and each of them has gone; once the server
@@ -98,17 +83,24 @@ impl TalkMaker<FrameTalk> for FrameTalks {
 /// The faults are first those of `check_file`, and then `Net`, where the place is not bound or the
 /// system does not tell who comes there; `Memory`; and `Output`, where `err` fails. Nobody was taken
 /// then.
-pub fn serve_clients_file<Y: System, X: EventHandler + Drop, E: Write>(
+pub fn serve_clients_file<
+    Y: System,
+    X: EventHandler + Drop,
+    T: Talk + Drop,
+    F: TalkMaker<T> + Speaker + Drop,
+    E: Write,
+>(
     system: &mut Y,
     alloc: Global,
     handler: X,
     path: &str,
     place: ListenPlace<'_>,
+    speaker: F,
     many: ManyClients,
     err: &mut E,
 ) -> CommandEnd<ServeEnd>
-    ensures { ServesClientsFile X Y.Device.Device Y.Listener.Attend ⟦<FrameTalk as Talk>⟧
-        ⟦<PolledClients<FrameTalk, Y::Channel, Y::Listener, FrameTalks> as ServedClients<FrameTalk>>⟧
+    ensures { ServesClientsFile X Y.Device.Device Y.Listener.Attend T.Talk
+        ⟦<PolledClients<T, Y::Channel, Y::Listener, F> as ServedClients<T>>⟧
         X.Reads (Y.state system.old) path.entry.now place.entry many (E.contents err.old) result
         (Y.state system.new) (E.contents err.new) }
 {
@@ -117,22 +109,29 @@ pub fn serve_clients_file<Y: System, X: EventHandler + Drop, E: Write>(
         Err(fault) => return CommandEnd::unopened(fault),
     };
     let told = tell_migration(opened.was_migrated, path, err);
-    let (left, outcome) = serve_clients_at(system, alloc, opened.server, place, many, err);
+    let (left, outcome) = serve_clients_at(system, alloc, opened.server, place, speaker, many, err);
     system.close(path, left);
     CommandEnd { outcome, told }
 }
 
 // Serves clients at a place, and hands the device back.
-fn serve_clients_at<Y: System, X: EventHandler + Drop, E: Write>(
+fn serve_clients_at<
+    Y: System,
+    X: EventHandler + Drop,
+    T: Talk + Drop,
+    F: TalkMaker<T> + Speaker + Drop,
+    E: Write,
+>(
     system: &mut Y,
     alloc: Global,
     server: Server<DeviceStore<Y::Device>, X>,
     place: ListenPlace<'_>,
+    speaker: F,
     many: ManyClients,
     err: &mut E,
 ) -> (Y::Device, Result<ServeEnd, CommandFault>)
-    ensures { ServesClientsAt Y.Device.Device Y.Listener.Attend ⟦<FrameTalk as Talk>⟧
-        ⟦<PolledClients<FrameTalk, Y::Channel, Y::Listener, FrameTalks> as ServedClients<FrameTalk>>⟧
+    ensures { ServesClientsAt Y.Device.Device Y.Listener.Attend T.Talk
+        ⟦<PolledClients<T, Y::Channel, Y::Listener, F> as ServedClients<T>>⟧
         X.Reads (Y.state system.old) place.entry many server (E.contents err.old) result.1
         result.0 (Y.state system.new) (E.contents err.new) }
 {
@@ -146,7 +145,7 @@ fn serve_clients_at<Y: System, X: EventHandler + Drop, E: Write>(
     match system.poll(&mut listener) {
         Ok(()) => {
             let (left, outcome, listener) = serve_clients_on_place(
-                alloc, server, listener, bound, many, err,
+                alloc, server, listener, bound, speaker, many, err,
             );
             system.unbind(bound, listener);
             (left, outcome)
@@ -166,21 +165,24 @@ fn serve_clients_on_place<
     X: EventHandler + Drop,
     C: Channel + Drop,
     L: Attend<C> + Drop,
+    T: Talk + Drop,
+    F: TalkMaker<T> + Speaker + Drop,
     E: Write,
 >(
     alloc: Global,
     server: Server<DeviceStore<D>, X>,
     listener: L,
     place: ListenPlace<'_>,
+    speaker: F,
     many: ManyClients,
     err: &mut E,
 ) -> (D, Result<ServeEnd, CommandFault>, L)
-    ensures { ServesClientsOn D.Device L.Attend ⟦<FrameTalk as Talk>⟧
-        ⟦<PolledClients<FrameTalk, C, L, FrameTalks> as ServedClients<FrameTalk>>⟧
+    ensures { ServesClientsOn D.Device L.Attend T.Talk
+        ⟦<PolledClients<T, C, L, F> as ServedClients<T>>⟧
         X.Reads place.entry many server listener (E.contents err.old) result.1 result.0 result.2
         (E.contents err.new) }
 {
-    let Ok(refusal) = crowded_refusal(alloc) else {
+    let Ok(refusal) = speaker.crowded_refusal(alloc) else {
         let left = server.into_store().into_device();
         return (left, Err(CommandFault::Memory), listener);
     };
@@ -188,18 +190,7 @@ fn serve_clients_on_place<
         let left = server.into_store().into_device();
         return (left, Err(CommandFault::Output), listener);
     };
-    let maker = FrameTalks { alloc };
-    let mut clients = PolledClients::new(alloc, listener, maker, many.limits(), refusal);
+    let mut clients = PolledClients::new(alloc, listener, speaker, many.limits(), refusal);
     let (left, end) = serve_clients_on(alloc, server, &mut clients);
     (left, Ok(end), clients.into_attend())
-}
-
-// What one is told who comes while as many are served as may be.
-fn crowded_refusal(alloc: Global) -> Result<Vec<u8>, AllocError>
-    ensures { IfOk result (λ said. said.items ≡ crowded_said) }
-{
-    let mut said = Vec::new(alloc);
-    let answer = Answer::Refused(SqlState::TooManyConnections);
-    say_answer(alloc, 0, &answer, &mut said)?;
-    Ok(said)
 }

@@ -6,7 +6,9 @@ ghost use Rattle.cli.specs.CommandLine.{AtPort, AtSocket, AreCountsGiven, GivesA
 
 use crate::command::{Invocation, UsageFault, is_socket_path, read_number};
 use crate::number::NumberOption;
+use crate::place_words::read_at;
 use crate::serve_clients::ManyClients;
+use crate::served_place::{Protocol, ServedPlace};
 use clap::ArgMatches;
 use systems::ListenPlace;
 
@@ -29,15 +31,28 @@ pub(crate) fn read_serve<'a>(given: &ArgMatches<'a>) -> Result<Invocation<'a>, U
     ensures asked { IfOk result (IsOrdered (GivesAs (codes "serve") (rows_of (found_of given.now)))) }
     ensures refused { IfErr result (IsUnfit (GivesAs (codes "serve") (rows_of (found_of given.now)))) }
 {
+    match given.get_str("at") {
+        Some(place) => read_at(given, place),
+        None => read_there(given),
+    }
+}
+
+// The order that the words after `serve` give without `--at`.
+fn read_there<'a>(given: &ArgMatches<'a>) -> Result<Invocation<'a>, UsageFault<'a>>
+    requires { first_of (codes "at") (rows_of (found_of given.now)) ≡ None }
+    ensures asked { IfOk result (IsOrdered (GivesAs (codes "serve") (rows_of (found_of given.now)))) }
+    ensures refused { IfErr result (IsUnfit (GivesAs (codes "serve") (rows_of (found_of given.now)))) }
+{
     match given.get_str("clients") {
         Some(clients) => read_many(given, clients),
         None => read_sequential(given),
     }
 }
 
-// The order that the words after `serve` give without `--clients`.
+// The order that the words after `serve` give without `--at` and `--clients`.
 fn read_sequential<'a>(given: &ArgMatches<'a>) -> Result<Invocation<'a>, UsageFault<'a>>
-    requires { first_of (codes "clients") (rows_of (found_of given.now)) ≡ None }
+    requires clients { first_of (codes "clients") (rows_of (found_of given.now)) ≡ None }
+    requires at { first_of (codes "at") (rows_of (found_of given.now)) ≡ None }
     ensures asked { IfOk result (IsOrdered (GivesAs (codes "serve") (rows_of (found_of given.now)))) }
     ensures refused { IfErr result (IsUnfit (GivesAs (codes "serve") (rows_of (found_of given.now)))) }
 {
@@ -47,9 +62,10 @@ fn read_sequential<'a>(given: &ArgMatches<'a>) -> Result<Invocation<'a>, UsageFa
     }
 }
 
-// The order that the words after `serve` give with neither `--clients` nor `--wait`.
+// The order that the words after `serve` give with none of `--at`, `--clients` and `--wait`.
 fn read_unblocked<'a>(given: &ArgMatches<'a>) -> Result<Invocation<'a>, UsageFault<'a>>
     requires clients { first_of (codes "clients") (rows_of (found_of given.now)) ≡ None }
+    requires at { first_of (codes "at") (rows_of (found_of given.now)) ≡ None }
     requires wait { first_of (codes "wait") (rows_of (found_of given.now)) ≡ None }
     ensures asked { IfOk result (IsOrdered (GivesAs (codes "serve") (rows_of (found_of given.now)))) }
     ensures refused { IfErr result (IsUnfit (GivesAs (codes "serve") (rows_of (found_of given.now)))) }
@@ -60,7 +76,7 @@ fn read_unblocked<'a>(given: &ArgMatches<'a>) -> Result<Invocation<'a>, UsageFau
     }
 }
 
-// The order that the words after `serve` give with none of `--clients`, `--wait` and `--block`.
+// The order that the words after `serve` give with none of `--at`, `--clients`, `--wait` and `--block`.
 fn read_each<'a>(given: &ArgMatches<'a>) -> Result<Invocation<'a>, UsageFault<'a>>
     requires { HasNoClients (rows_of (found_of given.now)) }
     ensures asked { IfOk result (IsOrdered (GivesAs (codes "serve") (rows_of (found_of given.now)))) }
@@ -133,9 +149,10 @@ fn serve_on_socket<'a>(
     })
 }
 
-// The order that the words after `serve` give with `--clients`, whose word this is.
+// The order that the words after `serve` give with `--clients`, whose word this is, and without `--at`.
 fn read_many<'a>(given: &ArgMatches<'a>, clients: &'a str) -> Result<Invocation<'a>, UsageFault<'a>>
-    requires { first_of (codes "clients") (rows_of (found_of given.now)) ≡ Some clients.now }
+    requires clients { first_of (codes "clients") (rows_of (found_of given.now)) ≡ Some clients.now }
+    requires at { first_of (codes "at") (rows_of (found_of given.now)) ≡ None }
     ensures asked { IfOk result (IsOrdered (GivesAs (codes "serve") (rows_of (found_of given.now)))) }
     ensures refused { IfErr result (IsUnfit (GivesAs (codes "serve") (rows_of (found_of given.now)))) }
 {
@@ -176,7 +193,10 @@ fn many_on_port<'a>(
     let many = read_counts(counts)?;
     Ok(Invocation::ServeClients {
         file,
-        place: ListenPlace::Port(port as u16),
+        place: ServedPlace {
+            place: ListenPlace::Port(port as u16),
+            protocol: Protocol::Frames,
+        },
         many,
     })
 }
@@ -198,13 +218,16 @@ fn many_on_socket<'a>(
     let many = read_counts(counts)?;
     Ok(Invocation::ServeClients {
         file,
-        place: ListenPlace::Socket(socket),
+        place: ServedPlace {
+            place: ListenPlace::Socket(socket),
+            protocol: Protocol::Frames,
+        },
         many,
     })
 }
 
-// The numbers that these words give.
-fn read_counts<'a>(counts: CountWords<'a>) -> Result<ManyClients, UsageFault<'a>>
+/// The numbers that these words give.
+pub(crate) fn read_counts<'a>(counts: CountWords<'a>) -> Result<ManyClients, UsageFault<'a>>
     ensures read { IfOk result (AreCountsGiven (given_counts counts.entry)) }
     ensures refused { IfErr result (IsNoCount (given_counts counts.entry)) }
 {

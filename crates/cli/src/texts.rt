@@ -8,6 +8,7 @@ pub const USAGE: &str = "guarddb format FILE --pages N --admin NAME [--journal]
        guarddb serve FILE --socket PATH --connections K [--idle SECONDS]
        guarddb serve FILE --port P --clients N [--connections K] [--wait SECONDS] [--idle SECONDS] [--block SECONDS]
        guarddb serve FILE --socket PATH --clients N [--connections K] [--wait SECONDS] [--idle SECONDS] [--block SECONDS]
+       guarddb serve FILE --at PLACE --clients N [--connections K] [--wait SECONDS] [--idle SECONDS] [--block SECONDS]
        guarddb check FILE
        guarddb describe FILE [ROLE] [--json]
        guarddb explain FILE ROLE STATEMENT [--session LOGIN] [--json]
@@ -32,7 +33,8 @@ pub const RUN_USAGE: &str = "guarddb run FILE SCRIPT [--stop|--explain]
 pub const SERVE_USAGE: &str = "guarddb serve FILE --port P --connections K [--idle SECONDS]
        guarddb serve FILE --socket PATH --connections K [--idle SECONDS]
        guarddb serve FILE --port P --clients N [--connections K] [--wait SECONDS] [--idle SECONDS] [--block SECONDS]
-       guarddb serve FILE --socket PATH --clients N [--connections K] [--wait SECONDS] [--idle SECONDS] [--block SECONDS]";
+       guarddb serve FILE --socket PATH --clients N [--connections K] [--wait SECONDS] [--idle SECONDS] [--block SECONDS]
+       guarddb serve FILE --at PLACE --clients N [--connections K] [--wait SECONDS] [--idle SECONDS] [--block SECONDS]";
 
 /// How `check` is called.
 pub const CHECK_USAGE: &str = "guarddb check FILE";
@@ -53,6 +55,7 @@ Usage: guarddb format FILE --pages N --admin NAME [--journal]
        guarddb serve FILE --socket PATH --connections K [--idle SECONDS]
        guarddb serve FILE --port P --clients N [--connections K] [--wait SECONDS] [--idle SECONDS] [--block SECONDS]
        guarddb serve FILE --socket PATH --clients N [--connections K] [--wait SECONDS] [--idle SECONDS] [--block SECONDS]
+       guarddb serve FILE --at PLACE --clients N [--connections K] [--wait SECONDS] [--idle SECONDS] [--block SECONDS]
        guarddb check FILE
        guarddb describe FILE [ROLE] [--json]
        guarddb explain FILE ROLE STATEMENT [--session LOGIN] [--json]
@@ -93,6 +96,11 @@ Commands:
           Who keeps another from writing for --block seconds, SECONDS from 1 to 86400, or 30
           where it is left out, is ended: its sessions are closed, blocks rolled back
           Example: guarddb serve shop.db --socket shop.sock --clients 100 --wait 10
+  serve FILE --at PLACE --clients N [--connections K] [--wait SECONDS] [--idle SECONDS] [--block SECONDS]
+          The same at PLACE: port:P or socket:PATH, as above; or pgport:P or pgsocket:FOLDER,
+          where psql connects, by PostgreSQL's protocol. In FOLDER, of 1 to 93 bytes, the file
+          .s.PGSQL.5432 is made, and taken away at the end. No password is asked for
+          Example: guarddb serve shop.db --at pgsocket:/run/shop --clients 100
   check FILE
           Opens the database in FILE and says whether it is whole. A FILE of format 1 is of
           format 2 then, as after run and serve, and no guarddb of format 1 opens it again

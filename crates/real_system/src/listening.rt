@@ -3,9 +3,10 @@
 ghost use Rattle.std.specs.Prelude.{IfOk};
 ghost use Rattle.systems.specs.Places.{the_place, IsOfKind};
 
-use crate::socket::bind_socket;
+use crate::socket::{bind_in_folder, bind_socket};
 use crate::streams::SystemStream;
 use polled_sockets::listeners::PolledListener;
+use std::alloc::Global;
 use std::fs::File;
 use std::io;
 use std::net::{Ipv4Addr, Net, SocketAddr, TcpListener, TcpStream};
@@ -20,6 +21,8 @@ use wire::system_listener::Accept;
 pub enum PlaceListener {
     Port(TcpListener),
     Socket(UnixListener),
+    /// The socket of a folder, and the path of its file.
+    PostgresFolder(UnixListener, String),
 }
 
 impl PlaceListener {
@@ -27,6 +30,7 @@ impl PlaceListener {
     /// error is one of the system.
     pub(crate) fn bind<'p, R: Files<File = File> + Net<Listener = TcpListener, Stream = TcpStream>>(
         rt: &R,
+        alloc: Global,
         place: ListenPlace<'p>,
     ) -> io::Result<(PlaceListener, ListenPlace<'p>)>
         ensures { IfOk result (λ it. IsOfKind (the_place place.entry) (the_place it.1)) }
@@ -42,17 +46,31 @@ impl PlaceListener {
                 let listener = bind_socket(rt, path)?;
                 Ok((PlaceListener::Socket(listener), place))
             }
+            ListenPlace::PostgresFolder(folder) => {
+                let (listener, path) = bind_in_folder(rt, alloc, folder)?;
+                Ok((PlaceListener::PostgresFolder(listener, path), place))
+            }
         }
     }
 }
 
 impl PlaceListener {
+    /// The path of the socket's file, where it is that of a folder.
+    pub(crate) fn path_in_folder(&self) -> Option<&str> {
+        match self {
+            PlaceListener::Port(_) | PlaceListener::Socket(_) => None,
+            PlaceListener::PostgresFolder(_, path) => Some(path.as_str()),
+        }
+    }
+
     /// Another handle of the place, which is asked for connections and does not wait for one. From
     /// then on this one does not wait, either. An error is one of the system.
     pub(crate) fn polled(&self) -> io::Result<PolledListener> {
         match self {
             PlaceListener::Port(listener) => PolledListener::of_port(listener.try_clone()?),
-            PlaceListener::Socket(listener) => PolledListener::of_socket(listener.try_clone()?),
+            PlaceListener::Socket(listener) | PlaceListener::PostgresFolder(listener, _) => {
+                PolledListener::of_socket(listener.try_clone()?)
+            }
         }
     }
 }
@@ -66,7 +84,7 @@ impl Accept for PlaceListener {
                 let (reader, writer) = listener.accept_within(idle)?;
                 Ok((SystemStream::Port(reader), SystemStream::Port(writer)))
             }
-            PlaceListener::Socket(listener) => {
+            PlaceListener::Socket(listener) | PlaceListener::PostgresFolder(listener, _) => {
                 let (reader, writer) = listener.accept_within(idle)?;
                 Ok((SystemStream::Socket(reader), SystemStream::Socket(writer)))
             }

@@ -180,9 +180,12 @@ impl<
         place: ListenPlace<'p>,
         idle: Option<Duration>,
     ) -> Result<(RealListener<'r, R>, ListenPlace<'p>), SystemCause> {
-        match PlaceListener::bind(self.rt, place) {
+        match PlaceListener::bind(self.rt, self.alloc, place) {
             Ok((listener, bound)) => {
                 if let ListenPlace::Socket(path) = place {
+                    self.made = file_at(self.rt, path);
+                }
+                if let Some(path) = listener.path_in_folder() {
                     self.made = file_at(self.rt, path);
                 }
                 let waiting = SystemListener::new(self.rt, self.alloc, listener, idle);
@@ -195,8 +198,11 @@ impl<
         }
     }
 
-    fn unbind(&mut self, place: ListenPlace<'_>, _listener: RealListener<'r, R>) {
+    fn unbind(&mut self, place: ListenPlace<'_>, listener: RealListener<'r, R>) {
         if let ListenPlace::Socket(path) = place {
+            remove_made(self.rt, path, self.made);
+        }
+        if let Some(path) = listener.path_in_folder() {
             remove_made(self.rt, path, self.made);
         }
     }

@@ -34,6 +34,11 @@ impl<'r, R: Net + Clock> RealListener<'r, R> {
         }
     }
 
+    /// The path of the socket's file, where it is that of a folder.
+    pub(crate) fn path_in_folder(&self) -> Option<&str> {
+        self.waiting.listener().path_in_folder()
+    }
+
     /// Has the system tell who comes, and who of those that came may have something to do. An error
     /// is one of the system.
     pub(crate) fn poll(&mut self, rt: &'r R, alloc: Global) -> io::Result<()> {

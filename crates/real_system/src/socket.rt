@@ -1,7 +1,11 @@
 //! Unix sockets, which have a name among the files of this machine.
 
+ghost use Rattle.std.specs.Prelude.{◌≡◌, IfOk, string_bytes};
+ghost use Rattle.systems.specs.Places.{postgres_socket};
+
 use crate::file_id::{FileId, file_at};
 use crate::private_socket::PrivateSocket;
+use std::alloc::{AllocError, Global};
 use std::fs::{self, File};
 use std::io;
 use std::net::Net;
@@ -25,6 +29,29 @@ pub(crate) fn bind_socket<R: Files<File = File> + Net>(
         fs::remove_file(rt, path)?;
     }
     UnixListener::bind(&PrivateSocket { rt, path }, path)
+}
+
+/// Where PostgreSQL's clients look in a folder for the socket of a server at port 5432.
+fn postgres_socket(alloc: Global, folder: &str) -> Result<String, AllocError>
+    ensures { IfOk result (λ path. string_bytes path ≡ postgres_socket folder.now) }
+{
+    format!(in alloc; "{folder}/.s.PGSQL.5432")
+}
+
+/// Binds a new socket, as `bind_socket` does, where PostgreSQL's clients look for one in a folder, and
+/// answers the path of its file, too.
+pub(crate) fn bind_in_folder<R: Files<File = File> + Net>(
+    rt: &R,
+    alloc: Global,
+    folder: &str,
+) -> io::Result<(UnixListener, String)>
+    ensures { IfOk result (λ it. string_bytes it.1 ≡ postgres_socket folder.now) }
+{
+    let Ok(path) = postgres_socket(alloc, folder) else {
+        return Err(io::Error::from(io::ErrorKind::OutOfMemory));
+    };
+    let listener = bind_socket(rt, path.as_str())?;
+    Ok((listener, path))
 }
 
 // Whether there is the file of a socket at which nobody listens: a connection to it is refused.

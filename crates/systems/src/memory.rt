@@ -213,7 +213,7 @@ impl System for MemSystem<WriteProtected<HistoryDevice>> {
     ) -> Result<(MemListener, ListenPlace<'p>), SystemCause> {
         let is_here = match place {
             ListenPlace::Port(port) => port == 0 || port == self.port,
-            ListenPlace::Socket(_) => false,
+            ListenPlace::Socket(_) | ListenPlace::PostgresFolder(_) => false,
         };
         if is_here {
             if let Some(listener) = self.listener.take() {

@@ -7,4 +7,7 @@ pub enum ListenPlace<'a> {
     Port(u16),
     /// A Unix socket, whose file is made at this path.
     Socket(&'a str),
+    /// A Unix socket, whose file is made in this folder by the name that PostgreSQL's clients look for,
+    /// `.s.PGSQL.5432`.
+    PostgresFolder(&'a str),
 }

@@ -27,6 +27,9 @@ with_clients = with_rule with_idle (option_rule (codes "clients") false)
 abbrev with_wait : App
 with_wait = with_rule with_clients (option_rule (codes "wait") false)
 
+abbrev with_block : App
+with_block = with_rule with_wait (option_rule (codes "block") false)
+
 pub returns : goal.returns
 returns c =
     let one : IsCommand with_file c.in_ok-arg.field-0 = with_an_arg (new_app (codes "serve")) (word_rule (codes "file") false) c.command.result c.word.result c.in_ok-arg.field-0 c.command.ensures c.word.ensures c.in_ok-arg.ensures in
@@ -36,4 +39,5 @@ returns c =
     let five : IsCommand with_idle c.in_ok-arg-5.field-0 = with_an_arg with_connections (option_rule (codes "idle") false) c.in_ok-arg-4.field-0 c.option-4.result c.in_ok-arg-5.field-0 four c.option-4.ensures c.in_ok-arg-5.ensures in
     let six : IsCommand with_clients c.in_ok-arg-6.field-0 = with_an_arg with_idle (option_rule (codes "clients") false) c.in_ok-arg-5.field-0 c.option-5.result c.in_ok-arg-6.field-0 five c.option-5.ensures c.in_ok-arg-6.ensures in
     let seven : IsCommand with_wait c.in_ok-arg-7.field-0 = with_an_arg with_clients (option_rule (codes "wait") false) c.in_ok-arg-6.field-0 c.option-6.result c.in_ok-arg-7.field-0 six c.option-6.ensures c.in_ok-arg-7.ensures in
-    IfOk-weaker c.arg-8.result _ _ (λ command h. with_an_arg with_wait (option_rule (codes "block") false) c.in_ok-arg-7.field-0 c.option-7.result command seven c.option-7.ensures h) c.arg-8.ensures
+    let eight : IsCommand with_block c.in_ok-arg-8.field-0 = with_an_arg with_wait (option_rule (codes "block") false) c.in_ok-arg-7.field-0 c.option-7.result c.in_ok-arg-8.field-0 seven c.option-7.ensures c.in_ok-arg-8.ensures in
+    IfOk-weaker c.arg-9.result _ _ (λ command h. with_an_arg with_block (option_rule (codes "at") false) c.in_ok-arg-8.field-0 c.option-8.result command eight c.option-8.ensures h) c.arg-9.ensures

@@ -13,4 +13,4 @@ returns-in-Some-clause-refused c =
     no_serve (rows_of found)
     (λ file port connections idle has. not_both _ c.in-Some.field-0.now has.5.1 wait)
     (λ file socket connections idle has. not_both _ c.in-Some.field-0.now has.5.1 wait)
-    (λ file place counts has. not_both _ counts.clients c.requires has.2.clients)
+    (λ file place counts has. not_both _ counts.clients c.requires.clients has.2.clients)

@@ -4,7 +4,7 @@ use Rattle.cli.proofs.GivenWords.{got_none, got_word, no_serve, not_both}
 use Rattle.cli.proofs.serve_words.read_unblocked.Goals as goal
 
 pub read_each-requires : goal.read_each-requires
-read_each-requires c = (c.requires.clients, c.requires.wait, got_none (found_of c.args.given.now) (codes "block") c.get_str.result c.get_str.ensures (search rules))
+read_each-requires c = (c.requires.clients, c.requires.wait, got_none (found_of c.args.given.now) (codes "block") c.get_str.result c.get_str.ensures (search rules), c.requires.at)
 
 pub returns-in-Some-clause-refused : goal.returns-in-Some-clause-refused
 returns-in-Some-clause-refused c =

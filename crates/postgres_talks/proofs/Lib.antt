@@ -1,0 +1,5 @@
+pub mod Putting
+pub mod Hearing
+pub mod Playing
+pub mod Seeing
+pub mod Units

@@ -1,0 +1,495 @@
+-- What a client sees of its blocks, and what is said behind a bad message.
+use Rattle.std.proofs.Common.{◌≡◌, ◌∙◌, ℕ, Bool, true, false, if◌then◌else◌, List, [], ◌∷◌, ◌++◌, map, length, codes, Option, Some, None, option_and_then, IsSome, refl, ap, sym, subst, All}
+use Rattle.std.proofs.lemmas.List.Elements.{All-nil, All-cons}
+use Rattle.sql_types.specs.declared.value.Value.{Value}
+use Rattle.sql_types.specs.declared.answer.Answer.{Answer}
+use Rattle.sql_types.specs.declared.answer.Answer.TheVariants as answer
+use Rattle.sql_types.specs.declared.state.SqlState.{SqlState}
+use Rattle.sql_types.specs.declared.state.SqlState.TheVariants as state
+use Rattle.sql_types.specs.declared.tag.Tag.{Tag}
+use Rattle.sql_types.specs.declared.tag.Tag.TheVariants as tag
+use Rattle.sql_types.specs.declared.warning.Warning.{Warning}
+use Rattle.talks.specs.Wants.{Learnt, FitsWant}
+use Rattle.talks.specs.declared.want.BlockStanding.{BlockStanding}
+use Rattle.talks.specs.declared.want.BlockStanding.TheVariants as standing
+use Rattle.talks.specs.declared.want.Want.{Want}
+use Rattle.talks.specs.declared.want.Want.TheVariants as want
+use Rattle.talks.specs.declared.want.Reply.TheVariants as reply
+use Rattle.postgres_messages.specs.declared.backend.Severity.TheVariants.{Error}
+use Rattle.postgres_texts.specs.Sentences.{refusal_text}
+use Rattle.postgres_talks.specs.declared.fault.TalkFault.{TalkFault}
+use Rattle.postgres_talks.specs.declared.fault.TalkFault.TheVariants as fault
+use Rattle.postgres_talks.specs.declared.moment.TalkBlock.{TalkBlock}
+use Rattle.postgres_talks.specs.declared.moment.TalkBlock.TheVariants as block
+use Rattle.postgres_talks.specs.declared.moment.Mode.{Mode}
+use Rattle.postgres_talks.specs.declared.moment.Mode.TheVariants as mode
+use Rattle.postgres_talks.specs.declared.moment.TalkStage.{TalkStage}
+use Rattle.postgres_talks.specs.declared.moment.TalkStage.TheVariants as stage
+use Rattle.postgres_talks.specs.declared.moment.TalkMoment.{TalkMoment}
+use Rattle.postgres_talks.specs.declared.piece.StatementPiece.{StatementPiece}
+use Rattle.postgres_talks.specs.declared.piece.StatementPiece.TheVariants as piece
+use Rattle.postgres_talks.specs.declared.settled.Settled.{Settled}
+use Rattle.postgres_talks.specs.declared.settled.Settled.TheVariants as settled
+use Rattle.postgres_talks.specs.declared.outcome.Outcome.{Outcome}
+use Rattle.postgres_talks.specs.declared.outcome.Outcome.TheVariants as outcome
+use Rattle.postgres_talks.specs.declared.requests.Request.{Request}
+use Rattle.postgres_talks.specs.declared.requests.Request.TheVariants as request
+use Rattle.postgres_talks.specs.Blocks.{Seen, outside, clean, spoilt, seen, seen_all, seen_tag, seen_report, is_excused, IsOfAnswer, IsPassedOver}
+use Rattle.postgres_talks.specs.Faults.{fault_text}
+use Rattle.postgres_talks.specs.Moments.{first_moment, ends, asks, is_several, finishes, starts_on, goes_on_with, goes_on, closes, closes_or_listens, spares, spoiled_by, ready_unless_batch, table_said, settled_columns, settled_rows, settled_said, said_settling, after_settling, said_emptying, after_emptying, block_after, entered, came_out, warnings_said, answer_said, block_answered, said_run, said_own, said_opened, said_rolled_back, after_outcome, after_opened, after_rolled_back, after_done, said_answered, after_answer, said_failed, after_failed, said_refusing, after_refusing, said_judging, after_judging, said_closing, after_closing, said_standing, after_standing}
+use Rattle.postgres_talks.specs.Outcomes.{commit_outcome, outcome_of, warning_of}
+use Rattle.postgres_talks.specs.Played.{Input, asked, told, bad, TakesIn, said_in, said_to_input, after_input, after_all}
+use Rattle.postgres_talks.specs.Requests.{heeded, heeded_skipping, fault_of, mode_for, said_to_done, said_unless, left_of, after_done_request, after_unless, said_to_request, after_request}
+use Rattle.postgres_talks.specs.Named.{find, without}
+use Rattle.postgres_talks.specs.Settled.{settled_tag, settled_row}
+use Rattle.postgres_talks.specs.Rows.{row_said, rows_said, select_tag}
+use Rattle.postgres_talks.specs.Tags.{done_tag}
+use Rattle.postgres_talks.specs.Sayings.{Saying, error_said, complete_said}
+
+-- ---- bad messages
+
+pub nothing_follows : (m : TalkMoment) (bytes rest : List ℕ) (xs : List Learnt) (inputs : List Input) → TakesIn (ends m) bytes xs rest inputs → inputs ≡ []
+nothing_follows m bytes rest xs [] took = refl
+nothing_follows m bytes rest xs (asked r ∷ is) took = let wrong : want.End false ≡ want.Message = took.1 in cc
+nothing_follows m bytes rest xs (bad ∷ is) took = let wrong : want.End false ≡ want.Message = took.0 in cc
+nothing_follows m bytes rest [] (told r ∷ is) took = absurd took
+nothing_follows m bytes rest (x ∷ xs) (told r ∷ is) took = absurd (subst (λ (w : Want). FitsWant w r) (sym took.0) took.1)
+
+-- ---- requests
+
+one_said : (s : Saying) → (IsOfAnswer s → ⊥) → All (λ s. IsOfAnswer s → ⊥) (s ∷ [])
+one_said s none = All-cons (λ s. IsOfAnswer s → ⊥) s [] none (All-nil (λ s. IsOfAnswer s → ⊥))
+
+none_said : All (λ s. IsOfAnswer s → ⊥) []
+none_said = All-nil (λ s. IsOfAnswer s → ⊥)
+
+no_answer_done : (r : Request) → All (λ s. IsOfAnswer s → ⊥) (said_to_done r)
+no_answer_done request.Encryption = one_said _ (λ h. h)
+no_answer_done (request.Prepare name p) = one_said _ (λ h. h)
+no_answer_done (request.Bind name prepared count) = one_said _ (λ h. h)
+no_answer_done (request.CloseStatement name) = one_said _ (λ h. h)
+no_answer_done (request.ClosePortal name) = one_said _ (λ h. h)
+no_answer_done (request.Breaks f) = one_said _ (λ h. h)
+no_answer_done (request.Login role) = none_said
+no_answer_done (request.Statements pieces) = none_said
+no_answer_done (request.Execute name) = none_said
+no_answer_done request.Sync = none_said
+no_answer_done request.Nothing = none_said
+no_answer_done request.Leave = none_said
+no_answer_done (request.Fails t f) = none_said
+
+no_answer_unless : (o : Option TalkFault) (r : Request) → All (λ s. IsOfAnswer s → ⊥) (said_unless o r)
+no_answer_unless None r = no_answer_done r
+no_answer_unless (Some f) r = none_said
+
+pub no_answer : (r : Request) (m : TalkMoment) → All (λ s. IsOfAnswer s → ⊥) (said_to_request r m)
+no_answer r m = no_answer_unless (fault_of (heeded m.mode r) m) (heeded m.mode r)
+
+-- ---- batches
+
+heeds_nothing : (r : Request) → IsPassedOver r → heeded_skipping r ≡ request.Nothing
+heeds_nothing request.Sync passes = absurd passes
+heeds_nothing request.Leave passes = absurd passes
+heeds_nothing (request.Breaks f) passes = absurd passes
+heeds_nothing request.Encryption passes = refl
+heeds_nothing (request.Login role) passes = refl
+heeds_nothing (request.Statements pieces) passes = refl
+heeds_nothing (request.Prepare name p) passes = refl
+heeds_nothing (request.Bind name prepared count) passes = refl
+heeds_nothing (request.Execute name) passes = refl
+heeds_nothing (request.CloseStatement name) passes = refl
+heeds_nothing (request.ClosePortal name) passes = refl
+heeds_nothing request.Nothing passes = refl
+heeds_nothing (request.Fails t f) passes = refl
+
+pub passed_over : (m : TalkMoment) (r : Request) → m.mode ≡ mode.Skipping → IsPassedOver r → (said_to_request r m ≡ []) × (after_request r m ≡ m)
+passed_over m r skips passes =
+    let nothing : heeded m.mode r ≡ request.Nothing = ap (λ (t : Mode). heeded t r) skips ∙ heeds_nothing r passes in
+    (ap (λ (h : Request). said_unless (fault_of h m) h) nothing, ap (λ (h : Request). after_unless (fault_of h m) h m) nothing)
+
+-- ---- blocks
+
+-- how a client sees the block that is open
+abbrev seen_as : TalkBlock → Seen
+seen_as block.Outside = outside
+seen_as block.Implicit = outside
+seen_as block.Open = clean
+seen_as block.Failed = spoilt
+
+entered_seen : (b : TalkBlock) → seen_as (entered b) ≡ seen_as b
+entered_seen block.Outside = refl
+entered_seen block.Implicit = refl
+entered_seen block.Open = refl
+entered_seen block.Failed = refl
+
+came_out_seen : (b : TalkBlock) → seen_as (came_out b) ≡ seen_as b
+came_out_seen block.Outside = refl
+came_out_seen block.Implicit = refl
+came_out_seen block.Open = refl
+came_out_seen block.Failed = refl
+
+finishes_block : (b : TalkBlock) (t : Mode) (m : TalkMoment) → (finishes b t m).block ≡ m.block
+finishes_block block.Outside mode.Query m = refl
+finishes_block block.Outside mode.Batch m = refl
+finishes_block block.Outside mode.Skipping m = refl
+finishes_block block.Implicit mode.Query m = refl
+finishes_block block.Implicit mode.Batch m = refl
+finishes_block block.Implicit mode.Skipping m = refl
+finishes_block block.Open mode.Query m = refl
+finishes_block block.Open mode.Batch m = refl
+finishes_block block.Open mode.Skipping m = refl
+finishes_block block.Failed mode.Query m = refl
+finishes_block block.Failed mode.Batch m = refl
+finishes_block block.Failed mode.Skipping m = refl
+
+closes_block : (t : Mode) (m : TalkMoment) → (closes_or_listens t m).block ≡ m.block
+closes_block mode.Query m = refl
+closes_block mode.Batch m = refl
+closes_block mode.Skipping m = refl
+
+starts_on_block : (p : StatementPiece) (m : TalkMoment) → (starts_on p m).block ≡ m.block
+starts_on_block (piece.Statement text) m = refl
+starts_on_block (piece.Settled s) m = refl
+starts_on_block (piece.Faulty f) m = refl
+starts_on_block piece.Empty m = refl
+
+goes_on_with_block : (left : List StatementPiece) (m : TalkMoment) → (goes_on_with left m).block ≡ m.block
+goes_on_with_block [] m = finishes_block m.block m.mode m
+goes_on_with_block (p ∷ ps) m = starts_on_block p (record m { left = ps })
+
+goes_on_if : (b : Bool) (m : TalkMoment) → (if b then asks stage.Beginning (codes "BEGIN") m else goes_on_with m.left m).block ≡ m.block
+goes_on_if true m = refl
+goes_on_if false m = goes_on_with_block m.left m
+
+goes_on_block : (m : TalkMoment) → (goes_on m).block ≡ m.block
+goes_on_block m = goes_on_if (is_several m.block m.mode (length m.left)) m
+
+-- that a step keeps what a client sees
+abbrev Keeps : TalkBlock → List Saying → TalkBlock → Type 0
+Keeps b said c = seen_all (seen_as b) said ≡ Some (seen_as c)
+
+as_before : (m n : TalkMoment) → n.block ≡ m.block → Some (seen_as m.block) ≡ Some (seen_as n.block)
+as_before m n same = ap (λ (b : TalkBlock). Some (seen_as b)) (sym same)
+
+request_done_keeps : (r : Request) (m : TalkMoment) → Keeps m.block (said_to_done r) (after_done_request r m).block
+request_done_keeps request.Encryption m = refl
+request_done_keeps (request.Login role) m = refl
+request_done_keeps (request.Statements pieces) m = ap (λ (b : TalkBlock). Some (seen_as b)) (sym (goes_on_block (record m { left = pieces })))
+request_done_keeps (request.Prepare name p) m = refl
+request_done_keeps (request.Bind name prepared count) m = refl
+request_done_keeps (request.Execute name) m = ap (λ (b : TalkBlock). Some (seen_as b)) (sym (goes_on_block (record m { left = left_of (find name m.portals); portals = without name m.portals })))
+request_done_keeps (request.CloseStatement name) m = refl
+request_done_keeps (request.ClosePortal name) m = refl
+request_done_keeps request.Sync m = ap (λ (b : TalkBlock). Some (seen_as b)) (sym (finishes_block m.block m.mode (record m { portals = [] })))
+request_done_keeps request.Nothing m = refl
+request_done_keeps request.Leave m = refl
+request_done_keeps (request.Fails t f) m = refl
+request_done_keeps (request.Breaks f) m = refl
+
+unless_keeps : (o : Option TalkFault) (r : Request) (m : TalkMoment) → Keeps m.block (said_unless o r) (after_unless o r m).block
+unless_keeps (Some f) r m = refl
+unless_keeps None r m = request_done_keeps r (record m { mode = mode_for r m.mode })
+
+request_keeps : (r : Request) (m : TalkMoment) → Keeps m.block (said_to_request r m) (after_request r m).block
+request_keeps r m = unless_keeps (fault_of (heeded m.mode r) m) (heeded m.mode r) m
+
+seen_behind : (xs ys : List Saying) → ((c : Seen) → seen_all c (xs ++ ys) ≡ option_and_then (λ d. seen_all d ys) (seen_all c xs))
+    → (o : Option Seen) → option_and_then (λ c. seen_all c (xs ++ ys)) o ≡ option_and_then (λ c. seen_all c ys) (option_and_then (λ c. seen_all c xs) o)
+seen_behind xs ys later None = refl
+seen_behind xs ys later (Some c) = later c
+
+seen_on : (b : Seen) (xs ys : List Saying) → seen_all b (xs ++ ys) ≡ option_and_then (λ c. seen_all c ys) (seen_all b xs)
+seen_on b [] ys = refl
+seen_on b (x ∷ xs) ys = seen_behind xs ys (λ (c : Seen). seen_on c xs ys) (seen b x)
+
+rows_seen : (b : Seen) (rows : List (List Value)) → seen_all b (map row_said rows) ≡ Some b
+rows_seen b [] = refl
+rows_seen b (row ∷ rows) = rows_seen b rows
+
+all_rows_seen : (b : Seen) (rows : List (List Value)) → seen_all b (rows_said rows) ≡ Some b
+all_rows_seen b rows = seen_on b (map row_said rows) (complete_said (select_tag (length rows)) ∷ []) ∙ ap (option_and_then (λ c. seen_all c (complete_said (select_tag (length rows)) ∷ []))) (rows_seen b rows)
+
+table_seen : (t : Mode) (b : Seen) (rows : List (List Value)) → seen_all b (table_said t rows) ≡ Some b
+table_seen mode.Query b rows = all_rows_seen b rows
+table_seen mode.Batch b rows = all_rows_seen b rows
+table_seen mode.Skipping b rows = all_rows_seen b rows
+
+warnings_seen : (b : Seen) (w : Option Warning) (ys : List Saying) → seen_all b (warnings_said w ++ ys) ≡ seen_all b ys
+warnings_seen b None ys = refl
+warnings_seen b (Some w) ys = refl
+
+-- the tag of a statement that is done, where it commits no block in which an error was said
+tag_seen : (b : TalkBlock) (t : Tag) (count : Option ℕ) → outcome_of b (answer.Done t count None) ≡ outcome.Done → seen_tag (seen_as b) (done_tag t count) ≡ Some (seen_as (block_after b t))
+tag_seen b tag.Open count is = refl
+tag_seen b tag.Close count is = refl
+tag_seen b tag.CreateRole count is = refl
+tag_seen b tag.DropRole count is = refl
+tag_seen b tag.GrantRole count is = refl
+tag_seen b tag.RevokeRole count is = refl
+tag_seen b tag.Set count is = refl
+tag_seen b tag.Reset count is = refl
+tag_seen b tag.CreateTable count is = refl
+tag_seen b tag.DropTable count is = refl
+tag_seen b tag.AlterTable count is = refl
+tag_seen b tag.CreatePolicy count is = refl
+tag_seen b tag.DropPolicy count is = refl
+tag_seen b tag.Grant count is = refl
+tag_seen b tag.Revoke count is = refl
+tag_seen block.Outside tag.Begin count is = refl
+tag_seen block.Implicit tag.Begin count is = refl
+tag_seen block.Open tag.Begin count is = refl
+tag_seen block.Failed tag.Begin count is = refl
+tag_seen block.Outside tag.Commit count is = refl
+tag_seen block.Implicit tag.Commit count is = refl
+tag_seen block.Open tag.Commit count is = refl
+tag_seen block.Failed tag.Commit count is = cc
+tag_seen b tag.Rollback count is = refl
+tag_seen b tag.Insert None is = refl
+tag_seen b tag.Insert (Some n) is = refl
+tag_seen b tag.Update None is = refl
+tag_seen b tag.Update (Some n) is = refl
+tag_seen b tag.Delete None is = refl
+tag_seen b tag.Delete (Some n) is = refl
+
+done_keeps : (x : Mode) (b : TalkBlock) (t : Tag) (count : Option ℕ) (w : Option Warning) → outcome_of b (answer.Done t count w) ≡ outcome.Done → Keeps b (answer_said x b (answer.Done t count w)) (block_after b t)
+done_keeps x b t count w is =
+    warnings_seen (seen_as b) (warning_of b t w) (complete_said (done_tag t count) ∷ [])
+    ∙ ap (option_and_then (λ c. seen_all c [])) (tag_seen b t count (same_outcome b t count w ∙ is))
+  where
+    same_outcome : (b : TalkBlock) (t : Tag) (count : Option ℕ) (w : Option Warning) → outcome_of b (answer.Done t count None) ≡ outcome_of b (answer.Done t count w)
+    same_outcome block.Failed tag.Commit count w = refl
+    same_outcome block.Outside t count w = refl
+    same_outcome block.Implicit t count w = refl
+    same_outcome block.Open t count w = refl
+    same_outcome block.Failed tag.Open count w = refl
+    same_outcome block.Failed tag.Close count w = refl
+    same_outcome block.Failed tag.CreateRole count w = refl
+    same_outcome block.Failed tag.DropRole count w = refl
+    same_outcome block.Failed tag.GrantRole count w = refl
+    same_outcome block.Failed tag.RevokeRole count w = refl
+    same_outcome block.Failed tag.Set count w = refl
+    same_outcome block.Failed tag.Reset count w = refl
+    same_outcome block.Failed tag.CreateTable count w = refl
+    same_outcome block.Failed tag.DropTable count w = refl
+    same_outcome block.Failed tag.AlterTable count w = refl
+    same_outcome block.Failed tag.CreatePolicy count w = refl
+    same_outcome block.Failed tag.DropPolicy count w = refl
+    same_outcome block.Failed tag.Grant count w = refl
+    same_outcome block.Failed tag.Revoke count w = refl
+    same_outcome block.Failed tag.Begin count w = refl
+    same_outcome block.Failed tag.Rollback count w = refl
+    same_outcome block.Failed tag.Insert count w = refl
+    same_outcome block.Failed tag.Update count w = refl
+    same_outcome block.Failed tag.Delete count w = refl
+
+answer_keeps : (x : Mode) (b : TalkBlock) (a : Answer) → outcome_of b a ≡ outcome.Done → Keeps b (answer_said x b a) (block_answered b a)
+answer_keeps x b (answer.Rows rows) is = table_seen x (seen_as b) rows
+answer_keeps x b (answer.Done t count w) is = done_keeps x b t count w is
+answer_keeps x b (answer.Refused s) is = refl
+
+run_keeps : (m : TalkMoment) (a : Answer) (o : Outcome) → outcome_of m.block a ≡ o
+    → Keeps m.block (said_run m.mode m.block a o) (after_outcome o m (after_done stage.Running a m)).block
+run_keeps m a outcome.Done is = answer_keeps m.mode m.block a is ∙ ap (λ (b : TalkBlock). Some (seen_as b)) (sym (goes_on_block (record m { block = block_answered m.block a })))
+run_keeps m a (outcome.Refused f) is = refl
+run_keeps m a (outcome.Breaks f) is = refl
+
+own_keeps : (m next : TalkMoment) (o : Outcome) → seen_as next.block ≡ seen_as m.block → Keeps m.block (said_own o) (after_outcome o m next).block
+own_keeps m next outcome.Done same = ap Some (sym same)
+own_keeps m next (outcome.Refused f) same = refl
+own_keeps m next (outcome.Breaks f) same = refl
+
+opened_keeps : (m : TalkMoment) (a : Answer) → Keeps m.block (said_opened m.process a) (after_opened a m).block
+opened_keeps m (answer.Rows rows) = refl
+opened_keeps m (answer.Done t count w) = refl
+opened_keeps m (answer.Refused s) = refl
+
+rolled_back_keeps : (m : TalkMoment) (a : Answer) → Keeps m.block (said_rolled_back a) (after_rolled_back a m).block
+rolled_back_keeps m (answer.Rows rows) = ap Some (sym (ap seen_as (closes_block m.mode (record m { block = came_out m.block })) ∙ came_out_seen m.block))
+rolled_back_keeps m (answer.Done t count w) = ap Some (sym (ap seen_as (closes_block m.mode (record m { block = came_out m.block })) ∙ came_out_seen m.block))
+rolled_back_keeps m (answer.Refused s) = refl
+
+answered_keeps : (s : TalkStage) (m : TalkMoment) (a : Answer) → Keeps m.block (said_answered s m a) (after_answer s m a).block
+answered_keeps stage.Opening m a = opened_keeps m a
+answered_keeps stage.Beginning m a = own_keeps m (after_done stage.Beginning a m) (outcome_of m.block a) (ap seen_as (goes_on_block (record m { block = entered m.block })) ∙ entered_seen m.block)
+answered_keeps stage.Running m a = run_keeps m a (outcome_of m.block a) refl
+answered_keeps stage.Committing m a = own_keeps m (closes m) (commit_outcome a) (came_out_seen m.block)
+answered_keeps stage.RollingBack m a = rolled_back_keeps m a
+answered_keeps (stage.Failing f) m a = refl
+answered_keeps stage.Starting m a = refl
+answered_keeps stage.Ready m a = refl
+answered_keeps (stage.Refusing f) m a = refl
+answered_keeps (stage.Judging f) m a = refl
+answered_keeps stage.Closing m a = refl
+answered_keeps (stage.Settling x) m a = refl
+answered_keeps stage.Emptying m a = refl
+answered_keeps stage.Ended m a = refl
+
+state_spares : (s : SqlState) → is_excused (refusal_text s) ≡ false
+state_spares state.SyntaxError = refl
+state_spares state.NameTooLong = refl
+state_spares state.UndefinedTable = refl
+state_spares state.UndefinedColumn = refl
+state_spares state.AmbiguousColumn = refl
+state_spares state.DuplicateAlias = refl
+state_spares state.UndefinedObject = refl
+state_spares state.DuplicateTable = refl
+state_spares state.DuplicateObject = refl
+state_spares state.DuplicateColumn = refl
+state_spares state.DatatypeMismatch = refl
+state_spares state.InsufficientPrivilege = refl
+state_spares state.InvalidGrantOperation = refl
+state_spares state.DependentPrivileges = refl
+state_spares state.DependentObjects = refl
+state_spares state.DivisionByZero = refl
+state_spares state.NumericValueOutOfRange = refl
+state_spares state.NotNullViolation = refl
+state_spares state.UniqueViolation = refl
+state_spares state.InFailedTransaction = refl
+state_spares state.LockNotAvailable = refl
+state_spares state.InvalidAuthorization = refl
+state_spares state.ProgramLimitExceeded = refl
+state_spares state.TooManyConnections = refl
+state_spares state.DiskFull = refl
+state_spares state.OutOfMemory = refl
+state_spares state.IoError = refl
+state_spares state.ProtocolViolation = refl
+state_spares state.ConnectionDoesNotExist = refl
+state_spares state.ConnectionNameInUse = refl
+
+-- the sentence tells whether an error spares a block
+text_spares : (f : TalkFault) → is_excused (fault_text f) ≡ spares f
+text_spares (fault.Refused s) = state_spares s
+text_spares fault.NotText = refl
+text_spares fault.OtherVersion = refl
+text_spares fault.Unsupported = refl
+text_spares fault.Internal = refl
+text_spares fault.ReservedWord = refl
+text_spares fault.Catalogue = refl
+text_spares fault.SeveralStatements = refl
+text_spares fault.UnknownStatement = refl
+text_spares fault.UnknownPortal = refl
+text_spares fault.StatementExists = refl
+text_spares fault.PortalExists = refl
+text_spares fault.OtherCount = refl
+
+report_seen : (b : TalkBlock) (x : Bool) → seen_report Error x (seen_as b) ≡ seen_as (spoiled_by x b)
+report_seen block.Outside true = refl
+report_seen block.Outside false = refl
+report_seen block.Implicit true = refl
+report_seen block.Implicit false = refl
+report_seen block.Open true = refl
+report_seen block.Open false = refl
+report_seen block.Failed true = refl
+report_seen block.Failed false = refl
+
+ready_seen : (t : Mode) (s : BlockStanding) (b : Seen) → seen_all b (ready_unless_batch t s) ≡ Some b
+ready_seen mode.Query s b = refl
+ready_seen mode.Batch s b = refl
+ready_seen mode.Skipping s b = refl
+
+-- an error, and what follows it
+error_keeps : (b : TalkBlock) (t : Mode) (f : TalkFault) (s : BlockStanding) → Keeps b (error_said f ∷ ready_unless_batch t s) (spoiled_by (spares f) b)
+error_keeps b t f s =
+    ready_seen t s (seen_report Error (is_excused (fault_text f)) (seen_as b))
+    ∙ ap Some (ap (λ (x : Bool). seen_report Error x (seen_as b)) (text_spares f) ∙ report_seen b (spares f))
+
+implicit_kept : (x : Bool) → seen_as (spoiled_by x block.Implicit) ≡ outside
+implicit_kept true = refl
+implicit_kept false = refl
+
+failed_keeps : (b : TalkBlock) (m : TalkMoment) (f : TalkFault) (s : BlockStanding) → m.block ≡ b → Keeps b (said_failed b m.mode f s) (after_failed b f m).block
+failed_keeps block.Outside m f s is = error_keeps block.Outside m.mode f s
+failed_keeps block.Open m f s is = error_keeps block.Open m.mode f s
+failed_keeps block.Failed m f s is = error_keeps block.Failed m.mode f s
+failed_keeps block.Implicit m f s is = error_keeps block.Implicit mode.Batch f s ∙ ap Some (implicit_kept (spares f)) ∙ ap (λ (b : TalkBlock). Some (seen_as b)) (sym is)
+
+spared_keeps : (x : Bool) (f : TalkFault) (m : TalkMoment)
+    → Keeps m.block (if x then said_failed m.block m.mode f standing.Inside else []) (if x then after_failed m.block f m else asks (stage.Failing f) [] m).block
+spared_keeps true f m = failed_keeps m.block m f standing.Inside refl
+spared_keeps false f m = refl
+
+refusing_keeps : (f : TalkFault) (m : TalkMoment) (s : Option BlockStanding) → Keeps m.block (said_refusing m.block m.mode f s) (after_refusing f m s).block
+refusing_keeps f m None = refl
+refusing_keeps f m (Some standing.Inside) = spared_keeps (spares f) f m
+refusing_keeps f m (Some standing.Outside) = failed_keeps m.block m f standing.Outside refl
+refusing_keeps f m (Some standing.Failed) = failed_keeps m.block m f standing.Failed refl
+
+judging_keeps : (f : TalkFault) (m : TalkMoment) (s : Option BlockStanding) → Keeps m.block (said_judging m.block m.mode f s) (after_judging f m s).block
+judging_keeps f m None = refl
+judging_keeps f m (Some standing.Inside) = refl
+judging_keeps f m (Some standing.Outside) = failed_keeps m.block m f standing.Outside refl
+judging_keeps f m (Some standing.Failed) = failed_keeps m.block m f standing.Failed refl
+
+settled_tag_seen : (b : Seen) (s : Settled) → seen_tag b (settled_tag s) ≡ Some b
+settled_tag_seen b settled.Set = refl
+settled_tag_seen b settled.Reset = refl
+settled_tag_seen b settled.CloseAll = refl
+settled_tag_seen b settled.DeallocateAll = refl
+settled_tag_seen b settled.UnlistenAll = refl
+settled_tag_seen b settled.AdvisoryUnlockAll = refl
+settled_tag_seen b settled.CurrentSchema = refl
+settled_tag_seen b settled.Version = refl
+settled_tag_seen b (settled.Show x) = refl
+
+columns_seen : (t : Mode) (r : Option (List ℕ × List ℕ)) (b : Seen) (ys : List Saying) → seen_all b (settled_columns t r ++ ys) ≡ seen_all b ys
+columns_seen mode.Query (Some r) b ys = refl
+columns_seen mode.Query None b ys = refl
+columns_seen mode.Batch r b ys = refl
+columns_seen mode.Skipping r b ys = refl
+
+row_seen : (r : Option (List ℕ × List ℕ)) (b : Seen) (ys : List Saying) → seen_all b (settled_rows r ++ ys) ≡ seen_all b ys
+row_seen (Some r) b ys = refl
+row_seen None b ys = refl
+
+settled_keeps : (m : TalkMoment) (x : Settled) → Keeps m.block (settled_said m.mode x) (goes_on m).block
+settled_keeps m x =
+    columns_seen m.mode (settled_row x) (seen_as m.block) (settled_rows (settled_row x) ++ complete_said (settled_tag x) ∷ [])
+    ∙ row_seen (settled_row x) (seen_as m.block) (complete_said (settled_tag x) ∷ [])
+    ∙ ap (option_and_then (λ c. seen_all c [])) (settled_tag_seen (seen_as m.block) x)
+    ∙ ap (λ (b : TalkBlock). Some (seen_as b)) (sym (goes_on_block m))
+
+settling_keeps : (m : TalkMoment) (x : Settled) (s : Option BlockStanding) → Keeps m.block (said_settling m.block m.mode x s) (after_settling m s).block
+settling_keeps m x None = refl
+settling_keeps m x (Some standing.Failed) = failed_keeps m.block m (fault.Refused state.InFailedTransaction) standing.Failed refl
+settling_keeps m x (Some standing.Inside) = settled_keeps m x
+settling_keeps m x (Some standing.Outside) = settled_keeps m x
+
+emptying_keeps : (m : TalkMoment) (s : Option BlockStanding) → Keeps m.block (said_emptying s) (after_emptying m s).block
+emptying_keeps m None = refl
+emptying_keeps m (Some s) = ap (λ (b : TalkBlock). Some (seen_as b)) (sym (goes_on_block m))
+
+closing_keeps : (m : TalkMoment) (s : Option BlockStanding) → Keeps m.block (said_closing s) (after_closing m s).block
+closing_keeps m None = refl
+closing_keeps m (Some s) = refl
+
+standing_keeps : (t : TalkStage) (m : TalkMoment) (s : Option BlockStanding) → Keeps m.block (said_standing t m s) (after_standing t m s).block
+standing_keeps (stage.Refusing f) m s = refusing_keeps f m s
+standing_keeps (stage.Judging f) m s = judging_keeps f m s
+standing_keeps stage.Closing m s = closing_keeps m s
+standing_keeps (stage.Settling x) m s = settling_keeps m x s
+standing_keeps stage.Emptying m s = emptying_keeps m s
+standing_keeps stage.Starting m s = refl
+standing_keeps stage.Opening m s = refl
+standing_keeps stage.Ready m s = refl
+standing_keeps stage.Beginning m s = refl
+standing_keeps stage.Running m s = refl
+standing_keeps stage.Committing m s = refl
+standing_keeps stage.RollingBack m s = refl
+standing_keeps (stage.Failing f) m s = refl
+standing_keeps stage.Ended m s = refl
+
+input_keeps : (m : TalkMoment) (i : Input) → Keeps m.block (said_to_input m i) (after_input m i).block
+input_keeps m (asked r) = request_keeps r m
+input_keeps m (told (reply.Answer a)) = answered_keeps m.stage m a
+input_keeps m (told (reply.Standing s)) = standing_keeps m.stage m s
+input_keeps m bad = refl
+
+all_kept : (m : TalkMoment) (inputs : List Input) → seen_all (seen_as m.block) (said_in m inputs) ≡ Some (seen_as (after_all m inputs).block)
+all_kept m [] = refl
+all_kept m (i ∷ is) =
+    seen_on (seen_as m.block) (said_to_input m i) (said_in (after_input m i) is)
+    ∙ ap (option_and_then (λ c. seen_all c (said_in (after_input m i) is))) (input_keeps m i)
+    ∙ all_kept (after_input m i) is
+
+pub never_committed : (process : ℕ) (inputs : List Input) → IsSome (seen_all outside (said_in (first_moment process) inputs))
+never_committed process inputs = subst IsSome (sym (all_kept (first_moment process) inputs)) refl

@@ -1,0 +1,5 @@
+use Rattle.postgres_talks.proofs.Seeing.{no_answer}
+use Rattle.postgres_talks.proofs.laws.answers_follow_their_events.Goals as goal
+
+pub returns : goal.returns
+returns c = no_answer

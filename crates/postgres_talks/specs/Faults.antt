@@ -1,0 +1,36 @@
+-- What a client is told of an error: its code and its sentence.
+use Rattle.std.specs.Prelude.{ℕ, List, codes}
+use Rattle.sql_types.specs.State.{state_code}
+use Rattle.postgres_texts.specs.Sentences.{refusal_text}
+use Rattle.postgres_talks.specs.declared.fault.TalkFault.{TalkFault}
+use Rattle.postgres_talks.specs.declared.fault.TalkFault.TheVariants.{Refused, NotText, OtherVersion, Unsupported, Internal, ReservedWord, Catalogue, SeveralStatements, UnknownStatement, UnknownPortal, StatementExists, PortalExists, OtherCount}
+
+abbrev pub fault_code : TalkFault → List ℕ
+fault_code (Refused state) = state_code state
+fault_code NotText = codes "22021"
+fault_code OtherVersion = codes "0A000"
+fault_code Unsupported = codes "0A000"
+fault_code Internal = codes "XX000"
+fault_code ReservedWord = codes "0A000"
+fault_code Catalogue = codes "0A000"
+fault_code SeveralStatements = codes "42601"
+fault_code UnknownStatement = codes "26000"
+fault_code UnknownPortal = codes "34000"
+fault_code StatementExists = codes "42P05"
+fault_code PortalExists = codes "42P03"
+fault_code OtherCount = codes "08P01"
+
+abbrev pub fault_text : TalkFault → List ℕ
+fault_text (Refused state) = refusal_text state
+fault_text NotText = codes "invalid byte sequence for encoding \"UTF8\""
+fault_text OtherVersion = codes "version of the protocol is not 3.0"
+fault_text Unsupported = codes "message is not supported"
+fault_text Internal = codes "transaction block ended unexpectedly"
+fault_text ReservedWord = codes "word that PostgreSQL reserves is not supported"
+fault_text Catalogue = codes "catalogues are not supported"
+fault_text SeveralStatements = codes "cannot insert multiple commands into a prepared statement"
+fault_text UnknownStatement = codes "prepared statement does not exist"
+fault_text UnknownPortal = codes "portal does not exist"
+fault_text StatementExists = codes "prepared statement already exists"
+fault_text PortalExists = codes "portal already exists"
+fault_text OtherCount = codes "number of parameters is another"

@@ -1,0 +1,15 @@
+pub mod Faults
+pub mod Sayings
+pub mod Rows
+pub mod Tags
+pub mod Settled
+pub mod Pieces
+pub mod Named
+pub mod Outcomes
+pub mod Moments
+pub mod Requests
+pub mod Talks
+pub mod TalkLaws
+pub mod Played
+pub mod Blocks
+pub mod Units

@@ -1,0 +1,205 @@
+-- What a message of a client asks, and what is said to it.
+use Rattle.std.specs.Prelude.{◌≡◌, ◌&&◌, ◌==◌, ℕ, Bool, true, false, nat_lt, nat_le, is_some, if◌then◌else◌, List, [], ◌∷◌, length, codes, bytes_eq, Option, Some, None}
+use Rattle.std.specs.Str.{is_utf8}
+use Rattle.std.specs.List.{list_all}
+use Rattle.sql_types.specs.declared.state.SqlState.TheVariants.{InvalidAuthorization, ProgramLimitExceeded, ProtocolViolation}
+use Rattle.postgres_messages.specs.Backend.{bind_complete, close_complete, parse_complete}
+use Rattle.postgres_messages.specs.Frontend.{TheMessage, statement, portal, TheBinding, bind, close, copy_data, copy_done, copy_fail, describe, execute, flush, parse, password, query, sync, terminate, SpellsMessage, is_text}
+use Rattle.postgres_messages.specs.Start.{TheParameter, TheStart, cancel_request, gss_request, ssl_request, startup, other_version, SpellsStart}
+use Rattle.talks.specs.declared.want.SessionEntry.{SessionEntry}
+use Rattle.talks.specs.declared.want.Way.TheVariants as way
+use Rattle.talks.specs.declared.want.Want.TheVariants as want
+use Rattle.postgres_talks.specs.declared.fault.TalkFault.{TalkFault}
+use Rattle.postgres_talks.specs.declared.fault.TalkFault.TheVariants as fault
+use Rattle.postgres_talks.specs.declared.moment.Mode.{Mode}
+use Rattle.postgres_talks.specs.declared.moment.Mode.TheVariants as mode
+use Rattle.postgres_talks.specs.declared.moment.TalkStage.{TalkStage}
+use Rattle.postgres_talks.specs.declared.moment.TalkStage.TheVariants as stage
+use Rattle.postgres_talks.specs.declared.moment.TalkMoment.{TalkMoment}
+use Rattle.postgres_talks.specs.declared.named_pieces.NamedPiece.{NamedPiece}
+use Rattle.postgres_talks.specs.declared.piece.StatementPiece.{StatementPiece}
+use Rattle.postgres_talks.specs.declared.requests.Request.{Request}
+use Rattle.postgres_talks.specs.declared.requests.Request.TheVariants as request
+use Rattle.postgres_talks.specs.Sayings.{Saying, no_encryption, message, fatal_said}
+use Rattle.postgres_talks.specs.Moments.{looks, ends, finishes, goes_on}
+use Rattle.postgres_talks.specs.Named.{find, put, without}
+use Rattle.postgres_talks.specs.Pieces.{ArePiecesOf}
+
+-- bytes that are no message
+abbrev pub broken : Request
+broken = request.Breaks (fault.Refused ProtocolViolation)
+
+abbrev pub denied : Request
+denied = request.Breaks (fault.Refused InvalidAuthorization)
+
+-- ---- packets of the start
+
+-- the value of the first parameter of a name
+abbrev pub parameter_of : List ℕ → List TheParameter → Option (List ℕ)
+parameter_of name [] = None
+parameter_of name (p ∷ ps) = if bytes_eq p.name name then Some p.value else parameter_of name ps
+
+-- a role is named by text
+abbrev pub login_of : Option (List ℕ) → Request
+login_of None = denied
+login_of (Some role) = if nat_lt 0 (length role) && is_utf8 role then request.Login role else denied
+
+abbrev pub start_request : TheStart → Request
+start_request ssl_request = request.Encryption
+start_request gss_request = request.Encryption
+start_request (cancel_request process key) = request.Leave
+start_request (startup minor parameters) = if minor == 0 then login_of (parameter_of (codes "user") parameters) else request.Breaks fault.OtherVersion
+start_request (other_version code body) = request.Breaks fault.OtherVersion
+
+-- what the bytes of a packet of the start ask
+pub data IsStartRequest (bytes : List ℕ) : Request → Type 0 where
+  a_packet : (p : TheStart) → SpellsStart bytes p → IsStartRequest bytes (start_request p)
+  no_packet : ((p : TheStart) → SpellsStart bytes p → ⊥) → IsStartRequest bytes broken
+
+-- ---- messages
+
+-- values in text alone
+abbrev pub all_text : List ℕ → Bool
+all_text formats = list_all (λ n. n == 0) formats
+
+abbrev pub bind_request : List ℕ → List ℕ → TheBinding → Request
+bind_request p s b = if all_text b.formats && all_text b.results then request.Bind p s (length b.values) else request.Fails mode.Batch fault.Unsupported
+
+-- what a message asks that has no text
+abbrev pub plain_request : TheMessage → Request
+plain_request sync = request.Sync
+plain_request terminate = request.Leave
+plain_request flush = request.Nothing
+plain_request (copy_data body) = request.Nothing
+plain_request (copy_done body) = request.Nothing
+plain_request (copy_fail body) = request.Nothing
+plain_request (password body) = broken
+plain_request (bind p s b) = bind_request p s b
+plain_request (execute p n) = if n == 0 then request.Execute p else request.Fails mode.Batch fault.Unsupported
+plain_request (close (statement name)) = request.CloseStatement name
+plain_request (close (portal name)) = request.ClosePortal name
+plain_request (describe t) = request.Fails mode.Batch fault.Unsupported
+plain_request m = request.Fails mode.Query fault.Unsupported
+
+-- one statement is prepared
+abbrev pub prepare_request : List ℕ → List StatementPiece → Request
+prepare_request name (p ∷ []) = request.Prepare name p
+prepare_request name ps = request.Fails mode.Batch fault.SeveralStatements
+
+-- what a message asks: what the statements of a text are, or what its kind asks
+abbrev pub IsAskedBy : TheMessage → Request → Type 0
+IsAskedBy (query text) r = (pieces : List StatementPiece) × ArePiecesOf text pieces × (r ≡ request.Statements pieces)
+IsAskedBy (parse name text types) r = (pieces : List StatementPiece) × ArePiecesOf text pieces × (r ≡ prepare_request name pieces)
+IsAskedBy m r = r ≡ plain_request m
+
+-- by what rules a message is answered, by its first byte: Q is a simple query
+abbrev pub mode_of : List ℕ → Mode
+mode_of [] = mode.Batch
+mode_of (b ∷ bs) = if b == 81 then mode.Query else mode.Batch
+
+-- what the bytes of a message ask
+pub data IsMessageRequest (bytes : List ℕ) : Request → Type 0 where
+  a_message : {r : Request} (m : TheMessage) → SpellsMessage bytes m → is_text m ≡ true → IsAskedBy m r → IsMessageRequest bytes r
+  no_text : (m : TheMessage) → SpellsMessage bytes m → is_text m ≡ false → IsMessageRequest bytes (request.Fails (mode_of bytes) fault.NotText)
+  no_message : ((m : TheMessage) → SpellsMessage bytes m → ⊥) → IsMessageRequest bytes broken
+
+-- by how the connection stands
+abbrev pub IsRequest : TalkStage → List ℕ → Request → Type 0
+IsRequest stage.Starting bytes r = IsStartRequest bytes r
+IsRequest s bytes r = IsMessageRequest bytes r
+
+-- ---- what is said to a request
+
+-- anyone may open a session, for any role
+abbrev pub anyone : SessionEntry
+anyone = record { way = way.Anyone; no_superuser = false; shown = None }
+
+-- behind an error in a batch all is passed over up to Sync
+abbrev pub heeded_skipping : Request → Request
+heeded_skipping request.Sync = request.Sync
+heeded_skipping request.Leave = request.Leave
+heeded_skipping (request.Breaks f) = request.Breaks f
+heeded_skipping r = request.Nothing
+
+abbrev pub heeded : Mode → Request → Request
+heeded mode.Skipping r = heeded_skipping r
+heeded t r = r
+
+-- a name other than the empty one that is there
+abbrev pub is_taken : List ℕ → List NamedPiece → Bool
+is_taken [] ns = false
+is_taken name ns = is_some (find name ns)
+
+abbrev pub prepare_fault : List ℕ → List NamedPiece → Option TalkFault
+prepare_fault name ns = if is_taken name ns then Some fault.StatementExists else (if nat_le 512 (length ns) then Some (fault.Refused ProgramLimitExceeded) else None)
+
+abbrev pub bind_fault : List ℕ → ℕ → List NamedPiece → Option TalkFault
+bind_fault name count ns = if is_taken name ns then Some fault.PortalExists else (if count == 0 then (if nat_le 64 (length ns) then Some (fault.Refused ProgramLimitExceeded) else None) else Some fault.OtherCount)
+
+abbrev pub if_found : Option StatementPiece → TalkFault → Option TalkFault → Option TalkFault
+if_found None missing others = Some missing
+if_found (Some p) missing others = others
+
+-- why it is not done
+abbrev pub fault_of : Request → TalkMoment → Option TalkFault
+fault_of (request.Prepare name p) m = prepare_fault name m.statements
+fault_of (request.Bind name prepared count) m = if_found (find prepared m.statements) fault.UnknownStatement (bind_fault name count m.portals)
+fault_of (request.Execute name) m = if_found (find name m.portals) fault.UnknownPortal None
+fault_of (request.Fails t f) m = Some f
+fault_of r m = None
+
+-- by what rules it is answered
+abbrev pub mode_for : Request → Mode → Mode
+mode_for (request.Statements pieces) t = mode.Query
+mode_for (request.Prepare name p) t = mode.Batch
+mode_for (request.Bind name prepared count) t = mode.Batch
+mode_for (request.Execute name) t = mode.Batch
+mode_for (request.CloseStatement name) t = mode.Batch
+mode_for (request.ClosePortal name) t = mode.Batch
+mode_for (request.Fails s f) t = s
+mode_for request.Sync t = mode.Query
+mode_for r t = t
+
+abbrev pub said_to_done : Request → List Saying
+said_to_done request.Encryption = no_encryption ∷ []
+said_to_done (request.Prepare name p) = message parse_complete ∷ []
+said_to_done (request.Bind name prepared count) = message bind_complete ∷ []
+said_to_done (request.CloseStatement name) = message close_complete ∷ []
+said_to_done (request.ClosePortal name) = message close_complete ∷ []
+said_to_done (request.Breaks f) = fatal_said f ∷ []
+said_to_done r = []
+
+abbrev pub said_unless : Option TalkFault → Request → List Saying
+said_unless (Some f) r = []
+said_unless None r = said_to_done r
+
+abbrev pub put_found : List ℕ → Option StatementPiece → List NamedPiece → List NamedPiece
+put_found name None ns = ns
+put_found name (Some p) ns = put name p ns
+
+abbrev pub left_of : Option StatementPiece → List StatementPiece
+left_of None = []
+left_of (Some p) = p ∷ []
+
+abbrev pub after_done_request : Request → TalkMoment → TalkMoment
+after_done_request (request.Login role) m = record m { stage = stage.Opening; want = want.Open 1 role anyone }
+after_done_request (request.Statements pieces) m = goes_on (record m { left = pieces })
+after_done_request (request.Prepare name p) m = record m { statements = put name p m.statements }
+after_done_request (request.Bind name prepared count) m = record m { portals = put_found name (find prepared m.statements) m.portals }
+after_done_request (request.Execute name) m = goes_on (record m { left = left_of (find name m.portals); portals = without name m.portals })
+after_done_request (request.CloseStatement name) m = record m { statements = without name m.statements }
+after_done_request (request.ClosePortal name) m = record m { portals = without name m.portals }
+after_done_request request.Sync m = finishes m.block m.mode (record m { portals = [] })
+after_done_request request.Leave m = ends m
+after_done_request (request.Breaks f) m = ends m
+after_done_request r m = m
+
+abbrev pub after_unless : Option TalkFault → Request → TalkMoment → TalkMoment
+after_unless (Some f) r m = looks (stage.Refusing f) (record m { mode = mode_for r m.mode })
+after_unless None r m = after_done_request r (record m { mode = mode_for r m.mode })
+
+abbrev pub said_to_request : Request → TalkMoment → List Saying
+said_to_request r m = said_unless (fault_of (heeded m.mode r) m) (heeded m.mode r)
+
+abbrev pub after_request : Request → TalkMoment → TalkMoment
+after_request r m = after_unless (fault_of (heeded m.mode r) m) (heeded m.mode r) m

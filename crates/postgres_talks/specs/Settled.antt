@@ -1,0 +1,79 @@
+-- Texts beside the language that are answered without the machine.
+use Rattle.std.specs.Prelude.{ℕ, List, [], ◌∷◌, codes, if◌then◌else◌, Option, Some, None}
+use Rattle.std.specs.Str.{str_eq_ignore_ascii_case}
+use Rattle.postgres_texts.specs.declared.settings.SessionSetting.TheVariants as setting
+use Rattle.postgres_texts.specs.Settings.{name_of, initial_value}
+use Rattle.postgres_talks.specs.declared.settled.Settled.{Settled}
+use Rattle.postgres_talks.specs.declared.settled.Settled.TheVariants.{Set, Reset, CloseAll, DeallocateAll, UnlistenAll, AdvisoryUnlockAll, CurrentSchema, Version, Show}
+
+-- lines, and what each is
+abbrev pub lines : List (List ℕ × Settled)
+lines =
+    (codes "set client_encoding = 'utf8'", Set)
+    ∷ (codes "set client_encoding to 'utf8'", Set)
+    ∷ (codes "set names 'utf8'", Set)
+    ∷ (codes "set standard_conforming_strings = on", Set)
+    ∷ (codes "set standard_conforming_strings to on", Set)
+    ∷ (codes "set extra_float_digits = 3", Set)
+    ∷ (codes "set extra_float_digits to 3", Set)
+    ∷ (codes "set datestyle = iso", Set)
+    ∷ (codes "set datestyle to 'iso'", Set)
+    ∷ (codes "set timezone = 'utc'", Set)
+    ∷ (codes "set time zone 'utc'", Set)
+    ∷ (codes "set session characteristics as transaction isolation level read committed", Set)
+    ∷ (codes "reset all", Reset)
+    ∷ (codes "close all", CloseAll)
+    ∷ (codes "deallocate all", DeallocateAll)
+    ∷ (codes "unlisten *", UnlistenAll)
+    ∷ (codes "select pg_advisory_unlock_all ( )", AdvisoryUnlockAll)
+    ∷ (codes "select current_schema ( )", CurrentSchema)
+    ∷ (codes "select version ( )", Version)
+    ∷ (codes "select pg_catalog . version ( )", Version)
+    ∷ (codes "show transaction isolation level", Show setting.TransactionIsolation)
+    ∷ (codes "show transaction_isolation", Show setting.TransactionIsolation)
+    ∷ (codes "show standard_conforming_strings", Show setting.StandardConformingStrings)
+    ∷ (codes "show client_encoding", Show setting.ClientEncoding)
+    ∷ (codes "show datestyle", Show setting.DateStyle)
+    ∷ (codes "show search_path", Show setting.SearchPath)
+    ∷ (codes "show server_version", Show setting.ServerVersion)
+    ∷ (codes "show timezone", Show setting.TimeZone)
+    ∷ []
+
+-- what a line is among these, in any case
+abbrev pub settled_in : List (List ℕ × Settled) → List ℕ → Option Settled
+settled_in [] line = None
+settled_in (l ∷ ls) line = if str_eq_ignore_ascii_case l.0 line then Some l.1 else settled_in ls line
+
+-- lines, and the statement of the language that each is
+abbrev pub substitutes : List (List ℕ × List ℕ)
+substitutes =
+    (codes "end", codes "COMMIT")
+    ∷ (codes "end transaction", codes "COMMIT")
+    ∷ (codes "abort", codes "ROLLBACK")
+    ∷ (codes "abort transaction", codes "ROLLBACK")
+    ∷ (codes "begin isolation level read committed", codes "BEGIN")
+    ∷ (codes "begin transaction isolation level read committed", codes "BEGIN")
+    ∷ (codes "begin read write", codes "BEGIN")
+    ∷ []
+
+abbrev pub substitute_in : List (List ℕ × List ℕ) → List ℕ → Option (List ℕ)
+substitute_in [] line = None
+substitute_in (l ∷ ls) line = if str_eq_ignore_ascii_case l.0 line then Some l.1 else substitute_in ls line
+
+-- the tag with which it is answered
+abbrev pub settled_tag : Settled → List ℕ
+settled_tag Set = codes "SET"
+settled_tag Reset = codes "RESET"
+settled_tag CloseAll = codes "CLOSE CURSOR ALL"
+settled_tag DeallocateAll = codes "DEALLOCATE ALL"
+settled_tag UnlistenAll = codes "UNLISTEN"
+settled_tag (Show s) = codes "SHOW"
+settled_tag s = codes "SELECT 1"
+
+-- the name and the value of the one column of its one row, if it has one
+abbrev pub settled_row : Settled → Option (List ℕ × List ℕ)
+settled_row Version = Some (codes "version", codes "PostgreSQL 15.0 (Guarddb)")
+settled_row CurrentSchema = Some (codes "current_schema", codes "public")
+settled_row AdvisoryUnlockAll = Some (codes "pg_advisory_unlock_all", codes "")
+settled_row (Show s) = Some (name_of s, initial_value s)
+settled_row s = None

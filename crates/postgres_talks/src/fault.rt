@@ -1,0 +1,82 @@
+//! What a client is told of as an error.
+
+ghost use Rattle.std.specs.Prelude.{◌≡◌};
+ghost use Rattle.postgres_talks.specs.Faults.{fault_code, fault_text};
+
+use postgres_texts::sentences::refusal_text;
+use sql_types::state::SqlState;
+
+/// What a client is told of as an error.
+#[derive(Clone, Copy, PartialEq, Eq)]
+pub enum TalkFault {
+    /// The machine's refusal of an event, or one that this code says as well.
+    Refused(SqlState),
+    /// `22021`: a name or a text of a message that is not UTF-8.
+    NotText,
+    /// `0A000`: another version of the protocol than 3.0.
+    OtherVersion,
+    /// `0A000`: a message of which PostgreSQL has a use, and this server has not.
+    Unsupported,
+    /// `XX000`: a block that had failed was committed, or one of the connection's own was not.
+    Internal,
+    /// `0A000`: a word that PostgreSQL reserves and the language takes for a name.
+    ReservedWord,
+    /// `0A000`: a text outside the language that names a catalogue.
+    Catalogue,
+    /// `42601`: several statements in one that is to be prepared.
+    SeveralStatements,
+    /// `26000`: a name of no prepared statement.
+    UnknownStatement,
+    /// `34000`: a name of no portal.
+    UnknownPortal,
+    /// `42P05`: a name that a prepared statement has already.
+    StatementExists,
+    /// `42P03`: a name that a portal has already.
+    PortalExists,
+    /// `08P01`: another number of values than of parameters.
+    OtherCount,
+}
+
+impl TalkFault {
+    /// The code, of five characters (PostgreSQL 15 manual, appendix A).
+    pub fn code(self) -> &'static str
+        ensures { result.now ≡ fault_code self }
+    {
+        match self {
+            TalkFault::Refused(state) => state.code(),
+            TalkFault::NotText => "22021",
+            TalkFault::OtherVersion => "0A000",
+            TalkFault::Unsupported => "0A000",
+            TalkFault::Internal => "XX000",
+            TalkFault::ReservedWord | TalkFault::Catalogue => "0A000",
+            TalkFault::SeveralStatements => "42601",
+            TalkFault::UnknownStatement => "26000",
+            TalkFault::UnknownPortal => "34000",
+            TalkFault::StatementExists => "42P05",
+            TalkFault::PortalExists => "42P03",
+            TalkFault::OtherCount => "08P01",
+        }
+    }
+
+    /// The sentence in English.
+    pub fn text(self) -> &'static str
+        ensures { result.now ≡ fault_text self }
+    {
+        match self {
+            TalkFault::Refused(state) => refusal_text(state),
+            TalkFault::NotText => "invalid byte sequence for encoding \"UTF8\"",
+            TalkFault::OtherVersion => "version of the protocol is not 3.0",
+            TalkFault::Unsupported => "message is not supported",
+            TalkFault::Internal => "transaction block ended unexpectedly",
+            TalkFault::ReservedWord => "word that PostgreSQL reserves is not supported",
+            TalkFault::Catalogue => "catalogues are not supported",
+            TalkFault::SeveralStatements =>
+                "cannot insert multiple commands into a prepared statement",
+            TalkFault::UnknownStatement => "prepared statement does not exist",
+            TalkFault::UnknownPortal => "portal does not exist",
+            TalkFault::StatementExists => "prepared statement already exists",
+            TalkFault::PortalExists => "portal already exists",
+            TalkFault::OtherCount => "number of parameters is another",
+        }
+    }
+}

@@ -1,0 +1,63 @@
+//! What a conversation makes of a client's bytes.
+
+ghost use Rattle.std.specs.Prelude.{◌≡◌, ◌⊎◌, ℕ, false, List, [], All, IsSome};
+ghost use Rattle.sql_types.specs.declared.answer.Answer.{Answer as TheAnswer};
+ghost use Rattle.talks.specs.Wants.{Learnt};
+ghost use Rattle.talks.specs.Conversations.{Heard};
+ghost use Rattle.talks.specs.declared.want.Reply.{Reply as TheReply};
+ghost use Rattle.talks.specs.declared.want.Want.{Want as TheWant};
+ghost use Rattle.postgres_talks.specs.declared.moment.Mode.{Mode as TheMode};
+ghost use Rattle.postgres_talks.specs.declared.moment.TalkBlock.{TalkBlock as TheBlock};
+ghost use Rattle.postgres_talks.specs.declared.moment.TalkMoment.{TalkMoment as TheMoment};
+ghost use Rattle.postgres_talks.specs.declared.moment.TalkStage.{TalkStage as TheStage};
+ghost use Rattle.postgres_talks.specs.declared.postgres_talk.PostgresTalk.{PostgresTalk as TheTalk};
+ghost use Rattle.postgres_talks.specs.declared.requests.Request.{Request as TheRequest};
+ghost use Rattle.postgres_talks.specs.Blocks.{IsOfAnswer, IsPassedOver, outside, seen_all};
+ghost use Rattle.postgres_talks.specs.Units.{IsCommitAnswer, RollsBack, SaysError};
+ghost use Rattle.postgres_talks.specs.Moments.{after_reply, ends, first_moment};
+ghost use Rattle.postgres_talks.specs.Played.{Input, PlayedOrGaveUp, TakesIn, after_input, said_in, said_to_input};
+ghost use Rattle.postgres_talks.specs.Requests.{after_request, said_to_request};
+
+use crate::postgres_talk::PostgresTalk;
+use talks::talk::Talk;
+
+/// What a conversation says to some bytes and to what it learns, in whatever pieces they come: what its definition says to one after
+/// the other, in whole messages. Where memory is refused it has done so up to there.
+pub fn conversation()
+    ensures { (t u : TheTalk) (bytes said rest : List ℕ) (xs : List Learnt)
+        → Heard ⟦<PostgresTalk as Talk>⟧ t bytes xs said rest u
+        → PlayedOrGaveUp t.moment bytes xs said rest u.moment }
+{}
+
+/// Nothing is taken in behind a bad message, and nothing is said.
+pub fn bad_messages_end()
+    ensures { (m : TheMoment) (bytes rest : List ℕ) (xs : List Learnt) (inputs : List Input)
+        → TakesIn (ends m) bytes xs rest inputs → inputs ≡ [] }
+{}
+
+/// No COMMIT is said of a block in which an error was said, whatever the machine answers.
+pub fn no_commit_follows_an_error()
+    ensures { (process : ℕ) (inputs : List Input) → IsSome (seen_all outside (said_in (first_moment process) inputs)) }
+{}
+
+/// A block of the connection's own is carried out whole or not at all. An error that is said in it is followed by the event ROLLBACK,
+/// with nothing left of its statements; the answer to that ends the block or the connection. It is told to be closed
+/// only where its COMMIT was answered so.
+pub fn units_are_whole()
+    ensures fails { (m : TheMoment) (i : Input) → m.block ≡ TheBlock.Implicit → SaysError (said_to_input m i) → RollsBack (after_input m i) }
+    ensures rolls_back { (m : TheMoment) (a : TheAnswer) → m.stage ≡ TheStage.RollingBack → m.block ≡ TheBlock.Implicit
+        → ((after_reply m (TheReply.Answer a)).block ≡ TheBlock.Outside) ⊎ ((after_reply m (TheReply.Answer a)).want ≡ TheWant.End false) }
+    ensures commits { (m : TheMoment) (a : TheAnswer) → m.stage ≡ TheStage.Committing
+        → (after_reply m (TheReply.Answer a)).stage ≡ TheStage.Closing → IsCommitAnswer a }
+{}
+
+/// To a message no part of an answer is said: it comes with what is learnt.
+pub fn answers_follow_their_events()
+    ensures { (asked : TheRequest) (m : TheMoment) → All (λ s. IsOfAnswer s → ⊥) (said_to_request asked m) }
+{}
+
+/// Behind an error in a batch a message is passed over, up to Sync: nothing is said to it, and it changes nothing.
+pub fn batches_stop_at_an_error()
+    ensures { (m : TheMoment) (asked : TheRequest) → m.mode ≡ TheMode.Skipping → IsPassedOver asked
+        → (said_to_request asked m ≡ []) × (after_request asked m ≡ m) }
+{}

@@ -1,0 +1,435 @@
+//! How a connection stands.
+
+ghost use Rattle.std.specs.Prelude.{◌≡◌, OnOk};
+ghost use Rattle.postgres_talks.specs.Outcomes.{commit_outcome, outcome_of};
+ghost use Rattle.postgres_talks.specs.Moments.{after_answer, after_closing, after_done, after_emptying, after_failed, after_judging, after_opened, after_outcome, after_refusing, after_reply, after_rolled_back, after_settling, after_standing, asks, closes, closes_or_listens, ends, finishes, first_moment, goes_on, listens, looks, starts_on};
+
+use crate::blocks::{block_answered, came_out, entered, is_several, skipping, spares, spoiled_by};
+use crate::fault::TalkFault;
+use crate::named_pieces::NamedPieces;
+use crate::outcome::{Outcome, commit_outcome, outcome_of};
+use crate::piece::{PieceQueue, StatementPiece};
+use crate::settled::Settled;
+use sql_types::answer::Answer;
+use sql_types::event::Event;
+use sql_types::state::SqlState;
+use sql_types::text::Text;
+use std::alloc::{AllocError, Global};
+use talks::want::{BlockStanding, Reply, Want};
+
+/// The number of the session of a connection, which has one.
+pub(crate) const SESSION: u32 = 1;
+
+/// The block in which the statements of a client stand.
+#[derive(Clone, Copy, PartialEq, Eq)]
+pub enum TalkBlock {
+    /// None is open.
+    Outside,
+    /// The connection has begun one around several statements of a message.
+    Implicit,
+    /// The client has begun one.
+    Open,
+    /// The client has begun one, and an error was said in it.
+    Failed,
+}
+
+/// By which rules messages are answered.
+#[derive(Clone, Copy, PartialEq, Eq)]
+pub enum Mode {
+    /// The simple query: each message by itself.
+    Query,
+    /// The extended one: what stands between two Syncs is one transaction.
+    Batch,
+    /// An error was said in a batch: all is passed over up to Sync.
+    Skipping,
+}
+
+/// What a connection waits for.
+#[derive(Clone, Copy, PartialEq, Eq)]
+pub enum TalkStage {
+    /// A packet of the start.
+    Starting,
+    /// The session.
+    Opening,
+    /// A message.
+    Ready,
+    /// That the block around several statements is begun.
+    Beginning,
+    /// The answer to a statement.
+    Running,
+    /// That the block around several statements is committed.
+    Committing,
+    /// That it is rolled back.
+    RollingBack,
+    /// How the block stands in which a fault is to be said.
+    Refusing(TalkFault),
+    /// The refusal of a text that fails this block.
+    Failing(TalkFault),
+    /// How the block stands then.
+    Judging(TalkFault),
+    /// How the block stands, where a text is answered without the machine.
+    Settling(Settled),
+    /// That the session is open, where a text has no statement.
+    Emptying,
+    /// How the block stands, which is to be said.
+    Closing,
+    /// Nothing more.
+    Ended,
+}
+
+/// How a connection stands.
+#[derive(Drop)]
+pub struct TalkMoment {
+    /// The number of its process, as its client is told.
+    pub process: u32,
+    pub stage: TalkStage,
+    pub block: TalkBlock,
+    pub mode: Mode,
+    /// The statements of a message that are left.
+    pub left: PieceQueue,
+    /// What was prepared.
+    pub statements: NamedPieces,
+    /// What was bound.
+    pub portals: NamedPieces,
+    /// What it wants.
+    pub want: Want,
+}
+
+impl TalkMoment {
+    /// How a connection stands of which nothing was heard.
+    pub(crate) fn new(alloc: Global, process: u32) -> TalkMoment
+        ensures { result ≡ first_moment process }
+    {
+        TalkMoment {
+            process,
+            stage: TalkStage::Starting,
+            block: TalkBlock::Outside,
+            mode: Mode::Query,
+            left: PieceQueue::new(alloc),
+            statements: NamedPieces::new(alloc),
+            portals: NamedPieces::new(alloc),
+            want: Want::Message,
+        }
+    }
+
+    // The event of this text is wanted.
+    fn run(&mut self, stage: TalkStage, text: Text)
+        ensures { self.new ≡ asks stage text self.old }
+    {
+        self.stage = stage;
+        self.want = Want::Event(Event::Statement {
+            session: SESSION,
+            text,
+        });
+    }
+
+    fn ask(&mut self, alloc: Global, stage: TalkStage, text: &str) -> Result<(), AllocError>
+        ensures { OnOk result (self.new ≡ asks stage text.now self.old) }
+    {
+        let text = Text::from_str(alloc, text)?;
+        self.run(stage, text);
+        Ok(())
+    }
+
+    // It is wanted how the block stands.
+    pub(crate) fn look(&mut self, stage: TalkStage)
+        ensures { self.new ≡ looks stage self.old }
+    {
+        self.stage = stage;
+        self.want = Want::Standing { session: SESSION };
+    }
+
+    // The next message is wanted.
+    fn listen(&mut self)
+        ensures { self.new ≡ listens self.old }
+    {
+        self.stage = TalkStage::Ready;
+        self.want = Want::Message;
+    }
+
+    // The end of the connection is wanted.
+    pub(crate) fn end(&mut self)
+        ensures { self.new ≡ ends self.old }
+    {
+        self.stage = TalkStage::Ended;
+        self.want = Want::End { late: false };
+    }
+
+    // Goes on with what is left of the statements of a message.
+    pub(crate) fn go_on(&mut self, alloc: Global) -> Result<(), AllocError>
+        ensures { OnOk result (self.new ≡ goes_on self.old) }
+    {
+        if is_several(self.block, self.mode, self.left.len()) {
+            return self.ask(alloc, TalkStage::Beginning, "BEGIN");
+        }
+        match self.left.pop() {
+            Some(piece) => {
+                self.start_on(piece);
+                Ok(())
+            }
+            None => self.finish(alloc),
+        }
+    }
+
+    fn start_on(&mut self, piece: StatementPiece)
+        ensures { self.new ≡ starts_on piece self.old }
+    {
+        match piece {
+            StatementPiece::Statement(text) => self.run(TalkStage::Running, text),
+            StatementPiece::Settled(settled) => self.look(TalkStage::Settling(settled)),
+            StatementPiece::Faulty(fault) => self.look(TalkStage::Refusing(fault)),
+            StatementPiece::Empty => self.look(TalkStage::Emptying),
+        }
+    }
+
+    // Behind the last statement of a message; a batch goes on up to Sync.
+    pub(crate) fn finish(&mut self, alloc: Global) -> Result<(), AllocError>
+        ensures { OnOk result (self.new ≡ finishes self.old.block self.old.mode self.old) }
+    {
+        match (self.mode, self.block) {
+            (Mode::Query, TalkBlock::Implicit) => self.ask(alloc, TalkStage::Committing, "COMMIT"),
+            (Mode::Query, _) => {
+                self.look(TalkStage::Closing);
+                Ok(())
+            }
+            (_, _) => {
+                self.listen();
+                Ok(())
+            }
+        }
+    }
+
+    /// Takes in what it learns.
+    pub(crate) fn take(&mut self, alloc: Global, reply: &Reply) -> Result<(), AllocError>
+        ensures { OnOk result (self.new ≡ after_reply self.old reply.now) }
+    {
+        match reply {
+            Reply::Answer(answer) => self.take_answer(alloc, answer),
+            Reply::Standing(standing) => self.take_standing(alloc, *standing),
+        }
+    }
+
+    fn take_answer(&mut self, alloc: Global, answer: &Answer) -> Result<(), AllocError>
+        ensures { OnOk result (self.new ≡ after_answer self.old.stage self.old answer.now) }
+    {
+        match self.stage {
+            TalkStage::Opening => {
+                self.take_opened(answer);
+                Ok(())
+            }
+            TalkStage::Beginning | TalkStage::Running => self.take_outcome(alloc, answer),
+            TalkStage::Committing => {
+                self.take_committed(answer);
+                Ok(())
+            }
+            TalkStage::RollingBack => {
+                self.take_rolled_back(answer);
+                Ok(())
+            }
+            TalkStage::Failing(fault) => {
+                self.look(TalkStage::Judging(fault));
+                Ok(())
+            }
+            _ => {
+                self.end();
+                Ok(())
+            }
+        }
+    }
+
+    fn take_opened(&mut self, answer: &Answer)
+        ensures { self.new ≡ after_opened answer.now self.old }
+    {
+        match answer {
+            Answer::Refused(_) => self.end(),
+            _ => self.listen(),
+        }
+    }
+
+    fn take_outcome(&mut self, alloc: Global, answer: &Answer) -> Result<(), AllocError>
+        ensures { OnOk result (self.new ≡ after_outcome (outcome_of self.old.block answer.now) self.old (after_done self.old.stage answer.now self.old)) }
+    {
+        match outcome_of(self.block, answer) {
+            Outcome::Done => self.take_done(alloc, answer),
+            Outcome::Refused(fault) => {
+                self.look(TalkStage::Refusing(fault));
+                Ok(())
+            }
+            Outcome::Breaks(_) => {
+                self.end();
+                Ok(())
+            }
+        }
+    }
+
+    fn take_done(&mut self, alloc: Global, answer: &Answer) -> Result<(), AllocError>
+        ensures { OnOk result (self.new ≡ after_done self.old.stage answer.now self.old) }
+    {
+        match self.stage {
+            TalkStage::Beginning => {
+                self.block = entered(self.block);
+                self.go_on(alloc)
+            }
+            _ => {
+                self.block = block_answered(self.block, answer);
+                self.go_on(alloc)
+            }
+        }
+    }
+
+    // The block of the connection's own is committed, or is not.
+    fn take_committed(&mut self, answer: &Answer)
+        ensures { self.new ≡ after_outcome (commit_outcome answer.now) self.old (closes self.old) }
+    {
+        match commit_outcome(answer) {
+            Outcome::Done => {
+                self.block = came_out(self.block);
+                self.look(TalkStage::Closing);
+            }
+            Outcome::Refused(fault) => self.look(TalkStage::Refusing(fault)),
+            Outcome::Breaks(_) => self.end(),
+        }
+    }
+
+    fn take_rolled_back(&mut self, answer: &Answer)
+        ensures { self.new ≡ after_rolled_back answer.now self.old }
+    {
+        match answer {
+            Answer::Refused(_) => self.end(),
+            _ => {
+                self.block = came_out(self.block);
+                self.close_or_listen();
+            }
+        }
+    }
+
+    fn close_or_listen(&mut self)
+        ensures { self.new ≡ closes_or_listens self.old.mode self.old }
+    {
+        match self.mode {
+            Mode::Query => self.look(TalkStage::Closing),
+            _ => self.listen(),
+        }
+    }
+
+    fn take_standing(
+        &mut self,
+        alloc: Global,
+        standing: Option<BlockStanding>,
+    ) -> Result<(), AllocError>
+        ensures { OnOk result (self.new ≡ after_standing self.old.stage self.old standing) }
+    {
+        match self.stage {
+            TalkStage::Refusing(fault) => self.take_refusing(alloc, fault, standing),
+            TalkStage::Judging(fault) => self.take_judging(alloc, fault, standing),
+            TalkStage::Settling(_) => self.take_settling(alloc, standing),
+            TalkStage::Emptying => self.take_emptying(alloc, standing),
+            TalkStage::Closing => {
+                self.take_closing(standing);
+                Ok(())
+            }
+            _ => {
+                self.end();
+                Ok(())
+            }
+        }
+    }
+
+    // A block that an error leaves open is failed by a text that is no statement.
+    fn take_refusing(
+        &mut self,
+        alloc: Global,
+        fault: TalkFault,
+        standing: Option<BlockStanding>,
+    ) -> Result<(), AllocError>
+        ensures { OnOk result (self.new ≡ after_refusing fault self.old standing) }
+    {
+        match standing {
+            None => {
+                self.end();
+                Ok(())
+            }
+            Some(BlockStanding::Inside) if !spares(fault) => {
+                self.ask(alloc, TalkStage::Failing(fault), "")
+            }
+            Some(_) => self.fail(alloc, fault),
+        }
+    }
+
+    fn take_judging(
+        &mut self,
+        alloc: Global,
+        fault: TalkFault,
+        standing: Option<BlockStanding>,
+    ) -> Result<(), AllocError>
+        ensures { OnOk result (self.new ≡ after_judging fault self.old standing) }
+    {
+        match standing {
+            None | Some(BlockStanding::Inside) => {
+                self.end();
+                Ok(())
+            }
+            Some(_) => self.fail(alloc, fault),
+        }
+    }
+
+    // A text was answered without the machine, or is refused in a block that has failed.
+    fn take_settling(
+        &mut self,
+        alloc: Global,
+        standing: Option<BlockStanding>,
+    ) -> Result<(), AllocError>
+        ensures { OnOk result (self.new ≡ after_settling self.old standing) }
+    {
+        match standing {
+            None => {
+                self.end();
+                Ok(())
+            }
+            Some(BlockStanding::Failed) => self.fail(
+                alloc,
+                TalkFault::Refused(SqlState::InFailedTransaction),
+            ),
+            Some(_) => self.go_on(alloc),
+        }
+    }
+
+    fn take_emptying(
+        &mut self,
+        alloc: Global,
+        standing: Option<BlockStanding>,
+    ) -> Result<(), AllocError>
+        ensures { OnOk result (self.new ≡ after_emptying self.old standing) }
+    {
+        match standing {
+            None => {
+                self.end();
+                Ok(())
+            }
+            Some(_) => self.go_on(alloc),
+        }
+    }
+
+    // An error was said, and what is left of the message is not carried out.
+    fn fail(&mut self, alloc: Global, fault: TalkFault) -> Result<(), AllocError>
+        ensures { OnOk result (self.new ≡ after_failed self.old.block fault self.old) }
+    {
+        self.left.clear();
+        self.mode = skipping(self.mode);
+        if matches!(self.block, TalkBlock::Implicit) {
+            return self.ask(alloc, TalkStage::RollingBack, "ROLLBACK");
+        }
+        self.block = spoiled_by(spares(fault), self.block);
+        self.listen();
+        Ok(())
+    }
+
+    fn take_closing(&mut self, standing: Option<BlockStanding>)
+        ensures { self.new ≡ after_closing self.old standing }
+    {
+        match standing {
+            None => self.end(),
+            Some(_) => self.listen(),
+        }
+    }
+}

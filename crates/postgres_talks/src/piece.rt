@@ -1,0 +1,90 @@
+//! One of the statements of a text.
+
+ghost use Rattle.std.specs.Prelude.{◌≡◌, [], ◌∷◌, ◌++◌, length, MatchOption, OnOk};
+
+use crate::fault::TalkFault;
+use crate::settled::Settled;
+use sql_types::text::Text;
+use sql_types::try_copy::TryCopy;
+use std::alloc::{AllocError, Global};
+use std::collections::VecDeque;
+use std::marker::Model;
+
+/// One of the statements of a text.
+#[derive(Drop)]
+pub enum StatementPiece {
+    /// The machine is asked.
+    Statement(Text),
+    /// It is answered without the machine.
+    Settled(Settled),
+    /// It has a fault.
+    Faulty(TalkFault),
+    /// There is none.
+    Empty,
+}
+
+impl TryCopy for StatementPiece {
+    fn try_copy(&self, alloc: Global) -> Result<StatementPiece, AllocError> {
+        match self {
+            StatementPiece::Statement(text) => Ok(StatementPiece::Statement(text.try_copy(alloc)?)),
+            StatementPiece::Settled(settled) => Ok(StatementPiece::Settled(*settled)),
+            StatementPiece::Faulty(fault) => Ok(StatementPiece::Faulty(*fault)),
+            StatementPiece::Empty => Ok(StatementPiece::Empty),
+        }
+    }
+}
+
+/// Statements in the order in which they stand, which contracts see as a list.
+#[derive(Drop)]
+pub struct PieceQueue {
+    pieces: VecDeque<StatementPiece>,
+}
+
+impl Model for PieceQueue {
+    ghost use Rattle.std.specs.Prelude.{List};
+    ghost use Rattle.postgres_talks.specs.declared.piece.StatementPiece.{StatementPiece};
+
+    ghost Value = { List StatementPiece };
+
+    ghost view = { λ q. q.pieces.items };
+}
+
+impl PieceQueue {
+    /// No statement.
+    pub fn new(alloc: Global) -> PieceQueue
+        ensures { result ≡ [] }
+    {
+        PieceQueue {
+            pieces: VecDeque::new(alloc),
+        }
+    }
+
+    /// How many there are.
+    pub fn len(&self) -> usize
+        ensures { result ≡ length self.now }
+    {
+        self.pieces.len()
+    }
+
+    /// Puts one behind the others.
+    pub fn push(&mut self, piece: StatementPiece) -> Result<(), AllocError>
+        ensures { OnOk result (self.new ≡ self.old ++ piece ∷ []) }
+    {
+        self.pieces.push_back(piece)?;
+        Ok(())
+    }
+
+    /// Takes the first, or answers `None` where there is none.
+    pub fn pop(&mut self) -> Option<StatementPiece>
+        ensures { MatchOption result ((self.old ≡ []) × (self.new ≡ [])) (λ first. self.old ≡ first ∷ self.new) }
+    {
+        self.pieces.pop_front()
+    }
+
+    /// Takes all away.
+    pub fn clear(&mut self)
+        ensures { self.new ≡ [] }
+    {
+        self.pieces.clear();
+    }
+}

@@ -1,0 +1,249 @@
+//! What a message of a client asks.
+
+ghost use Rattle.std.specs.Prelude.{◌≡◌, IfOk, map, Some};
+ghost use Rattle.std.specs.Option.{option_map};
+ghost use Rattle.postgres_messages.specs.Frontend.{close, execute};
+ghost use Rattle.postgres_messages.specs.StartReading.{viewed_parameter, viewed_start};
+ghost use Rattle.postgres_messages.specs.Views.{viewed_binding, viewed_message, viewed_target};
+ghost use Rattle.postgres_talks.specs.Requests.{IsAskedBy, IsMessageRequest, IsRequest, IsStartRequest, all_text, bind_request, broken, denied, login_of, mode_of, parameter_of, plain_request, prepare_request, start_request};
+
+use crate::fault::TalkFault;
+use crate::moment::{Mode, TalkStage};
+use crate::piece::{PieceQueue, StatementPiece};
+use crate::pieces::pieces_of;
+use postgres_messages::frontend::{BoundValues, FrontendMessage, NamedObject, read_message};
+use postgres_messages::read_error::ReadError;
+use postgres_messages::start::{Parameter, StartPacket, read_start};
+use sql_types::state::SqlState;
+use sql_types::text::Text;
+use std::alloc::{AllocError, Global};
+use std::str::from_utf8;
+
+/// What a message asks.
+#[derive(Drop)]
+pub enum Request {
+    /// An encrypted connection.
+    Encryption,
+    /// A session for the role of this name.
+    Login(Text),
+    /// That these statements are carried out.
+    Statements(PieceQueue),
+    /// That a statement is kept under a name.
+    Prepare(Text, StatementPiece),
+    /// That a portal of a name is made of a prepared statement, with so many values.
+    Bind(Text, Text, usize),
+    /// That a portal is carried out.
+    Execute(Text),
+    /// That a prepared statement is forgotten.
+    CloseStatement(Text),
+    /// That a portal is.
+    ClosePortal(Text),
+    /// The end of a batch, and how the block stands.
+    Sync,
+    Nothing,
+    /// The end of the connection.
+    Leave,
+    /// It has a fault, and the connection goes on.
+    Fails(Mode, TalkFault),
+    /// It has a fault, and the connection ends.
+    Breaks(TalkFault),
+}
+
+// What the bytes of a message ask.
+pub(crate) fn request_of(
+    alloc: Global,
+    stage: TalkStage,
+    message: &[u8],
+) -> Result<Request, AllocError>
+    ensures { IfOk result (λ asked. IsRequest stage message.now asked) }
+{
+    match stage {
+        TalkStage::Starting => start_request(alloc, message),
+        _ => message_request(alloc, message),
+    }
+}
+
+fn start_request(alloc: Global, bytes: &[u8]) -> Result<Request, AllocError>
+    ensures { IfOk result (λ asked. IsStartRequest bytes.now asked) }
+{
+    match read_start(alloc, bytes) {
+        Ok(packet) => packet_request(alloc, &packet),
+        Err(ReadError::Memory) => Err(AllocError),
+        Err(ReadError::NotText) => Ok(broken()),
+        Err(ReadError::Malformed) => Ok(broken()),
+    }
+}
+
+// Bytes that are no message.
+fn broken() -> Request
+    ensures { result ≡ broken }
+{
+    Request::Breaks(TalkFault::Refused(SqlState::ProtocolViolation))
+}
+
+fn denied() -> Request
+    ensures { result ≡ denied }
+{
+    Request::Breaks(TalkFault::Refused(SqlState::InvalidAuthorization))
+}
+
+fn packet_request(alloc: Global, packet: &StartPacket<'_>) -> Result<Request, AllocError>
+    ensures { IfOk result (λ asked. asked ≡ start_request (viewed_start packet.now)) }
+{
+    match packet {
+        StartPacket::SslRequest | StartPacket::GssEncRequest => Ok(Request::Encryption),
+        StartPacket::CancelRequest(_, _) => Ok(Request::Leave),
+        StartPacket::Startup(0, parameters) => login(alloc, parameter_of(b"user", parameters)),
+        StartPacket::Startup(_, _) => Ok(Request::Breaks(TalkFault::OtherVersion)),
+        StartPacket::OtherVersion(_, _) => Ok(Request::Breaks(TalkFault::OtherVersion)),
+    }
+}
+
+// The value of the first parameter of a name.
+fn parameter_of<'a>(name: &[u8], mut parameters: &[Parameter<'a>]) -> Option<&'a [u8]>
+    ensures { option_map (λ value. value.now) result ≡ parameter_of name.now (map viewed_parameter parameters.entry.now) }
+{
+    while let [first, rest @ ..] = parameters {
+        if first.name == name {
+            return Some(first.value);
+        }
+        parameters = rest;
+    }
+    None
+}
+
+fn login(alloc: Global, role: Option<&[u8]>) -> Result<Request, AllocError>
+    ensures { IfOk result (λ asked. asked ≡ login_of (option_map (λ value. value.now) role.entry)) }
+{
+    match role {
+        Some(role) => login_as(alloc, role),
+        None => Ok(denied()),
+    }
+}
+
+// A role is named by text.
+fn login_as(alloc: Global, role: &[u8]) -> Result<Request, AllocError>
+    ensures { IfOk result (λ asked. asked ≡ login_of (Some role.now)) }
+{
+    if role.is_empty() {
+        return Ok(denied());
+    }
+    match from_utf8(role) {
+        Ok(name) => Ok(Request::Login(Text::from_str(alloc, name)?)),
+        Err(_) => Ok(denied()),
+    }
+}
+
+fn message_request(alloc: Global, bytes: &[u8]) -> Result<Request, AllocError>
+    ensures { IfOk result (λ asked. IsMessageRequest bytes.now asked) }
+{
+    match read_message(alloc, bytes) {
+        Ok(message) => asked_by(alloc, &message),
+        Err(ReadError::Memory) => Err(AllocError),
+        Err(ReadError::NotText) => Ok(Request::Fails(mode_of(bytes), TalkFault::NotText)),
+        Err(ReadError::Malformed) => Ok(broken()),
+    }
+}
+
+// By what rules a message is answered, by its first byte.
+fn mode_of(bytes: &[u8]) -> Mode
+    ensures { result ≡ mode_of bytes.now }
+{
+    match bytes {
+        [b'Q', ..] => Mode::Query,
+        _ => Mode::Batch,
+    }
+}
+
+fn asked_by(alloc: Global, message: &FrontendMessage<'_>) -> Result<Request, AllocError>
+    ensures { IfOk result (λ asked. IsAskedBy (viewed_message message.now) asked) }
+{
+    match message {
+        FrontendMessage::Query(text) => Ok(Request::Statements(pieces_of(alloc, text)?)),
+        FrontendMessage::Parse(name, text, _) => {
+            let pieces = pieces_of(alloc, text)?;
+            prepare_request(alloc, name, pieces)
+        }
+        _ => plain_request(alloc, message),
+    }
+}
+
+// One statement is prepared.
+fn prepare_request(alloc: Global, name: &str, mut pieces: PieceQueue) -> Result<Request, AllocError>
+    ensures { IfOk result (λ asked. asked ≡ prepare_request name.now pieces) }
+{
+    if pieces.len() == 1 {
+        if let Some(piece) = pieces.pop() {
+            return Ok(Request::Prepare(Text::from_str(alloc, name)?, piece));
+        }
+    }
+    Ok(Request::Fails(Mode::Batch, TalkFault::SeveralStatements))
+}
+
+// What a message asks that has no text.
+fn plain_request(alloc: Global, message: &FrontendMessage<'_>) -> Result<Request, AllocError>
+    ensures { IfOk result (λ asked. asked ≡ plain_request (viewed_message message.now)) }
+{
+    match message {
+        FrontendMessage::Sync => Ok(Request::Sync),
+        FrontendMessage::Terminate => Ok(Request::Leave),
+        FrontendMessage::Flush
+        | FrontendMessage::CopyData(_)
+        | FrontendMessage::CopyDone(_)
+        | FrontendMessage::CopyFail(_) => Ok(Request::Nothing),
+        FrontendMessage::Password(_) => Ok(broken()),
+        FrontendMessage::Bind(portal, statement, values) => {
+            bind_request(alloc, portal, statement, values)
+        }
+        FrontendMessage::Execute(portal, most) => execute_request(alloc, portal, *most),
+        FrontendMessage::Close(object) => close_request(alloc, object),
+        FrontendMessage::Describe(_) => Ok(Request::Fails(Mode::Batch, TalkFault::Unsupported)),
+        _ => Ok(Request::Fails(Mode::Query, TalkFault::Unsupported)),
+    }
+}
+
+// Values are bound in text alone.
+fn bind_request(
+    alloc: Global,
+    portal: &str,
+    statement: &str,
+    bound: &BoundValues<'_>,
+) -> Result<Request, AllocError>
+    ensures { IfOk result (λ asked. asked ≡ bind_request portal.now statement.now (viewed_binding bound.now)) }
+{
+    if all_text(&bound.formats) && all_text(&bound.result_formats) {
+        let portal = Text::from_str(alloc, portal)?;
+        let statement = Text::from_str(alloc, statement)?;
+        Ok(Request::Bind(portal, statement, bound.values.len()))
+    } else {
+        Ok(Request::Fails(Mode::Batch, TalkFault::Unsupported))
+    }
+}
+
+fn all_text(formats: &[u16]) -> bool
+    ensures { result ≡ all_text formats.now }
+{
+    formats.iter().all(|format| *format == 0)
+}
+
+// All rows are asked for.
+fn execute_request(alloc: Global, portal: &str, most: u32) -> Result<Request, AllocError>
+    ensures { IfOk result (λ asked. asked ≡ plain_request (execute portal.now most)) }
+{
+    if most == 0 {
+        Ok(Request::Execute(Text::from_str(alloc, portal)?))
+    } else {
+        Ok(Request::Fails(Mode::Batch, TalkFault::Unsupported))
+    }
+}
+
+fn close_request(alloc: Global, object: &NamedObject<'_>) -> Result<Request, AllocError>
+    ensures { IfOk result (λ asked. asked ≡ plain_request (close (viewed_target object.now))) }
+{
+    match object {
+        NamedObject::Statement(name) => {
+            Ok(Request::CloseStatement(Text::from_str(alloc, name)?))
+        }
+        NamedObject::Portal(name) => Ok(Request::ClosePortal(Text::from_str(alloc, name)?)),
+    }
+}

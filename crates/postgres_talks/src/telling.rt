@@ -1,0 +1,361 @@
+//! What is said to what a connection learns.
+
+ghost use Rattle.std.specs.Prelude.{◌∷◌, [], OnOk, map};
+ghost use Rattle.std.specs.Option.{option_map};
+ghost use Rattle.postgres_talks.specs.Moments.{answer_said, greeting, said_answered, ready_behind, ready_unless_batch, said_closing, said_emptying, said_failed, said_judging, said_opened, said_own, said_refusing, said_rolled_back, said_run, said_settling, said_standing, said_to_reply, setting_said, settled_columns, settled_rows, settled_said, table_said, warnings_said};
+ghost use Rattle.postgres_talks.specs.Outcomes.{commit_outcome, outcome_of};
+ghost use Rattle.postgres_talks.specs.Sayings.{Puts, complete_said};
+ghost use Rattle.postgres_talks.specs.Tags.{done_tag};
+
+use crate::blocks::spares;
+use crate::fault::TalkFault;
+use crate::moment::{Mode, TalkBlock, TalkMoment, TalkStage};
+use crate::outcome::{Outcome, commit_outcome, outcome_of, warning_of};
+use crate::rows::{say_columns, say_rows};
+use crate::said::Said;
+use crate::settled::Settled;
+use crate::tags::done_tag;
+use postgres_messages::backend::{BackendMessage, DataType, DescribedColumn, ValueFormat};
+use postgres_messages::frontend::FieldBytes;
+use postgres_texts::settings::SessionSetting;
+use sql_types::answer::Answer;
+use sql_types::items::Items;
+use sql_types::state::SqlState;
+use sql_types::tag::Tag;
+use sql_types::value::Value;
+use sql_types::warning::Warning;
+use std::alloc::{AllocError, Global};
+use talks::want::{BlockStanding, Reply};
+
+/// The settings that a client is told of at the start.
+const TOLD: [SessionSetting; 7] = [
+    SessionSetting::ClientEncoding,
+    SessionSetting::DateStyle,
+    SessionSetting::IntegerDatetimes,
+    SessionSetting::ServerEncoding,
+    SessionSetting::ServerVersion,
+    SessionSetting::StandardConformingStrings,
+    SessionSetting::TimeZone,
+];
+
+// Says what is to be said to what it learns.
+pub(crate) fn say_reply(
+    alloc: Global,
+    moment: &TalkMoment,
+    reply: &Reply,
+    said: &mut Said,
+) -> Result<(), AllocError>
+    ensures { OnOk result (Puts (said_to_reply moment.now reply.now) said.old said.new) }
+{
+    match reply {
+        Reply::Answer(answer) => say_answered(alloc, moment, answer, said),
+        Reply::Standing(standing) => say_standing(moment, *standing, said),
+    }
+}
+
+fn say_answered(
+    alloc: Global,
+    moment: &TalkMoment,
+    answer: &Answer,
+    said: &mut Said,
+) -> Result<(), AllocError>
+    ensures { OnOk result (Puts (said_answered moment.now.stage moment.now answer.now) said.old said.new) }
+{
+    match moment.stage {
+        TalkStage::Opening => say_opened(moment.process, answer, said),
+        TalkStage::Beginning => say_own(outcome_of(moment.block, answer), said),
+        TalkStage::Running => say_run(alloc, moment, answer, said),
+        TalkStage::Committing => say_own(commit_outcome(answer), said),
+        TalkStage::RollingBack => say_rolled_back(answer, said),
+        _ => Ok(()),
+    }
+}
+
+// To a step of the connection's own.
+fn say_own(outcome: Outcome, said: &mut Said) -> Result<(), AllocError>
+    ensures { OnOk result (Puts (said_own outcome) said.old said.new) }
+{
+    match outcome {
+        Outcome::Breaks(fault) => said.put_fatal(fault),
+        Outcome::Done | Outcome::Refused(_) => Ok(()),
+    }
+}
+
+fn say_rolled_back(answer: &Answer, said: &mut Said) -> Result<(), AllocError>
+    ensures { OnOk result (Puts (said_rolled_back answer.now) said.old said.new) }
+{
+    match answer {
+        Answer::Refused(state) => said.put_fatal(TalkFault::Refused(*state)),
+        _ => Ok(()),
+    }
+}
+
+fn say_opened(process: u32, answer: &Answer, said: &mut Said) -> Result<(), AllocError>
+    ensures { OnOk result (Puts (said_opened process answer.now) said.old said.new) }
+{
+    match answer {
+        Answer::Refused(state) => said.put_fatal(TalkFault::Refused(*state)),
+        _ => greet(process, said),
+    }
+}
+
+// Says that the session is open.
+fn greet(process: u32, said: &mut Said) -> Result<(), AllocError>
+    ensures { OnOk result (Puts (greeting process) said.old said.new) }
+{
+    said.put(&BackendMessage::AuthenticationOk)?;
+    say_settings(&TOLD, said)?;
+    said.put(&BackendMessage::BackendKeyData(process, 0))?;
+    said.put_ready(BlockStanding::Outside)?;
+    Ok(())
+}
+
+fn say_settings(settings: &[SessionSetting], said: &mut Said) -> Result<(), AllocError>
+    ensures { OnOk result (Puts (map setting_said settings.now) said.old said.new) }
+{
+    for setting in settings {
+        said.put(&BackendMessage::ParameterStatus(setting.name(), setting.initial_value()))?;
+    }
+    Ok(())
+}
+
+// To a statement of a client.
+fn say_run(
+    alloc: Global,
+    moment: &TalkMoment,
+    answer: &Answer,
+    said: &mut Said,
+) -> Result<(), AllocError>
+    ensures { OnOk result (Puts (said_run moment.now.mode moment.now.block answer.now (outcome_of moment.now.block answer.now)) said.old said.new) }
+{
+    match outcome_of(moment.block, answer) {
+        Outcome::Done => say_answer(alloc, moment, answer, said),
+        Outcome::Refused(_) => Ok(()),
+        Outcome::Breaks(fault) => said.put_fatal(fault),
+    }
+}
+
+fn say_answer(
+    alloc: Global,
+    moment: &TalkMoment,
+    answer: &Answer,
+    said: &mut Said,
+) -> Result<(), AllocError>
+    ensures { OnOk result (Puts (answer_said moment.now.mode moment.now.block answer.now) said.old said.new) }
+{
+    match answer {
+        Answer::Rows(rows) => say_table(alloc, moment.mode, rows.as_slice(), said),
+        Answer::Done {
+            tag,
+            count,
+            warning,
+        } => {
+            say_warning(warning_of(moment.block, *tag, *warning), said)?;
+            say_done(alloc, *tag, *count, said)?;
+            Ok(())
+        }
+        Answer::Refused(_) => Ok(()),
+    }
+}
+
+// In a batch the columns were asked for by Describe.
+fn say_table(
+    alloc: Global,
+    mode: Mode,
+    rows: &[Items<Value>],
+    said: &mut Said,
+) -> Result<(), AllocError>
+    ensures { OnOk result (Puts (table_said mode rows.now) said.old said.new) }
+{
+    match mode {
+        Mode::Query => {
+            say_columns(alloc, rows, said)?;
+            say_rows(alloc, rows, said)?;
+            Ok(())
+        }
+        _ => say_rows(alloc, rows, said),
+    }
+}
+
+fn say_warning(warning: Option<Warning>, said: &mut Said) -> Result<(), AllocError>
+    ensures { OnOk result (Puts (warnings_said warning) said.old said.new) }
+{
+    match warning {
+        Some(warning) => said.put_warning(warning),
+        None => Ok(()),
+    }
+}
+
+fn say_done(alloc: Global, tag: Tag, count: Option<u64>, said: &mut Said) -> Result<(), AllocError>
+    ensures { OnOk result (Puts (complete_said (done_tag tag count) ∷ []) said.old said.new) }
+{
+    let words = done_tag(alloc, tag, count)?;
+    said.put(&BackendMessage::CommandComplete(words.as_str()))
+}
+
+fn say_standing(
+    moment: &TalkMoment,
+    standing: Option<BlockStanding>,
+    said: &mut Said,
+) -> Result<(), AllocError>
+    ensures { OnOk result (Puts (said_standing moment.now.stage moment.now standing) said.old said.new) }
+{
+    match moment.stage {
+        TalkStage::Refusing(fault) => say_refusing(moment, fault, standing, said),
+        TalkStage::Judging(fault) => say_judging(moment, fault, standing, said),
+        TalkStage::Settling(settled) => say_settling(moment, settled, standing, said),
+        TalkStage::Emptying => say_emptying(standing, said),
+        TalkStage::Closing => say_closing(standing, said),
+        _ => Ok(()),
+    }
+}
+
+fn say_refusing(
+    moment: &TalkMoment,
+    fault: TalkFault,
+    standing: Option<BlockStanding>,
+    said: &mut Said,
+) -> Result<(), AllocError>
+    ensures { OnOk result (Puts (said_refusing moment.now.block moment.now.mode fault standing) said.old said.new) }
+{
+    match standing {
+        None => said.put_fatal(fault),
+        Some(BlockStanding::Inside) if !spares(fault) => Ok(()),
+        Some(standing) => say_failed(moment, fault, standing, said),
+    }
+}
+
+fn say_judging(
+    moment: &TalkMoment,
+    fault: TalkFault,
+    standing: Option<BlockStanding>,
+    said: &mut Said,
+) -> Result<(), AllocError>
+    ensures { OnOk result (Puts (said_judging moment.now.block moment.now.mode fault standing) said.old said.new) }
+{
+    match standing {
+        None | Some(BlockStanding::Inside) => said.put_fatal(fault),
+        Some(standing) => say_failed(moment, fault, standing, said),
+    }
+}
+
+// Says an error. Behind that of a block of the connection's own, its end is to be learnt; behind that of a batch, Sync is waited for.
+fn say_failed(
+    moment: &TalkMoment,
+    fault: TalkFault,
+    standing: BlockStanding,
+    said: &mut Said,
+) -> Result<(), AllocError>
+    ensures { OnOk result (Puts (said_failed moment.now.block moment.now.mode fault standing) said.old said.new) }
+{
+    said.put_error(fault)?;
+    ready_behind(moment.block, moment.mode, standing, said)?;
+    Ok(())
+}
+
+fn ready_behind(
+    block: TalkBlock,
+    mode: Mode,
+    standing: BlockStanding,
+    said: &mut Said,
+) -> Result<(), AllocError>
+    ensures { OnOk result (Puts (ready_behind block mode standing) said.old said.new) }
+{
+    match block {
+        TalkBlock::Implicit => Ok(()),
+        _ => ready_unless_batch(mode, standing, said),
+    }
+}
+
+fn ready_unless_batch(
+    mode: Mode,
+    standing: BlockStanding,
+    said: &mut Said,
+) -> Result<(), AllocError>
+    ensures { OnOk result (Puts (ready_unless_batch mode standing) said.old said.new) }
+{
+    match mode {
+        Mode::Query => said.put_ready(standing),
+        _ => Ok(()),
+    }
+}
+
+fn say_settling(
+    moment: &TalkMoment,
+    settled: Settled,
+    standing: Option<BlockStanding>,
+    said: &mut Said,
+) -> Result<(), AllocError>
+    ensures { OnOk result (Puts (said_settling moment.now.block moment.now.mode settled standing) said.old said.new) }
+{
+    match standing {
+        None => said.put_fatal(TalkFault::Refused(SqlState::ConnectionDoesNotExist)),
+        Some(BlockStanding::Failed) => say_failed(
+            moment,
+            TalkFault::Refused(SqlState::InFailedTransaction),
+            BlockStanding::Failed,
+            said,
+        ),
+        Some(_) => say_settled(moment.mode, settled, said),
+    }
+}
+
+fn say_settled(mode: Mode, settled: Settled, said: &mut Said) -> Result<(), AllocError>
+    ensures { OnOk result (Puts (settled_said mode settled) said.old said.new) }
+{
+    say_settled_columns(mode, settled.row(), said)?;
+    say_settled_rows(settled.row(), said)?;
+    said.put(&BackendMessage::CommandComplete(settled.tag()))?;
+    Ok(())
+}
+
+fn say_settled_columns(
+    mode: Mode,
+    row: Option<(&'static str, &'static str)>,
+    said: &mut Said,
+) -> Result<(), AllocError>
+    ensures { OnOk result (Puts (settled_columns mode (option_map (λ r. (r.0.now, r.1.now)) row.entry)) said.old said.new) }
+{
+    match (mode, row) {
+        (Mode::Query, Some((name, _))) => said.put(&BackendMessage::RowDescription(&[
+            DescribedColumn {
+                name,
+                data_type: DataType::Text,
+                format: ValueFormat::Text,
+            },
+        ])),
+        _ => Ok(()),
+    }
+}
+
+fn say_settled_rows(
+    row: Option<(&'static str, &'static str)>,
+    said: &mut Said,
+) -> Result<(), AllocError>
+    ensures { OnOk result (Puts (settled_rows (option_map (λ r. (r.0.now, r.1.now)) row.entry)) said.old said.new) }
+{
+    match row {
+        Some((_, value)) => said.put(&BackendMessage::DataRow(&[FieldBytes::Bytes(
+            value.as_bytes(),
+        )])),
+        None => Ok(()),
+    }
+}
+
+fn say_emptying(standing: Option<BlockStanding>, said: &mut Said) -> Result<(), AllocError>
+    ensures { OnOk result (Puts (said_emptying standing) said.old said.new) }
+{
+    match standing {
+        None => said.put_fatal(TalkFault::Refused(SqlState::ConnectionDoesNotExist)),
+        Some(_) => said.put(&BackendMessage::EmptyQueryResponse),
+    }
+}
+
+fn say_closing(standing: Option<BlockStanding>, said: &mut Said) -> Result<(), AllocError>
+    ensures { OnOk result (Puts (said_closing standing) said.old said.new) }
+{
+    match standing {
+        None => said.put_fatal(TalkFault::Refused(SqlState::ConnectionDoesNotExist)),
+        Some(standing) => said.put_ready(standing),
+    }
+}

@@ -1,0 +1,102 @@
+"""What the program of postgres_talks_tests writes, computed a second time, from PostgreSQL's manual (chapter 55): `python3 expected.py > stdout`."""
+import struct
+
+
+def message(kind, body=b''):
+    return kind + struct.pack('>I', 4 + len(body)) + body
+
+
+def text(words):
+    return words.encode() + b'\0'
+
+
+def query(words):
+    return message(b'Q', text(words))
+
+
+def parse(name, words):
+    return message(b'P', text(name) + text(words) + b'\0\0')
+
+
+def bind(portal, name):
+    return message(b'B', text(portal) + text(name) + b'\0\0\0\0\0\0')
+
+
+def execute(portal):
+    return message(b'E', text(portal) + b'\0\0\0\0')
+
+
+def report(kind, severity, code, words):
+    return message(kind, b'S' + text(severity) + b'V' + text(severity) + b'C' + text(code) + b'M' + text(words) + b'\0')
+
+
+def error(code, words):
+    return report(b'E', 'ERROR', code, words)
+
+
+def fatal(code, words):
+    return report(b'E', 'FATAL', code, words)
+
+
+def ready(byte):
+    return message(b'Z', byte)
+
+
+def complete(words):
+    return message(b'C', text(words))
+
+
+def columns(*heads):
+    return message(b'T', struct.pack('>H', len(heads)) + b''.join(
+        text(name) + struct.pack('>IHIHIH', 0, 0, number, size, 0xFFFFFFFF, 0) for name, number, size in heads))
+
+
+def row(*values):
+    return message(b'D', struct.pack('>H', len(values)) + b''.join(
+        b'\xff\xff\xff\xff' if value is None else struct.pack('>I', len(value)) + value for value in values))
+
+
+SYNC, LEAVE = message(b'S'), message(b'X')
+IDLE, OPEN, FAILED = ready(b'I'), ready(b'T'), ready(b'E')
+BROKEN = fatal('08P01', 'protocol violation')
+ONE_ROW = (columns(('?column?', 20, 8), ('?column?', 25, 0xFFFF), ('?column?', 16, 1), ('?column?', 25, 0xFFFF))
+           + row(b'-12', b"a'b", b't', None) + complete('SELECT 1'))
+GREETING = (b'N' + message(b'R', b'\0\0\0\0') + b''.join(message(b'S', text(name) + text(value)) for name, value in (
+    ('client_encoding', 'UTF8'), ('DateStyle', 'ISO, MDY'), ('integer_datetimes', 'on'), ('server_encoding', 'UTF8'),
+    ('server_version', '15.0 (Guarddb)'), ('standard_conforming_strings', 'on'), ('TimeZone', 'UTC')))
+    + message(b'K', struct.pack('>II', 7, 0)) + IDLE)
+ABORTED = error('25P02', 'current transaction is aborted, commands ignored until end of transaction block')
+CATALOGUE = error('0A000', 'catalogues are not supported')
+NO_BLOCK = report(b'N', 'WARNING', '25P01', 'there is no transaction in progress')
+PARSED, BOUND, CLOSED = message(b'1'), message(b'2'), message(b'3')
+
+# what a client sends behind the start, and what it is told
+PLAYED = [
+    (query('SELECT 1') + LEAVE, ONE_ROW + IDLE),
+    (query('INSERT; ;UPDATE; WRONG') + query(';'),
+     complete('INSERT 0 2') + complete('UPDATE 3') + error('42601', 'syntax error') + IDLE + message(b'I') + IDLE),
+    (query('BEGIN; MEMORY; FOO') + query('COMMIT') + query('COMMIT'),
+     complete('BEGIN') + error('53200', 'out of memory') + FAILED + complete('ROLLBACK') + IDLE + NO_BLOCK + complete('COMMIT') + IDLE),
+    (query('INSERT; COMMIT; INSERT') + b'?',
+     complete('INSERT 0 2') + NO_BLOCK + complete('COMMIT') + complete('INSERT 0 2') + IDLE + BROKEN),
+    (query('BEGIN') + query('select pg_catalog.version()') + query('SELECT x FROM t LEFT JOIN u ON a') + query('show datestyle') + query('end'),
+     complete('BEGIN') + OPEN + columns(('version', 25, 0xFFFF)) + row(b'PostgreSQL 15.0 (Guarddb)') + complete('SELECT 1') + OPEN
+     + error('0A000', 'word that PostgreSQL reserves is not supported') + FAILED + ABORTED + FAILED + complete('ROLLBACK') + IDLE),
+    (query('BEGIN') + query('SELECT NULL::pg_catalog.text') + query('SELECT a FROM pg_catalog.pg_class') + query('COMMIT'),
+     complete('BEGIN') + OPEN + CATALOGUE + OPEN + CATALOGUE + OPEN + complete('COMMIT') + IDLE),
+    (parse('a', 'INSERT') + bind('', 'a') + execute('') + parse('', 'UPDATE') + bind('', '') + execute('') + SYNC,
+     PARSED + BOUND + complete('INSERT 0 2') + PARSED + BOUND + complete('UPDATE 3') + IDLE),
+    (parse('a', 'INSERT') + bind('', 'a') + execute('') + parse('', 'WRONG') + bind('', '') + execute('') + parse('b', 'INSERT')
+     + query('SELECT 1') + SYNC + query('SELECT 1'),
+     PARSED + BOUND + complete('INSERT 0 2') + PARSED + BOUND + error('42601', 'syntax error') + IDLE + ONE_ROW + IDLE),
+    (parse('a', 'BEGIN') + bind('', 'a') + execute('') + SYNC + bind('', 'a') + execute('x') + SYNC + message(b'C', b'Sa\0') + bind('', 'a') + SYNC,
+     PARSED + BOUND + complete('BEGIN') + OPEN + BOUND + error('34000', 'portal does not exist') + FAILED
+     + CLOSED + error('26000', 'prepared statement does not exist') + FAILED),
+    (query('DEVICE'), fatal('58030', 'device failed, and the server has stopped')),
+    (message(b'D', b'S\0') + SYNC, error('0A000', 'message is not supported') + IDLE),
+    (query(''), message(b'I') + IDLE),
+]
+
+for sent, told in PLAYED:
+    print((GREETING + told).hex())
+    print(f'{len(sent)} of {len(sent)}')

@@ -1,0 +1,303 @@
+#!/usr/bin/env python3
+"""Tests of what PostgreSQL's protocol is answered by, byte by byte: python3 tests/test_postgres_bytes.py [TESTS]
+
+The program is the one in the environment variable GUARDDB. What is expected is what chapter 55 of PostgreSQL's manual says of the flow of
+messages, and what docs/postgres.md says is not there. MESSAGES in the environment is how many messages at random are sent.
+"""
+import os
+import random
+import socket
+import struct
+import time
+import unittest
+
+from postgres_client import (CANCEL_REQUEST, FLUSH, GSS_REQUEST, LEAVE, SSL_REQUEST, SYNC, AtServer, Client, bind, close, codes, describe, execute, fields, kinds,
+                             packet, parse, query, start_packet)
+from program import PATIENCE, free_port
+
+MESSAGES = int(os.environ.get('MESSAGES', '1000'))
+SEED = int(os.environ.get('SEED', '1'))
+SERVERS = b'RSZTDCEIN123KntsAGHWV'      # the kinds of a server's messages
+MOST = 131072                           # the greatest length that a message may name
+ROOM = 64 << 20                         # bytes that a server may take more than before
+
+
+def memory_of(process):
+    """The bytes of memory that a process has, and the most that it had."""
+    with open(f'/proc/{process}/status', encoding='ascii') as file:
+        told = dict(line.split(':', 1) for line in file)
+    return tuple(int(told[name].split()[0]) << 10 for name in ('VmRSS', 'VmHWM'))
+
+
+class Conversations(AtServer):
+    def test_two_at_once(self):
+        with self.served('--clients', 2), Client(self.socket, 'root') as first, Client(self.socket, 'bob') as second:
+            self.assertEqual(kinds(first.ask('BEGIN')), b'CZ')
+            self.assertEqual(first.ask("INSERT INTO t VALUES (9, 'nine')"), [(b'C', b'INSERT 0 1\0'), (b'Z', b'T')])
+            self.assertEqual(second.ask('SELECT COUNT(*) FROM t')[1:], [(b'D', b'\0\1\0\0\0\x012'), (b'C', b'SELECT 1\0'), (b'Z', b'I')])
+            self.assertEqual(first.ask('COMMIT'), [(b'C', b'COMMIT\0'), (b'Z', b'I')])
+            self.assertEqual(second.ask('SELECT COUNT(*) FROM t')[1], (b'D', b'\0\1\0\0\0\x013'))
+
+    def test_beyond_as_many_as_may_be(self):
+        for port in (None, free_port()):
+            with self.subTest(port), self.served('--clients', 1, port=port), Client(port or self.socket, 'root') as first:
+                with Client(port or self.socket) as second:
+                    kind, body = second.message()
+                    told = fields(body)
+                    self.assertEqual((kind, told['S'], told['V'], told['C'], told['M']), (b'E', 'FATAL', 'FATAL', '53300', 'sorry, too many clients already'))
+                    self.assertIsNone(second.message())
+                self.assertEqual(kinds(first.ask('SELECT 1')), b'TDCZ')
+
+    def test_no_encryption(self):
+        with self.served('--clients', 1), Client(self.socket) as client:
+            for request in (GSS_REQUEST, SSL_REQUEST):
+                client.send(request)
+                self.assertEqual(client.came.read(1), b'N')
+            client.send(start_packet('root', 'database', 'x', 'application_name', 'y', 'client_encoding', 'LATIN1'))
+            told = client.until(b'Z')
+            self.assertEqual(told[0], (b'R', b'\0\0\0\0'))
+            self.assertIn((b'S', b'client_encoding\0UTF8\0'), told)
+
+    def test_starts_that_are_none(self):
+        """Each is told why, where it can be, and is closed."""
+        other = packet(b'', struct.pack('>I', 2 << 16) + b'user\0root\0\0')
+        for start, code in [(other, '0A000'), (packet(b'', struct.pack('>I', 3 << 16) + b'\0'), '28000'), (start_packet(''), '28000'), (start_packet('nobody'), '28000'),
+                            (packet(b'', struct.pack('>I', 3 << 16) + b'user\0\xff\0\0'), '28000'), (packet(b'', struct.pack('>I', 3 << 16) + b'user'), '08P01'),
+                            (b'GET / HTTP/1.1\r\n\r\n', '08P01'), (b'\0\0\0\0', '08P01'), (b'\0\0\0\7', '08P01'), (b'\0\0\x27\x11', '08P01'), (b'\xff' * 64, '08P01')]:
+            with self.subTest(start[:32]), self.served('--clients', 1), Client(self.socket) as client:
+                client.send(start)
+                told = client.rest()
+                self.assertEqual((kinds(told), codes(told), fields(told[0][1])['S']), (b'E', [code], 'FATAL'))
+        with self.served('--clients', 1), Client(self.socket) as client:
+            client.send(CANCEL_REQUEST)
+            self.assertEqual(client.rest(), [])
+
+    def test_lengths_that_are_none(self):
+        """A message with such a length ends its connection with 08P01, and no other connection."""
+        with self.served('--clients', 2), Client(self.socket, 'root') as other:
+            for kind in b'QPBDECSHFdcfpX\0\x01Z~':
+                for length in (0, 3, MOST + 1, 0x7fffffff, 0xffffffff):
+                    with self.subTest(kind=kind, length=length), Client(self.socket, 'root') as client:
+                        client.send(bytes([kind]) + struct.pack('>I', length))
+                        self.assertEqual(codes(client.rest()), ['08P01'])
+            self.assertEqual(kinds(other.ask('SELECT 1')), b'TDCZ')
+
+    def test_messages_of_a_server(self):
+        with self.served('--clients', 2), Client(self.socket, 'root') as other:
+            for message in [packet(b'R', b'\0\0\0\0'), packet(b'Z', b'I'), packet(b'T', b'\0\0'), packet(b'K', b'\0' * 8), packet(b'1', b''), packet(b'G', b'\0\0\0')]:
+                with self.subTest(message), Client(self.socket, 'root') as client:
+                    client.send(message)
+                    self.assertEqual(codes(client.rest()), ['08P01'])
+            self.assertEqual(kinds(other.ask('SELECT 1')), b'TDCZ')
+
+
+class Blocks(AtServer):
+    def test_several_statements_in_one_text(self):
+        """They are one block, unless they have one of their own (55.2.2.1)."""
+        with self.served('--clients', 1), Client(self.socket, 'root') as client:
+            self.assertEqual(kinds(client.ask('SELECT 1; SELECT 2;')), b'TDCTDCZ')
+            self.assertEqual(kinds(client.ask('INSERT INTO t VALUES (7, NULL); SELECT 1 / 0; INSERT INTO t VALUES (8, NULL)')), b'CEZ')
+            self.assertEqual(kinds(client.ask('SELECT k FROM t WHERE k > 2')), b'TCZ')
+            self.assertEqual(client.ask('BEGIN; INSERT INTO t VALUES (7, NULL); COMMIT; SELEC; SELECT 1')[-1], (b'Z', b'I'))
+            self.assertEqual(client.ask('SELECT k FROM t WHERE k > 2')[1], (b'D', b'\0\1\0\0\0\x017'))
+            self.assertEqual(kinds(client.ask('')), b'IZ')
+            self.assertEqual(kinds(client.ask(' ; -- nothing\n;')), b'IZ')
+
+    def test_a_block_that_has_failed(self):
+        with self.served('--clients', 1), Client(self.socket, 'root') as client:
+            for wrong in ('SELECT 1 / 0', 'SELEC', 'SELECT LEFT FROM t'):
+                with self.subTest(wrong):
+                    self.assertEqual(client.ask('BEGIN')[-1], (b'Z', b'T'))
+                    self.assertEqual(kinds(client.ask('INSERT INTO t VALUES (7, NULL)')), b'CZ')
+                    self.assertEqual(client.ask(wrong)[-1], (b'Z', b'E'))
+                    told = client.ask('SHOW server_version')
+                    self.assertEqual((codes(told), told[-1]), (['25P02'], (b'Z', b'E')))
+                    self.assertEqual(client.ask('COMMIT'), [(b'C', b'ROLLBACK\0'), (b'Z', b'I')])
+                    self.assertEqual(kinds(client.ask('SELECT k FROM t WHERE k > 2')), b'TCZ')
+
+    def test_a_client_that_leaves_a_block(self):
+        """What it did is taken back, and the next one may write."""
+        for leave in (b'', LEAVE, b'\0'):
+            with self.subTest(leave), self.served('--clients', 2), Client(self.socket, 'root') as other:
+                with Client(self.socket, 'root') as client:
+                    client.ask('BEGIN')
+                    client.ask('INSERT INTO t VALUES (7, NULL)')
+                    client.send(leave)
+                ended = time.monotonic() + PATIENCE
+                while codes(other.ask('DELETE FROM t WHERE k > 2')) == ['55P03'] and time.monotonic() < ended:
+                    time.sleep(0.01)
+                self.assertEqual(other.ask('DELETE FROM t WHERE k > 2')[0], (b'C', b'DELETE 0\0'))
+
+
+class Batches(AtServer):
+    """The extended query (55.2.3), as far as it is there."""
+
+    def test_a_statement_without_parameters(self):
+        with self.served('--clients', 1), Client(self.socket, 'root') as client:
+            self.assertEqual(kinds(client.ask(parse('SELECT k FROM t', 'a'), bind(name='a'), execute(), SYNC)), b'12DDCZ')
+            self.assertEqual(kinds(client.ask(bind(name='a'), execute(), SYNC)), b'2DDCZ')
+            self.assertEqual(kinds(client.ask(close(b'S', 'a'), bind(name='a'), SYNC)), b'3EZ')
+            client.send(parse('SELECT 1'), FLUSH)
+            self.assertEqual(client.message(), (b'1', b''))
+            self.assertEqual(client.ask(SYNC), [(b'Z', b'I')])
+
+    def test_what_is_not_there(self):
+        """An error, which says so, and the connection goes on behind Sync."""
+        with self.served('--clients', 1), Client(self.socket, 'root') as client:
+            for messages, code in [((parse('SELECT 1'), describe(b'S')), '0A000'), ((parse('SELECT 1'), bind(), describe(b'P'), execute()), '0A000'),
+                                   ((parse('SELECT $1', types=[20]), bind([b'1']), execute()), '08P01'), ((parse('SELECT 1'), bind([b'1', None])), '08P01'),
+                                   ((parse('SELECT 1'), bind(results=[1])), '0A000'), ((parse('SELECT 1'), bind(formats=[1])), '0A000'),
+                                   ((parse('SELECT 1'), bind(), execute(most=5)), '0A000'), ((parse('SELECT 1; SELECT 2'),), '42601'), ((bind(name='none'),), '26000'),
+                                   ((execute('none'),), '34000'), ((parse('SELECT 1', 'b'), parse('SELECT 2', 'b')), '42P05'), ((parse('SELEC'), bind(), execute()), '42601')]:
+                with self.subTest(code, messages=messages):
+                    told = client.ask(*messages, parse('SELECT 1'), query('SELECT 1'), SYNC)
+                    self.assertEqual((codes(told), told[-2][0], told[-1]), ([code], b'E', (b'Z', b'I')))
+                    self.assertEqual(kinds(client.ask('SELECT 1')), b'TDCZ')
+            told = client.ask(packet(b'F', b'\0\0\0\1\0\0\0\0\0\0'))        # FunctionCall
+            self.assertEqual((codes(told), kinds(told)), (['0A000'], b'EZ'))
+            told = client.ask(packet(b'Q', b'SELECT \xff\0'))
+            self.assertEqual((codes(told), kinds(told)), (['22021'], b'EZ'))
+            client.send(packet(b'd', b'x'), packet(b'c', b''), packet(b'f', b'x\0'))
+            self.assertEqual(kinds(client.ask('SELECT 1')), b'TDCZ')
+
+    def test_a_batch_is_one_transaction(self):
+        with self.served('--clients', 1), Client(self.socket, 'root') as client:
+            write = [parse('INSERT INTO t VALUES (7, NULL)'), bind(), execute()]
+            self.assertEqual(kinds(client.ask(*write, parse('SELECT 1 / 0'), bind(), execute(), parse('SELECT 2'), SYNC)), b'12C12EZ')
+            self.assertEqual(kinds(client.ask('SELECT k FROM t WHERE k > 2')), b'TCZ')
+            self.assertEqual(kinds(client.ask(*write, SYNC)), b'12CZ')
+            self.assertEqual(kinds(client.ask('SELECT k FROM t WHERE k > 2')), b'TDCZ')
+
+
+class Bounds(AtServer):
+    """Whatever is sent, a server takes little memory, answers others and goes on."""
+
+    def others(self, client):
+        self.assertEqual(client.ask('SELECT COUNT(*) FROM t')[1], (b'D', b'\0\1\0\0\0\x012'))
+
+    def test_a_start_that_does_not_end(self):
+        with self.served('--clients', 8, '--idle', 1) as server, Client(self.socket) as slow, Client(self.socket) as silent, Client(self.socket) as third:
+            slow.send(b'\0\0\x27\x10')
+            third.send(start_packet('root')[:-1])
+            for _ in range(10):
+                with Client(self.socket, 'root') as other:
+                    self.others(other)
+            for client in (slow, silent, third):
+                self.assertEqual(client.rest(), [])
+            self.assertLess(memory_of(server.pid)[1], ROOM)
+
+    def test_as_many_parameters_as_are_named(self):
+        with self.served('--clients', 2) as server, Client(self.socket, 'root') as other:
+            before = memory_of(server.pid)[0]
+            for _ in range(20):
+                with Client(self.socket, 'root') as client:
+                    told = client.ask(parse('SELECT 1', types=[20] * 32000), SYNC)
+                    self.assertEqual(kinds(told), b'1Z')
+                    self.assertEqual(codes(client.ask(bind([None] * 32000), SYNC)), ['08P01'])
+                    self.assertEqual(codes(client.ask(bind(formats=[0] * 65000), SYNC)), [])
+                    self.assertEqual(kinds(client.ask('SELECT ' + ', '.join('1' for _ in range(40000)))), b'EZ')
+                    client.send(packet(b'P', b'\0SELECT 1\0\xff\xff'))
+                    self.assertEqual(codes(client.rest()), ['08P01'])
+                with Client(self.socket) as client:
+                    client.send(packet(b'', struct.pack('>I', 3 << 16) + b'a\0\0' * 3000 + b'user\0bob\0\0'))
+                    self.assertEqual(client.until(b'Z')[-1], (b'Z', b'I'))
+                self.others(other)
+            self.assertLess(memory_of(server.pid)[1] - before, ROOM)
+
+    def test_as_many_statements_as_are_kept(self):
+        """512 statements and 64 portals are kept of a connection; their memory is given back at its end."""
+        with self.served('--clients', 2) as server, Client(self.socket, 'root') as other:
+            before = memory_of(server.pid)[0]
+            with Client(self.socket, 'root') as client:
+                for number in range(512):
+                    self.assertEqual(kinds(client.ask(parse('SELECT 1', f's{number}'), SYNC)), b'1Z')
+                self.assertEqual(codes(client.ask(parse('SELECT 1', 's512'), SYNC)), ['54000'])
+                told = client.ask(*(bind(portal=f'p{number}', name='s1') for number in range(65)), SYNC)
+                self.assertEqual((kinds(told), codes(told)), (b'2' * 64 + b'EZ', ['54000']))
+                self.assertEqual(kinds(client.ask('SELECT 1')), b'TDCZ')
+            self.others(other)
+            self.assertLess(memory_of(server.pid)[1] - before, ROOM)
+
+    def test_a_client_that_does_not_read(self):
+        with self.served('--clients', 2) as server, Client(self.socket, 'root') as other, Client(self.socket, 'bob') as client:
+            before = memory_of(server.pid)[0]
+            client.socket.setblocking(False)
+            wide, sent = query('SELECT ' + ', '.join(f"'{'y' * 50}'" for _ in range(16))), 0
+            for _ in range(2000):
+                try:
+                    sent += client.socket.send(wide * 50)
+                except BlockingIOError:
+                    self.others(other)
+            self.assertLess(memory_of(server.pid)[1] - before, ROOM)
+
+    def test_messages_at_random(self):
+        """MESSAGES messages, altered and joined: what comes back is messages, the connection ends, and what bob may not change stays."""
+        choice = random.Random(SEED)
+        sent = 0
+        with self.served('--clients', 3) as server, Client(self.socket, 'root') as other:
+            before = memory_of(server.pid)[0]
+            while sent < MESSAGES:
+                messages = [altered(choice, choice.choice(SAMPLES)) for _ in range(choice.randint(1, 20))]
+                start = altered(choice, start_packet('bob')) if choice.random() < 0.2 else start_packet('bob')
+                sent += len(messages) + 1
+                with self.subTest(seed=SEED, start=start, messages=messages), Client(self.socket) as client:
+                    client.send(choice.choice([SSL_REQUEST, GSS_REQUEST]))
+                    self.assertEqual(client.came.read(1), b'N')
+                    self.tell(client, start, *messages)
+                    self.sound(client)
+                self.others(other)
+            self.assertLess(memory_of(server.pid)[1] - before, ROOM)
+
+    def tell(self, client, *messages):
+        try:
+            client.send(*messages)
+            client.socket.shutdown(socket.SHUT_WR)
+        except OSError:         # it was ended before
+            pass
+
+    def sound(self, client):
+        """What comes is messages of a server, each error with a code; and nothing comes behind a FATAL one."""
+        while True:
+            message = client.message()
+            if message is None:
+                break
+            self.assertIn(message[0], [bytes([kind]) for kind in SERVERS])
+            if message[0] == b'E':
+                told = fields(message[1])
+                self.assertRegex(told['C'], r'^[0-9A-Z]{5}$')
+                if told['S'] == 'FATAL':
+                    self.assertIsNone(client.message())
+
+
+SAMPLES = [query('SELECT 1'), query('SELECT k, x FROM t ORDER BY k'), query('BEGIN'), query('COMMIT'), query('ROLLBACK'), query('INSERT INTO t VALUES (7, NULL)'),
+           query("SELECT 'a;b'; SELECT 2;"), query('SET client_encoding = \'UTF8\''), query('SHOW timezone'), query('SELECT * FROM pg_catalog.pg_class'), query('END'),
+           query(';' * 100), query(''), parse('SELECT 1'), parse('SELECT k FROM t', 'a'), bind(), bind(name='a', portal='b'), bind([b'1', None]), execute(), execute('b'),
+           execute(most=1), describe(b'S'), describe(b'P', 'b'), close(b'S', 'a'), close(b'P'), SYNC, SYNC, SYNC, FLUSH, packet(b'F', b'\0' * 12), packet(b'd', b'abc'),
+           packet(b'c', b''), packet(b'f', b'no\0'), packet(b'p', b'word\0'), packet(b'Z', b'I'), LEAVE, start_packet('bob'), SSL_REQUEST, CANCEL_REQUEST, b'', bytes(9)]
+
+
+def altered(choice, message):
+    """A message with none to three changes: a byte, a cut, some bytes more, another length, or other bytes altogether."""
+    made = bytearray(message)
+    for _ in range(choice.choice([0, 0, 0, 1, 1, 2, 3])):
+        at = choice.randrange(len(made) + 1)
+        kind = choice.randrange(6)
+        if kind == 0 and made:
+            made[at - 1] = choice.randrange(256)
+        elif kind == 1:
+            del made[at:at + choice.randint(1, 8)]
+        elif kind == 2:
+            made[at:at] = choice.randbytes(choice.choice([1, 2, 8, 300]))
+        elif kind == 3 and len(made) >= 5:
+            made[1:5] = struct.pack('>I', choice.choice([0, 3, 4, 5, len(made) - 2, len(made), len(made) + 1, 9999, MOST, MOST + 1, 1 << 31]))
+        elif kind == 4 and len(made) > 5:
+            at = choice.randrange(5, len(made))
+            made[at:at] = b'\0'
+            made[1:5] = struct.pack('>I', len(made) - 1)
+        elif kind == 5 and choice.random() < 0.1:
+            made = bytearray(choice.randbytes(choice.randint(1, 2000)))
+    return bytes(made)
+
+
+if __name__ == '__main__':
+    unittest.main()
