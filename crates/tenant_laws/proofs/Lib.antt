@@ -1,0 +1,3 @@
+pub mod LivesTold
+pub mod LivesApart
+pub mod DeviceLives

@@ -1,0 +1,3 @@
+pub mod TenantLives
+pub mod LivesApart
+pub mod DeviceLives
