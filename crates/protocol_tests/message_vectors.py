@@ -1,5 +1,4 @@
-#!/usr/bin/env python3
-"""Writes stdin and stdout of this program: requests, and the answers that PostgreSQL's manual gives (chapter 55).
+"""Requests of messages of PostgreSQL's protocol, and the answers that its manual gives (chapter 55).
 
 `recorded.txt` has what clients sent to PostgreSQL 15, a segment in a line: the client, the segment's size in bytes, and its
 messages. Messages are spelled here by `struct` alone; those of a segment must have the recorded size.
@@ -242,13 +241,6 @@ def written():
     yield line('put', 'CommandComplete', b'\0'.hex()), unfit
 
 
-def main():
-    pairs = [pair for part in (recorded, read_well, read_badly, fronts, written) for pair in part()]
-    with open(os.path.join(HERE, 'stdin'), 'w', encoding='utf-8') as requests, open(os.path.join(HERE, 'stdout'), 'w', encoding='utf-8') as answers:
-        for request, answer in pairs:
-            requests.write(request + '\n')
-            answers.write(answer + '\n')
-
-
-if __name__ == '__main__':
-    main()
+def pairs():
+    """Each request with its answer."""
+    return [pair for part in (recorded, read_well, read_badly, fronts, written) for pair in part()]

@@ -1,10 +1,11 @@
-#!/usr/bin/env python3
-"""Writes `stdin` and `stdout` of this crate: the vectors of RFC 4231, RFC 7914 and RFC 7677, verifiers that PostgreSQL 15 made, and
+"""Requests of SCRAM-SHA-256 and their answers: the vectors of RFC 4231, RFC 7914 and RFC 7677, verifiers that PostgreSQL 15 made, and
 exchanges whose answers Python's hashlib and hmac give."""
 import base64
 import hashlib
 import hmac
+import os
 
+HERE = os.path.dirname(os.path.realpath(__file__))
 SECRET, DRAWN = b"\x07" * 32, b"\xa5" * 32
 lines = []
 
@@ -73,7 +74,7 @@ def standard_exchange():
 
 def texts():
     # a password in hexadecimal digits, and what PostgreSQL 15 stored for it in pg_authid
-    for line in open("postgres.txt"):
+    for line in open(os.path.join(HERE, "postgres.txt"), encoding="ascii"):
         password, text = line.split()
         count, salt = text.split("$")[1].split(":")
         ask(f"verifier {count} {password} {base64.b64decode(salt).hex()}", text)
@@ -147,9 +148,8 @@ def exchanges():
     ask(f"finish {bob.text()} x", "no exchange")
 
 
-for part in (codes, keys, standard_exchange, texts, exchanges):
-    part()
-with open("stdin", "w") as asked, open("stdout", "w") as answers:
-    for request, answer in lines:
-        asked.write(request + "\n")
-        answers.write(answer + "\n")
+def pairs():
+    """Each request with its answer."""
+    for part in (codes, keys, standard_exchange, texts, exchanges):
+        part()
+    return lines

@@ -1,5 +1,5 @@
 use Rattle.std.proofs.Common.{◌≤◌, length}
-use Rattle.postgres_messages_tests.proofs.requests.print_sizes.Given as goal
+use Rattle.protocol_tests.proofs.messages.print_sizes.Given as goal
 
 abbrev pub invariant-loop-size : goal.invariant-loop-size
 invariant-loop-size g l = length l.rest ≤ length l.bytes

@@ -1,15 +1,6 @@
-//! Codes, derived keys, verifiers and exchanges of SCRAM-SHA-256, one request in a line of standard input, one answer in a line of
-//! standard output. Bytes are in hexadecimal digits; `vectors.py` writes both files.
-//!
-//! - `code KEY MESSAGE`: HMAC's code.
-//! - `derive ITERATIONS PASSWORD SALT`: the derived key.
-//! - `verifier ITERATIONS PASSWORD SALT`: the verifier's text.
-//! - `read TEXT`: the text of the verifier that was read, or `none`.
-//! - `show TEXT MESSAGES PROOF`: the server's signature where the proof, 32 bytes, shows the password, or `refused`.
-//! - `begin ROLE STORED FIRST`: the server's first message, or `none`. STORED is a verifier's text, or `-`.
-//! - `finish STORED LAST`: the server's last message, or `refused`.
-#![tactic(auto)]
+//! Codes, derived keys, verifiers and exchanges of SCRAM-SHA-256.
 
+use crate::printing::{bytes_of, two};
 use scram::exchange::{Exchange, Shown};
 use scram::mock::Mock;
 use scram_hashes::hmac::hmac_sha256;
@@ -24,52 +15,8 @@ const SECRET: [u8; 32] = [7; 32];
 
 const DRAWN: [u8; 32] = [0xA5; 32];
 
-fn main(rt: HostRuntime) -> io::Result<()> {
-    let input = io::read_to_string(rt.alloc(), rt.stdin())?;
-    let mut exchange = None;
-    for line in input.lines() {
-        let Some((verb, words)) = line.split_once(' ') else {
-            continue;
-        };
-        match verb {
-            "begin" => exchange = begin(&rt, rt.alloc(), words)?,
-            "finish" => finish(&rt, rt.alloc(), exchange.as_ref(), words)?,
-            _ => answer(&rt, rt.alloc(), verb, words)?,
-        }
-    }
-    Ok(())
-}
-
-/// Answers a line that needs no exchange.
-fn answer<R: Print>(rt: &R, alloc: Global, verb: &str, words: &str) -> io::Result<()> {
-    match verb {
-        "code" => code(rt, alloc, words),
-        "derive" => derive(rt, alloc, words),
-        "verifier" => verifier(rt, alloc, words),
-        "read" => read(rt, alloc, words),
-        "show" => show(rt, alloc, words),
-        _ => println!(rt; "unknown"),
-    }
-}
-
-/// Two words of a line.
-fn two(words: &str) -> (&str, &str) {
-    match words.split_once(' ') {
-        Some(parts) => parts,
-        None => (words, ""),
-    }
-}
-
-/// The bytes that hexadecimal digits write, or no bytes where they write none.
-fn bytes_of(alloc: Global, digits: &str) -> Vec<u8> {
-    match hex::decode(alloc, digits) {
-        Ok(bytes) => bytes,
-        Err(_) => Vec::new(alloc),
-    }
-}
-
 /// Prints bytes.
-fn print_bytes<R: Print>(rt: &R, alloc: Global, bytes: &[u8]) -> io::Result<()> {
+fn print_digits<R: Print>(rt: &R, alloc: Global, bytes: &[u8]) -> io::Result<()> {
     let digits = hex::encode(alloc, bytes)?;
     println!(rt; "{}", digits.as_str())
 }
@@ -83,29 +30,29 @@ fn print_text<R: Print>(rt: &R, bytes: &[u8]) -> io::Result<()> {
 }
 
 /// `code KEY MESSAGE`
-fn code<R: Print>(rt: &R, alloc: Global, words: &str) -> io::Result<()> {
+pub fn code<R: Print>(rt: &R, alloc: Global, words: &str) -> io::Result<()> {
     let (key, message) = two(words);
     let key = bytes_of(alloc, key);
     let message = bytes_of(alloc, message);
-    print_bytes(rt, alloc, &hmac_sha256(&key, &message))
+    print_digits(rt, alloc, &hmac_sha256(&key, &message))
 }
 
 /// `derive ITERATIONS PASSWORD SALT`
-fn derive<R: Print>(rt: &R, alloc: Global, words: &str) -> io::Result<()> {
+pub fn derive<R: Print>(rt: &R, alloc: Global, words: &str) -> io::Result<()> {
     let (count, words) = two(words);
     let (password, salt) = two(words);
     let password = bytes_of(alloc, password);
     let salt = bytes_of(alloc, salt);
     match count.parse::<u32>() {
         Ok(iterations) if iterations >= 1 => {
-            print_bytes(rt, alloc, &derive_key(&password, &salt, iterations))
+            print_digits(rt, alloc, &derive_key(&password, &salt, iterations))
         }
         _ => println!(rt; "none"),
     }
 }
 
 /// `verifier ITERATIONS PASSWORD SALT`
-fn verifier<R: Print>(rt: &R, alloc: Global, words: &str) -> io::Result<()> {
+pub fn verifier<R: Print>(rt: &R, alloc: Global, words: &str) -> io::Result<()> {
     let (count, words) = two(words);
     let (password, salt) = two(words);
     let password = bytes_of(alloc, password);
@@ -122,7 +69,7 @@ fn verifier<R: Print>(rt: &R, alloc: Global, words: &str) -> io::Result<()> {
 }
 
 /// `read TEXT`
-fn read<R: Print>(rt: &R, alloc: Global, words: &str) -> io::Result<()> {
+pub fn read<R: Print>(rt: &R, alloc: Global, words: &str) -> io::Result<()> {
     let Some(verifier) = Verifier::from_text(alloc, words)? else {
         return println!(rt; "none");
     };
@@ -131,7 +78,7 @@ fn read<R: Print>(rt: &R, alloc: Global, words: &str) -> io::Result<()> {
 }
 
 /// `show TEXT MESSAGES PROOF`
-fn show<R: Print>(rt: &R, alloc: Global, words: &str) -> io::Result<()> {
+pub fn show<R: Print>(rt: &R, alloc: Global, words: &str) -> io::Result<()> {
     let (text, words) = two(words);
     let (messages, proof) = two(words);
     let messages = bytes_of(alloc, messages);
@@ -141,7 +88,7 @@ fn show<R: Print>(rt: &R, alloc: Global, words: &str) -> io::Result<()> {
     };
     match <[u8; 32]>::try_from(proof.as_slice()) {
         Ok(proof) if verifier.is_shown_by(&messages, &proof) => {
-            print_bytes(rt, alloc, &verifier.signature(&messages))
+            print_digits(rt, alloc, &verifier.signature(&messages))
         }
         _ => println!(rt; "refused"),
     }
@@ -156,7 +103,7 @@ fn stored_in(alloc: Global, word: &str) -> io::Result<Option<Text>> {
 }
 
 /// `begin ROLE STORED FIRST`
-fn begin<R: Print>(rt: &R, alloc: Global, words: &str) -> io::Result<Option<Exchange>> {
+pub fn begin<R: Print>(rt: &R, alloc: Global, words: &str) -> io::Result<Option<Exchange>> {
     let (role, words) = two(words);
     let (stored, first) = two(words);
     let stored = stored_in(alloc, stored)?;
@@ -181,7 +128,7 @@ fn begin<R: Print>(rt: &R, alloc: Global, words: &str) -> io::Result<Option<Exch
 }
 
 /// `finish STORED LAST`
-fn finish<R: Print>(
+pub fn finish<R: Print>(
     rt: &R,
     alloc: Global,
     exchange: Option<&Exchange>,
