@@ -14,4 +14,5 @@ pub mod Checks
 pub mod Statements
 pub mod Machine
 pub mod Runs
+pub mod Descriptions
 pub mod Whole

@@ -26,9 +26,9 @@ pub data IsDescribed (definitions : Definitions) (role : Option TheName) (before
   no_memory : e ≡ ending.Fault fault.Memory → after ≡ before → IsDescribed definitions role before e after
 
 -- so it was with the definitions that were read; or the fault of their reading is the end, and nothing was printed
-abbrev pub IsDescribedBy : Result Definitions CommandFault → Option TheName → Known → Ending → Known → Type 0
-IsDescribedBy (Ok definitions) role before e after = IsDescribed definitions role before e after
-IsDescribedBy (Err f) role before e after = (e ≡ ending.Fault f) × (after ≡ before)
+abbrev pub IsReadDescribed : Result Definitions CommandFault → Option TheName → Known → Ending → Known → Type 0
+IsReadDescribed (Ok definitions) role before e after = IsDescribed definitions role before e after
+IsReadDescribed (Err f) role before e after = (e ≡ ending.Fault f) × (after ≡ before)
 
 -- what the end is about: the role, where none has its name, else the file
 abbrev pub description_subject : Bor (List ℕ) → Option (Bor (List ℕ)) → Ending → Subject
@@ -40,5 +40,5 @@ pub record Describes {D L : Type 0} (g : Ghosts D) (old : SystemState D L) (file
   pub read : Result Definitions CommandFault
   pub reads : ReadsFile g old file.now read new
   pub ending : Ending
-  pub described : IsDescribedBy read (asked_name role) out_before ending out_after
+  pub described : IsReadDescribed read (asked_name role) out_before ending out_after
   pub ends : Exits (description_subject file role ending) ending exit err_before err_after

@@ -2,7 +2,7 @@
 
 ghost use Rattle.std.specs.Prelude.{◌≡◌, Some, None, option_map};
 ghost use Rattle.description_texts.specs.Descriptions.{asked_name};
-ghost use Rattle.cli.specs.Describing.{description_subject, Describes, IsDescribed, IsDescribedBy};
+ghost use Rattle.cli.specs.Describing.{description_subject, Describes, IsDescribed, IsReadDescribed};
 
 use crate::ending::{Ending, Exit, Subject, exit_with};
 use crate::fault::CommandFault;
@@ -44,7 +44,7 @@ fn print_description<K: TakesText>(
     json: bool,
     out: &mut K,
 ) -> Ending
-    ensures { IsDescribedBy read (asked_name role.entry) (K.held out.old) result (K.held out.new) }
+    ensures { IsReadDescribed read (asked_name role.entry) (K.held out.old) result (K.held out.new) }
 {
     let catalogue = match read {
         Ok(catalogue) => catalogue,

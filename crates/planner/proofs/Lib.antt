@@ -20,3 +20,4 @@ pub mod Inserting
 pub mod RowChanges
 pub mod Fitting
 pub mod Joining
+pub mod ResultColumns

@@ -26,7 +26,7 @@ use Rattle.gathering.specs.declared.query.OutputList.TheVariants.{Rows, Count}
 use Rattle.gathering.specs.declared.query.RowList.TheVariants.{Columns, Values}
 use Rattle.gathering.specs.declared.query.TypedSortKey.{TypedSortKey}
 use Rattle.gathering.specs.declared.query.Query.{Query}
-use Rattle.planner.specs.Bound.{IsTyped, HasListTypes, HasTypes, IsListOf, key_values, Begins}
+use Rattle.planner.specs.Bound.{IsTyped, HasOwnType, HasListTypes, HasTypes, IsListOf, key_values, Begins}
 use Rattle.planner.specs.Parts.{value_part, condition_part, key_part, list_length, conditions_length}
 use Rattle.planner.proofs.Stages.{each_map}
 
@@ -78,9 +78,15 @@ is_typed scope e u h =
     of_type cell users fits (Ok w) k = checked_value scope cell users fits e u w h k
     of_type cell users fits (Err code) k = tt
 
-list_typed : (scope : List ScopeTable) (l : OutputList) (values : List TypedTerm) → IsListOf l values → AllByRecursion (IsTyped scope) values → HasListTypes scope l
+own_type : (scope : List ScopeTable) (e : Term ColumnName) (u : TypedTerm) → names_then_types scope e ≡ Ok u → HasOwnType scope u
+own_type scope e u h =
+    let a = bind_ok (resolved scope e) (typed scope) u h in
+    let v = bind_ok (type_of (type_at scope) a.0) (λ v. Ok (record { term = a.0; value_type = v })) u a.2 in
+    subst (HasOwnType scope) (ok_inside (record { term = a.0; value_type = v.0 }) u v.2) v.1
+
+list_typed : (scope : List ScopeTable) (l : OutputList) (values : List TypedTerm) → IsListOf l values → AllByRecursion (HasOwnType scope) values → HasListTypes scope l
 list_typed scope (Rows (Columns widths)) values e h = tt
-list_typed scope (Rows (Values list)) values e h = subst (AllByRecursion (IsTyped scope)) (sym e) h
+list_typed scope (Rows (Values list)) values e h = subst (AllByRecursion (HasOwnType scope)) (sym e) h
 list_typed scope Count values e h = tt
 
 pub typed_query : (scope : List ScopeTable) (l : SelectList) (s : Option TableExpression) (bound : List TypedTerm) (q : Query) → Binds (select_parts scope l s) bound →
@@ -95,7 +101,7 @@ typed_query scope l s bound q b list keys =
     let first : each named values ≡ Ok (take (list_length l) bound) = subst (λ n. each named values ≡ Ok (take n bound)) count (first_of named values (conditions ++ sorts) bound whole) in
     let later : each named (conditions ++ sorts) ≡ Ok (drop (list_length l) bound) = subst (λ n. each named (conditions ++ sorts) ≡ Ok (drop n bound)) count (rest_of named values (conditions ++ sorts) bound whole) in
     let last : each named sorts ≡ Ok (drop (conditions_length s) (drop (list_length l) bound)) = subst (λ n. each named sorts ≡ Ok (drop n (drop (list_length l) bound))) many (rest_of named conditions sorts (drop (list_length l) bound) later) in
-    let of_list = all_given (names_then_types scope) (IsTyped scope) (is_typed scope) (expressions_of l) (take (list_length l) bound) (sym (each_map named (value_part scope) (expressions_of l)) ∙ first) in
+    let of_list = all_given (names_then_types scope) (HasOwnType scope) (own_type scope) (expressions_of l) (take (list_length l) bound) (sym (each_map named (value_part scope) (expressions_of l)) ∙ first) in
     let of_keys = all_given (λ (k : WrittenKey). names_then_types scope k.value) (IsTyped scope) (λ k u h. is_typed scope k.value u h) (keys_of s) (drop (conditions_length s) (drop (list_length l) bound)) (sym (each_map named (key_part scope) (keys_of s)) ∙ last) in
     record {
       list = list_typed scope q.list (take (list_length l) bound) list of_list;

@@ -5,7 +5,7 @@ use Rattle.sql_types.specs.declared.state.Refusal.{Refusal}
 use Rattle.sql_types.specs.declared.state.SqlState.{SqlState}
 use Rattle.sql_types.specs.declared.state.SqlState.TheVariants.{OutOfMemory}
 use Rattle.sql_ast.specs.Scope.{Table as ScopeTable, type_at}
-use Rattle.expressions.specs.Types.{TypedTerm, KeepsType}
+use Rattle.expressions.specs.Types.{TypedTerm, KeepsType, type_of}
 use Rattle.abstract_database.specs.Queries.{BoundQuery}
 use Rattle.gathering.specs.declared.query.OutputList.{OutputList}
 use Rattle.gathering.specs.declared.query.OutputList.TheVariants.{Rows, Count}
@@ -24,10 +24,14 @@ HasWidths scope Count = Unit {0}
 abbrev pub IsTyped : List ScopeTable → TypedTerm → Type 0
 IsTyped scope t = KeepsType (type_at scope) t.term t.value_type
 
--- so has each value of the list
+-- the type that stands beside an expression is its own
+abbrev pub HasOwnType : List ScopeTable → TypedTerm → Type 0
+HasOwnType scope t = type_of (type_at scope) t.term ≡ Ok t.value_type
+
+-- so it is with each value of the list
 abbrev pub HasListTypes : List ScopeTable → OutputList → Type 0
 HasListTypes scope (Rows (Columns widths)) = Unit {0}
-HasListTypes scope (Rows (Values list)) = AllByRecursion (IsTyped scope) list
+HasListTypes scope (Rows (Values list)) = AllByRecursion (HasOwnType scope) list
 HasListTypes scope Count = Unit {0}
 
 -- the values of the list and the sort keys have their types

@@ -13,3 +13,4 @@ pub mod Inserted
 pub mod RowChanges
 pub mod Plans
 pub mod Fitting
+pub mod ResultColumns

@@ -4,3 +4,4 @@ pub mod Carrying
 pub mod Stepping
 pub mod Running
 pub mod Blocks
+pub mod Describing

@@ -5,6 +5,7 @@ ghost use Rattle.store.specs.Records.{Records};
 ghost use Rattle.store.specs.Readers.{HasRead};
 ghost use Rattle.stored_database.specs.Records.{Shows};
 ghost use Rattle.abstract_database.specs.Database.{Database};
+ghost use Rattle.abstract_database.specs.Descriptions.{IsDescription};
 ghost use Rattle.abstract_database.specs.Machine.{Holder, executes, number_in};
 ghost use Rattle.abstract_database.specs.Runs.{TheText, ReadingRelation};
 ghost use Rattle.server.specs.Standing.{HolderShows, HoldsInBlock, event_of};
@@ -16,6 +17,7 @@ use crate::session::Session;
 use crate::writer::Writer;
 use catalogue::definitions::Catalogue;
 use indexmap::IndexMap;
+use sql_ast::description::StatementDescription;
 use sql_ast::statement::Statement;
 use sql_types::event::Event;
 use std::alloc::{AllocError, Global};
@@ -108,4 +110,22 @@ pub trait EventHandler {
             → HoldsInBlock holder context.entry.sessions.now.entries
             → TellsAsking Reads (machine_at db holder context.entry.sessions.now.entries)
             (event_of client event.now) result };
+
+    /// What the statement of a text would answer in a client's session, as far as that depends on no
+    /// row: over the definitions that the session sees, and by the roles that it has. It is
+    /// `Refused(OutOfMemory)` where an allocation failed.
+    fn describe(
+        &self,
+        alloc: Global,
+        context: Context<'_>,
+        client: u32,
+        session: u32,
+        text: &str,
+    ) -> StatementDescription
+        ensures tells { (records : Records) (db : Database) (holder : Option Holder)
+            → Shows records context.entry.catalogue.now db
+            → HolderShows records context.entry.catalogue.now context.entry.writer.now holder
+            → HoldsInBlock holder context.entry.sessions.now.entries
+            → IsDescription Reads (machine_at db holder context.entry.sessions.now.entries)
+            (number_in client session) text.now result };
 }

@@ -1,10 +1,13 @@
 //! What a server tells of itself, and the end of a client's sessions.
 
 ghost use Rattle.std.specs.Prelude.{◌≡◌, ◌&&◌, Option, None, Ok, true, false};
+ghost use Rattle.sql_types.specs.declared.state.SqlState.TheVariants.{IoError};
+ghost use Rattle.sql_ast.specs.declared.description.StatementDescription.TheVariants.{Refused};
 ghost use Rattle.std.specs.List.{list_any};
 ghost use Rattle.std.specs.Option.{option_map};
 ghost use Rattle.store.specs.Store.{KeepsHistory};
 ghost use Rattle.abstract_database.specs.Database.{is_role_named};
+ghost use Rattle.abstract_database.specs.Descriptions.{IsDescription};
 ghost use Rattle.abstract_database.specs.Machine.{number_in, session_of};
 ghost use Rattle.abstract_database.specs.Roles.{is_superuser as is_superuser_of};
 ghost use Rattle.abstract_database.specs.Runs.{At};
@@ -17,8 +20,10 @@ use crate::decide::{Context, EventHandler};
 use crate::numbers::{ClientSession, client_session, number_in};
 use crate::server::Server;
 use crate::session::BlockState;
+use sql_ast::description::StatementDescription;
 use sql_ast::role::Role;
 use sql_types::event::Event;
+use sql_types::state::SqlState;
 use std::alloc::AllocError;
 use store::Store;
 
@@ -87,6 +92,30 @@ impl<S: Store, X: EventHandler> Server<S, X> {
         };
         self.handler
             .asks_for_lock(self.alloc, context, client, event)
+    }
+
+    /// What the statement of this text would answer in a client's session, as far as that depends on
+    /// no row. Nothing changes.
+    ///
+    /// It is `Refused(OutOfMemory)` where an allocation failed, and else `Refused(IoError)` where the
+    /// server has stopped, `Refused(ConnectionDoesNotExist)` where the session is not open, and the
+    /// refusal of a text that is no statement. A statement over rows is checked as it is before a row
+    /// is read, and its refusal told; no other statement is.
+    pub fn describe(&self, client: u32, session: u32, text: &str) -> StatementDescription
+        ensures stopped { self.now.stopped ≡ true → result ≡ Refused IoError }
+        ensures tells { (w : At) → Represents S.state self.now w
+            → IsDescription X.Reads w.standing.machine (number_in client session) text.now result }
+    {
+        if self.stopped {
+            return StatementDescription::Refused(SqlState::IoError);
+        }
+        let context = Context {
+            catalogue: &self.catalogue,
+            writer: &self.writer,
+            sessions: &self.sessions,
+        };
+        self.handler
+            .describe(self.alloc, context, client, session, text)
     }
 
     /// Whether the role of this name is a superuser in the committed database. It looks at each role.

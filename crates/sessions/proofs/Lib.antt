@@ -15,3 +15,4 @@ pub mod Asking
 pub mod Serving
 pub mod Executing
 pub mod TwoServers
+pub mod Describing

@@ -9,3 +9,4 @@ pub mod Concluded
 pub mod Serving
 pub mod LockedOut
 pub mod TwoServers
+pub mod Described

@@ -4,11 +4,12 @@ ghost use Rattle.std.specs.Prelude.{◌≡◌};
 
 use crate::blocks::close;
 use crate::opening::open;
-use crate::texts::{asks_for_lock, decide_read, decide_text, is_locked_out};
+use crate::texts::{asks_for_lock, decide_read, decide_text, describe, is_locked_out};
 use server::decide::{Context, EventHandler};
 use server::decision::Decision;
 use server::execute::Execute;
 use server::numbers::number_in;
+use sql_ast::description::StatementDescription;
 use sql_ast::statement::Statement;
 use sql_types::event::Event;
 use std::alloc::{AllocError, Global};
@@ -111,5 +112,22 @@ impl<X: Execute> EventHandler for SessionHandler<X> {
             }
             Event::Close { .. } | Event::Open { .. } => Ok(false),
         }
+    }
+
+    fn describe(
+        &self,
+        alloc: Global,
+        context: Context<'_>,
+        client: u32,
+        session: u32,
+        text: &str,
+    ) -> StatementDescription {
+        describe(
+            &self.executor,
+            alloc,
+            context,
+            number_in(client, session),
+            text,
+        )
     }
 }

@@ -19,6 +19,7 @@ ghost use Rattle.sessions.specs.Writers.{definitions_seen};
 ghost use Rattle.sessions.specs.Visible.{records_seen};
 ghost use Rattle.sessions.specs.Serving.{EndsBlock, IsAdmission, CarriesOut, ServesOver};
 ghost use Rattle.sessions.specs.LockedOut.{IsForLock, TellsRefusal, TellsWriting};
+ghost use Rattle.sessions.specs.Described.{DescribesThere};
 
 use crate::admission::{admit, is_writing};
 use crate::answers::refuse;
@@ -32,6 +33,7 @@ use server::decision::Decision;
 use server::execute::Execute;
 use server::session::Session;
 use server::writer::Writer;
+use sql_ast::description::StatementDescription;
 use sql_ast::statement::{DatabaseStatement, SessionStatement, Statement};
 use sql_types::state::SqlState;
 use std::alloc::{AllocError, Global};
@@ -163,6 +165,30 @@ impl<'a> OpenSession<'a> {
             Ok(()) => Ok(true),
             Err(StatementError::Refused(_)) => Ok(false),
             Err(StatementError::Failed(_)) => Err(AllocError),
+        }
+    }
+
+    /// What a statement would answer in the session, as far as that depends on no row: one over the
+    /// database where the session may execute it, whoever holds the writer lock. It is
+    /// `Refused(OutOfMemory)` where an allocation failed.
+    pub(crate) fn describe<X: Execute>(
+        &self,
+        executor: &X,
+        alloc: Global,
+        statement: &Statement,
+    ) -> StatementDescription
+        ensures { IsRead statement.now → DescribesThere self.now statement.now result }
+    {
+        match statement {
+            Statement::OnDatabase(over) => {
+                let seen = seen_catalogue(self.writer, self.catalogue, self.number);
+                match admit(alloc, seen, self.session, statement, false) {
+                    Ok(None) => executor.describe(alloc, seen, self.session, over),
+                    Ok(Some(code)) => StatementDescription::Refused(code),
+                    Err(_) => StatementDescription::Refused(SqlState::OutOfMemory),
+                }
+            }
+            Statement::OfSession(_) => StatementDescription::NoRows,
         }
     }
 

@@ -5,6 +5,7 @@ ghost use Rattle.store.specs.Records.{Records};
 ghost use Rattle.store.specs.Readers.{HasRead};
 ghost use Rattle.stored_database.specs.Records.{Shows};
 ghost use Rattle.abstract_database.specs.Database.{Database};
+ghost use Rattle.abstract_database.specs.Descriptions.{IsDescription};
 ghost use Rattle.abstract_database.specs.Machine.{Holder, executes};
 ghost use Rattle.abstract_database.specs.Runs.{TheText};
 ghost use Rattle.server.specs.Standing.{HolderShows, HoldsInBlock};
@@ -20,6 +21,7 @@ use crate::statements::OpenSession;
 use server::decide::Context;
 use server::decision::{Decision, SessionChange};
 use server::execute::Execute;
+use sql_ast::description::StatementDescription;
 use sql_ast::statement::Statement;
 use sql_types::answer::Answer;
 use sql_types::state::SqlState;
@@ -179,5 +181,41 @@ pub(crate) fn asks_for_lock(
             open.asks_for_lock(alloc, &statement)
         }
         Err(_) => Ok(false),
+    }
+}
+
+/// What the statement of a text would answer in the session of this number, as far as that depends
+/// on no row. `Refused(ConnectionDoesNotExist)` where no session of the number is open; a text that
+/// is no statement is `Refused` with the code with which it is read, and each text with
+/// `OutOfMemory` where an allocation failed.
+pub(crate) fn describe<X: Execute>(
+    executor: &X,
+    alloc: Global,
+    context: Context<'_>,
+    number: u64,
+    text: &str,
+) -> StatementDescription
+    ensures { (records : Records) (db : Database) (holder : Option Holder)
+        → Shows records context.entry.catalogue.now db
+        → HolderShows records context.entry.catalogue.now context.entry.writer.now holder
+        → HoldsInBlock holder context.entry.sessions.now.entries
+        → IsDescription ReadsText (machine_at db holder context.entry.sessions.now.entries)
+        number text.now result }
+{
+    let Some(session) = context.sessions.get(&number) else {
+        return StatementDescription::Refused(SqlState::ConnectionDoesNotExist);
+    };
+    match read_text(alloc, text) {
+        Ok(Ok(statement)) => {
+            let open = OpenSession {
+                number,
+                session,
+                catalogue: context.catalogue,
+                writer: context.writer,
+            };
+            open.describe(executor, alloc, &statement)
+        }
+        Ok(Err(code)) => StatementDescription::Refused(code),
+        Err(_) => StatementDescription::Refused(SqlState::OutOfMemory),
     }
 }

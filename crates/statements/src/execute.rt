@@ -11,12 +11,14 @@ ghost use Rattle.server.specs.Executed.{MayExecute};
 
 use catalogue::definitions::Catalogue;
 use catalogue::effect::Effect;
+use planner::describe_rows;
 use schema_statements::{
     MembershipStatement, PrivilegeStatement, alter_table, create_policy, create_role, create_table,
     drop_policy, drop_role, drop_table, grant_or_revoke, grant_or_revoke_roles,
 };
 use server::execute::Execute;
 use server::session::Session;
+use sql_ast::description::StatementDescription;
 use sql_ast::statement::{DatabaseStatement, DefiningStatement};
 use std::alloc::Global;
 use store::{Map, StatementError};
@@ -48,6 +50,21 @@ impl Execute for Statements {
             DatabaseStatement::Defining(statement) => {
                 define(alloc, map, catalogue, session, statement)
             }
+        }
+    }
+
+    fn describe(
+        &self,
+        alloc: Global,
+        catalogue: &Catalogue,
+        session: &Session,
+        statement: &DatabaseStatement,
+    ) -> StatementDescription {
+        match statement {
+            DatabaseStatement::OverRows(statement) => {
+                describe_rows(alloc, catalogue, &session.role, statement)
+            }
+            DatabaseStatement::Defining(_) => StatementDescription::NoRows,
         }
     }
 }

@@ -5,7 +5,7 @@ use Rattle.abstract_database.specs.Lists.{TheName}
 use Rattle.stored_database.specs.Definitions.{Definitions}
 use Rattle.description_texts.specs.Descriptions.{HasAskedFor, HasNone, asked_name}
 use Rattle.cli.specs.declared.fault.CommandFault.{CommandFault}
-use Rattle.cli.specs.Describing.{IsDescribed, IsDescribedBy}
+use Rattle.cli.specs.Describing.{IsDescribed, IsReadDescribed}
 use Rattle.cli.proofs.describing.print_description.Goals as goal
 
 -- where there is a text, there is what was asked for
@@ -19,4 +19,4 @@ returns-in-Ok-Some g c =
     let after = g.K.Sink.held c.show_text.new.out in
     let has : HasAskedFor c.in-Ok.catalogue.roles role = asked_so c.in-Ok.catalogue.roles role c.describe.result c.describe.ensures c.in-Ok-Some.text (c.in-Ok-Some.is ∙ ap Ok c.in-Ok-Some.field-0-is) in
     let described : IsDescribed c.in-Ok.catalogue role before c.show_text.result after = IsDescribed.printed has c.as_str.result.now c.show_text.ensures in
-    subst (λ (read : Result Definitions CommandFault). IsDescribedBy read role before c.show_text.result after) (sym c.in-Ok.is) described
+    subst (λ (read : Result Definitions CommandFault). IsReadDescribed read role before c.show_text.result after) (sym c.in-Ok.is) described
