@@ -1,7 +1,8 @@
 """What the program of talks_tests writes, computed a second time, from its rules: `python3 expected.py > stdout`.
 
 Two clients take turns. At each look one of them does one thing: it comes, or hears the message at the front of its bytes, or gets what it wants of the
-machine, or ends. A message is a length byte and a text: 'o..' opens a session, '?' asks how it stands, 'b' takes the writer lock, 'm' gives it back,
+machine, or ends. A message is a length byte and a text: 'o..' opens a session, '?' asks how it stands, 'd' asks what a
+statement would answer, which are no rows, 'b' takes the writer lock, 'm' gives it back,
 any other is a statement. An answer is said as a letter and the last digit of the count of steps.
 """
 
@@ -36,6 +37,10 @@ def serve(first, second):
             client.told += "+." if lock == me else "-."
             client.wants = None
             waiting = [c for c in waiting if c != me]
+        elif client.wants == "d":
+            client.told += "n."
+            client.wants = None
+            waiting = [c for c in waiting if c != me]
         elif client.wants == "b" and lock != me and (lock is not None or (waiting and waiting[0] != me)):
             waiting += [] if me in waiting else [me]
         else:
@@ -55,5 +60,5 @@ def serve(first, second):
 
 
 print("done")
-for told in serve(["oann", "b", "x", "m", "?"], ["obob", "b", "x"]):
+for told in serve(["oann", "b", "x", "m", "?", "d"], ["obob", "b", "x"]):
     print(told)

@@ -55,8 +55,12 @@ module _ {S X : Type 0} (Reads : ReadingRelation) (state : S → StoreState) whe
   step_stays c (want.Event (event.Statement n text)) (reply.Standing b) old new made stopped = absurd made
   step_stays c (want.Event (event.Close n)) (reply.Standing b) old new made stopped = absurd made
   step_stays c (want.Open n login entry) (reply.Standing b) old new made stopped = absurd made
+  step_stays c (want.Event (event.Statement n text)) (reply.Description x) old new made stopped = absurd made
+  step_stays c (want.Event (event.Close n)) (reply.Description x) old new made stopped = absurd made
+  step_stays c (want.Open n login entry) (reply.Description x) old new made stopped = absurd made
   step_stays c want.Message r old new made stopped = absurd made
   step_stays c (want.Standing n) r old new made stopped = absurd made
+  step_stays c (want.Description n text) r old new made stopped = absurd made
   step_stays c (want.End late) r old new made stopped = absurd made
   step_stays c want.OutOfMemory r old new made stopped = absurd made
 

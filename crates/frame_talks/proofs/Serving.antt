@@ -72,6 +72,9 @@ is_answer (event.Close n) (reply.Answer a) fits = record { answer = a; is = refl
 is_answer (event.Open n login) (reply.Standing b) fits = absurd fits
 is_answer (event.Statement n text) (reply.Standing b) fits = absurd fits
 is_answer (event.Close n) (reply.Standing b) fits = absurd fits
+is_answer (event.Open n login) (reply.Description d) fits = absurd fits
+is_answer (event.Statement n text) (reply.Description d) fits = absurd fits
+is_answer (event.Close n) (reply.Description d) fits = absurd fits
 
 whole_of : (f : NextFrame) (n : ℕ) → front_of f ≡ Whole n → (e : Event) × (f ≡ whole e n)
 whole_of incomplete n h = cc

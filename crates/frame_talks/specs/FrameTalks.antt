@@ -63,3 +63,4 @@ abbrev pub said_to : Option ℕ → Reply → List ℕ
 said_to None r = []
 said_to (Some session) (reply.Answer a) = answer_frames session (answer_text a)
 said_to (Some session) (reply.Standing b) = []
+said_to (Some session) (reply.Description d) = []

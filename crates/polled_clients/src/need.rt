@@ -86,9 +86,17 @@ fn opens(event: &Event) -> bool
 
 /// Whether a question is wanted.
 pub fn is_question(want: &Want) -> bool
-    ensures { result ≡ true → WantsQuestion want.now }
+    ensures wanted { result ≡ true → WantsQuestion want.now }
+    ensures none { result ≡ false → WantsQuestion want.now → ⊥ }
 {
-    matches!(want, Want::Standing { session: _ })
+    matches!(
+        want,
+        Want::Standing { session: _ }
+            | Want::Description {
+                session: _,
+                text: _
+            }
+    )
 }
 
 /// Whether a message is wanted.

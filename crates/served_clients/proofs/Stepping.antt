@@ -52,8 +52,12 @@ module _ {S X : Type 0} (Reads : ReadingRelation) (state : S → StoreState) whe
   step c (want.Event (event.Statement n text)) (reply.Standing b) old new made = absurd made
   step c (want.Event (event.Close n)) (reply.Standing b) old new made = absurd made
   step c (want.Open n login entry) (reply.Standing b) old new made = absurd made
+  step c (want.Event (event.Statement n text)) (reply.Description x) old new made = absurd made
+  step c (want.Event (event.Close n)) (reply.Description x) old new made = absurd made
+  step c (want.Open n login entry) (reply.Description x) old new made = absurd made
   step c want.Message r old new made = absurd made
   step c (want.Standing n) r old new made = absurd made
+  step c (want.Description n text) r old new made = absurd made
   step c (want.End late) r old new made = absurd made
   step c want.OutOfMemory r old new made = absurd made
 

@@ -42,8 +42,12 @@ module _ {S X : Type 0} (Reads : ReadingRelation) (state : S → StoreState) (ol
   steps_admit c (want.Event (event.Statement k text)) (reply.Standing b) d n login sound made has = absurd made
   steps_admit c (want.Event (event.Close k)) (reply.Standing b) d n login sound made has = absurd made
   steps_admit c (want.Open k role entry) (reply.Standing b) d n login sound made has = absurd made
+  steps_admit c (want.Event (event.Statement k text)) (reply.Description x) d n login sound made has = absurd made
+  steps_admit c (want.Event (event.Close k)) (reply.Description x) d n login sound made has = absurd made
+  steps_admit c (want.Open k role entry) (reply.Description x) d n login sound made has = absurd made
   steps_admit c want.Message r d n login sound made has = absurd made
   steps_admit c (want.Standing k) r d n login sound made has = absurd made
+  steps_admit c (want.Description k text) r d n login sound made has = absurd made
   steps_admit c (want.End late) r d n login sound made has = absurd made
   steps_admit c want.OutOfMemory r d n login sound made has = absurd made
 

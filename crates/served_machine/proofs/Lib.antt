@@ -2,3 +2,4 @@ mod Holding
 pub mod Admitting
 pub mod Refusing
 pub mod Stepping
+pub mod Describing

@@ -6,3 +6,4 @@ pub mod SessionLaws
 pub mod ServedLaws
 pub mod Machines
 pub mod Admitted
+pub mod RowsApart

@@ -11,7 +11,7 @@ use Rattle.served_machine.specs.Locks.{LocksOut, LetsIn, TakesLock, LeavesLock, 
 abbrev pub machine_of : {S X : Type 0} → ReadingRelation → (S → StoreState) → Ghosts (ServedMachine S X)
 machine_of Reads state = record {
   Steps = λ old c w r new. TakesStep Reads state c w r old.server new.server;
-  Tells = λ old c w r new. TellsClient state c w r old.server new.server;
+  Tells = λ old c w r new. TellsClient Reads state c w r old.server new.server;
   Closes = λ old c new. ClosesOne Reads state c old.server new.server;
   IsSound = λ m. IsSoundServer state m.server;
   moment = λ m. (state m.server.store).time.moment;

@@ -7,9 +7,12 @@ use Rattle.sql_types.specs.declared.event.Event.{Event}
 use Rattle.sql_types.specs.declared.event.Event.TheVariants as event
 use Rattle.sql_types.specs.declared.state.SqlState.TheVariants.{InvalidAuthorization, OutOfMemory, IoError}
 use Rattle.store.specs.Store.{StoreState, KeepsHistory}
+use Rattle.sql_ast.specs.declared.description.StatementDescription.{StatementDescription}
+use Rattle.sql_ast.specs.declared.description.StatementDescription.TheVariants as describes
+use Rattle.abstract_database.specs.Descriptions.{IsDescription}
 use Rattle.abstract_database.specs.Lists.{TheName}
 use Rattle.abstract_database.specs.Machine.{Block, Outside, Inside, Failed, number_in, session_of}
-use Rattle.abstract_database.specs.Runs.{ReadingRelation, At}
+use Rattle.abstract_database.specs.Runs.{TheText, ReadingRelation, At}
 use Rattle.server.specs.declared.server.Server.{Server}
 use Rattle.server.specs.Standing.{Represents}
 use Rattle.server.specs.Runs.{Steps}
@@ -65,10 +68,16 @@ standing_of (Failed role) = standing.Failed
 abbrev pub IsStandingOf : {S X : Type 0} → (S → StoreState) → ℕ → ℕ → Option BlockStanding → Server S X → Type 0
 IsStandingOf state c n b server = (w : At) → Represents state server w → b ≡ option_map (λ s. standing_of s.block) (session_of (number_in c n) w.standing.machine.sessions)
 
+-- what a statement of this text would answer in a client's session; a server that has stopped describes none
+abbrev pub IsDescribedTo : {S X : Type 0} → ReadingRelation → (S → StoreState) → ℕ → ℕ → TheText → StatementDescription → Server S X → Type 0
+IsDescribedTo Reads state c n text d server = (server.stopped ≡ true → d ≡ describes.Refused IoError)
+    × ((w : At) → Represents state server w → IsDescription Reads w.standing.machine (number_in c n) text d)
+
 -- a question of a client, which changes nothing
-abbrev pub TellsClient : {S X : Type 0} → (S → StoreState) → ℕ → Want → Reply → Server S X → Server S X → Type 0
-TellsClient state c (want.Standing n) (reply.Standing b) old new = IsStandingOf state c n b old × (new ≡ old)
-TellsClient state c _ _ old new = ⊥
+abbrev pub TellsClient : {S X : Type 0} → ReadingRelation → (S → StoreState) → ℕ → Want → Reply → Server S X → Server S X → Type 0
+TellsClient Reads state c (want.Standing n) (reply.Standing b) old new = IsStandingOf state c n b old × (new ≡ old)
+TellsClient Reads state c (want.Description n text) (reply.Description d) old new = IsDescribedTo Reads state c n text d old × (new ≡ old)
+TellsClient Reads state c _ _ old new = ⊥
 
 -- ---- ends of sessions
 

@@ -109,8 +109,12 @@ module _ {S X : Type 0} (Reads : ReadingRelation) (state : S → StoreState) (ol
   steps_sound c (want.Event (event.Statement n text)) (reply.Standing b) made sound = absurd made
   steps_sound c (want.Event (event.Close n)) (reply.Standing b) made sound = absurd made
   steps_sound c (want.Open n login entry) (reply.Standing b) made sound = absurd made
+  steps_sound c (want.Event (event.Statement n text)) (reply.Description x) made sound = absurd made
+  steps_sound c (want.Event (event.Close n)) (reply.Description x) made sound = absurd made
+  steps_sound c (want.Open n login entry) (reply.Description x) made sound = absurd made
   steps_sound c want.Message r made sound = absurd made
   steps_sound c (want.Standing n) r made sound = absurd made
+  steps_sound c (want.Description n text) r made sound = absurd made
   steps_sound c (want.End late) r made sound = absurd made
   steps_sound c want.OutOfMemory r made sound = absurd made
 
@@ -123,8 +127,12 @@ module _ {S X : Type 0} (Reads : ReadingRelation) (state : S → StoreState) (ol
   steps_open c (want.Event (event.Statement k text)) (reply.Standing b) d n login sound made has = absurd made
   steps_open c (want.Event (event.Close k)) (reply.Standing b) d n login sound made has = absurd made
   steps_open c (want.Open k role entry) (reply.Standing b) d n login sound made has = absurd made
+  steps_open c (want.Event (event.Statement k text)) (reply.Description x) d n login sound made has = absurd made
+  steps_open c (want.Event (event.Close k)) (reply.Description x) d n login sound made has = absurd made
+  steps_open c (want.Open k role entry) (reply.Description x) d n login sound made has = absurd made
   steps_open c want.Message r d n login sound made has = absurd made
   steps_open c (want.Standing k) r d n login sound made has = absurd made
+  steps_open c (want.Description k text) r d n login sound made has = absurd made
   steps_open c (want.End late) r d n login sound made has = absurd made
   steps_open c want.OutOfMemory r d n login sound made has = absurd made
 
@@ -136,29 +144,37 @@ module _ {S X : Type 0} (Reads : ReadingRelation) (state : S → StoreState) (ol
   steps_stopped c (want.Event (event.Statement n text)) (reply.Standing b) made was = absurd made
   steps_stopped c (want.Event (event.Close n)) (reply.Standing b) made was = absurd made
   steps_stopped c (want.Open n login entry) (reply.Standing b) made was = absurd made
+  steps_stopped c (want.Event (event.Statement n text)) (reply.Description x) made was = absurd made
+  steps_stopped c (want.Event (event.Close n)) (reply.Description x) made was = absurd made
+  steps_stopped c (want.Open n login entry) (reply.Description x) made was = absurd made
   steps_stopped c want.Message r made was = absurd made
   steps_stopped c (want.Standing n) r made was = absurd made
+  steps_stopped c (want.Description n text) r made was = absurd made
   steps_stopped c (want.End late) r made was = absurd made
   steps_stopped c want.OutOfMemory r made was = absurd made
 
   -- ---- questions
 
-  pub told_same : (c : ℕ) (w : Want) (r : Reply) → TellsClient state c w r old new → new ≡ old
+  pub told_same : (c : ℕ) (w : Want) (r : Reply) → TellsClient Reads state c w r old new → new ≡ old
   told_same c (want.Standing n) (reply.Standing b) told = told.1
+  told_same c (want.Description n text) (reply.Description x) told = told.1
   told_same c (want.Standing n) (reply.Answer a) told = absurd told
+  told_same c (want.Standing n) (reply.Description x) told = absurd told
+  told_same c (want.Description n text) (reply.Answer a) told = absurd told
+  told_same c (want.Description n text) (reply.Standing b) told = absurd told
   told_same c (want.Event e) r told = absurd told
   told_same c (want.Open n login entry) r told = absurd told
   told_same c want.Message r told = absurd told
   told_same c (want.End late) r told = absurd told
   told_same c want.OutOfMemory r told = absurd told
 
-  pub tells_sound : (c : ℕ) (w : Want) (r : Reply) → TellsClient state c w r old new → IsSoundServer state old → IsSoundServer state new
+  pub tells_sound : (c : ℕ) (w : Want) (r : Reply) → TellsClient Reads state c w r old new → IsSoundServer state old → IsSoundServer state new
   tells_sound c w r told sound = subst (IsSoundServer state) (sym (told_same c w r told)) sound
 
-  pub tells_open : (c : ℕ) (w : Want) (r : Reply) (d n : ℕ) (login : TheName) → TellsClient state c w r old new → HasOwnSession state new d n login → HasOwnSession state old d n login
+  pub tells_open : (c : ℕ) (w : Want) (r : Reply) (d n : ℕ) (login : TheName) → TellsClient Reads state c w r old new → HasOwnSession state new d n login → HasOwnSession state old d n login
   tells_open c w r d n login told has = same_own (told_same c w r told) d n login has
 
-  pub tells_stopped : (c : ℕ) (w : Want) (r : Reply) → TellsClient state c w r old new → old.stopped ≡ true → new.stopped ≡ true
+  pub tells_stopped : (c : ℕ) (w : Want) (r : Reply) → TellsClient Reads state c w r old new → old.stopped ≡ true → new.stopped ≡ true
   tells_stopped c w r told was = ap (λ (s : Server S X). s.stopped) (told_same c w r told) ∙ was
 
   -- ---- ends of sessions

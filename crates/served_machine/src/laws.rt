@@ -1,11 +1,16 @@
 //! Laws of a server that many clients talk to.
 
-ghost use Rattle.std.specs.Prelude.{ℕ, List};
+ghost use Rattle.std.specs.Prelude.{◌≡◌, ℕ, List};
+ghost use Rattle.sql_ast.specs.declared.description.StatementDescription.{StatementDescription};
+ghost use Rattle.abstract_database.specs.Descriptions.{description, IsDescription};
+ghost use Rattle.abstract_database.specs.Machine.{Machine, Reading};
+ghost use Rattle.abstract_database.specs.Runs.{TheText};
 ghost use Rattle.talks.specs.Turns.{Turn, TakesTurns};
 ghost use Rattle.served_machine.specs.declared.machine.ServedMachine.{ServedMachine};
 ghost use Rattle.served_machine.specs.Sessions.{HasOwnSession, IsSoundServer};
 ghost use Rattle.served_machine.specs.Machines.{machine_of};
 ghost use Rattle.served_machine.specs.Admitted.{AdmittedIn};
+ghost use Rattle.served_machine.specs.RowsApart.{AgreeButForRows};
 
 use server::decide::EventHandler;
 use store::Store;
@@ -21,4 +26,14 @@ pub fn sessions_are_admitted<S: Store, X: EventHandler, T: Talk, C: ServedClient
         (c n : ℕ) (login : List ℕ) → (HasOwnSession S.state old.server c n login → ⊥)
         → HasOwnSession S.state new.server c n login
         → AdmittedIn X.Reads S.state T.Talk C.ServedClients old before turns new after took c n login }
+{}
+
+/// What is told of a text depends on no row: two machines tell the same where they agree in whether they
+/// have stopped, in the session that asks, and in all but the rows of the databases that it sees.
+pub fn descriptions_depend_on_no_row<X: EventHandler>()
+    ensures same { (number : ℕ) (m k : Machine) → AgreeButForRows number m k
+        → (reading : Reading) → description m number reading ≡ description k number reading }
+    ensures told { (number : ℕ) (m k : Machine) → AgreeButForRows number m k
+        → (text : TheText) (d : StatementDescription)
+        → IsDescription X.Reads m number text d → IsDescription X.Reads k number text d }
 {}

@@ -108,7 +108,7 @@ impl<S: Store, X: EventHandler> Machine for ServedMachine<S, X> {
 
     ghost Steps = { λ old c w r new. TakesStep X.Reads S.state c w r old.server new.server };
 
-    ghost Tells = { λ old c w r new. TellsClient S.state c w r old.server new.server };
+    ghost Tells = { λ old c w r new. TellsClient X.Reads S.state c w r old.server new.server };
 
     ghost Closes = { λ old c new. ClosesOne X.Reads S.state c old.server new.server };
 
@@ -169,6 +169,9 @@ impl<S: Store, X: EventHandler> Machine for ServedMachine<S, X> {
     fn ask(&mut self, client: u32, want: &Want) -> Reply {
         match want {
             Want::Standing { session } => Reply::Standing(self.standing(client, *session)),
+            Want::Description { session, text } => {
+                Reply::Description(self.server.describe(client, *session, text.as_str()))
+            }
             _ => unreachable!(),
         }
     }

@@ -20,6 +20,7 @@ WantsStep _ = ⊥
 -- it wants to be told something, which changes nothing
 abbrev pub WantsQuestion : Want → Type 0
 WantsQuestion (want.Standing session) = Unit {0}
+WantsQuestion (want.Description session text) = Unit {0}
 WantsQuestion _ = ⊥
 
 -- it wants no more than the end of its connection
@@ -32,6 +33,7 @@ abbrev pub FitsWant : Want → Reply → Type 0
 FitsWant (want.Event e) (reply.Answer a) = Unit {0}
 FitsWant (want.Open session login entry) (reply.Answer a) = Unit {0}
 FitsWant (want.Standing session) (reply.Standing b) = Unit {0}
+FitsWant (want.Description session text) (reply.Description d) = Unit {0}
 FitsWant _ _ = ⊥
 
 -- what a conversation wanted, and what it was told of that

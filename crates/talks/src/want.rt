@@ -1,5 +1,6 @@
 //! What a conversation wants next, and what it is told of that.
 
+use sql_ast::description::StatementDescription;
 use sql_types::answer::Answer;
 use sql_types::event::Event;
 use sql_types::name::Name;
@@ -43,6 +44,11 @@ pub enum Want {
     Standing {
         session: u32,
     },
+    /// What the statement of this text would answer in a session, as far as that depends on no row.
+    Description {
+        session: u32,
+        text: Text,
+    },
     /// The end of its connection, once all that was said has gone out; `late`: a second after that
     /// was said.
     End {
@@ -70,4 +76,6 @@ pub enum Reply {
     Answer(Answer),
     /// How the block of a session stands, which is open, or `None`.
     Standing(Option<BlockStanding>),
+    /// What a statement would answer.
+    Description(StatementDescription),
 }

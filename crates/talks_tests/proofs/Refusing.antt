@@ -18,6 +18,7 @@ refuses c (want.Event (event.Open n login)) desk step = absurd step
 refuses c (want.Open n login entry) desk step = ((refl, refl), refl)
 refuses c want.Message desk step = absurd step
 refuses c (want.Standing n) desk step = absurd step
+refuses c (want.Description n text) desk step = absurd step
 refuses c (want.End late) desk step = absurd step
 refuses c want.OutOfMemory desk step = absurd step
 
@@ -27,5 +28,6 @@ answer_fits (want.Event e) a step = tt
 answer_fits (want.Open n login entry) a step = tt
 answer_fits want.Message a step = absurd step
 answer_fits (want.Standing n) a step = absurd step
+answer_fits (want.Description n text) a step = absurd step
 answer_fits (want.End late) a step = absurd step
 answer_fits want.OutOfMemory a step = absurd step

@@ -5,6 +5,7 @@ ghost use Rattle.talks.specs.declared.want.Want.{Want as TheWant};
 ghost use Rattle.talks_tests.specs.Desks.{Has, MakesStep, SeatsClient, RunsStatementText, DoesEvent, EndsSession, asks, asks_lock, begins, is_held_by, is_held_by_another, released};
 
 use crate::echo::first_letter;
+use sql_ast::description::StatementDescription;
 use sql_types::answer::Answer;
 use sql_types::event::Event;
 use sql_types::state::SqlState;
@@ -141,6 +142,14 @@ impl Desk {
         }
     }
 
+    // How the block of a client stands: one is open where its session holds the lock.
+    fn standing(&self, client: u32) -> Option<BlockStanding> {
+        if self.is_held_by(client) {
+            return Some(BlockStanding::Inside);
+        }
+        None
+    }
+
     // Whether this client's does.
     fn is_held_by(&self, client: u32) -> bool
         ensures { result ≡ is_held_by self.now.lock client }
@@ -218,11 +227,14 @@ impl Machine for Desk {
         Reply::Answer(answer)
     }
 
-    fn ask(&mut self, client: u32, _want: &Want) -> Reply {
-        if self.is_held_by(client) {
-            return Reply::Standing(Some(BlockStanding::Inside));
+    fn ask(&mut self, client: u32, want: &Want) -> Reply {
+        match want {
+            Want::Description {
+                session: _,
+                text: _,
+            } => Reply::Description(StatementDescription::NoRows),
+            _ => Reply::Standing(self.standing(client)),
         }
-        Reply::Standing(None)
     }
 
     fn refuse_for_memory(&mut self, _client: u32, _want: &Want) -> Reply {

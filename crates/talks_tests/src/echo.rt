@@ -2,9 +2,10 @@
 
 ghost use Rattle.std.specs.Prelude.{◌≡◌, ◌++◌, slice_index, ℕ, List, [], ◌∷◌, drop, false, IfOk, IfSome, OnOk, OnErr};
 ghost use Rattle.talks.specs.declared.want.Want.{Want as TheWant};
-ghost use Rattle.talks_tests.specs.Echoes.{front_of, IsAsked, HearsText, letter_of, tag_letter, digit_of, count_digit, said_of};
+ghost use Rattle.talks_tests.specs.Echoes.{front_of, IsAsked, HearsText, letter_of, tag_letter, description_letter, digit_of, count_digit, said_of};
 
 use crate::line::BeginsAnew;
+use sql_ast::description::StatementDescription;
 use sql_types::answer::Answer;
 use sql_types::event::Event;
 use sql_types::tag::Tag;
@@ -172,6 +173,7 @@ fn asked_by(text: Text) -> Want
         }
         b'c' => Want::Event(Event::Close { session: 1 }),
         b'?' => Want::Standing { session: 1 },
+        b'd' => Want::Description { session: 1, text },
         _ => Want::Event(Event::Statement { session: 1, text }),
     }
 }
@@ -203,6 +205,17 @@ fn letter(reply: &Reply) -> u8
         Reply::Answer(Answer::Refused(_)) => b'!',
         Reply::Standing(None) => b'-',
         Reply::Standing(Some(_)) => b'+',
+        Reply::Description(description) => letter_of_description(description),
+    }
+}
+
+fn letter_of_description(description: &StatementDescription) -> u8
+    ensures { result ≡ description_letter description.now }
+{
+    match description {
+        StatementDescription::Rows(_) => b'=',
+        StatementDescription::NoRows => b'n',
+        StatementDescription::Refused(_) => b'!',
     }
 }
 

@@ -302,7 +302,14 @@ fn opens(event: &Event) -> bool
 fn is_question(want: &Want) -> bool
     ensures { result ≡ true → WantsQuestion want.now }
 {
-    matches!(want, Want::Standing { session: _ })
+    matches!(
+        want,
+        Want::Standing { session: _ }
+            | Want::Description {
+                session: _,
+                text: _
+            }
+    )
 }
 
 // Whether a message is wanted.

@@ -17,7 +17,7 @@ use talks::clients::Finish;
 use talks::serving::{ServeEnd, serve_clients};
 
 fn main(rt: HostRuntime) -> io::Result<()> {
-    let first = client(rt.alloc(), b"\x04oann\x01b\x01x\x01m\x01?")?;
+    let first = client(rt.alloc(), b"\x04oann\x01b\x01x\x01m\x01?\x01d")?;
     let second = client(rt.alloc(), b"\x04obob\x01b\x01x")?;
     let mut clients = TwoClients::new(first, second);
     let mut desk = Desk::new(rt.alloc());
