@@ -141,12 +141,47 @@ class Batches(AtServer):
             self.assertEqual(client.message(), (b'1', b''))
             self.assertEqual(client.ask(SYNC), [(b'Z', b'I')])
 
+    def test_what_is_described(self):
+        """A statement has no parameters; what answers rows has columns, and what answers none has no data (55.2.3)."""
+        with self.served('--clients', 2), Client(self.socket, 'root') as client, Client(self.socket, 'root') as other:
+            named = b''.join(name + struct.pack('>IHIhiH', 0, 0, number, size, -1, 0) for name, number, size in [(b'k\0', 20, 8), (b'?column?\0', 16, 1), (b'x\0', 25, -1)])
+            told = client.ask(parse('SELECT k, k = 1, x FROM t', 'a'), describe(b'S', 'a'), bind(name='a'), describe(b'P'), execute(), SYNC)
+            self.assertEqual(kinds(told), b'1tT2TDDCZ')
+            self.assertEqual([body for kind, body in told if kind in b'tT'], [b'\0\0', b'\0\3' + named, b'\0\3' + named])
+            for text, wanted in [('INSERT INTO t VALUES (7, NULL)', b'1tnZ'), ('BEGIN', b'1tnZ'), ('', b'1tnZ'), ('SHOW timezone', b'1tTZ'), ('SET client_encoding = \'UTF8\'', b'1tnZ'),
+                                 ('SELECT zz FROM t', b'1EZ'), ('SELECT k FROM pg_catalog.pg_class', b'1EZ')]:
+                with self.subTest(text):
+                    self.assertEqual(kinds(client.ask(parse(text), describe(b'S'), SYNC)), wanted)
+            self.assertEqual(kinds(client.ask('BEGIN')), b'CZ')
+            self.assertEqual(kinds(client.ask('SELEC')), b'EZ')
+            self.assertEqual(codes(client.ask(describe(b'S', 'a'), SYNC)), ['25P02'])
+            self.assertEqual(kinds(client.ask('ROLLBACK')), b'CZ')
+            self.assertEqual(kinds(other.ask('DROP TABLE t')), b'CZ')
+            self.assertEqual(kinds(other.ask('CREATE TABLE t (k BIGINT PRIMARY KEY, x BIGINT)')), b'CZ')
+            self.assertEqual(codes(client.ask(bind(name='a'), execute(), SYNC)), ['0A000'])
+            self.assertEqual(kinds(client.ask(describe(b'S', 'a'), bind(name='a'), execute(), SYNC)), b'tT2CZ')
+
+    def test_values_in_binary(self):
+        """No format is text, one is for all columns, and there may be one for each (55.2.3)."""
+        texts, numbers = (b'1', b'one', b't'), (struct.pack('>q', 1), b'one', b'\1')
+        with self.served('--clients', 1), Client(self.socket, 'root') as client:
+            for results, values in [((), texts), ((0,), texts), ((1,), numbers), ((0, 0, 1), texts[:2] + numbers[2:]), ((1, 1, 0), numbers[:2] + texts[2:])]:
+                row = (b'D', b'\0\3' + b''.join(struct.pack('>I', len(value)) + value for value in values))
+                with self.subTest(results):
+                    told = client.ask(parse('SELECT k, x, k = 1 FROM t WHERE k = 1'), bind(results=results), describe(b'P'), execute(), SYNC)
+                    self.assertEqual((kinds(told), told[3]), (b'12TDCZ', row))
+                    self.assertEqual([told[2][1][at:at + 2] for at in (20, 40, 67)], [struct.pack('>H', (results * 3 or (0, 0, 0))[at]) for at in range(3)])
+                    self.assertEqual(client.ask(bind(results=results), execute(), SYNC)[1], row)
+            self.assertEqual(client.ask(parse('SELECT x FROM t WHERE k = 2'), bind(results=[1]), execute(), SYNC)[2], (b'D', b'\0\1\xff\xff\xff\xff'))
+            self.assertEqual(kinds(client.ask(parse('SELECT x FROM t'), bind(results=[0, 1]), describe(b'P'), SYNC)), b'12EZ')
+            self.assertEqual(kinds(client.ask(parse('SELECT x FROM t'), describe(b'S'), bind(results=[0, 1]), SYNC)), b'1tTEZ')
+
     def test_what_is_not_there(self):
         """An error, which says so, and the connection goes on behind Sync."""
         with self.served('--clients', 1), Client(self.socket, 'root') as client:
-            for messages, code in [((parse('SELECT 1'), describe(b'S')), '0A000'), ((parse('SELECT 1'), bind(), describe(b'P'), execute()), '0A000'),
+            for messages, code in [((describe(b'S', 'none'),), '26000'), ((describe(b'P'),), '34000'),
                                    ((parse('SELECT $1', types=[20]), bind([b'1']), execute()), '08P01'), ((parse('SELECT 1'), bind([b'1', None])), '08P01'),
-                                   ((parse('SELECT 1'), bind(results=[1])), '0A000'), ((parse('SELECT 1'), bind(formats=[1])), '0A000'),
+                                   ((parse('SELECT 1'), bind(results=[2])), '22023'), ((parse('SELECT 1'), bind(results=[0, 1]), execute()), '08P01'),
                                    ((parse('SELECT 1'), bind(), execute(most=5)), '0A000'), ((parse('SELECT 1; SELECT 2'),), '42601'), ((bind(name='none'),), '26000'),
                                    ((execute('none'),), '34000'), ((parse('SELECT 1', 'b'), parse('SELECT 2', 'b')), '42P05'), ((parse('SELEC'), bind(), execute()), '42601')]:
                 with self.subTest(code, messages=messages):

@@ -59,7 +59,7 @@ class Psql(AtPsql):
     def test_a_table(self):
         with self.served('--clients', 5):
             self.assertEqual(self.psql('SELECT k, x FROM t ORDER BY k;', options=()),
-                             (0, ' ?column? | ?column? \n----------+----------\n        1 | one\n        2 | \n(2 rows)\n\n', ''))
+                             (0, ' k |  x  \n---+-----\n 1 | one\n 2 | \n(2 rows)\n\n', ''))
 
     def test_words(self):
         """-c, several of them, and several statements in one; -f; -1."""
@@ -225,13 +225,15 @@ class Pgbench(AtPsql):
                 self.assertEqual(kinds(client.ask('SELECT k FROM t WHERE k > 1000000')), b'TCZ')
 
     def test_the_extended_query(self):
-        """It describes a portal, which is refused; other clients go on."""
         with self.served('--clients', 8), Client(self.socket, 'root') as client:
             for mode in ('extended', 'prepared'):
                 with self.subTest(mode):
-                    status, printed, said = self.bench(['SELECT 1;'], '-M', mode, '-t', 5)
+                    status, printed, said = self.bench(['SELECT x FROM t;'], '-M', mode, '-t', 5)
+                    self.assertEqual(status, 0, said)
+                    self.assertIn('number of transactions actually processed: 5/5\n', printed)
+                    status, printed, said = self.bench(['\\set k 1', 'SELECT x FROM t WHERE k = :k;'], '-M', mode, '-t', 5)
                     self.assertNotEqual(status, 0)
-                    self.assertIn('message is not supported', said)
+                    self.assertIn('number of parameters is another', said)
                     self.assertEqual(kinds(client.ask('SELECT 1')), b'TDCZ')
 
 
@@ -249,7 +251,7 @@ class Psycopg2(AtServer):
             self.assertEqual(self.run_there('cursor.execute("SELECT k, x, k = 1 FROM t ORDER BY k")', 'print(cursor.fetchall(), cursor.rowcount, cursor.description[0].name)',
                                             'cursor.execute("SELECT k FROM t WHERE k > %s AND x IS NULL", (1,))', 'print(cursor.fetchall())',
                                             'cursor.execute("SELECT k FROM t WHERE k > 5")', 'print(cursor.rowcount)'),
-                             ["[(1, 'one', True), (2, None, False)] 2 ?column?", '[(2,)]', '0'])
+                             ["[(1, 'one', True), (2, None, False)] 2 k", '[(2,)]', '0'])
 
     def test_a_transaction(self):
         with self.served('--clients', 3), Client(self.socket, 'bob') as other:
@@ -276,7 +278,7 @@ class Psycopg2(AtServer):
 
 
 class OtherDrivers(AtServer):
-    """Drivers that describe what they prepare: they are told that this is not there, and go on."""
+    """Drivers that describe what they prepare. What is not there they are told, and go on."""
 
     def run_there(self, module, *lines, port=None):
         """What lines print."""
@@ -294,18 +296,18 @@ class OtherDrivers(AtServer):
                                             'try: connection.execute("SELECT k FROM t WHERE k = %s", (1,))', 'except psycopg.Error as fault: print(fault.sqlstate, fault)',
                                             'cursor = psycopg.ClientCursor(connection)', 'print(cursor.execute("SELECT k FROM t WHERE k = %s AND x = %s", (1, "one")).fetchall())',
                                             'connection.autocommit = False',
-                                            'try: connection.execute("SELECT 1")', 'except psycopg.Error as fault: print(fault.sqlstate)', 'connection.close()'),
-                             ["[(1, 'one'), (2, None)]", '0A000 message is not supported', '[(1,)]', '0A000'])
+                                            'print(connection.execute("SELECT 1").fetchall())', 'connection.rollback()', 'connection.close()'),
+                             ["[(1, 'one'), (2, None)]", '08P01 number of parameters is another', '[(1,)]', '[(1,)]'])
 
     def test_asyncpg(self):
         port = free_port()
         with self.served('--clients', 3, port=port):
             self.assertEqual(self.run_there('asyncpg', 'import asyncio, asyncpg, sys', 'async def main():',
                                             '    connection = await asyncpg.connect(host="127.0.0.1", port=int(sys.argv[1]), user="root", database="root")',
-                                            '    print(await connection.execute("INSERT INTO t VALUES (3, NULL)"))', '    try: await connection.fetch("SELECT k FROM t")',
-                                            '    except asyncpg.PostgresError as fault: print(fault.sqlstate, fault)', '    print(await connection.execute("DELETE FROM t WHERE k = 3"))',
+                                            '    print(await connection.execute("INSERT INTO t VALUES (3, NULL)"))',
+                                            '    print([tuple(row) for row in await connection.fetch("SELECT k, x, k = 1 FROM t ORDER BY k")])', '    print(await connection.execute("DELETE FROM t WHERE k = 3"))',
                                             '    await connection.close()', 'asyncio.run(main())', port=port),
-                             ['INSERT 0 1', '0A000 message is not supported', 'DELETE 1'])
+                             ['INSERT 0 1', "[(1, 'one', True), (2, None, False), (3, None, False)]", 'DELETE 1'])
 
 
 class Places(AtServer):

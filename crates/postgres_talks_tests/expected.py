@@ -18,8 +18,8 @@ def parse(name, words):
     return message(b'P', text(name) + text(words) + b'\0\0')
 
 
-def bind(portal, name):
-    return message(b'B', text(portal) + text(name) + b'\0\0\0\0\0\0')
+def bind(portal, name, formats=()):
+    return message(b'B', text(portal) + text(name) + b'\0\0\0\0' + struct.pack(f'>H{len(formats)}H', len(formats), *formats))
 
 
 def execute(portal):
@@ -46,9 +46,9 @@ def complete(words):
     return message(b'C', text(words))
 
 
-def columns(*heads):
+def columns(*heads, code=0):
     return message(b'T', struct.pack('>H', len(heads)) + b''.join(
-        text(name) + struct.pack('>IHIHIH', 0, 0, number, size, 0xFFFFFFFF, 0) for name, number, size in heads))
+        text(name) + struct.pack('>IHIHIH', 0, 0, number, size, 0xFFFFFFFF, code) for name, number, size in heads))
 
 
 def row(*values):
@@ -56,11 +56,16 @@ def row(*values):
         b'\xff\xff\xff\xff' if value is None else struct.pack('>I', len(value)) + value for value in values))
 
 
+def describe(kind, name):
+    return message(b'D', kind + text(name))
+
+
 SYNC, LEAVE = message(b'S'), message(b'X')
 IDLE, OPEN, FAILED = ready(b'I'), ready(b'T'), ready(b'E')
 BROKEN = fatal('08P01', 'protocol violation')
-ONE_ROW = (columns(('?column?', 20, 8), ('?column?', 25, 0xFFFF), ('?column?', 16, 1), ('?column?', 25, 0xFFFF))
-           + row(b'-12', b"a'b", b't', None) + complete('SELECT 1'))
+HEADS = ('number', 20, 8), ('word', 25, 0xFFFF), ('truth', 16, 1), ('?column?', 20, 8)
+FOUR = columns(*HEADS)
+ONE_ROW = FOUR + row(b'-12', b"a'b", b't', None) + complete('SELECT 1')
 GREETING = (b'N' + message(b'R', b'\0\0\0\0') + b''.join(message(b'S', text(name) + text(value)) for name, value in (
     ('client_encoding', 'UTF8'), ('DateStyle', 'ISO, MDY'), ('integer_datetimes', 'on'), ('server_encoding', 'UTF8'),
     ('server_version', '15.0 (Guarddb)'), ('standard_conforming_strings', 'on'), ('TimeZone', 'UTC')))
@@ -68,6 +73,8 @@ GREETING = (b'N' + message(b'R', b'\0\0\0\0') + b''.join(message(b'S', text(name
 ABORTED = error('25P02', 'current transaction is aborted, commands ignored until end of transaction block')
 CATALOGUE = error('0A000', 'catalogues are not supported')
 NO_BLOCK = report(b'N', 'WARNING', '25P01', 'there is no transaction in progress')
+NONE, NO_DATA = message(b't', b'\0\0'), message(b'n')
+OTHER = error('0A000', 'cached plan must not change result type')
 PARSED, BOUND, CLOSED = message(b'1'), message(b'2'), message(b'3')
 
 # what a client sends behind the start, and what it is told
@@ -93,8 +100,23 @@ PLAYED = [
      PARSED + BOUND + complete('BEGIN') + OPEN + BOUND + error('34000', 'portal does not exist') + FAILED
      + CLOSED + error('26000', 'prepared statement does not exist') + FAILED),
     (query('DEVICE'), fatal('58030', 'device failed, and the server has stopped')),
-    (message(b'D', b'S\0') + SYNC, error('0A000', 'message is not supported') + IDLE),
+    (message(b'D', b'S\0') + SYNC, error('26000', 'prepared statement does not exist') + IDLE),
     (query(''), message(b'I') + IDLE),
+    (query('SELECT 0') + query('BEGIN; SELECT 2') + query('SELECT 1') + query('COMMIT'),
+     FOUR + complete('SELECT 0') + IDLE + complete('BEGIN') + OTHER + FAILED
+     + ABORTED + FAILED + complete('ROLLBACK') + IDLE),
+    (parse('a', 'SELECT 1') + describe(b'S', 'a') + bind('p', 'a') + describe(b'P', 'p') + execute('p') + SYNC + bind('', 'a') + execute('') + SYNC,
+     PARSED + NONE + FOUR + BOUND + FOUR + ONE_ROW[len(FOUR):] + IDLE + BOUND + ONE_ROW[len(FOUR):] + IDLE),
+    (parse('', 'SELECT 2') + describe(b'S', '') + bind('', '') + execute('') + SYNC, PARSED + NONE + columns(('number', 20, 8)) + BOUND + OTHER + IDLE),
+    (parse('a', 'INSERT') + describe(b'S', 'a') + bind('', 'a') + describe(b'P', '') + parse('b', 'show timezone') + describe(b'S', 'b')
+     + parse('c', 'WRONG') + describe(b'S', 'c') + parse('d', 'SELECT 3') + describe(b'S', 'd') + SYNC + describe(b'P', '') + SYNC,
+     PARSED + NONE + NO_DATA + BOUND + NO_DATA + PARSED + NONE + columns(('TimeZone', 25, 0xFFFF)) + PARSED + NONE + NO_DATA
+     + PARSED + error('42601', 'syntax error') + IDLE + error('34000', 'portal does not exist') + IDLE),
+    (parse('a', 'SELECT 1') + bind('p', 'a', [1]) + describe(b'P', 'p') + execute('p') + bind('q', 'a', [0, 0, 1, 0]) + execute('q') + SYNC
+     + bind('', 'a', [0, 1]) + execute('') + SYNC + bind('', 'a', [2]) + SYNC,
+     PARSED + BOUND + columns(*HEADS, code=1) + row(struct.pack('>q', -12), b"a'b", b'\1', None) + complete('SELECT 1')
+     + BOUND + row(b'-12', b"a'b", b'\1', None) + complete('SELECT 1') + IDLE
+     + BOUND + error('08P01', 'number of format codes is another') + IDLE + error('22023', 'format code is not supported') + IDLE),
 ]
 
 for sent, told in PLAYED:

@@ -1,5 +1,9 @@
 pub mod Putting
 pub mod Hearing
 pub mod Playing
+pub mod Asking
+pub mod Excused
+pub mod SeenRows
 pub mod Seeing
 pub mod Units
+pub mod Fits

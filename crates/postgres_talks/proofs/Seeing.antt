@@ -1,31 +1,35 @@
 -- What a client sees of its blocks, and what is said behind a bad message.
-use Rattle.std.proofs.Common.{◌≡◌, ◌∙◌, ℕ, Bool, true, false, if◌then◌else◌, List, [], ◌∷◌, ◌++◌, map, length, codes, Option, Some, None, option_and_then, IsSome, refl, ap, sym, subst, All}
-use Rattle.std.proofs.lemmas.List.Elements.{All-nil, All-cons}
-use Rattle.sql_types.specs.declared.value.Value.{Value}
+use Rattle.std.proofs.Common.{◌≡◌, ◌∙◌, ℕ, Bool, true, false, if◌then◌else◌, List, [], ◌∷◌, ◌++◌, length, nat_lt, codes, Option, Some, None, option_and_then, IsSome, refl, ap, sym, subst}
+use Rattle.sql_ast.specs.declared.description.ResultColumn.{ResultColumn}
+use Rattle.sql_ast.specs.declared.description.StatementDescription.{StatementDescription}
+use Rattle.sql_ast.specs.declared.description.StatementDescription.TheVariants as description
 use Rattle.sql_types.specs.declared.answer.Answer.{Answer}
 use Rattle.sql_types.specs.declared.answer.Answer.TheVariants as answer
-use Rattle.sql_types.specs.declared.state.SqlState.{SqlState}
 use Rattle.sql_types.specs.declared.state.SqlState.TheVariants as state
 use Rattle.sql_types.specs.declared.tag.Tag.{Tag}
 use Rattle.sql_types.specs.declared.tag.Tag.TheVariants as tag
 use Rattle.sql_types.specs.declared.warning.Warning.{Warning}
-use Rattle.talks.specs.Wants.{Learnt, FitsWant}
 use Rattle.talks.specs.declared.want.BlockStanding.{BlockStanding}
 use Rattle.talks.specs.declared.want.BlockStanding.TheVariants as standing
 use Rattle.talks.specs.declared.want.Want.{Want}
 use Rattle.talks.specs.declared.want.Want.TheVariants as want
 use Rattle.talks.specs.declared.want.Reply.TheVariants as reply
 use Rattle.postgres_messages.specs.declared.backend.Severity.TheVariants.{Error}
-use Rattle.postgres_texts.specs.Sentences.{refusal_text}
+use Rattle.postgres_messages.specs.declared.backend.ValueFormat.{ValueFormat}
+use Rattle.postgres_messages.specs.declared.backend.ValueFormat.TheVariants as format
+use Rattle.postgres_talks.specs.Formats.{next_format}
 use Rattle.postgres_talks.specs.declared.fault.TalkFault.{TalkFault}
 use Rattle.postgres_talks.specs.declared.fault.TalkFault.TheVariants as fault
 use Rattle.postgres_talks.specs.declared.moment.TalkBlock.{TalkBlock}
 use Rattle.postgres_talks.specs.declared.moment.TalkBlock.TheVariants as block
+use Rattle.postgres_talks.specs.declared.moment.DescribedKind.{DescribedKind}
+use Rattle.postgres_talks.specs.declared.moment.DescribedKind.TheVariants as named
 use Rattle.postgres_talks.specs.declared.moment.Mode.{Mode}
 use Rattle.postgres_talks.specs.declared.moment.Mode.TheVariants as mode
 use Rattle.postgres_talks.specs.declared.moment.TalkStage.{TalkStage}
 use Rattle.postgres_talks.specs.declared.moment.TalkStage.TheVariants as stage
 use Rattle.postgres_talks.specs.declared.moment.TalkMoment.{TalkMoment}
+use Rattle.postgres_talks.specs.declared.named_pieces.NamedPiece.{NamedPiece}
 use Rattle.postgres_talks.specs.declared.piece.StatementPiece.{StatementPiece}
 use Rattle.postgres_talks.specs.declared.piece.StatementPiece.TheVariants as piece
 use Rattle.postgres_talks.specs.declared.settled.Settled.{Settled}
@@ -34,78 +38,18 @@ use Rattle.postgres_talks.specs.declared.outcome.Outcome.{Outcome}
 use Rattle.postgres_talks.specs.declared.outcome.Outcome.TheVariants as outcome
 use Rattle.postgres_talks.specs.declared.requests.Request.{Request}
 use Rattle.postgres_talks.specs.declared.requests.Request.TheVariants as request
-use Rattle.postgres_talks.specs.Blocks.{Seen, outside, clean, spoilt, seen, seen_all, seen_tag, seen_report, is_excused, IsOfAnswer, IsPassedOver}
+use Rattle.postgres_talks.proofs.Excused.{text_spares}
+use Rattle.postgres_talks.proofs.SeenRows.{seen_on, table_seen, warnings_seen}
+use Rattle.postgres_talks.specs.Blocks.{Seen, outside, clean, spoilt, seen_all, seen_tag, seen_report, is_excused}
 use Rattle.postgres_talks.specs.Faults.{fault_text}
-use Rattle.postgres_talks.specs.Moments.{first_moment, ends, asks, is_several, finishes, starts_on, goes_on_with, goes_on, closes, closes_or_listens, spares, spoiled_by, ready_unless_batch, table_said, settled_columns, settled_rows, settled_said, said_settling, after_settling, said_emptying, after_emptying, block_after, entered, came_out, warnings_said, answer_said, block_answered, said_run, said_own, said_opened, said_rolled_back, after_outcome, after_opened, after_rolled_back, after_done, said_answered, after_answer, said_failed, after_failed, said_refusing, after_refusing, said_judging, after_judging, said_closing, after_closing, said_standing, after_standing}
-use Rattle.postgres_talks.specs.Outcomes.{commit_outcome, outcome_of, warning_of}
-use Rattle.postgres_talks.specs.Played.{Input, asked, told, bad, TakesIn, said_in, said_to_input, after_input, after_all}
-use Rattle.postgres_talks.specs.Requests.{heeded, heeded_skipping, fault_of, mode_for, said_to_done, said_unless, left_of, after_done_request, after_unless, said_to_request, after_request}
+use Rattle.postgres_talks.specs.Moments.{first_moment, asks, is_several, finishes, selects, selects_known, describes_found, describes_piece, describes_settled, starts_on, goes_on_with, goes_on, closes, closes_or_listens, spares, spoiled_by, ready_unless_batch, ran, columns_in, runs_described, said_described, after_described, settled_head, settled_columns, settled_rows, settled_said, parameters_said, said_row_told, after_row_told, said_nothing_told, said_told, after_told, head_told, tells, describes, listens, said_settling, after_settling, said_emptying, after_emptying, block_after, entered, came_out, warnings_said, answer_said, block_answered, said_run, said_own, said_opened, said_rolled_back, after_outcome, after_opened, after_rolled_back, after_done, said_answered, after_answer, said_failed, after_failed, said_refusing, after_refusing, said_judging, after_judging, said_closing, after_closing, said_standing, after_standing}
+use Rattle.postgres_talks.specs.Outcomes.{commit_outcome, description_outcome, outcome_of, warning_of}
+use Rattle.postgres_talks.specs.Played.{Input, asked, told, bad, said_in, said_to_input, after_input, after_all}
+use Rattle.postgres_talks.specs.Requests.{columns_of, formats_in, heeded, fault_of, mode_for, said_to_done, said_unless, left_of, after_done_request, after_unless, said_to_request, after_request}
 use Rattle.postgres_talks.specs.Named.{find, without}
 use Rattle.postgres_talks.specs.Settled.{settled_tag, settled_row}
-use Rattle.postgres_talks.specs.Rows.{row_said, rows_said, select_tag}
 use Rattle.postgres_talks.specs.Tags.{done_tag}
 use Rattle.postgres_talks.specs.Sayings.{Saying, error_said, complete_said}
-
--- ---- bad messages
-
-pub nothing_follows : (m : TalkMoment) (bytes rest : List ℕ) (xs : List Learnt) (inputs : List Input) → TakesIn (ends m) bytes xs rest inputs → inputs ≡ []
-nothing_follows m bytes rest xs [] took = refl
-nothing_follows m bytes rest xs (asked r ∷ is) took = let wrong : want.End false ≡ want.Message = took.1 in cc
-nothing_follows m bytes rest xs (bad ∷ is) took = let wrong : want.End false ≡ want.Message = took.0 in cc
-nothing_follows m bytes rest [] (told r ∷ is) took = absurd took
-nothing_follows m bytes rest (x ∷ xs) (told r ∷ is) took = absurd (subst (λ (w : Want). FitsWant w r) (sym took.0) took.1)
-
--- ---- requests
-
-one_said : (s : Saying) → (IsOfAnswer s → ⊥) → All (λ s. IsOfAnswer s → ⊥) (s ∷ [])
-one_said s none = All-cons (λ s. IsOfAnswer s → ⊥) s [] none (All-nil (λ s. IsOfAnswer s → ⊥))
-
-none_said : All (λ s. IsOfAnswer s → ⊥) []
-none_said = All-nil (λ s. IsOfAnswer s → ⊥)
-
-no_answer_done : (r : Request) → All (λ s. IsOfAnswer s → ⊥) (said_to_done r)
-no_answer_done request.Encryption = one_said _ (λ h. h)
-no_answer_done (request.Prepare name p) = one_said _ (λ h. h)
-no_answer_done (request.Bind name prepared count) = one_said _ (λ h. h)
-no_answer_done (request.CloseStatement name) = one_said _ (λ h. h)
-no_answer_done (request.ClosePortal name) = one_said _ (λ h. h)
-no_answer_done (request.Breaks f) = one_said _ (λ h. h)
-no_answer_done (request.Login role) = none_said
-no_answer_done (request.Statements pieces) = none_said
-no_answer_done (request.Execute name) = none_said
-no_answer_done request.Sync = none_said
-no_answer_done request.Nothing = none_said
-no_answer_done request.Leave = none_said
-no_answer_done (request.Fails t f) = none_said
-
-no_answer_unless : (o : Option TalkFault) (r : Request) → All (λ s. IsOfAnswer s → ⊥) (said_unless o r)
-no_answer_unless None r = no_answer_done r
-no_answer_unless (Some f) r = none_said
-
-pub no_answer : (r : Request) (m : TalkMoment) → All (λ s. IsOfAnswer s → ⊥) (said_to_request r m)
-no_answer r m = no_answer_unless (fault_of (heeded m.mode r) m) (heeded m.mode r)
-
--- ---- batches
-
-heeds_nothing : (r : Request) → IsPassedOver r → heeded_skipping r ≡ request.Nothing
-heeds_nothing request.Sync passes = absurd passes
-heeds_nothing request.Leave passes = absurd passes
-heeds_nothing (request.Breaks f) passes = absurd passes
-heeds_nothing request.Encryption passes = refl
-heeds_nothing (request.Login role) passes = refl
-heeds_nothing (request.Statements pieces) passes = refl
-heeds_nothing (request.Prepare name p) passes = refl
-heeds_nothing (request.Bind name prepared count) passes = refl
-heeds_nothing (request.Execute name) passes = refl
-heeds_nothing (request.CloseStatement name) passes = refl
-heeds_nothing (request.ClosePortal name) passes = refl
-heeds_nothing request.Nothing passes = refl
-heeds_nothing (request.Fails t f) passes = refl
-
-pub passed_over : (m : TalkMoment) (r : Request) → m.mode ≡ mode.Skipping → IsPassedOver r → (said_to_request r m ≡ []) × (after_request r m ≡ m)
-passed_over m r skips passes =
-    let nothing : heeded m.mode r ≡ request.Nothing = ap (λ (t : Mode). heeded t r) skips ∙ heeds_nothing r passes in
-    (ap (λ (h : Request). said_unless (fault_of h m) h) nothing, ap (λ (h : Request). after_unless (fault_of h m) h m) nothing)
 
 -- ---- blocks
 
@@ -147,8 +91,22 @@ closes_block mode.Query m = refl
 closes_block mode.Batch m = refl
 closes_block mode.Skipping m = refl
 
+formats_block : (b : Bool) (text : List ℕ) (m : TalkMoment) → (if b then describes stage.Describing text m else asks stage.Running text m).block ≡ m.block
+formats_block true text m = refl
+formats_block false text m = refl
+
+known_block : (columns : Option (List ResultColumn)) (text : List ℕ) (m : TalkMoment) → (selects_known columns text m).block ≡ m.block
+known_block None text m = formats_block (nat_lt 1 (length m.formats)) text m
+known_block (Some columns) text m = refl
+
+selects_block : (t : Mode) (text : List ℕ) (m : TalkMoment) → (selects t text m).block ≡ m.block
+selects_block mode.Query text m = refl
+selects_block mode.Batch text m = known_block m.columns text m
+selects_block mode.Skipping text m = known_block m.columns text m
+
 starts_on_block : (p : StatementPiece) (m : TalkMoment) → (starts_on p m).block ≡ m.block
 starts_on_block (piece.Statement text) m = refl
+starts_on_block (piece.Select text) m = selects_block m.mode text m
 starts_on_block (piece.Settled s) m = refl
 starts_on_block (piece.Faulty f) m = refl
 starts_on_block piece.Empty m = refl
@@ -164,6 +122,21 @@ goes_on_if false m = goes_on_with_block m.left m
 goes_on_block : (m : TalkMoment) → (goes_on m).block ≡ m.block
 goes_on_block m = goes_on_if (is_several m.block m.mode (length m.left)) m
 
+describes_settled_block : (k : DescribedKind) (x : Settled) (r : Option (List ℕ × List ℕ)) (m : TalkMoment) → (describes_settled k x r m).block ≡ m.block
+describes_settled_block k x None m = refl
+describes_settled_block k x (Some r) m = refl
+
+describes_piece_block : (k : DescribedKind) (p : StatementPiece) (m : TalkMoment) → (describes_piece k p m).block ≡ m.block
+describes_piece_block k (piece.Statement text) m = refl
+describes_piece_block k (piece.Select text) m = refl
+describes_piece_block k (piece.Settled x) m = describes_settled_block k x (settled_row x) m
+describes_piece_block k (piece.Faulty f) m = refl
+describes_piece_block k piece.Empty m = refl
+
+describes_block : (k : DescribedKind) (o : Option NamedPiece) (m : TalkMoment) → (describes_found k o m).block ≡ m.block
+describes_block k None m = refl
+describes_block k (Some n) m = describes_piece_block k n.piece m
+
 -- that a step keeps what a client sees
 abbrev Keeps : TalkBlock → List Saying → TalkBlock → Type 0
 Keeps b said c = seen_all (seen_as b) said ≡ Some (seen_as c)
@@ -176,8 +149,10 @@ request_done_keeps request.Encryption m = refl
 request_done_keeps (request.Login role) m = refl
 request_done_keeps (request.Statements pieces) m = ap (λ (b : TalkBlock). Some (seen_as b)) (sym (goes_on_block (record m { left = pieces })))
 request_done_keeps (request.Prepare name p) m = refl
-request_done_keeps (request.Bind name prepared count) m = refl
-request_done_keeps (request.Execute name) m = ap (λ (b : TalkBlock). Some (seen_as b)) (sym (goes_on_block (record m { left = left_of (find name m.portals); portals = without name m.portals })))
+request_done_keeps (request.Bind name prepared count fs) m = refl
+request_done_keeps (request.Execute name) m = ap (λ (b : TalkBlock). Some (seen_as b)) (sym (goes_on_block (record m { left = left_of (find name m.portals); columns = columns_of (find name m.portals); formats = formats_in (find name m.portals); portals = without name m.portals })))
+request_done_keeps (request.DescribeStatement name) m = ap (λ (b : TalkBlock). Some (seen_as b)) (sym (describes_block named.Statement (find name m.statements) (record m { name = name; formats = [] })))
+request_done_keeps (request.DescribePortal name) m = ap (λ (b : TalkBlock). Some (seen_as b)) (sym (describes_block named.Portal (find name m.portals) (record m { name = name; formats = formats_in (find name m.portals) })))
 request_done_keeps (request.CloseStatement name) m = refl
 request_done_keeps (request.ClosePortal name) m = refl
 request_done_keeps request.Sync m = ap (λ (b : TalkBlock). Some (seen_as b)) (sym (finishes_block m.block m.mode (record m { portals = [] })))
@@ -192,31 +167,6 @@ unless_keeps None r m = request_done_keeps r (record m { mode = mode_for r m.mod
 
 request_keeps : (r : Request) (m : TalkMoment) → Keeps m.block (said_to_request r m) (after_request r m).block
 request_keeps r m = unless_keeps (fault_of (heeded m.mode r) m) (heeded m.mode r) m
-
-seen_behind : (xs ys : List Saying) → ((c : Seen) → seen_all c (xs ++ ys) ≡ option_and_then (λ d. seen_all d ys) (seen_all c xs))
-    → (o : Option Seen) → option_and_then (λ c. seen_all c (xs ++ ys)) o ≡ option_and_then (λ c. seen_all c ys) (option_and_then (λ c. seen_all c xs) o)
-seen_behind xs ys later None = refl
-seen_behind xs ys later (Some c) = later c
-
-seen_on : (b : Seen) (xs ys : List Saying) → seen_all b (xs ++ ys) ≡ option_and_then (λ c. seen_all c ys) (seen_all b xs)
-seen_on b [] ys = refl
-seen_on b (x ∷ xs) ys = seen_behind xs ys (λ (c : Seen). seen_on c xs ys) (seen b x)
-
-rows_seen : (b : Seen) (rows : List (List Value)) → seen_all b (map row_said rows) ≡ Some b
-rows_seen b [] = refl
-rows_seen b (row ∷ rows) = rows_seen b rows
-
-all_rows_seen : (b : Seen) (rows : List (List Value)) → seen_all b (rows_said rows) ≡ Some b
-all_rows_seen b rows = seen_on b (map row_said rows) (complete_said (select_tag (length rows)) ∷ []) ∙ ap (option_and_then (λ c. seen_all c (complete_said (select_tag (length rows)) ∷ []))) (rows_seen b rows)
-
-table_seen : (t : Mode) (b : Seen) (rows : List (List Value)) → seen_all b (table_said t rows) ≡ Some b
-table_seen mode.Query b rows = all_rows_seen b rows
-table_seen mode.Batch b rows = all_rows_seen b rows
-table_seen mode.Skipping b rows = all_rows_seen b rows
-
-warnings_seen : (b : Seen) (w : Option Warning) (ys : List Saying) → seen_all b (warnings_said w ++ ys) ≡ seen_all b ys
-warnings_seen b None ys = refl
-warnings_seen b (Some w) ys = refl
 
 -- the tag of a statement that is done, where it commits no block in which an error was said
 tag_seen : (b : TalkBlock) (t : Tag) (count : Option ℕ) → outcome_of b (answer.Done t count None) ≡ outcome.Done → seen_tag (seen_as b) (done_tag t count) ≡ Some (seen_as (block_after b t))
@@ -251,8 +201,9 @@ tag_seen b tag.Update (Some n) is = refl
 tag_seen b tag.Delete None is = refl
 tag_seen b tag.Delete (Some n) is = refl
 
-done_keeps : (x : Mode) (b : TalkBlock) (t : Tag) (count : Option ℕ) (w : Option Warning) → outcome_of b (answer.Done t count w) ≡ outcome.Done → Keeps b (answer_said x b (answer.Done t count w)) (block_after b t)
-done_keeps x b t count w is =
+done_keeps : (b : TalkBlock) (t : Tag) (count : Option ℕ) (w : Option Warning) → outcome_of b (answer.Done t count w) ≡ outcome.Done
+    → Keeps b (warnings_said (warning_of b t w) ++ complete_said (done_tag t count) ∷ []) (block_after b t)
+done_keeps b t count w is =
     warnings_seen (seen_as b) (warning_of b t w) (complete_said (done_tag t count) ∷ [])
     ∙ ap (option_and_then (λ c. seen_all c [])) (tag_seen b t count (same_outcome b t count w ∙ is))
   where
@@ -282,14 +233,14 @@ done_keeps x b t count w is =
     same_outcome block.Failed tag.Update count w = refl
     same_outcome block.Failed tag.Delete count w = refl
 
-answer_keeps : (x : Mode) (b : TalkBlock) (a : Answer) → outcome_of b a ≡ outcome.Done → Keeps b (answer_said x b a) (block_answered b a)
-answer_keeps x b (answer.Rows rows) is = table_seen x (seen_as b) rows
-answer_keeps x b (answer.Done t count w) is = done_keeps x b t count w is
-answer_keeps x b (answer.Refused s) is = refl
+answer_keeps : (m : TalkMoment) (a : Answer) → ran m a ≡ outcome.Done → Keeps m.block (answer_said m a) (block_answered m.block a)
+answer_keeps m (answer.Rows rows) is = table_seen m.mode m.formats m.columns (seen_as m.block) rows
+answer_keeps m (answer.Done t count w) is = done_keeps m.block t count w is
+answer_keeps m (answer.Refused s) is = refl
 
-run_keeps : (m : TalkMoment) (a : Answer) (o : Outcome) → outcome_of m.block a ≡ o
-    → Keeps m.block (said_run m.mode m.block a o) (after_outcome o m (after_done stage.Running a m)).block
-run_keeps m a outcome.Done is = answer_keeps m.mode m.block a is ∙ ap (λ (b : TalkBlock). Some (seen_as b)) (sym (goes_on_block (record m { block = block_answered m.block a })))
+run_keeps : (m : TalkMoment) (a : Answer) (o : Outcome) → ran m a ≡ o
+    → Keeps m.block (said_run m a o) (after_outcome o m (after_done stage.Running a m)).block
+run_keeps m a outcome.Done is = answer_keeps m a is ∙ ap (λ (b : TalkBlock). Some (seen_as b)) (sym (goes_on_block (record m { block = block_answered m.block a })))
 run_keeps m a (outcome.Refused f) is = refl
 run_keeps m a (outcome.Breaks f) is = refl
 
@@ -311,66 +262,22 @@ rolled_back_keeps m (answer.Refused s) = refl
 answered_keeps : (s : TalkStage) (m : TalkMoment) (a : Answer) → Keeps m.block (said_answered s m a) (after_answer s m a).block
 answered_keeps stage.Opening m a = opened_keeps m a
 answered_keeps stage.Beginning m a = own_keeps m (after_done stage.Beginning a m) (outcome_of m.block a) (ap seen_as (goes_on_block (record m { block = entered m.block })) ∙ entered_seen m.block)
-answered_keeps stage.Running m a = run_keeps m a (outcome_of m.block a) refl
+answered_keeps stage.Running m a = run_keeps m a (ran m a) refl
 answered_keeps stage.Committing m a = own_keeps m (closes m) (commit_outcome a) (came_out_seen m.block)
 answered_keeps stage.RollingBack m a = rolled_back_keeps m a
 answered_keeps (stage.Failing f) m a = refl
 answered_keeps stage.Starting m a = refl
 answered_keeps stage.Ready m a = refl
+answered_keeps (stage.Telling k) m a = refl
+answered_keeps (stage.TellingRow k x) m a = refl
+answered_keeps (stage.TellingNothing k) m a = refl
+answered_keeps stage.Describing m a = refl
 answered_keeps (stage.Refusing f) m a = refl
 answered_keeps (stage.Judging f) m a = refl
 answered_keeps stage.Closing m a = refl
 answered_keeps (stage.Settling x) m a = refl
 answered_keeps stage.Emptying m a = refl
 answered_keeps stage.Ended m a = refl
-
-state_spares : (s : SqlState) → is_excused (refusal_text s) ≡ false
-state_spares state.SyntaxError = refl
-state_spares state.NameTooLong = refl
-state_spares state.UndefinedTable = refl
-state_spares state.UndefinedColumn = refl
-state_spares state.AmbiguousColumn = refl
-state_spares state.DuplicateAlias = refl
-state_spares state.UndefinedObject = refl
-state_spares state.DuplicateTable = refl
-state_spares state.DuplicateObject = refl
-state_spares state.DuplicateColumn = refl
-state_spares state.DatatypeMismatch = refl
-state_spares state.InsufficientPrivilege = refl
-state_spares state.InvalidGrantOperation = refl
-state_spares state.DependentPrivileges = refl
-state_spares state.DependentObjects = refl
-state_spares state.DivisionByZero = refl
-state_spares state.NumericValueOutOfRange = refl
-state_spares state.NotNullViolation = refl
-state_spares state.UniqueViolation = refl
-state_spares state.InFailedTransaction = refl
-state_spares state.LockNotAvailable = refl
-state_spares state.InvalidAuthorization = refl
-state_spares state.ProgramLimitExceeded = refl
-state_spares state.TooManyConnections = refl
-state_spares state.DiskFull = refl
-state_spares state.OutOfMemory = refl
-state_spares state.IoError = refl
-state_spares state.ProtocolViolation = refl
-state_spares state.ConnectionDoesNotExist = refl
-state_spares state.ConnectionNameInUse = refl
-
--- the sentence tells whether an error spares a block
-text_spares : (f : TalkFault) → is_excused (fault_text f) ≡ spares f
-text_spares (fault.Refused s) = state_spares s
-text_spares fault.NotText = refl
-text_spares fault.OtherVersion = refl
-text_spares fault.Unsupported = refl
-text_spares fault.Internal = refl
-text_spares fault.ReservedWord = refl
-text_spares fault.Catalogue = refl
-text_spares fault.SeveralStatements = refl
-text_spares fault.UnknownStatement = refl
-text_spares fault.UnknownPortal = refl
-text_spares fault.StatementExists = refl
-text_spares fault.PortalExists = refl
-text_spares fault.OtherCount = refl
 
 report_seen : (b : TalkBlock) (x : Bool) → seen_report Error x (seen_as b) ≡ seen_as (spoiled_by x b)
 report_seen block.Outside true = refl
@@ -431,9 +338,12 @@ settled_tag_seen b settled.CurrentSchema = refl
 settled_tag_seen b settled.Version = refl
 settled_tag_seen b (settled.Show x) = refl
 
+head_seen : (f : ValueFormat) (r : Option (List ℕ × List ℕ)) (b : Seen) (ys : List Saying) → seen_all b (settled_head f r ++ ys) ≡ seen_all b ys
+head_seen f (Some r) b ys = refl
+head_seen f None b ys = refl
+
 columns_seen : (t : Mode) (r : Option (List ℕ × List ℕ)) (b : Seen) (ys : List Saying) → seen_all b (settled_columns t r ++ ys) ≡ seen_all b ys
-columns_seen mode.Query (Some r) b ys = refl
-columns_seen mode.Query None b ys = refl
+columns_seen mode.Query r b ys = head_seen format.Text r b ys
 columns_seen mode.Batch r b ys = refl
 columns_seen mode.Skipping r b ys = refl
 
@@ -462,6 +372,23 @@ closing_keeps : (m : TalkMoment) (s : Option BlockStanding) → Keeps m.block (s
 closing_keeps m None = refl
 closing_keeps m (Some s) = refl
 
+row_told_seen : (k : DescribedKind) (f : ValueFormat) (r : Option (List ℕ × List ℕ)) (b : Seen) → seen_all b (parameters_said k ++ settled_head f r) ≡ Some b
+row_told_seen named.Statement f None b = refl
+row_told_seen named.Statement f (Some r) b = refl
+row_told_seen named.Portal f None b = refl
+row_told_seen named.Portal f (Some r) b = refl
+
+row_told_keeps : (k : DescribedKind) (m : TalkMoment) (x : Settled) (s : Option BlockStanding) → Keeps m.block (said_row_told k m.block m.mode (next_format m.formats) x s) (after_row_told m s).block
+row_told_keeps k m x None = refl
+row_told_keeps k m x (Some standing.Failed) = failed_keeps m.block m (fault.Refused state.InFailedTransaction) standing.Failed refl
+row_told_keeps k m x (Some standing.Inside) = row_told_seen k (next_format m.formats) (settled_row x) (seen_as m.block)
+row_told_keeps k m x (Some standing.Outside) = row_told_seen k (next_format m.formats) (settled_row x) (seen_as m.block)
+
+nothing_told_keeps : (k : DescribedKind) (m : TalkMoment) (s : Option BlockStanding) → Keeps m.block (said_nothing_told k s) (after_closing m s).block
+nothing_told_keeps k m None = refl
+nothing_told_keeps named.Statement m (Some s) = refl
+nothing_told_keeps named.Portal m (Some s) = refl
+
 standing_keeps : (t : TalkStage) (m : TalkMoment) (s : Option BlockStanding) → Keeps m.block (said_standing t m s) (after_standing t m s).block
 standing_keeps (stage.Refusing f) m s = refusing_keeps f m s
 standing_keeps (stage.Judging f) m s = judging_keeps f m s
@@ -470,7 +397,11 @@ standing_keeps (stage.Settling x) m s = settling_keeps m x s
 standing_keeps stage.Emptying m s = emptying_keeps m s
 standing_keeps stage.Starting m s = refl
 standing_keeps stage.Opening m s = refl
+standing_keeps (stage.TellingRow k x) m s = row_told_keeps k m x s
+standing_keeps (stage.TellingNothing k) m s = nothing_told_keeps k m s
+standing_keeps (stage.Telling k) m s = refl
 standing_keeps stage.Ready m s = refl
+standing_keeps stage.Describing m s = refl
 standing_keeps stage.Beginning m s = refl
 standing_keeps stage.Running m s = refl
 standing_keeps stage.Committing m s = refl
@@ -478,10 +409,62 @@ standing_keeps stage.RollingBack m s = refl
 standing_keeps (stage.Failing f) m s = refl
 standing_keeps stage.Ended m s = refl
 
+runs_block : (w : Want) (m : TalkMoment) → (runs_described w m).block ≡ m.block
+runs_block want.Message m = refl
+runs_block (want.Event e) m = refl
+runs_block (want.Open session login entry) m = refl
+runs_block (want.Standing session) m = refl
+runs_block (want.Description session text) m = refl
+runs_block (want.End late) m = refl
+runs_block want.OutOfMemory m = refl
+
+tells_block : (k : DescribedKind) (columns : Option (List ResultColumn)) (m : TalkMoment) → (tells k columns m).block ≡ m.block
+tells_block named.Statement columns m = refl
+tells_block named.Portal columns m = refl
+
+head_told_seen : (k : DescribedKind) (fs : List ValueFormat) (b : Seen) (d : StatementDescription) → seen_all b (head_told k fs d) ≡ Some b
+head_told_seen named.Statement fs b (description.Rows columns) = refl
+head_told_seen named.Portal fs b (description.Rows columns) = refl
+head_told_seen named.Statement fs b description.NoRows = refl
+head_told_seen named.Portal fs b description.NoRows = refl
+head_told_seen named.Statement fs b (description.Refused s) = refl
+head_told_seen named.Portal fs b (description.Refused s) = refl
+
+outcome_told : (k : DescribedKind) (m : TalkMoment) (d : StatementDescription) (o : Outcome)
+    → Keeps m.block (said_told k m.formats d o) (after_outcome o m (listens (tells k (columns_in d) m))).block
+outcome_told k m d outcome.Done = head_told_seen k m.formats (seen_as m.block) d ∙ ap (λ (b : TalkBlock). Some (seen_as b)) (sym (tells_block k (columns_in d) m))
+outcome_told k m d (outcome.Refused f) = refl
+outcome_told k m d (outcome.Breaks f) = refl
+
+told_keeps : (k : DescribedKind) (m : TalkMoment) (d : StatementDescription) → Keeps m.block (said_told k m.formats d (description_outcome None m.formats d)) (after_told k m d).block
+told_keeps k m d = outcome_told k m d (description_outcome None m.formats d)
+
+described_keeps : (t : TalkStage) (m : TalkMoment) (d : StatementDescription) → Keeps m.block (said_described t m d) (after_described t m d).block
+described_keeps stage.Describing m d =
+    own_keeps m (runs_described m.want (record m { columns = columns_in d })) (description_outcome m.columns m.formats d) (ap seen_as (runs_block m.want (record m { columns = columns_in d })))
+described_keeps (stage.Telling k) m d = told_keeps k m d
+described_keeps (stage.TellingRow k x) m d = refl
+described_keeps (stage.TellingNothing k) m d = refl
+described_keeps (stage.Refusing f) m d = refl
+described_keeps (stage.Judging f) m d = refl
+described_keeps (stage.Settling x) m d = refl
+described_keeps stage.Closing m d = refl
+described_keeps stage.Emptying m d = refl
+described_keeps stage.Starting m d = refl
+described_keeps stage.Opening m d = refl
+described_keeps stage.Ready m d = refl
+described_keeps stage.Beginning m d = refl
+described_keeps stage.Running m d = refl
+described_keeps stage.Committing m d = refl
+described_keeps stage.RollingBack m d = refl
+described_keeps (stage.Failing f) m d = refl
+described_keeps stage.Ended m d = refl
+
 input_keeps : (m : TalkMoment) (i : Input) → Keeps m.block (said_to_input m i) (after_input m i).block
 input_keeps m (asked r) = request_keeps r m
 input_keeps m (told (reply.Answer a)) = answered_keeps m.stage m a
 input_keeps m (told (reply.Standing s)) = standing_keeps m.stage m s
+input_keeps m (told (reply.Description d)) = described_keeps m.stage m d
 input_keeps m bad = refl
 
 all_kept : (m : TalkMoment) (inputs : List Input) → seen_all (seen_as m.block) (said_in m inputs) ≡ Some (seen_as (after_all m inputs).block)

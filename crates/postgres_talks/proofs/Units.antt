@@ -1,6 +1,9 @@
 -- What an error does to a block of the connection's own.
 use Rattle.std.proofs.Common.{◌≡◌, ◌∙◌, ◌⊎◌, ℕ, Bool, true, false, ◌||◌, if◌then◌else◌, List, [], ◌∷◌, ◌++◌, map, length, Option, Some, None, inl, inr, refl, ap, sym, subst}
 use Rattle.std.specs.List.{list_any}
+use Rattle.sql_ast.specs.declared.description.ResultColumn.{ResultColumn}
+use Rattle.sql_ast.specs.declared.description.StatementDescription.{StatementDescription}
+use Rattle.sql_ast.specs.declared.description.StatementDescription.TheVariants as description
 use Rattle.sql_types.specs.declared.value.Value.{Value}
 use Rattle.sql_types.specs.declared.answer.Answer.{Answer}
 use Rattle.sql_types.specs.declared.answer.Answer.TheVariants as answer
@@ -12,10 +15,15 @@ use Rattle.talks.specs.declared.want.BlockStanding.{BlockStanding}
 use Rattle.talks.specs.declared.want.BlockStanding.TheVariants as standing
 use Rattle.talks.specs.declared.want.Want.TheVariants as want
 use Rattle.talks.specs.declared.want.Reply.TheVariants as reply
+use Rattle.postgres_messages.specs.declared.backend.ValueFormat.{ValueFormat}
+use Rattle.postgres_messages.specs.declared.backend.ValueFormat.TheVariants as format
+use Rattle.postgres_talks.specs.Formats.{next_format}
 use Rattle.postgres_talks.specs.declared.fault.TalkFault.{TalkFault}
 use Rattle.postgres_talks.specs.declared.fault.TalkFault.TheVariants as fault
 use Rattle.postgres_talks.specs.declared.moment.TalkBlock.{TalkBlock}
 use Rattle.postgres_talks.specs.declared.moment.TalkBlock.TheVariants as block
+use Rattle.postgres_talks.specs.declared.moment.DescribedKind.{DescribedKind}
+use Rattle.postgres_talks.specs.declared.moment.DescribedKind.TheVariants as named
 use Rattle.postgres_talks.specs.declared.moment.Mode.{Mode}
 use Rattle.postgres_talks.specs.declared.moment.Mode.TheVariants as mode
 use Rattle.postgres_talks.specs.declared.moment.TalkStage.{TalkStage}
@@ -26,8 +34,8 @@ use Rattle.postgres_talks.specs.declared.outcome.Outcome.{Outcome}
 use Rattle.postgres_talks.specs.declared.outcome.Outcome.TheVariants as outcome
 use Rattle.postgres_talks.specs.declared.requests.Request.{Request}
 use Rattle.postgres_talks.specs.declared.requests.Request.TheVariants as request
-use Rattle.postgres_talks.specs.Moments.{after_answer, after_failed, after_judging, after_outcome, after_refusing, after_reply, after_rolled_back, after_settling, after_standing, answer_said, asks, came_out, closes, closes_or_listens, said_answered, said_closing, said_emptying, said_failed, said_judging, said_opened, said_own, said_refusing, said_rolled_back, said_run, said_settling, said_standing, settled_columns, settled_rows, settled_said, spares, table_said, warnings_said}
-use Rattle.postgres_talks.specs.Outcomes.{commit_outcome, outcome_of, refusal, warning_of}
+use Rattle.postgres_talks.specs.Moments.{after_answer, after_failed, after_judging, after_outcome, after_refusing, after_reply, after_rolled_back, after_row_told, after_settling, after_standing, answer_said, asks, came_out, closes, closes_or_listens, head_told, headed_said, parameters_said, ran, said_answered, said_closing, said_described, said_emptying, said_failed, said_judging, said_opened, said_nothing_told, said_own, said_refusing, said_rolled_back, said_row_told, said_run, said_settling, said_standing, said_told, settled_columns, settled_head, settled_rows, settled_said, spares, table_said, warnings_said}
+use Rattle.postgres_talks.specs.Outcomes.{commit_outcome, description_outcome, outcome_of, refusal, warning_of}
 use Rattle.postgres_talks.specs.Played.{Input, after_input, asked, bad, said_to_input, told}
 use Rattle.postgres_talks.specs.Requests.{fault_of, heeded, said_to_done, said_to_request, said_unless}
 use Rattle.postgres_talks.specs.Rows.{row_said, rows_said, select_tag}
@@ -56,31 +64,35 @@ any_on (x ∷ xs) ys = any_behind xs ys (any_on xs ys) (is_error x)
 quiet_on : (xs ys : List Saying) → IsQuiet xs → IsQuiet ys → IsQuiet (xs ++ ys)
 quiet_on xs ys first last = any_on xs ys ∙ ap (λ (b : Bool). b || list_any is_error ys) first ∙ last
 
-quiet_rows : (rows : List (List Value)) → IsQuiet (map row_said rows)
-quiet_rows [] = refl
-quiet_rows (row ∷ rows) = quiet_rows rows
+quiet_rows : (fs : List ValueFormat) (rows : List (List Value)) → IsQuiet (map (row_said fs) rows)
+quiet_rows fs [] = refl
+quiet_rows fs (row ∷ rows) = quiet_rows fs rows
 
-quiet_all_rows : (rows : List (List Value)) → IsQuiet (rows_said rows)
-quiet_all_rows rows = quiet_on (map row_said rows) (complete_said (select_tag (length rows)) ∷ []) (quiet_rows rows) refl
+quiet_all_rows : (fs : List ValueFormat) (rows : List (List Value)) → IsQuiet (rows_said fs rows)
+quiet_all_rows fs rows = quiet_on (map (row_said fs) rows) (complete_said (select_tag (length rows)) ∷ []) (quiet_rows fs rows) refl
 
-quiet_table : (t : Mode) (rows : List (List Value)) → IsQuiet (table_said t rows)
-quiet_table mode.Query rows = quiet_all_rows rows
-quiet_table mode.Batch rows = quiet_all_rows rows
-quiet_table mode.Skipping rows = quiet_all_rows rows
+quiet_headed : (columns : Option (List ResultColumn)) (rows : List (List Value)) → IsQuiet (headed_said columns rows)
+quiet_headed None rows = refl
+quiet_headed (Some columns) rows = quiet_all_rows [] rows
+
+quiet_table : (t : Mode) (fs : List ValueFormat) (columns : Option (List ResultColumn)) (rows : List (List Value)) → IsQuiet (table_said t fs columns rows)
+quiet_table mode.Query fs columns rows = quiet_headed columns rows
+quiet_table mode.Batch fs columns rows = quiet_all_rows fs rows
+quiet_table mode.Skipping fs columns rows = quiet_all_rows fs rows
 
 quiet_warnings : (w : Option Warning) (ys : List Saying) → IsQuiet ys → IsQuiet (warnings_said w ++ ys)
 quiet_warnings None ys quiet = quiet
 quiet_warnings (Some w) ys quiet = quiet
 
-quiet_answer : (t : Mode) (b : TalkBlock) (a : Answer) → IsQuiet (answer_said t b a)
-quiet_answer t b (answer.Rows rows) = quiet_table t rows
-quiet_answer t b (answer.Done x count w) = quiet_warnings (warning_of b x w) (complete_said (done_tag x count) ∷ []) refl
-quiet_answer t b (answer.Refused s) = refl
+quiet_answer : (m : TalkMoment) (a : Answer) → IsQuiet (answer_said m a)
+quiet_answer m (answer.Rows rows) = quiet_table m.mode m.formats m.columns rows
+quiet_answer m (answer.Done x count w) = quiet_warnings (warning_of m.block x w) (complete_said (done_tag x count) ∷ []) refl
+quiet_answer m (answer.Refused s) = refl
 
-quiet_run : (t : Mode) (b : TalkBlock) (a : Answer) (o : Outcome) → IsQuiet (said_run t b a o)
-quiet_run t b a outcome.Done = quiet_answer t b a
-quiet_run t b a (outcome.Refused f) = refl
-quiet_run t b a (outcome.Breaks f) = refl
+quiet_run : (m : TalkMoment) (a : Answer) (o : Outcome) → IsQuiet (said_run m a o)
+quiet_run m a outcome.Done = quiet_answer m a
+quiet_run m a (outcome.Refused f) = refl
+quiet_run m a (outcome.Breaks f) = refl
 
 quiet_own : (o : Outcome) → IsQuiet (said_own o)
 quiet_own outcome.Done = refl
@@ -100,12 +112,16 @@ quiet_rolled_back (answer.Refused s) = refl
 quiet_answered : (s : TalkStage) (m : TalkMoment) (a : Answer) → IsQuiet (said_answered s m a)
 quiet_answered stage.Opening m a = quiet_opened m.process a
 quiet_answered stage.Beginning m a = quiet_own (outcome_of m.block a)
-quiet_answered stage.Running m a = quiet_run m.mode m.block a (outcome_of m.block a)
+quiet_answered stage.Running m a = quiet_run m a (ran m a)
 quiet_answered stage.Committing m a = quiet_own (commit_outcome a)
 quiet_answered stage.RollingBack m a = quiet_rolled_back a
 quiet_answered (stage.Failing f) m a = refl
 quiet_answered stage.Starting m a = refl
 quiet_answered stage.Ready m a = refl
+quiet_answered (stage.Telling k) m a = refl
+quiet_answered (stage.TellingRow k x) m a = refl
+quiet_answered (stage.TellingNothing k) m a = refl
+quiet_answered stage.Describing m a = refl
 quiet_answered (stage.Refusing f) m a = refl
 quiet_answered (stage.Judging f) m a = refl
 quiet_answered stage.Closing m a = refl
@@ -113,13 +129,48 @@ quiet_answered (stage.Settling x) m a = refl
 quiet_answered stage.Emptying m a = refl
 quiet_answered stage.Ended m a = refl
 
+quiet_head_told : (k : DescribedKind) (fs : List ValueFormat) (d : StatementDescription) → IsQuiet (head_told k fs d)
+quiet_head_told named.Statement fs (description.Rows columns) = refl
+quiet_head_told named.Portal fs (description.Rows columns) = refl
+quiet_head_told named.Statement fs description.NoRows = refl
+quiet_head_told named.Portal fs description.NoRows = refl
+quiet_head_told named.Statement fs (description.Refused s) = refl
+quiet_head_told named.Portal fs (description.Refused s) = refl
+
+quiet_told : (k : DescribedKind) (fs : List ValueFormat) (d : StatementDescription) (o : Outcome) → IsQuiet (said_told k fs d o)
+quiet_told k fs d outcome.Done = quiet_head_told k fs d
+quiet_told k fs d (outcome.Refused f) = refl
+quiet_told k fs d (outcome.Breaks f) = refl
+
+quiet_described : (s : TalkStage) (m : TalkMoment) (d : StatementDescription) → IsQuiet (said_described s m d)
+quiet_described stage.Describing m d = quiet_own (description_outcome m.columns m.formats d)
+quiet_described (stage.Telling k) m d = quiet_told k m.formats d (description_outcome None m.formats d)
+quiet_described (stage.TellingRow k x) m d = refl
+quiet_described (stage.TellingNothing k) m d = refl
+quiet_described stage.Opening m d = refl
+quiet_described stage.Beginning m d = refl
+quiet_described stage.Running m d = refl
+quiet_described stage.Committing m d = refl
+quiet_described stage.RollingBack m d = refl
+quiet_described (stage.Failing f) m d = refl
+quiet_described stage.Starting m d = refl
+quiet_described stage.Ready m d = refl
+quiet_described (stage.Refusing f) m d = refl
+quiet_described (stage.Judging f) m d = refl
+quiet_described stage.Closing m d = refl
+quiet_described (stage.Settling x) m d = refl
+quiet_described stage.Emptying m d = refl
+quiet_described stage.Ended m d = refl
+
 quiet_done : (r : Request) → IsQuiet (said_to_done r)
 quiet_done request.Encryption = refl
 quiet_done (request.Login role) = refl
 quiet_done (request.Statements pieces) = refl
 quiet_done (request.Prepare name p) = refl
-quiet_done (request.Bind name prepared count) = refl
+quiet_done (request.Bind name prepared count fs) = refl
 quiet_done (request.Execute name) = refl
+quiet_done (request.DescribeStatement name) = refl
+quiet_done (request.DescribePortal name) = refl
 quiet_done (request.CloseStatement name) = refl
 quiet_done (request.ClosePortal name) = refl
 quiet_done request.Sync = refl
@@ -135,9 +186,12 @@ quiet_unless None r = quiet_done r
 quiet_request : (r : Request) (m : TalkMoment) → IsQuiet (said_to_request r m)
 quiet_request r m = quiet_unless (fault_of (heeded m.mode r) m) (heeded m.mode r)
 
+quiet_head : (f : ValueFormat) (r : Option (List ℕ × List ℕ)) → IsQuiet (settled_head f r)
+quiet_head f (Some r) = refl
+quiet_head f None = refl
+
 quiet_columns : (t : Mode) (r : Option (List ℕ × List ℕ)) → IsQuiet (settled_columns t r)
-quiet_columns mode.Query (Some r) = refl
-quiet_columns mode.Query None = refl
+quiet_columns mode.Query r = quiet_head format.Text r
 quiet_columns mode.Batch r = refl
 quiet_columns mode.Skipping r = refl
 
@@ -191,6 +245,22 @@ quiet_closing : (s : Option BlockStanding) → IsQuiet (said_closing s)
 quiet_closing None = refl
 quiet_closing (Some s) = refl
 
+quiet_row_told : (k : DescribedKind) (f : ValueFormat) (r : Option (List ℕ × List ℕ)) → IsQuiet (parameters_said k ++ settled_head f r)
+quiet_row_told named.Statement f r = quiet_head f r
+quiet_row_told named.Portal f r = quiet_head f r
+
+row_told_rolls : (k : DescribedKind) (f : ValueFormat) (x : Settled) (m : TalkMoment) (s : Option BlockStanding) → m.block ≡ block.Implicit
+    → SaysError (said_row_told k m.block m.mode f x s) → RollsBack (after_row_told m s)
+row_told_rolls k f x m None is says = absurd (no_error (said_row_told k m.block m.mode f x None) refl says)
+row_told_rolls k f x m (Some standing.Failed) is says = failed_rolls (fault.Refused state.InFailedTransaction) m is
+row_told_rolls k f x m (Some standing.Inside) is says = absurd (no_error (parameters_said k ++ settled_head f (settled_row x)) (quiet_row_told k f (settled_row x)) says)
+row_told_rolls k f x m (Some standing.Outside) is says = absurd (no_error (parameters_said k ++ settled_head f (settled_row x)) (quiet_row_told k f (settled_row x)) says)
+
+quiet_nothing_told : (k : DescribedKind) (s : Option BlockStanding) → IsQuiet (said_nothing_told k s)
+quiet_nothing_told k None = refl
+quiet_nothing_told named.Statement (Some s) = refl
+quiet_nothing_told named.Portal (Some s) = refl
+
 standing_rolls : (t : TalkStage) (m : TalkMoment) (s : Option BlockStanding) → m.block ≡ block.Implicit
     → SaysError (said_standing t m s) → RollsBack (after_standing t m s)
 standing_rolls (stage.Refusing f) m s is says = refusing_rolls f m s is says
@@ -200,7 +270,11 @@ standing_rolls stage.Closing m s is says = absurd (no_error (said_closing s) (qu
 standing_rolls stage.Emptying m s is says = absurd (no_error (said_emptying s) (quiet_emptying s) says)
 standing_rolls stage.Starting m s is says = absurd (no_error [] refl says)
 standing_rolls stage.Opening m s is says = absurd (no_error [] refl says)
+standing_rolls (stage.TellingRow k x) m s is says = row_told_rolls k (next_format m.formats) x m s is says
+standing_rolls (stage.TellingNothing k) m s is says = absurd (no_error (said_nothing_told k s) (quiet_nothing_told k s) says)
+standing_rolls (stage.Telling k) m s is says = absurd (no_error [] refl says)
 standing_rolls stage.Ready m s is says = absurd (no_error [] refl says)
+standing_rolls stage.Describing m s is says = absurd (no_error [] refl says)
 standing_rolls stage.Beginning m s is says = absurd (no_error [] refl says)
 standing_rolls stage.Running m s is says = absurd (no_error [] refl says)
 standing_rolls stage.Committing m s is says = absurd (no_error [] refl says)
@@ -212,6 +286,7 @@ pub error_rolls_back : (m : TalkMoment) (i : Input) → m.block ≡ block.Implic
 error_rolls_back m (asked r) is says = absurd (no_error (said_to_request r m) (quiet_request r m) says)
 error_rolls_back m (told (reply.Answer a)) is says = absurd (no_error (said_answered m.stage m a) (quiet_answered m.stage m a) says)
 error_rolls_back m (told (reply.Standing s)) is says = standing_rolls m.stage m s is says
+error_rolls_back m (told (reply.Description d)) is says = absurd (no_error (said_described m.stage m d) (quiet_described m.stage m d) says)
 error_rolls_back m bad is says = absurd (no_error (said_to_input m bad) refl says)
 
 -- ---- the end of a block

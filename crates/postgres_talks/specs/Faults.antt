@@ -3,7 +3,7 @@ use Rattle.std.specs.Prelude.{ℕ, List, codes}
 use Rattle.sql_types.specs.State.{state_code}
 use Rattle.postgres_texts.specs.Sentences.{refusal_text}
 use Rattle.postgres_talks.specs.declared.fault.TalkFault.{TalkFault}
-use Rattle.postgres_talks.specs.declared.fault.TalkFault.TheVariants.{Refused, NotText, OtherVersion, Unsupported, Internal, ReservedWord, Catalogue, SeveralStatements, UnknownStatement, UnknownPortal, StatementExists, PortalExists, OtherCount}
+use Rattle.postgres_talks.specs.declared.fault.TalkFault.TheVariants.{Refused, NotText, OtherVersion, Unsupported, Internal, ReservedWord, Catalogue, SeveralStatements, UnknownStatement, UnknownPortal, StatementExists, PortalExists, OtherCount, OtherColumns, UnknownFormat, OtherFormats}
 
 abbrev pub fault_code : TalkFault → List ℕ
 fault_code (Refused state) = state_code state
@@ -19,6 +19,9 @@ fault_code UnknownPortal = codes "34000"
 fault_code StatementExists = codes "42P05"
 fault_code PortalExists = codes "42P03"
 fault_code OtherCount = codes "08P01"
+fault_code OtherColumns = codes "0A000"
+fault_code UnknownFormat = codes "22023"
+fault_code OtherFormats = codes "08P01"
 
 abbrev pub fault_text : TalkFault → List ℕ
 fault_text (Refused state) = refusal_text state
@@ -34,3 +37,6 @@ fault_text UnknownPortal = codes "portal does not exist"
 fault_text StatementExists = codes "prepared statement already exists"
 fault_text PortalExists = codes "portal already exists"
 fault_text OtherCount = codes "number of parameters is another"
+fault_text OtherColumns = codes "cached plan must not change result type"
+fault_text UnknownFormat = codes "format code is not supported"
+fault_text OtherFormats = codes "number of format codes is another"

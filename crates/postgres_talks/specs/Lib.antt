@@ -1,5 +1,6 @@
 pub mod Faults
 pub mod Sayings
+pub mod Formats
 pub mod Rows
 pub mod Tags
 pub mod Settled
@@ -13,3 +14,4 @@ pub mod TalkLaws
 pub mod Played
 pub mod Blocks
 pub mod Units
+pub mod Fitting

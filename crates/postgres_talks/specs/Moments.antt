@@ -1,5 +1,8 @@
 -- How a connection stands, and what it says to what it learns.
 use Rattle.std.specs.Prelude.{ℕ, nat_lt, Bool, true, false, if◌then◌else◌, List, [], ◌∷◌, ◌++◌, length, map, codes, Option, Some, None}
+use Rattle.sql_ast.specs.declared.description.ResultColumn.{ResultColumn}
+use Rattle.sql_ast.specs.declared.description.StatementDescription.{StatementDescription}
+use Rattle.sql_ast.specs.declared.description.StatementDescription.TheVariants as description
 use Rattle.sql_types.specs.declared.value.Value.{Value}
 use Rattle.sql_types.specs.declared.answer.Answer.{Answer}
 use Rattle.sql_types.specs.declared.answer.Answer.TheVariants as answer
@@ -10,12 +13,15 @@ use Rattle.sql_types.specs.declared.tag.Tag.TheVariants as tag
 use Rattle.sql_types.specs.declared.warning.Warning.{Warning}
 use Rattle.talks.specs.declared.want.BlockStanding.{BlockStanding}
 use Rattle.talks.specs.declared.want.BlockStanding.TheVariants as standing
+use Rattle.talks.specs.declared.want.Want.{Want}
 use Rattle.talks.specs.declared.want.Want.TheVariants as want
 use Rattle.talks.specs.declared.want.Reply.{Reply}
 use Rattle.talks.specs.declared.want.Reply.TheVariants as reply
-use Rattle.postgres_messages.specs.Backend.{TheColumn, authentication_ok, backend_key_data, data_row, empty_query_response, parameter_status, row_description}
+use Rattle.postgres_messages.specs.Backend.{TheColumn, authentication_ok, backend_key_data, data_row, empty_query_response, no_data, parameter_description, parameter_status, row_description}
 use Rattle.postgres_messages.specs.declared.backend.DataType.TheVariants as data_type
+use Rattle.postgres_messages.specs.declared.backend.ValueFormat.{ValueFormat}
 use Rattle.postgres_messages.specs.declared.backend.ValueFormat.TheVariants as format
+use Rattle.postgres_talks.specs.Formats.{next_format}
 use Rattle.postgres_texts.specs.declared.settings.SessionSetting.{SessionSetting}
 use Rattle.postgres_texts.specs.declared.settings.SessionSetting.TheVariants as setting
 use Rattle.postgres_texts.specs.Settings.{name_of, initial_value}
@@ -23,31 +29,39 @@ use Rattle.postgres_talks.specs.declared.fault.TalkFault.{TalkFault}
 use Rattle.postgres_talks.specs.declared.fault.TalkFault.TheVariants as fault
 use Rattle.postgres_talks.specs.declared.moment.TalkBlock.{TalkBlock}
 use Rattle.postgres_talks.specs.declared.moment.TalkBlock.TheVariants as block
+use Rattle.postgres_talks.specs.declared.moment.DescribedKind.{DescribedKind}
+use Rattle.postgres_talks.specs.declared.moment.DescribedKind.TheVariants as named
 use Rattle.postgres_talks.specs.declared.moment.Mode.{Mode}
 use Rattle.postgres_talks.specs.declared.moment.Mode.TheVariants as mode
 use Rattle.postgres_talks.specs.declared.moment.TalkStage.{TalkStage}
 use Rattle.postgres_talks.specs.declared.moment.TalkStage.TheVariants as stage
 use Rattle.postgres_talks.specs.declared.moment.TalkMoment.{TalkMoment}
+use Rattle.postgres_talks.specs.declared.named_pieces.NamedPiece.{NamedPiece}
 use Rattle.postgres_talks.specs.declared.piece.StatementPiece.{StatementPiece}
 use Rattle.postgres_talks.specs.declared.piece.StatementPiece.TheVariants as piece
 use Rattle.postgres_talks.specs.declared.settled.Settled.{Settled}
 use Rattle.postgres_talks.specs.declared.outcome.Outcome.{Outcome}
 use Rattle.postgres_talks.specs.declared.outcome.Outcome.TheVariants as outcome
-use Rattle.postgres_talks.specs.Outcomes.{commit_outcome, outcome_of, warning_of}
+use Rattle.postgres_talks.specs.Outcomes.{commit_outcome, description_outcome, outcome_of, run_outcome, warning_of}
 use Rattle.postgres_talks.specs.Sayings.{Saying, message, error_said, fatal_said, warning_said, ready_said, complete_said}
 use Rattle.postgres_talks.specs.Rows.{columns_said, rows_said}
+use Rattle.postgres_talks.specs.Named.{tell}
 use Rattle.postgres_talks.specs.Settled.{settled_tag, settled_row}
 use Rattle.postgres_talks.specs.Tags.{done_tag}
 
 -- nothing was heard
 abbrev pub first_moment : ℕ → TalkMoment
-first_moment process = record { process = process; stage = stage.Starting; block = block.Outside; mode = mode.Query; left = []; statements = []; portals = []; want = want.Message }
+first_moment process = record { process = process; stage = stage.Starting; block = block.Outside; mode = mode.Query; left = []; columns = None; formats = []; name = []; statements = []; portals = []; want = want.Message }
 
 -- ---- where it goes
 
 -- the event of this text is wanted; the session of a connection has the number 1
 abbrev pub asks : TalkStage → List ℕ → TalkMoment → TalkMoment
 asks s text m = record m { stage = s; want = want.Event (event.Statement 1 text) }
+
+-- it is wanted what the statement of this text would answer
+abbrev pub describes : TalkStage → List ℕ → TalkMoment → TalkMoment
+describes s text m = record m { stage = s; want = want.Description 1 text }
 
 -- it is wanted how the block stands
 abbrev pub looks : TalkStage → TalkMoment → TalkMoment
@@ -77,12 +91,37 @@ finishes block.Implicit mode.Query m = asks stage.Committing (codes "COMMIT") m
 finishes b mode.Query m = looks stage.Closing m
 finishes b t m = listens m
 
+-- before a SELECT is run its columns are asked for, but in a batch where its client was told none and has not told one format for each
+abbrev pub selects_known : Option (List ResultColumn) → List ℕ → TalkMoment → TalkMoment
+selects_known None text m = if nat_lt 1 (length m.formats) then describes stage.Describing text m else asks stage.Running text m
+selects_known (Some columns) text m = describes stage.Describing text m
+
+abbrev pub selects : Mode → List ℕ → TalkMoment → TalkMoment
+selects mode.Query text m = describes stage.Describing text (record m { columns = None; formats = [] })
+selects t text m = selects_known m.columns text m
+
 -- a text that needs no machine is answered once it is known how the block stands
 abbrev pub starts_on : StatementPiece → TalkMoment → TalkMoment
-starts_on (piece.Statement text) m = asks stage.Running text m
+starts_on (piece.Statement text) m = asks stage.Running text (record m { columns = None })
+starts_on (piece.Select text) m = selects m.mode text m
 starts_on (piece.Settled s) m = looks (stage.Settling s) m
 starts_on (piece.Faulty f) m = looks (stage.Refusing f) m
 starts_on piece.Empty m = looks stage.Emptying m
+
+-- what Describe asks for is told once it is known
+abbrev pub describes_settled : DescribedKind → Settled → Option (List ℕ × List ℕ) → TalkMoment → TalkMoment
+describes_settled k x None m = looks (stage.TellingNothing k) m
+describes_settled k x (Some r) m = looks (stage.TellingRow k x) m
+
+abbrev pub describes_piece : DescribedKind → StatementPiece → TalkMoment → TalkMoment
+describes_piece k (piece.Select text) m = describes (stage.Telling k) text m
+describes_piece k (piece.Settled x) m = describes_settled k x (settled_row x) m
+describes_piece k (piece.Faulty f) m = looks (stage.Refusing f) m
+describes_piece k p m = looks (stage.TellingNothing k) m
+
+abbrev pub describes_found : DescribedKind → Option NamedPiece → TalkMoment → TalkMoment
+describes_found k None m = m
+describes_found k (Some n) m = describes_piece k n.piece m
 
 abbrev pub goes_on_with : List StatementPiece → TalkMoment → TalkMoment
 goes_on_with [] m = finishes m.block m.mode m
@@ -127,16 +166,20 @@ abbrev pub warnings_said : Option Warning → List Saying
 warnings_said None = []
 warnings_said (Some w) = warning_said w ∷ []
 
--- in a batch the columns are asked for by Describe
-abbrev pub table_said : Mode → List (List Value) → List Saying
-table_said mode.Query rows = columns_said rows ∷ rows_said rows
-table_said m rows = rows_said rows
+-- rows follow their columns, but in a batch
+abbrev pub headed_said : Option (List ResultColumn) → List (List Value) → List Saying
+headed_said None rows = []
+headed_said (Some columns) rows = columns_said [] columns ∷ rows_said [] rows
+
+abbrev pub table_said : Mode → List ValueFormat → Option (List ResultColumn) → List (List Value) → List Saying
+table_said mode.Query fs columns rows = headed_said columns rows
+table_said t fs columns rows = rows_said fs rows
 
 -- what is said of an answer that is no refusal
-abbrev pub answer_said : Mode → TalkBlock → Answer → List Saying
-answer_said m b (answer.Rows rows) = table_said m rows
-answer_said m b (answer.Done t count w) = warnings_said (warning_of b t w) ++ complete_said (done_tag t count) ∷ []
-answer_said m b (answer.Refused s) = []
+abbrev pub answer_said : TalkMoment → Answer → List Saying
+answer_said m (answer.Rows rows) = table_said m.mode m.formats m.columns rows
+answer_said m (answer.Done t count w) = warnings_said (warning_of m.block t w) ++ complete_said (done_tag t count) ∷ []
+answer_said m (answer.Refused s) = []
 
 abbrev pub block_answered : TalkBlock → Answer → TalkBlock
 block_answered b (answer.Done t count w) = block_after b t
@@ -154,10 +197,14 @@ abbrev pub greeting : ℕ → List Saying
 greeting process = message authentication_ok ∷ (map setting_said told_settings ++ message (backend_key_data process 0) ∷ ready_said standing.Outside ∷ [])
 
 -- to a statement of a client
-abbrev pub said_run : Mode → TalkBlock → Answer → Outcome → List Saying
-said_run m b a outcome.Done = answer_said m b a
-said_run m b a (outcome.Refused f) = []
-said_run m b a (outcome.Breaks f) = fatal_said f ∷ []
+abbrev pub said_run : TalkMoment → Answer → Outcome → List Saying
+said_run m a outcome.Done = answer_said m a
+said_run m a (outcome.Refused f) = []
+said_run m a (outcome.Breaks f) = fatal_said f ∷ []
+
+-- what it comes to
+abbrev pub ran : TalkMoment → Answer → Outcome
+ran m a = run_outcome m.mode m.block m.columns a
 
 -- to a step of the connection's own
 abbrev pub said_own : Outcome → List Saying
@@ -176,7 +223,7 @@ said_opened process a = greeting process
 abbrev pub said_answered : TalkStage → TalkMoment → Answer → List Saying
 said_answered stage.Opening m a = said_opened m.process a
 said_answered stage.Beginning m a = said_own (outcome_of m.block a)
-said_answered stage.Running m a = said_run m.mode m.block a (outcome_of m.block a)
+said_answered stage.Running m a = said_run m a (ran m a)
 said_answered stage.Committing m a = said_own (commit_outcome a)
 said_answered stage.RollingBack m a = said_rolled_back a
 said_answered s m a = []
@@ -211,11 +258,58 @@ closes m = looks stage.Closing (record m { block = came_out m.block })
 abbrev pub after_answer : TalkStage → TalkMoment → Answer → TalkMoment
 after_answer stage.Opening m a = after_opened a m
 after_answer stage.Beginning m a = after_outcome (outcome_of m.block a) m (after_done stage.Beginning a m)
-after_answer stage.Running m a = after_outcome (outcome_of m.block a) m (after_done stage.Running a m)
+after_answer stage.Running m a = after_outcome (ran m a) m (after_done stage.Running a m)
 after_answer stage.Committing m a = after_outcome (commit_outcome a) m (closes m)
 after_answer stage.RollingBack m a = after_rolled_back a m
 after_answer (stage.Failing f) m a = looks (stage.Judging f) m
 after_answer s m a = ends m
+
+-- ---- descriptions
+
+-- a statement that is described has no parameters
+abbrev pub parameters_said : DescribedKind → List Saying
+parameters_said named.Statement = message (parameter_description []) ∷ []
+parameters_said named.Portal = []
+
+-- to Describe
+abbrev pub head_told : DescribedKind → List ValueFormat → StatementDescription → List Saying
+head_told k fs (description.Rows columns) = parameters_said k ++ columns_said fs columns ∷ []
+head_told k fs d = parameters_said k ++ message no_data ∷ []
+
+abbrev pub said_told : DescribedKind → List ValueFormat → StatementDescription → Outcome → List Saying
+said_told k fs d outcome.Done = head_told k fs d
+said_told k fs d o = said_own o
+
+abbrev pub said_described : TalkStage → TalkMoment → StatementDescription → List Saying
+said_described stage.Describing m d = said_own (description_outcome m.columns m.formats d)
+said_described (stage.Telling k) m d = said_told k m.formats d (description_outcome None m.formats d)
+said_described s m d = []
+
+-- the columns that it tells, if it tells some
+abbrev pub columns_in : StatementDescription → Option (List ResultColumn)
+columns_in (description.Rows columns) = Some columns
+columns_in d = None
+
+-- the statement is run of which it was wanted what it would answer
+abbrev pub runs_described : Want → TalkMoment → TalkMoment
+runs_described (want.Description session text) m = asks stage.Running text m
+runs_described w m = ends m
+
+-- its client knows these columns now
+abbrev pub tells : DescribedKind → Option (List ResultColumn) → TalkMoment → TalkMoment
+tells named.Statement columns m = record m { statements = tell m.name columns m.statements }
+tells named.Portal columns m = record m { portals = tell m.name columns m.portals }
+
+abbrev pub after_told : DescribedKind → TalkMoment → StatementDescription → TalkMoment
+after_told k m d = after_outcome (description_outcome None m.formats d) m (listens (tells k (columns_in d) m))
+
+abbrev pub after_described_run : TalkMoment → StatementDescription → TalkMoment
+after_described_run m d = after_outcome (description_outcome m.columns m.formats d) m (runs_described m.want (record m { columns = columns_in d }))
+
+abbrev pub after_described : TalkStage → TalkMoment → StatementDescription → TalkMoment
+after_described stage.Describing m d = after_described_run m d
+after_described (stage.Telling k) m d = after_told k m d
+after_described s m d = ends m
 
 -- ---- how the block stands
 
@@ -270,11 +364,15 @@ after_closing m None = ends m
 after_closing m (Some s) = listens m
 
 -- one row, if it has one, of one column of text
-abbrev pub text_column : List ℕ → TheColumn
-text_column name = record { name = name; data_type = data_type.Text; format = format.Text }
+abbrev pub text_column : ValueFormat → List ℕ → TheColumn
+text_column f name = record { name = name; data_type = data_type.Text; format = f }
+
+abbrev pub settled_head : ValueFormat → Option (List ℕ × List ℕ) → List Saying
+settled_head f None = []
+settled_head f (Some r) = message (row_description (text_column f r.0 ∷ [])) ∷ []
 
 abbrev pub settled_columns : Mode → Option (List ℕ × List ℕ) → List Saying
-settled_columns mode.Query (Some r) = message (row_description (text_column r.0 ∷ [])) ∷ []
+settled_columns mode.Query r = settled_head format.Text r
 settled_columns t r = []
 
 abbrev pub settled_rows : Option (List ℕ × List ℕ) → List Saying
@@ -295,6 +393,21 @@ after_settling m None = ends m
 after_settling m (Some standing.Failed) = after_failed m.block (fault.Refused InFailedTransaction) m
 after_settling m (Some s) = goes_on m
 
+-- Describe of what needs no machine: in a block that has failed it tells no columns
+abbrev pub said_row_told : DescribedKind → TalkBlock → Mode → ValueFormat → Settled → Option BlockStanding → List Saying
+said_row_told k b t f x None = fatal_said (fault.Refused ConnectionDoesNotExist) ∷ []
+said_row_told k b t f x (Some standing.Failed) = said_failed b t (fault.Refused InFailedTransaction) standing.Failed
+said_row_told k b t f x (Some s) = parameters_said k ++ settled_head f (settled_row x)
+
+abbrev pub after_row_told : TalkMoment → Option BlockStanding → TalkMoment
+after_row_told m None = ends m
+after_row_told m (Some standing.Failed) = after_failed m.block (fault.Refused InFailedTransaction) m
+after_row_told m (Some s) = listens m
+
+abbrev pub said_nothing_told : DescribedKind → Option BlockStanding → List Saying
+said_nothing_told k None = fatal_said (fault.Refused ConnectionDoesNotExist) ∷ []
+said_nothing_told k (Some s) = parameters_said k ++ message no_data ∷ []
+
 abbrev pub said_emptying : Option BlockStanding → List Saying
 said_emptying None = fatal_said (fault.Refused ConnectionDoesNotExist) ∷ []
 said_emptying (Some s) = message empty_query_response ∷ []
@@ -309,6 +422,8 @@ said_standing (stage.Judging f) m s = said_judging m.block m.mode f s
 said_standing stage.Closing m s = said_closing s
 said_standing (stage.Settling x) m s = said_settling m.block m.mode x s
 said_standing stage.Emptying m s = said_emptying s
+said_standing (stage.TellingRow k x) m s = said_row_told k m.block m.mode (next_format m.formats) x s
+said_standing (stage.TellingNothing k) m s = said_nothing_told k s
 said_standing t m s = []
 
 abbrev pub after_standing : TalkStage → TalkMoment → Option BlockStanding → TalkMoment
@@ -317,6 +432,8 @@ after_standing (stage.Judging f) m s = after_judging f m s
 after_standing stage.Closing m s = after_closing m s
 after_standing (stage.Settling x) m s = after_settling m s
 after_standing stage.Emptying m s = after_emptying m s
+after_standing (stage.TellingRow k x) m s = after_row_told m s
+after_standing (stage.TellingNothing k) m s = after_closing m s
 after_standing t m s = ends m
 
 -- ---- what it learns
@@ -324,7 +441,9 @@ after_standing t m s = ends m
 abbrev pub said_to_reply : TalkMoment → Reply → List Saying
 said_to_reply m (reply.Answer a) = said_answered m.stage m a
 said_to_reply m (reply.Standing s) = said_standing m.stage m s
+said_to_reply m (reply.Description d) = said_described m.stage m d
 
 abbrev pub after_reply : TalkMoment → Reply → TalkMoment
 after_reply m (reply.Answer a) = after_answer m.stage m a
 after_reply m (reply.Standing s) = after_standing m.stage m s
+after_reply m (reply.Description d) = after_described m.stage m d

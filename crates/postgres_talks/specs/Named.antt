@@ -1,15 +1,29 @@
 -- Statements under names.
 use Rattle.std.specs.Prelude.{ℕ, not, if◌then◌else◌, List, [], ◌∷◌, ◌++◌, filter, bytes_eq, Option, Some, None}
-use Rattle.postgres_talks.specs.declared.piece.StatementPiece.{StatementPiece}
+use Rattle.postgres_messages.specs.declared.backend.ValueFormat.{ValueFormat}
+use Rattle.sql_ast.specs.declared.description.ResultColumn.{ResultColumn}
 use Rattle.postgres_talks.specs.declared.named_pieces.NamedPiece.{NamedPiece}
 
 -- the first of a name
-abbrev pub find : List ℕ → List NamedPiece → Option StatementPiece
+abbrev pub find : List ℕ → List NamedPiece → Option NamedPiece
 find name [] = None
-find name (n ∷ ns) = if bytes_eq n.name name then Some n.piece else find name ns
+find name (n ∷ ns) = if bytes_eq n.name name then Some n else find name ns
 
 abbrev pub without : List ℕ → List NamedPiece → List NamedPiece
 without name ns = filter (λ n. not (bytes_eq n.name name)) ns
 
-abbrev pub put : List ℕ → StatementPiece → List NamedPiece → List NamedPiece
-put name piece ns = without name ns ++ record { name = name; piece = piece } ∷ []
+abbrev pub put : NamedPiece → List NamedPiece → List NamedPiece
+put n ns = without n.name ns ++ n ∷ []
+
+-- with these columns, which its client is told
+abbrev pub tell_found : Option NamedPiece → Option (List ResultColumn) → List NamedPiece → List NamedPiece
+tell_found None columns ns = ns
+tell_found (Some n) columns ns = put (record n { columns = columns }) ns
+
+abbrev pub tell : List ℕ → Option (List ResultColumn) → List NamedPiece → List NamedPiece
+tell name columns ns = tell_found (find name ns) columns ns
+
+-- under another name, with these formats
+abbrev pub put_found : List ℕ → List ValueFormat → Option NamedPiece → List NamedPiece → List NamedPiece
+put_found name fs None ns = ns
+put_found name fs (Some n) ns = put (record n { name = name; formats = fs }) ns

@@ -49,6 +49,10 @@ abbrev pub is_dot : TokenKind → Bool
 is_dot (kind.Punctuation punctuation.Dot) = true
 is_dot k = false
 
+abbrev pub is_select : TokenKind → Bool
+is_select (kind.Reserved reserved.Select) = true
+is_select k = false
+
 -- and a dot: no statement of the language has one there
 abbrev pub joins_catalogue : Lexeme → List Lexeme → Bool
 joins_catalogue t (u ∷ v ∷ vs) = is_joining t.kind && (is_catalogue u.bytes && is_dot v.kind)
@@ -68,8 +72,13 @@ mentions_catalogue text = mentions (codes "pg_catalog.") text || mentions (codes
 
 -- ---- what a statement is
 
+-- a SELECT is told by its first token
+abbrev pub begins_select : List Lexeme → Bool
+begins_select [] = false
+begins_select (t ∷ ts) = is_select t.kind
+
 abbrev pub plain : List ℕ → List Lexeme → StatementPiece
-plain slice ts = if names_catalogue ts then piece.Faulty fault.Catalogue else (if has_reserved ts then piece.Faulty fault.ReservedWord else piece.Statement slice)
+plain slice ts = if names_catalogue ts then piece.Faulty fault.Catalogue else (if has_reserved ts then piece.Faulty fault.ReservedWord else (if begins_select ts then piece.Select slice else piece.Statement slice))
 
 abbrev pub by_substitute : Option (List ℕ) → List ℕ → List Lexeme → StatementPiece
 by_substitute (Some text) slice ts = piece.Statement text

@@ -1,7 +1,7 @@
 -- What a message of a client asks, and what is said to it.
-use Rattle.std.specs.Prelude.{◌≡◌, ◌&&◌, ◌==◌, ℕ, Bool, true, false, nat_lt, nat_le, is_some, if◌then◌else◌, List, [], ◌∷◌, length, codes, bytes_eq, Option, Some, None}
+use Rattle.std.specs.Prelude.{◌≡◌, ◌&&◌, ◌==◌, ℕ, Bool, true, false, nat_lt, nat_le, is_some, if◌then◌else◌, List, [], ◌∷◌, length, map, codes, bytes_eq, Option, Some, None}
 use Rattle.std.specs.Str.{is_utf8}
-use Rattle.std.specs.List.{list_all}
+use Rattle.sql_ast.specs.declared.description.ResultColumn.{ResultColumn}
 use Rattle.sql_types.specs.declared.state.SqlState.TheVariants.{InvalidAuthorization, ProgramLimitExceeded, ProtocolViolation}
 use Rattle.postgres_messages.specs.Backend.{bind_complete, close_complete, parse_complete}
 use Rattle.postgres_messages.specs.Frontend.{TheMessage, statement, portal, TheBinding, bind, close, copy_data, copy_done, copy_fail, describe, execute, flush, parse, password, query, sync, terminate, SpellsMessage, is_text}
@@ -11,6 +11,7 @@ use Rattle.talks.specs.declared.want.Way.TheVariants as way
 use Rattle.talks.specs.declared.want.Want.TheVariants as want
 use Rattle.postgres_talks.specs.declared.fault.TalkFault.{TalkFault}
 use Rattle.postgres_talks.specs.declared.fault.TalkFault.TheVariants as fault
+use Rattle.postgres_talks.specs.declared.moment.DescribedKind.TheVariants as named
 use Rattle.postgres_talks.specs.declared.moment.Mode.{Mode}
 use Rattle.postgres_talks.specs.declared.moment.Mode.TheVariants as mode
 use Rattle.postgres_talks.specs.declared.moment.TalkStage.{TalkStage}
@@ -18,11 +19,15 @@ use Rattle.postgres_talks.specs.declared.moment.TalkStage.TheVariants as stage
 use Rattle.postgres_talks.specs.declared.moment.TalkMoment.{TalkMoment}
 use Rattle.postgres_talks.specs.declared.named_pieces.NamedPiece.{NamedPiece}
 use Rattle.postgres_talks.specs.declared.piece.StatementPiece.{StatementPiece}
+use Rattle.postgres_talks.specs.declared.piece.StatementPiece.TheVariants as piece
 use Rattle.postgres_talks.specs.declared.requests.Request.{Request}
 use Rattle.postgres_talks.specs.declared.requests.Request.TheVariants as request
 use Rattle.postgres_talks.specs.Sayings.{Saying, no_encryption, message, fatal_said}
-use Rattle.postgres_talks.specs.Moments.{looks, ends, finishes, goes_on}
-use Rattle.postgres_talks.specs.Named.{find, put, without}
+use Rattle.postgres_talks.specs.Moments.{describes_found, looks, ends, finishes, goes_on}
+use Rattle.postgres_messages.specs.declared.backend.ValueFormat.{ValueFormat}
+use Rattle.postgres_talks.specs.Formats.{are_format_codes, are_formats_for, format_of}
+use Rattle.postgres_talks.specs.Settled.{settled_row}
+use Rattle.postgres_talks.specs.Named.{find, put, put_found, without}
 use Rattle.postgres_talks.specs.Pieces.{ArePiecesOf}
 
 -- bytes that are no message
@@ -58,12 +63,8 @@ pub data IsStartRequest (bytes : List ℕ) : Request → Type 0 where
 
 -- ---- messages
 
--- values in text alone
-abbrev pub all_text : List ℕ → Bool
-all_text formats = list_all (λ n. n == 0) formats
-
 abbrev pub bind_request : List ℕ → List ℕ → TheBinding → Request
-bind_request p s b = if all_text b.formats && all_text b.results then request.Bind p s (length b.values) else request.Fails mode.Batch fault.Unsupported
+bind_request p s b = if are_format_codes b.results then request.Bind p s (length b.values) (map format_of b.results) else request.Fails mode.Batch fault.UnknownFormat
 
 -- what a message asks that has no text
 abbrev pub plain_request : TheMessage → Request
@@ -78,7 +79,8 @@ plain_request (bind p s b) = bind_request p s b
 plain_request (execute p n) = if n == 0 then request.Execute p else request.Fails mode.Batch fault.Unsupported
 plain_request (close (statement name)) = request.CloseStatement name
 plain_request (close (portal name)) = request.ClosePortal name
-plain_request (describe t) = request.Fails mode.Batch fault.Unsupported
+plain_request (describe (statement name)) = request.DescribeStatement name
+plain_request (describe (portal name)) = request.DescribePortal name
 plain_request m = request.Fails mode.Query fault.Unsupported
 
 -- one statement is prepared
@@ -136,15 +138,43 @@ prepare_fault name ns = if is_taken name ns then Some fault.StatementExists else
 abbrev pub bind_fault : List ℕ → ℕ → List NamedPiece → Option TalkFault
 bind_fault name count ns = if is_taken name ns then Some fault.PortalExists else (if count == 0 then (if nat_le 64 (length ns) then Some (fault.Refused ProgramLimitExceeded) else None) else Some fault.OtherCount)
 
-abbrev pub if_found : Option StatementPiece → TalkFault → Option TalkFault → Option TalkFault
+abbrev pub if_found : Option NamedPiece → TalkFault → Option TalkFault → Option TalkFault
 if_found None missing others = Some missing
 if_found (Some p) missing others = others
+
+-- the first of two
+abbrev pub or_else : Option TalkFault → Option TalkFault → Option TalkFault
+or_else None f = f
+or_else (Some f) g = Some f
+
+-- how many columns its client knows: a text that is answered without the machine has one, if it answers a row
+abbrev pub row_width : Option (List ℕ × List ℕ) → Option ℕ
+row_width None = None
+row_width (Some r) = Some 1
+
+abbrev pub piece_width : StatementPiece → Option ℕ
+piece_width (piece.Settled x) = row_width (settled_row x)
+piece_width p = None
+
+abbrev pub known_width : Option (List ResultColumn) → StatementPiece → Option ℕ
+known_width None p = piece_width p
+known_width (Some columns) p = Some (length columns)
+
+abbrev pub width_fault : List ValueFormat → Option ℕ → Option TalkFault
+width_fault fs None = None
+width_fault fs (Some n) = if are_formats_for fs n then None else Some fault.OtherFormats
+
+abbrev pub formats_fault : List ValueFormat → Option NamedPiece → Option TalkFault
+formats_fault fs None = None
+formats_fault fs (Some n) = width_fault fs (known_width n.columns n.piece)
 
 -- why it is not done
 abbrev pub fault_of : Request → TalkMoment → Option TalkFault
 fault_of (request.Prepare name p) m = prepare_fault name m.statements
-fault_of (request.Bind name prepared count) m = if_found (find prepared m.statements) fault.UnknownStatement (bind_fault name count m.portals)
+fault_of (request.Bind name prepared count fs) m = if_found (find prepared m.statements) fault.UnknownStatement (or_else (bind_fault name count m.portals) (formats_fault fs (find prepared m.statements)))
 fault_of (request.Execute name) m = if_found (find name m.portals) fault.UnknownPortal None
+fault_of (request.DescribeStatement name) m = if_found (find name m.statements) fault.UnknownStatement None
+fault_of (request.DescribePortal name) m = if_found (find name m.portals) fault.UnknownPortal None
 fault_of (request.Fails t f) m = Some f
 fault_of r m = None
 
@@ -152,8 +182,10 @@ fault_of r m = None
 abbrev pub mode_for : Request → Mode → Mode
 mode_for (request.Statements pieces) t = mode.Query
 mode_for (request.Prepare name p) t = mode.Batch
-mode_for (request.Bind name prepared count) t = mode.Batch
+mode_for (request.Bind name prepared count fs) t = mode.Batch
 mode_for (request.Execute name) t = mode.Batch
+mode_for (request.DescribeStatement name) t = mode.Batch
+mode_for (request.DescribePortal name) t = mode.Batch
 mode_for (request.CloseStatement name) t = mode.Batch
 mode_for (request.ClosePortal name) t = mode.Batch
 mode_for (request.Fails s f) t = s
@@ -163,7 +195,7 @@ mode_for r t = t
 abbrev pub said_to_done : Request → List Saying
 said_to_done request.Encryption = no_encryption ∷ []
 said_to_done (request.Prepare name p) = message parse_complete ∷ []
-said_to_done (request.Bind name prepared count) = message bind_complete ∷ []
+said_to_done (request.Bind name prepared count fs) = message bind_complete ∷ []
 said_to_done (request.CloseStatement name) = message close_complete ∷ []
 said_to_done (request.ClosePortal name) = message close_complete ∷ []
 said_to_done (request.Breaks f) = fatal_said f ∷ []
@@ -173,20 +205,31 @@ abbrev pub said_unless : Option TalkFault → Request → List Saying
 said_unless (Some f) r = []
 said_unless None r = said_to_done r
 
-abbrev pub put_found : List ℕ → Option StatementPiece → List NamedPiece → List NamedPiece
-put_found name None ns = ns
-put_found name (Some p) ns = put name p ns
-
-abbrev pub left_of : Option StatementPiece → List StatementPiece
+abbrev pub left_of : Option NamedPiece → List StatementPiece
 left_of None = []
-left_of (Some p) = p ∷ []
+left_of (Some n) = n.piece ∷ []
+
+-- the columns that its client was told
+abbrev pub columns_of : Option NamedPiece → Option (List ResultColumn)
+columns_of None = None
+columns_of (Some n) = n.columns
+
+-- the formats in which its rows are wanted
+abbrev pub formats_in : Option NamedPiece → List ValueFormat
+formats_in None = []
+formats_in (Some n) = n.formats
+
+abbrev pub new_statement : List ℕ → StatementPiece → NamedPiece
+new_statement name p = record { name = name; piece = p; columns = None; formats = [] }
 
 abbrev pub after_done_request : Request → TalkMoment → TalkMoment
 after_done_request (request.Login role) m = record m { stage = stage.Opening; want = want.Open 1 role anyone }
 after_done_request (request.Statements pieces) m = goes_on (record m { left = pieces })
-after_done_request (request.Prepare name p) m = record m { statements = put name p m.statements }
-after_done_request (request.Bind name prepared count) m = record m { portals = put_found name (find prepared m.statements) m.portals }
-after_done_request (request.Execute name) m = goes_on (record m { left = left_of (find name m.portals); portals = without name m.portals })
+after_done_request (request.Prepare name p) m = record m { statements = put (new_statement name p) m.statements }
+after_done_request (request.Bind name prepared count fs) m = record m { portals = put_found name fs (find prepared m.statements) m.portals }
+after_done_request (request.Execute name) m = goes_on (record m { left = left_of (find name m.portals); columns = columns_of (find name m.portals); formats = formats_in (find name m.portals); portals = without name m.portals })
+after_done_request (request.DescribeStatement name) m = describes_found named.Statement (find name m.statements) (record m { name = name; formats = [] })
+after_done_request (request.DescribePortal name) m = describes_found named.Portal (find name m.portals) (record m { name = name; formats = formats_in (find name m.portals) })
 after_done_request (request.CloseStatement name) m = record m { statements = without name m.statements }
 after_done_request (request.ClosePortal name) m = record m { portals = without name m.portals }
 after_done_request request.Sync m = finishes m.block m.mode (record m { portals = [] })

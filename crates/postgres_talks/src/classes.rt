@@ -4,7 +4,7 @@ ghost use Rattle.std.specs.Prelude.{◌≡◌, ◌++◌, ◌∷◌, IfOk, OnOk, 
 ghost use Rattle.std.specs.List.{flat_map};
 ghost use Rattle.std.specs.Option.{option_map};
 ghost use Rattle.sql_lexer.specs.Lexeme.{lexeme, lexemes};
-ghost use Rattle.postgres_talks.specs.Pieces.{by_settled, by_substitute, has_reserved, is_catalogue, is_dot, is_joining, is_reserved_as, joins_catalogue, line_of, mentions, mentions_catalogue, names_catalogue, piece_of, plain};
+ghost use Rattle.postgres_talks.specs.Pieces.{by_settled, begins_select, by_substitute, has_reserved, is_catalogue, is_dot, is_joining, is_reserved_as, is_select, joins_catalogue, line_of, mentions, mentions_catalogue, names_catalogue, piece_of, plain};
 
 use crate::fault::TalkFault;
 use crate::piece::StatementPiece;
@@ -53,7 +53,27 @@ fn plain(alloc: Global, slice: &str, tokens: &[Token]) -> Result<StatementPiece,
     if has_reserved(tokens) {
         return Ok(StatementPiece::Faulty(TalkFault::ReservedWord));
     }
-    Ok(StatementPiece::Statement(Text::from_str(alloc, slice)?))
+    let text = Text::from_str(alloc, slice)?;
+    if begins_select(tokens) {
+        return Ok(StatementPiece::Select(text));
+    }
+    Ok(StatementPiece::Statement(text))
+}
+
+// Whether a statement is a SELECT, by its first token.
+fn begins_select(tokens: &[Token]) -> bool
+    ensures { result ≡ begins_select (lexemes tokens.now) }
+{
+    match tokens {
+        [] => false,
+        [first, ..] => is_select(first.kind),
+    }
+}
+
+fn is_select(kind: TokenKind) -> bool
+    ensures { result ≡ is_select kind }
+{
+    matches!(kind, TokenKind::Reserved(Reserved::Select))
 }
 
 // Tokens as a line, with one blank between two.

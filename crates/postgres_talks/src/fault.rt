@@ -35,6 +35,12 @@ pub enum TalkFault {
     PortalExists,
     /// `08P01`: another number of values than of parameters.
     OtherCount,
+    /// `0A000`: rows that are not of the columns that their client knows.
+    OtherColumns,
+    /// `22023`: a code of no format.
+    UnknownFormat,
+    /// `08P01`: another number of formats than of columns.
+    OtherFormats,
 }
 
 impl TalkFault {
@@ -55,6 +61,9 @@ impl TalkFault {
             TalkFault::StatementExists => "42P05",
             TalkFault::PortalExists => "42P03",
             TalkFault::OtherCount => "08P01",
+            TalkFault::OtherColumns => "0A000",
+            TalkFault::UnknownFormat => "22023",
+            TalkFault::OtherFormats => "08P01",
         }
     }
 
@@ -77,6 +86,9 @@ impl TalkFault {
             TalkFault::StatementExists => "prepared statement already exists",
             TalkFault::PortalExists => "portal already exists",
             TalkFault::OtherCount => "number of parameters is another",
+            TalkFault::OtherColumns => "cached plan must not change result type",
+            TalkFault::UnknownFormat => "format code is not supported",
+            TalkFault::OtherFormats => "number of format codes is another",
         }
     }
 }

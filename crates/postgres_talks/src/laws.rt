@@ -1,6 +1,7 @@
 //! What a conversation makes of a client's bytes.
 
-ghost use Rattle.std.specs.Prelude.{◌≡◌, ◌⊎◌, ℕ, false, List, [], All, IsSome};
+ghost use Rattle.std.specs.Prelude.{◌≡◌, ◌⊎◌, ℕ, false, List, [], All, IsSome, None, Some};
+ghost use Rattle.sql_ast.specs.declared.description.ResultColumn.{ResultColumn as TheResultColumn};
 ghost use Rattle.sql_types.specs.declared.answer.Answer.{Answer as TheAnswer};
 ghost use Rattle.talks.specs.Wants.{Learnt};
 ghost use Rattle.talks.specs.Conversations.{Heard};
@@ -13,9 +14,11 @@ ghost use Rattle.postgres_talks.specs.declared.moment.TalkStage.{TalkStage as Th
 ghost use Rattle.postgres_talks.specs.declared.postgres_talk.PostgresTalk.{PostgresTalk as TheTalk};
 ghost use Rattle.postgres_talks.specs.declared.requests.Request.{Request as TheRequest};
 ghost use Rattle.postgres_talks.specs.Blocks.{IsOfAnswer, IsPassedOver, outside, seen_all};
+ghost use Rattle.postgres_talks.specs.Fitting.{RowsFit};
 ghost use Rattle.postgres_talks.specs.Units.{IsCommitAnswer, RollsBack, SaysError};
-ghost use Rattle.postgres_talks.specs.Moments.{after_reply, ends, first_moment};
+ghost use Rattle.postgres_talks.specs.Moments.{after_reply, ends, first_moment, said_to_reply};
 ghost use Rattle.postgres_talks.specs.Played.{Input, PlayedOrGaveUp, TakesIn, after_input, said_in, said_to_input};
+ghost use Rattle.postgres_talks.specs.Rows.{described_columns};
 ghost use Rattle.postgres_talks.specs.Requests.{after_request, said_to_request};
 
 use crate::postgres_talk::PostgresTalk;
@@ -60,4 +63,12 @@ pub fn answers_follow_their_events()
 pub fn batches_stop_at_an_error()
     ensures { (m : TheMoment) (asked : TheRequest) → m.mode ≡ TheMode.Skipping → IsPassedOver asked
         → (said_to_request asked m ≡ []) × (after_request asked m ≡ m) }
+{}
+
+/// In a simple query each row follows its columns: it has as many values, each null or of its column's type. In a batch it is one of
+/// the columns that its client was told, if it was told some.
+pub fn rows_fit_their_columns()
+    ensures queries { (m : TheMoment) (i : Input) → m.mode ≡ TheMode.Query → RowsFit None (said_to_input m i) }
+    ensures batches { (m : TheMoment) (columns : List TheResultColumn) (a : TheAnswer) → m.mode ≡ TheMode.Batch → m.stage ≡ TheStage.Running
+        → m.columns ≡ Some columns → RowsFit (Some (described_columns m.formats columns)) (said_to_reply m (TheReply.Answer a)) }
 {}

@@ -3,7 +3,9 @@
 
 mod blocks;
 mod classes;
+mod describing;
 pub mod fault;
+pub mod formats;
 pub mod laws;
 pub mod moment;
 pub mod named_pieces;
@@ -15,7 +17,9 @@ pub mod requests;
 mod rows;
 mod said;
 pub mod settled;
+mod standings;
 mod tags;
 mod taking;
 mod telling;
+mod told;
 mod words;

@@ -1,18 +1,20 @@
 //! How a connection stands.
 
 ghost use Rattle.std.specs.Prelude.{◌≡◌, OnOk};
-ghost use Rattle.postgres_talks.specs.Outcomes.{commit_outcome, outcome_of};
-ghost use Rattle.postgres_talks.specs.Moments.{after_answer, after_closing, after_done, after_emptying, after_failed, after_judging, after_opened, after_outcome, after_refusing, after_reply, after_rolled_back, after_settling, after_standing, asks, closes, closes_or_listens, ends, finishes, first_moment, goes_on, listens, looks, starts_on};
+ghost use Rattle.postgres_talks.specs.Outcomes.{commit_outcome};
+ghost use Rattle.postgres_talks.specs.Moments.{after_answer, after_done, after_opened, after_outcome, after_reply, after_rolled_back, asks, closes, closes_or_listens, describes, ends, finishes, first_moment, goes_on, listens, looks, selects, selects_known, starts_on};
 
-use crate::blocks::{block_answered, came_out, entered, is_several, skipping, spares, spoiled_by};
+use crate::blocks::{block_answered, came_out, entered, is_several};
 use crate::fault::TalkFault;
+use crate::formats::ResultFormats;
 use crate::named_pieces::NamedPieces;
-use crate::outcome::{Outcome, commit_outcome, outcome_of};
+use crate::outcome::{Outcome, commit_outcome, outcome_of, run_outcome};
 use crate::piece::{PieceQueue, StatementPiece};
 use crate::settled::Settled;
+use sql_ast::description::ResultColumn;
 use sql_types::answer::Answer;
 use sql_types::event::Event;
-use sql_types::state::SqlState;
+use sql_types::items::Items;
 use sql_types::text::Text;
 use std::alloc::{AllocError, Global};
 use talks::want::{BlockStanding, Reply, Want};
@@ -44,6 +46,14 @@ pub enum Mode {
     Skipping,
 }
 
+/// What Describe is about.
+#[derive(Clone, Copy, PartialEq, Eq)]
+pub enum DescribedKind {
+    /// A prepared statement.
+    Statement,
+    Portal,
+}
+
 /// What a connection waits for.
 #[derive(Clone, Copy, PartialEq, Eq)]
 pub enum TalkStage {
@@ -55,6 +65,8 @@ pub enum TalkStage {
     Ready,
     /// That the block around several statements is begun.
     Beginning,
+    /// What a SELECT would answer that is to be run.
+    Describing,
     /// The answer to a statement.
     Running,
     /// That the block around several statements is committed.
@@ -71,6 +83,12 @@ pub enum TalkStage {
     Settling(Settled),
     /// That the session is open, where a text has no statement.
     Emptying,
+    /// What a SELECT would answer, which is to be told.
+    Telling(DescribedKind),
+    /// How the block stands, where the column of a text is to be told that is answered without the machine.
+    TellingRow(DescribedKind, Settled),
+    /// That the session is open, where it is to be told that there are no rows.
+    TellingNothing(DescribedKind),
     /// How the block stands, which is to be said.
     Closing,
     /// Nothing more.
@@ -87,6 +105,12 @@ pub struct TalkMoment {
     pub mode: Mode,
     /// The statements of a message that are left.
     pub left: PieceQueue,
+    /// The columns of the statement that is run, where its client knows them.
+    pub columns: Option<Items<ResultColumn>>,
+    /// The formats in which its rows are wanted.
+    pub formats: ResultFormats,
+    /// The name of what is described.
+    pub name: Text,
     /// What was prepared.
     pub statements: NamedPieces,
     /// What was bound.
@@ -106,6 +130,9 @@ impl TalkMoment {
             block: TalkBlock::Outside,
             mode: Mode::Query,
             left: PieceQueue::new(alloc),
+            columns: None,
+            formats: ResultFormats::new(alloc),
+            name: Text::from_string(String::new(alloc)),
             statements: NamedPieces::new(alloc),
             portals: NamedPieces::new(alloc),
             want: Want::Message,
@@ -113,7 +140,7 @@ impl TalkMoment {
     }
 
     // The event of this text is wanted.
-    fn run(&mut self, stage: TalkStage, text: Text)
+    pub(crate) fn run(&mut self, stage: TalkStage, text: Text)
         ensures { self.new ≡ asks stage text self.old }
     {
         self.stage = stage;
@@ -123,12 +150,28 @@ impl TalkMoment {
         });
     }
 
-    fn ask(&mut self, alloc: Global, stage: TalkStage, text: &str) -> Result<(), AllocError>
+    pub(crate) fn ask(
+        &mut self,
+        alloc: Global,
+        stage: TalkStage,
+        text: &str,
+    ) -> Result<(), AllocError>
         ensures { OnOk result (self.new ≡ asks stage text.now self.old) }
     {
         let text = Text::from_str(alloc, text)?;
         self.run(stage, text);
         Ok(())
+    }
+
+    // It is wanted what the statement of this text would answer.
+    pub(crate) fn describe(&mut self, stage: TalkStage, text: Text)
+        ensures { self.new ≡ describes stage text self.old }
+    {
+        self.stage = stage;
+        self.want = Want::Description {
+            session: SESSION,
+            text,
+        };
     }
 
     // It is wanted how the block stands.
@@ -140,7 +183,7 @@ impl TalkMoment {
     }
 
     // The next message is wanted.
-    fn listen(&mut self)
+    pub(crate) fn listen(&mut self)
         ensures { self.new ≡ listens self.old }
     {
         self.stage = TalkStage::Ready;
@@ -175,10 +218,38 @@ impl TalkMoment {
         ensures { self.new ≡ starts_on piece self.old }
     {
         match piece {
-            StatementPiece::Statement(text) => self.run(TalkStage::Running, text),
+            StatementPiece::Statement(text) => {
+                self.columns = None;
+                self.run(TalkStage::Running, text);
+            }
+            StatementPiece::Select(text) => self.select(text),
             StatementPiece::Settled(settled) => self.look(TalkStage::Settling(settled)),
             StatementPiece::Faulty(fault) => self.look(TalkStage::Refusing(fault)),
             StatementPiece::Empty => self.look(TalkStage::Emptying),
+        }
+    }
+
+    // Before a SELECT is run its columns are asked for, but in a batch where its client was told none.
+    fn select(&mut self, text: Text)
+        ensures { self.new ≡ selects self.old.mode text self.old }
+    {
+        match self.mode {
+            Mode::Query => {
+                self.columns = None;
+                self.formats.clear();
+                self.describe(TalkStage::Describing, text);
+            }
+            _ => self.select_known(text),
+        }
+    }
+
+    fn select_known(&mut self, text: Text)
+        ensures { self.new ≡ selects_known self.old.columns text self.old }
+    {
+        if self.columns.is_none() && self.formats.as_slice().len() <= 1 {
+            self.run(TalkStage::Running, text);
+        } else {
+            self.describe(TalkStage::Describing, text);
         }
     }
 
@@ -206,6 +277,7 @@ impl TalkMoment {
         match reply {
             Reply::Answer(answer) => self.take_answer(alloc, answer),
             Reply::Standing(standing) => self.take_standing(alloc, *standing),
+            Reply::Description(description) => self.take_described(alloc, description),
         }
     }
 
@@ -217,7 +289,13 @@ impl TalkMoment {
                 self.take_opened(answer);
                 Ok(())
             }
-            TalkStage::Beginning | TalkStage::Running => self.take_outcome(alloc, answer),
+            TalkStage::Beginning => {
+                self.take_outcome(alloc, outcome_of(self.block, answer), answer)
+            }
+            TalkStage::Running => {
+                let outcome = run_outcome(self.mode, self.block, &self.columns, answer);
+                self.take_outcome(alloc, outcome, answer)
+            }
             TalkStage::Committing => {
                 self.take_committed(answer);
                 Ok(())
@@ -246,10 +324,16 @@ impl TalkMoment {
         }
     }
 
-    fn take_outcome(&mut self, alloc: Global, answer: &Answer) -> Result<(), AllocError>
-        ensures { OnOk result (self.new ≡ after_outcome (outcome_of self.old.block answer.now) self.old (after_done self.old.stage answer.now self.old)) }
+    // What an answer comes to.
+    fn take_outcome(
+        &mut self,
+        alloc: Global,
+        outcome: Outcome,
+        answer: &Answer,
+    ) -> Result<(), AllocError>
+        ensures { OnOk result (self.new ≡ after_outcome outcome self.old (after_done self.old.stage answer.now self.old)) }
     {
-        match outcome_of(self.block, answer) {
+        match outcome {
             Outcome::Done => self.take_done(alloc, answer),
             Outcome::Refused(fault) => {
                 self.look(TalkStage::Refusing(fault));
@@ -309,127 +393,6 @@ impl TalkMoment {
         match self.mode {
             Mode::Query => self.look(TalkStage::Closing),
             _ => self.listen(),
-        }
-    }
-
-    fn take_standing(
-        &mut self,
-        alloc: Global,
-        standing: Option<BlockStanding>,
-    ) -> Result<(), AllocError>
-        ensures { OnOk result (self.new ≡ after_standing self.old.stage self.old standing) }
-    {
-        match self.stage {
-            TalkStage::Refusing(fault) => self.take_refusing(alloc, fault, standing),
-            TalkStage::Judging(fault) => self.take_judging(alloc, fault, standing),
-            TalkStage::Settling(_) => self.take_settling(alloc, standing),
-            TalkStage::Emptying => self.take_emptying(alloc, standing),
-            TalkStage::Closing => {
-                self.take_closing(standing);
-                Ok(())
-            }
-            _ => {
-                self.end();
-                Ok(())
-            }
-        }
-    }
-
-    // A block that an error leaves open is failed by a text that is no statement.
-    fn take_refusing(
-        &mut self,
-        alloc: Global,
-        fault: TalkFault,
-        standing: Option<BlockStanding>,
-    ) -> Result<(), AllocError>
-        ensures { OnOk result (self.new ≡ after_refusing fault self.old standing) }
-    {
-        match standing {
-            None => {
-                self.end();
-                Ok(())
-            }
-            Some(BlockStanding::Inside) if !spares(fault) => {
-                self.ask(alloc, TalkStage::Failing(fault), "")
-            }
-            Some(_) => self.fail(alloc, fault),
-        }
-    }
-
-    fn take_judging(
-        &mut self,
-        alloc: Global,
-        fault: TalkFault,
-        standing: Option<BlockStanding>,
-    ) -> Result<(), AllocError>
-        ensures { OnOk result (self.new ≡ after_judging fault self.old standing) }
-    {
-        match standing {
-            None | Some(BlockStanding::Inside) => {
-                self.end();
-                Ok(())
-            }
-            Some(_) => self.fail(alloc, fault),
-        }
-    }
-
-    // A text was answered without the machine, or is refused in a block that has failed.
-    fn take_settling(
-        &mut self,
-        alloc: Global,
-        standing: Option<BlockStanding>,
-    ) -> Result<(), AllocError>
-        ensures { OnOk result (self.new ≡ after_settling self.old standing) }
-    {
-        match standing {
-            None => {
-                self.end();
-                Ok(())
-            }
-            Some(BlockStanding::Failed) => self.fail(
-                alloc,
-                TalkFault::Refused(SqlState::InFailedTransaction),
-            ),
-            Some(_) => self.go_on(alloc),
-        }
-    }
-
-    fn take_emptying(
-        &mut self,
-        alloc: Global,
-        standing: Option<BlockStanding>,
-    ) -> Result<(), AllocError>
-        ensures { OnOk result (self.new ≡ after_emptying self.old standing) }
-    {
-        match standing {
-            None => {
-                self.end();
-                Ok(())
-            }
-            Some(_) => self.go_on(alloc),
-        }
-    }
-
-    // An error was said, and what is left of the message is not carried out.
-    fn fail(&mut self, alloc: Global, fault: TalkFault) -> Result<(), AllocError>
-        ensures { OnOk result (self.new ≡ after_failed self.old.block fault self.old) }
-    {
-        self.left.clear();
-        self.mode = skipping(self.mode);
-        if matches!(self.block, TalkBlock::Implicit) {
-            return self.ask(alloc, TalkStage::RollingBack, "ROLLBACK");
-        }
-        self.block = spoiled_by(spares(fault), self.block);
-        self.listen();
-        Ok(())
-    }
-
-    fn take_closing(&mut self, standing: Option<BlockStanding>)
-        ensures { self.new ≡ after_closing self.old standing }
-    {
-        match standing {
-            None => self.end(),
-            Some(_) => self.listen(),
         }
     }
 }

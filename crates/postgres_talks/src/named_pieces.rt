@@ -1,11 +1,16 @@
 //! Statements under names: those that are prepared, and portals.
 
-ghost use Rattle.std.specs.Prelude.{◌≡◌, [], length, OnOk};
+ghost use Rattle.std.specs.Prelude.{◌≡◌, [], length, IfOk, OnOk};
 ghost use Rattle.std.specs.Option.{option_copied};
-ghost use Rattle.postgres_talks.specs.Named.{find, put, without};
+ghost use Rattle.postgres_talks.specs.Named.{find, put, put_found, tell, without};
 
+use crate::formats::ResultFormats;
 use crate::piece::StatementPiece;
+use crate::rows::copied;
+use sql_ast::description::ResultColumn;
+use sql_types::items::Items;
 use sql_types::text::Text;
+use sql_types::try_copy::TryCopy;
 use std::alloc::{AllocError, Global};
 use std::marker::Model;
 
@@ -14,6 +19,45 @@ use std::marker::Model;
 pub struct NamedPiece {
     pub name: Text,
     pub piece: StatementPiece,
+    /// The columns of its rows, where its client was told them.
+    pub columns: Option<Items<ResultColumn>>,
+    /// The formats in which they are wanted.
+    pub formats: ResultFormats,
+}
+
+impl NamedPiece {
+    // A copy under another name, with these formats.
+    fn renamed(
+        &self,
+        alloc: Global,
+        name: Text,
+        formats: ResultFormats,
+    ) -> Result<NamedPiece, AllocError>
+        ensures { IfOk result (λ copy. copy ≡ record self.now { name = name; formats = formats }) }
+    {
+        Ok(NamedPiece {
+            name,
+            piece: self.piece.try_copy(alloc)?,
+            columns: copied(alloc, &self.columns)?,
+            formats,
+        })
+    }
+
+    // A copy with other columns.
+    fn told(
+        &self,
+        alloc: Global,
+        columns: Option<Items<ResultColumn>>,
+    ) -> Result<NamedPiece, AllocError>
+        ensures { IfOk result (λ copy. copy ≡ record self.now { columns = columns }) }
+    {
+        Ok(NamedPiece {
+            name: self.name.try_copy(alloc)?,
+            piece: self.piece.try_copy(alloc)?,
+            columns,
+            formats: self.formats.try_copy(alloc)?,
+        })
+    }
 }
 
 /// Statements under names, which contracts see as a list.
@@ -48,8 +92,8 @@ impl NamedPieces {
         self.entries.len()
     }
 
-    /// The statement of a name.
-    pub fn find(&self, name: &str) -> Option<&StatementPiece>
+    /// What is there under a name.
+    pub fn find(&self, name: &str) -> Option<&NamedPiece>
         ensures { option_copied result ≡ find name.now self.now }
     {
         find(&self.entries, name)
@@ -62,13 +106,46 @@ impl NamedPieces {
         self.entries.retain(|entry| entry.name.as_str() != name);
     }
 
-    /// Puts a statement in the place of those of its name.
-    pub fn put(&mut self, name: Text, piece: StatementPiece) -> Result<(), AllocError>
-        ensures { OnOk result (self.new ≡ put name piece self.old) }
+    /// Puts one in the place of those of its name.
+    pub fn put(&mut self, entry: NamedPiece) -> Result<(), AllocError>
+        ensures { OnOk result (self.new ≡ put entry self.old) }
     {
-        self.remove(name.as_str());
-        self.entries.push(NamedPiece { name, piece })?;
+        self.remove(entry.name.as_str());
+        self.entries.push(entry)?;
         Ok(())
+    }
+
+    /// The client is told these columns of what is there under a name.
+    pub fn tell(
+        &mut self,
+        alloc: Global,
+        name: &str,
+        columns: Option<Items<ResultColumn>>,
+    ) -> Result<(), AllocError>
+        ensures { OnOk result (self.new ≡ tell name.now columns self.old) }
+    {
+        let Some(entry) = self.find(name) else {
+            return Ok(());
+        };
+        let told = entry.told(alloc, columns)?;
+        self.put(told)
+    }
+
+    /// Puts a copy of what was found elsewhere under a name, if something was found.
+    pub fn put_found(
+        &mut self,
+        alloc: Global,
+        name: Text,
+        formats: ResultFormats,
+        found: Option<&NamedPiece>,
+    ) -> Result<(), AllocError>
+        ensures { OnOk result (self.new ≡ put_found name formats (option_copied found.entry) self.old) }
+    {
+        let Some(entry) = found else {
+            return Ok(());
+        };
+        let copy = entry.renamed(alloc, name, formats)?;
+        self.put(copy)
     }
 
     /// Takes all away.
@@ -79,12 +156,12 @@ impl NamedPieces {
     }
 }
 
-fn find<'a>(mut entries: &'a [NamedPiece], name: &str) -> Option<&'a StatementPiece>
+fn find<'a>(mut entries: &'a [NamedPiece], name: &str) -> Option<&'a NamedPiece>
     ensures { option_copied result ≡ find name.now entries.entry.now }
 {
     while let [first, rest @ ..] = entries {
         if first.name.as_str() == name {
-            return Some(&first.piece);
+            return Some(first);
         }
         entries = rest;
     }

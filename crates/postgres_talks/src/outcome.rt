@@ -1,13 +1,19 @@
 //! What an answer to a step comes to.
 
 ghost use Rattle.std.specs.Prelude.{◌≡◌};
-ghost use Rattle.postgres_talks.specs.Outcomes.{commit_outcome, outcome_of, refusal, warning_of};
+ghost use Rattle.postgres_talks.specs.Outcomes.{are_known, commit_outcome, description_outcome, outcome_of, refusal, run_outcome, table_outcome, warning_of};
 
 use crate::fault::TalkFault;
-use crate::moment::TalkBlock;
+use crate::formats::are_formats_for;
+use crate::moment::{Mode, TalkBlock};
+use crate::rows::{are_rows_of, are_same_columns};
+use postgres_messages::backend::ValueFormat;
+use sql_ast::description::{ResultColumn, StatementDescription};
 use sql_types::answer::Answer;
+use sql_types::items::Items;
 use sql_types::state::SqlState;
 use sql_types::tag::Tag;
+use sql_types::value::Value;
 use sql_types::warning::Warning;
 
 /// What an answer to a step comes to.
@@ -37,6 +43,75 @@ pub(crate) fn outcome_of(block: TalkBlock, answer: &Answer) -> Outcome
             warning: _,
         } => Outcome::Done,
         Answer::Refused(state) => refusal(*state),
+    }
+}
+
+// What the answer to a statement of a client comes to, of which these columns are known, if some are.
+pub(crate) fn run_outcome(
+    mode: Mode,
+    block: TalkBlock,
+    columns: &Option<Items<ResultColumn>>,
+    answer: &Answer,
+) -> Outcome
+    ensures { result ≡ run_outcome mode block columns.now answer.now }
+{
+    match answer {
+        Answer::Rows(rows) => table_outcome(mode, columns, rows.as_slice()),
+        _ => outcome_of(block, answer),
+    }
+}
+
+// Rows are told where they are those of the columns that their client knows; in a batch it may know none.
+fn table_outcome(
+    mode: Mode,
+    columns: &Option<Items<ResultColumn>>,
+    rows: &[Items<Value>],
+) -> Outcome
+    ensures { result ≡ table_outcome mode columns.now rows.now }
+{
+    match (columns, mode) {
+        (Some(columns), _) => {
+            if are_rows_of(columns.as_slice(), rows) {
+                Outcome::Done
+            } else {
+                Outcome::Refused(TalkFault::OtherColumns)
+            }
+        }
+        (None, Mode::Query) => Outcome::Refused(TalkFault::OtherColumns),
+        (None, _) => Outcome::Done,
+    }
+}
+
+// What a description comes to, where its client was told these columns, if any: its statement is run if it has them still.
+pub(crate) fn description_outcome(
+    known: &Option<Items<ResultColumn>>,
+    formats: &[ValueFormat],
+    description: &StatementDescription,
+) -> Outcome
+    ensures { result ≡ description_outcome known.now formats.now description.now }
+{
+    match (known, description) {
+        (_, StatementDescription::Refused(state)) => refusal(*state),
+        (_, StatementDescription::Rows(columns)) => {
+            if !are_known(known, columns.as_slice()) {
+                Outcome::Refused(TalkFault::OtherColumns)
+            } else if !are_formats_for(formats, columns.len()) {
+                Outcome::Refused(TalkFault::OtherFormats)
+            } else {
+                Outcome::Done
+            }
+        }
+        (None, StatementDescription::NoRows) => Outcome::Done,
+        (Some(_), StatementDescription::NoRows) => Outcome::Refused(TalkFault::OtherColumns),
+    }
+}
+
+fn are_known(known: &Option<Items<ResultColumn>>, columns: &[ResultColumn]) -> bool
+    ensures { result ≡ are_known known.now columns.now }
+{
+    match known {
+        None => true,
+        Some(known) => are_same_columns(known.as_slice(), columns),
     }
 }
 

@@ -15,6 +15,8 @@ use std::marker::Model;
 pub enum StatementPiece {
     /// The machine is asked.
     Statement(Text),
+    /// The machine is asked, and answers rows.
+    Select(Text),
     /// It is answered without the machine.
     Settled(Settled),
     /// It has a fault.
@@ -27,6 +29,7 @@ impl TryCopy for StatementPiece {
     fn try_copy(&self, alloc: Global) -> Result<StatementPiece, AllocError> {
         match self {
             StatementPiece::Statement(text) => Ok(StatementPiece::Statement(text.try_copy(alloc)?)),
+            StatementPiece::Select(text) => Ok(StatementPiece::Select(text.try_copy(alloc)?)),
             StatementPiece::Settled(settled) => Ok(StatementPiece::Settled(*settled)),
             StatementPiece::Faulty(fault) => Ok(StatementPiece::Faulty(*fault)),
             StatementPiece::Empty => Ok(StatementPiece::Empty),

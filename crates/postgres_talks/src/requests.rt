@@ -2,12 +2,13 @@
 
 ghost use Rattle.std.specs.Prelude.{◌≡◌, IfOk, map, Some};
 ghost use Rattle.std.specs.Option.{option_map};
-ghost use Rattle.postgres_messages.specs.Frontend.{close, execute};
+ghost use Rattle.postgres_messages.specs.Frontend.{close, describe, execute};
 ghost use Rattle.postgres_messages.specs.StartReading.{viewed_parameter, viewed_start};
 ghost use Rattle.postgres_messages.specs.Views.{viewed_binding, viewed_message, viewed_target};
-ghost use Rattle.postgres_talks.specs.Requests.{IsAskedBy, IsMessageRequest, IsRequest, IsStartRequest, all_text, bind_request, broken, denied, login_of, mode_of, parameter_of, plain_request, prepare_request, start_request};
+ghost use Rattle.postgres_talks.specs.Requests.{IsAskedBy, IsMessageRequest, IsRequest, IsStartRequest, bind_request, broken, denied, login_of, mode_of, parameter_of, plain_request, prepare_request, start_request};
 
 use crate::fault::TalkFault;
+use crate::formats::{ResultFormats, are_format_codes, formats_of};
 use crate::moment::{Mode, TalkStage};
 use crate::piece::{PieceQueue, StatementPiece};
 use crate::pieces::pieces_of;
@@ -30,10 +31,14 @@ pub enum Request {
     Statements(PieceQueue),
     /// That a statement is kept under a name.
     Prepare(Text, StatementPiece),
-    /// That a portal of a name is made of a prepared statement, with so many values.
-    Bind(Text, Text, usize),
+    /// That a portal of a name is made of a prepared statement, with so many values, whose rows come in these formats.
+    Bind(Text, Text, usize, ResultFormats),
     /// That a portal is carried out.
     Execute(Text),
+    /// What a prepared statement takes and answers.
+    DescribeStatement(Text),
+    /// What a portal answers.
+    DescribePortal(Text),
     /// That a prepared statement is forgotten.
     CloseStatement(Text),
     /// That a portal is.
@@ -197,12 +202,12 @@ fn plain_request(alloc: Global, message: &FrontendMessage<'_>) -> Result<Request
         }
         FrontendMessage::Execute(portal, most) => execute_request(alloc, portal, *most),
         FrontendMessage::Close(object) => close_request(alloc, object),
-        FrontendMessage::Describe(_) => Ok(Request::Fails(Mode::Batch, TalkFault::Unsupported)),
+        FrontendMessage::Describe(object) => describe_request(alloc, object),
         _ => Ok(Request::Fails(Mode::Query, TalkFault::Unsupported)),
     }
 }
 
-// Values are bound in text alone.
+// The formats of values are not looked at: a statement has none.
 fn bind_request(
     alloc: Global,
     portal: &str,
@@ -211,19 +216,13 @@ fn bind_request(
 ) -> Result<Request, AllocError>
     ensures { IfOk result (λ asked. asked ≡ bind_request portal.now statement.now (viewed_binding bound.now)) }
 {
-    if all_text(&bound.formats) && all_text(&bound.result_formats) {
-        let portal = Text::from_str(alloc, portal)?;
-        let statement = Text::from_str(alloc, statement)?;
-        Ok(Request::Bind(portal, statement, bound.values.len()))
-    } else {
-        Ok(Request::Fails(Mode::Batch, TalkFault::Unsupported))
+    if !are_format_codes(&bound.result_formats) {
+        return Ok(Request::Fails(Mode::Batch, TalkFault::UnknownFormat));
     }
-}
-
-fn all_text(formats: &[u16]) -> bool
-    ensures { result ≡ all_text formats.now }
-{
-    formats.iter().all(|format| *format == 0)
+    let portal = Text::from_str(alloc, portal)?;
+    let statement = Text::from_str(alloc, statement)?;
+    let formats = formats_of(alloc, &bound.result_formats)?;
+    Ok(Request::Bind(portal, statement, bound.values.len(), formats))
 }
 
 // All rows are asked for.
@@ -234,6 +233,17 @@ fn execute_request(alloc: Global, portal: &str, most: u32) -> Result<Request, Al
         Ok(Request::Execute(Text::from_str(alloc, portal)?))
     } else {
         Ok(Request::Fails(Mode::Batch, TalkFault::Unsupported))
+    }
+}
+
+fn describe_request(alloc: Global, object: &NamedObject<'_>) -> Result<Request, AllocError>
+    ensures { IfOk result (λ asked. asked ≡ plain_request (describe (viewed_target object.now))) }
+{
+    match object {
+        NamedObject::Statement(name) => {
+            Ok(Request::DescribeStatement(Text::from_str(alloc, name)?))
+        }
+        NamedObject::Portal(name) => Ok(Request::DescribePortal(Text::from_str(alloc, name)?)),
     }
 }
 

@@ -1,18 +1,22 @@
 //! What is said to what a message asks, and where it leads.
 
 ghost use Rattle.std.specs.Prelude.{◌≡◌, IfOk, OnOk};
-ghost use Rattle.std.specs.Option.{option_copied};
-ghost use Rattle.postgres_talks.specs.Requests.{after_done_request, after_unless, bind_fault, fault_of, heeded, heeded_skipping, if_found, is_taken, left_of, mode_for, prepare_fault, put_found, said_to_done, said_unless};
-ghost use Rattle.postgres_talks.specs.Named.{find};
+ghost use Rattle.std.specs.Option.{option_copied, option_map};
+ghost use Rattle.postgres_talks.specs.Requests.{after_done_request, after_unless, bind_fault, columns_of, fault_of, formats_fault, formats_in, heeded, heeded_skipping, if_found, is_taken, known_width, left_of, mode_for, or_else, piece_width, prepare_fault, row_width, said_to_done, said_unless, width_fault};
+ghost use Rattle.postgres_talks.specs.Named.{find, put_found};
 ghost use Rattle.postgres_talks.specs.Sayings.{Puts};
 
 use crate::fault::TalkFault;
-use crate::moment::{Mode, SESSION, TalkMoment, TalkStage};
-use crate::named_pieces::NamedPieces;
+use crate::formats::{ResultFormats, are_formats_for};
+use crate::moment::{DescribedKind, Mode, SESSION, TalkMoment, TalkStage};
+use crate::named_pieces::{NamedPiece, NamedPieces};
 use crate::piece::{PieceQueue, StatementPiece};
 use crate::requests::Request;
+use crate::rows::copied;
 use crate::said::Said;
-use postgres_messages::backend::BackendMessage;
+use postgres_messages::backend::{BackendMessage, ValueFormat};
+use sql_ast::description::ResultColumn;
+use sql_types::items::Items;
 use sql_types::state::SqlState;
 use sql_types::text::Text;
 use sql_types::try_copy::TryCopy;
@@ -52,12 +56,28 @@ pub(crate) fn fault_of(asked: &Request, moment: &TalkMoment) -> Option<TalkFault
 {
     match asked {
         Request::Prepare(name, _) => prepare_fault(name.as_str(), &moment.statements),
-        Request::Bind(name, statement, count) => if_found(
+        Request::Bind(name, statement, count, formats) => if_found(
             moment.statements.find(statement.as_str()),
             TalkFault::UnknownStatement,
-            bind_fault(name.as_str(), *count, &moment.portals),
+            or_else(
+                bind_fault(name.as_str(), *count, &moment.portals),
+                formats_fault(
+                    formats.as_slice(),
+                    moment.statements.find(statement.as_str()),
+                ),
+            ),
         ),
         Request::Execute(name) => if_found(
+            moment.portals.find(name.as_str()),
+            TalkFault::UnknownPortal,
+            None,
+        ),
+        Request::DescribeStatement(name) => if_found(
+            moment.statements.find(name.as_str()),
+            TalkFault::UnknownStatement,
+            None,
+        ),
+        Request::DescribePortal(name) => if_found(
             moment.portals.find(name.as_str()),
             TalkFault::UnknownPortal,
             None,
@@ -68,7 +88,7 @@ pub(crate) fn fault_of(asked: &Request, moment: &TalkMoment) -> Option<TalkFault
 }
 
 fn if_found(
-    found: Option<&StatementPiece>,
+    found: Option<&NamedPiece>,
     missing: TalkFault,
     others: Option<TalkFault>,
 ) -> Option<TalkFault>
@@ -106,6 +126,69 @@ fn bind_fault(name: &str, count: usize, portals: &NamedPieces) -> Option<TalkFau
     }
 }
 
+// The first of two.
+fn or_else(first: Option<TalkFault>, second: Option<TalkFault>) -> Option<TalkFault>
+    ensures { result ≡ or_else first second }
+{
+    match first {
+        None => second,
+        Some(fault) => Some(fault),
+    }
+}
+
+// Whether there are formats for the columns that a client knows.
+fn formats_fault(formats: &[ValueFormat], found: Option<&NamedPiece>) -> Option<TalkFault>
+    ensures { result ≡ formats_fault formats.now (option_copied found.entry) }
+{
+    match found {
+        None => None,
+        Some(entry) => width_fault(formats, known_width(&entry.columns, &entry.piece)),
+    }
+}
+
+fn width_fault(formats: &[ValueFormat], width: Option<usize>) -> Option<TalkFault>
+    ensures { result ≡ width_fault formats.now width }
+{
+    match width {
+        None => None,
+        Some(width) => {
+            if are_formats_for(formats, width) {
+                None
+            } else {
+                Some(TalkFault::OtherFormats)
+            }
+        }
+    }
+}
+
+// How many columns a client knows. A text that is answered without the machine has one, if it answers a row.
+fn known_width(columns: &Option<Items<ResultColumn>>, piece: &StatementPiece) -> Option<usize>
+    ensures { result ≡ known_width columns.now piece.now }
+{
+    match columns {
+        Some(columns) => Some(columns.len()),
+        None => piece_width(piece),
+    }
+}
+
+fn piece_width(piece: &StatementPiece) -> Option<usize>
+    ensures { result ≡ piece_width piece.now }
+{
+    match piece {
+        StatementPiece::Settled(settled) => row_width(settled.row()),
+        _ => None,
+    }
+}
+
+fn row_width(row: Option<(&'static str, &'static str)>) -> Option<usize>
+    ensures { result ≡ row_width (option_map (λ r. (r.0.now, r.1.now)) row.entry) }
+{
+    match row {
+        Some(_) => Some(1),
+        None => None,
+    }
+}
+
 // Whether a name other than the empty one is there.
 fn is_taken(name: &str, pieces: &NamedPieces) -> bool
     ensures { result ≡ is_taken name.now pieces.now }
@@ -133,7 +216,7 @@ fn say_done(asked: &Request, said: &mut Said) -> Result<(), AllocError>
     match asked {
         Request::Encryption => said.put_no_encryption(),
         Request::Prepare(_, _) => said.put(&BackendMessage::ParseComplete),
-        Request::Bind(_, _, _) => said.put(&BackendMessage::BindComplete),
+        Request::Bind(_, _, _, _) => said.put(&BackendMessage::BindComplete),
         Request::CloseStatement(_) | Request::ClosePortal(_) => said.put(
             &BackendMessage::CloseComplete,
         ),
@@ -168,8 +251,10 @@ fn mode_for(asked: &Request, mode: Mode) -> Mode
     match asked {
         Request::Statements(_) | Request::Sync => Mode::Query,
         Request::Prepare(_, _)
-        | Request::Bind(_, _, _)
+        | Request::Bind(_, _, _, _)
         | Request::Execute(_)
+        | Request::DescribeStatement(_)
+        | Request::DescribePortal(_)
         | Request::CloseStatement(_)
         | Request::ClosePortal(_) => Mode::Batch,
         Request::Fails(other, _) => *other,
@@ -183,9 +268,20 @@ fn take_done(alloc: Global, moment: &mut TalkMoment, asked: Request) -> Result<(
     match asked {
         Request::Login(role) => open(moment, role),
         Request::Statements(pieces) => return run(alloc, moment, pieces),
-        Request::Prepare(name, piece) => return moment.statements.put(name, piece),
-        Request::Bind(name, statement, _) => return bind(alloc, moment, name, &statement),
+        Request::Prepare(name, piece) => {
+            return moment.statements.put(NamedPiece {
+                name,
+                piece,
+                columns: None,
+                formats: ResultFormats::new(alloc),
+            });
+        }
+        Request::Bind(name, statement, _, formats) => {
+            return bind(alloc, moment, name, &statement, formats);
+        }
         Request::Execute(name) => return execute(alloc, moment, &name),
+        Request::DescribeStatement(name) => return describe_statement(alloc, moment, name),
+        Request::DescribePortal(name) => return describe_portal(alloc, moment, name),
         Request::CloseStatement(name) => moment.statements.remove(name.as_str()),
         Request::ClosePortal(name) => moment.portals.remove(name.as_str()),
         Request::Sync => {
@@ -226,31 +322,84 @@ fn bind(
     moment: &mut TalkMoment,
     name: Text,
     statement: &Text,
+    formats: ResultFormats,
 ) -> Result<(), AllocError>
-    ensures { OnOk result (moment.new ≡ record moment.old { portals = put_found name (find statement.now moment.old.statements) moment.old.portals }) }
+    ensures { OnOk result (moment.new ≡ record moment.old { portals = put_found name formats (find statement.now moment.old.statements) moment.old.portals }) }
 {
-    let Some(piece) = moment.statements.find(statement.as_str()) else {
-        return Ok(());
-    };
-    let copy = piece.try_copy(alloc)?;
-    moment.portals.put(name, copy)
+    let found = moment.statements.find(statement.as_str());
+    moment.portals.put_found(alloc, name, formats, found)
 }
 
 fn execute(alloc: Global, moment: &mut TalkMoment, name: &Text) -> Result<(), AllocError>
     ensures { OnOk result (moment.new ≡ after_done_request (Request.Execute name.now) moment.old) }
 {
-    moment.left = left_of(alloc, moment.portals.find(name.as_str()))?;
+    let found = moment.portals.find(name.as_str());
+    moment.left = left_of(alloc, found)?;
+    moment.columns = columns_of(alloc, found)?;
+    moment.formats = formats_in(alloc, found)?;
     moment.portals.remove(name.as_str());
     moment.go_on(alloc)
 }
 
+fn describe_statement(alloc: Global, moment: &mut TalkMoment, name: Text) -> Result<(), AllocError>
+    ensures { OnOk result (moment.new ≡ after_done_request (Request.DescribeStatement name) moment.old) }
+{
+    moment.formats.clear();
+    let Some(entry) = moment.statements.find(name.as_str()) else {
+        moment.name = name;
+        return Ok(());
+    };
+    let piece = entry.piece.try_copy(alloc)?;
+    moment.name = name;
+    moment.describe_piece(DescribedKind::Statement, piece);
+    Ok(())
+}
+
+fn describe_portal(alloc: Global, moment: &mut TalkMoment, name: Text) -> Result<(), AllocError>
+    ensures { OnOk result (moment.new ≡ after_done_request (Request.DescribePortal name) moment.old) }
+{
+    let found = moment.portals.find(name.as_str());
+    moment.formats = formats_in(alloc, found)?;
+    let Some(entry) = found else {
+        moment.name = name;
+        return Ok(());
+    };
+    let piece = entry.piece.try_copy(alloc)?;
+    moment.name = name;
+    moment.describe_piece(DescribedKind::Portal, piece);
+    Ok(())
+}
+
 // The one statement that is left, if there is one.
-fn left_of(alloc: Global, piece: Option<&StatementPiece>) -> Result<PieceQueue, AllocError>
-    ensures { IfOk result (λ left. left ≡ left_of (option_copied piece.entry)) }
+fn left_of(alloc: Global, found: Option<&NamedPiece>) -> Result<PieceQueue, AllocError>
+    ensures { IfOk result (λ left. left ≡ left_of (option_copied found.entry)) }
 {
     let mut left = PieceQueue::new(alloc);
-    if let Some(piece) = piece {
-        left.push(piece.try_copy(alloc)?)?;
+    if let Some(entry) = found {
+        left.push(entry.piece.try_copy(alloc)?)?;
     }
     Ok(left)
+}
+
+// The columns that its client was told.
+fn columns_of(
+    alloc: Global,
+    found: Option<&NamedPiece>,
+) -> Result<Option<Items<ResultColumn>>, AllocError>
+    ensures { IfOk result (λ columns. columns ≡ columns_of (option_copied found.entry)) }
+{
+    match found {
+        None => Ok(None),
+        Some(entry) => copied(alloc, &entry.columns),
+    }
+}
+
+// The formats in which its rows are wanted.
+fn formats_in(alloc: Global, found: Option<&NamedPiece>) -> Result<ResultFormats, AllocError>
+    ensures { IfOk result (λ formats. formats ≡ formats_in (option_copied found.entry)) }
+{
+    match found {
+        None => Ok(ResultFormats::new(alloc)),
+        Some(entry) => entry.formats.try_copy(alloc),
+    }
 }

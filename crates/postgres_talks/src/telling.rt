@@ -1,23 +1,23 @@
 //! What is said to what a connection learns.
 
 ghost use Rattle.std.specs.Prelude.{◌∷◌, [], OnOk, map};
-ghost use Rattle.std.specs.Option.{option_map};
-ghost use Rattle.postgres_talks.specs.Moments.{answer_said, greeting, said_answered, ready_behind, ready_unless_batch, said_closing, said_emptying, said_failed, said_judging, said_opened, said_own, said_refusing, said_rolled_back, said_run, said_settling, said_standing, said_to_reply, setting_said, settled_columns, settled_rows, settled_said, table_said, warnings_said};
+ghost use Rattle.postgres_talks.specs.Moments.{answer_said, greeting, headed_said, ran, said_answered, ready_behind, ready_unless_batch, said_closing, said_emptying, said_failed, said_judging, said_opened, said_own, said_refusing, said_rolled_back, said_run, said_standing, said_to_reply, setting_said, table_said, warnings_said};
 ghost use Rattle.postgres_talks.specs.Outcomes.{commit_outcome, outcome_of};
+ghost use Rattle.postgres_talks.specs.Rows.{columns_said, rows_said};
 ghost use Rattle.postgres_talks.specs.Sayings.{Puts, complete_said};
 ghost use Rattle.postgres_talks.specs.Tags.{done_tag};
 
 use crate::blocks::spares;
 use crate::fault::TalkFault;
 use crate::moment::{Mode, TalkBlock, TalkMoment, TalkStage};
-use crate::outcome::{Outcome, commit_outcome, outcome_of, warning_of};
+use crate::outcome::{Outcome, commit_outcome, outcome_of, run_outcome, warning_of};
 use crate::rows::{say_columns, say_rows};
 use crate::said::Said;
-use crate::settled::Settled;
 use crate::tags::done_tag;
-use postgres_messages::backend::{BackendMessage, DataType, DescribedColumn, ValueFormat};
-use postgres_messages::frontend::FieldBytes;
+use crate::told::{say_described, say_nothing_told, say_row_told, say_settling};
+use postgres_messages::backend::BackendMessage;
 use postgres_texts::settings::SessionSetting;
+use sql_ast::description::ResultColumn;
 use sql_types::answer::Answer;
 use sql_types::items::Items;
 use sql_types::state::SqlState;
@@ -50,6 +50,7 @@ pub(crate) fn say_reply(
     match reply {
         Reply::Answer(answer) => say_answered(alloc, moment, answer, said),
         Reply::Standing(standing) => say_standing(moment, *standing, said),
+        Reply::Description(description) => say_described(alloc, moment, description, said),
     }
 }
 
@@ -72,7 +73,7 @@ fn say_answered(
 }
 
 // To a step of the connection's own.
-fn say_own(outcome: Outcome, said: &mut Said) -> Result<(), AllocError>
+pub(crate) fn say_own(outcome: Outcome, said: &mut Said) -> Result<(), AllocError>
     ensures { OnOk result (Puts (said_own outcome) said.old said.new) }
 {
     match outcome {
@@ -126,9 +127,9 @@ fn say_run(
     answer: &Answer,
     said: &mut Said,
 ) -> Result<(), AllocError>
-    ensures { OnOk result (Puts (said_run moment.now.mode moment.now.block answer.now (outcome_of moment.now.block answer.now)) said.old said.new) }
+    ensures { OnOk result (Puts (said_run moment.now answer.now (ran moment.now answer.now)) said.old said.new) }
 {
-    match outcome_of(moment.block, answer) {
+    match run_outcome(moment.mode, moment.block, &moment.columns, answer) {
         Outcome::Done => say_answer(alloc, moment, answer, said),
         Outcome::Refused(_) => Ok(()),
         Outcome::Breaks(fault) => said.put_fatal(fault),
@@ -141,10 +142,10 @@ fn say_answer(
     answer: &Answer,
     said: &mut Said,
 ) -> Result<(), AllocError>
-    ensures { OnOk result (Puts (answer_said moment.now.mode moment.now.block answer.now) said.old said.new) }
+    ensures { OnOk result (Puts (answer_said moment.now answer.now) said.old said.new) }
 {
     match answer {
-        Answer::Rows(rows) => say_table(alloc, moment.mode, rows.as_slice(), said),
+        Answer::Rows(rows) => say_table(alloc, moment, rows.as_slice(), said),
         Answer::Done {
             tag,
             count,
@@ -158,23 +159,46 @@ fn say_answer(
     }
 }
 
-// In a batch the columns were asked for by Describe.
+// Rows follow their columns, but in a batch.
 fn say_table(
     alloc: Global,
-    mode: Mode,
+    moment: &TalkMoment,
     rows: &[Items<Value>],
     said: &mut Said,
 ) -> Result<(), AllocError>
-    ensures { OnOk result (Puts (table_said mode rows.now) said.old said.new) }
+    ensures { OnOk result (Puts (table_said moment.now.mode moment.now.formats moment.now.columns rows.now) said.old said.new) }
 {
-    match mode {
-        Mode::Query => {
-            say_columns(alloc, rows, said)?;
-            say_rows(alloc, rows, said)?;
-            Ok(())
-        }
-        _ => say_rows(alloc, rows, said),
+    match moment.mode {
+        Mode::Query => say_headed(alloc, &moment.columns, rows, said),
+        _ => say_rows(alloc, moment.formats.as_slice(), rows, said),
     }
+}
+
+fn say_headed(
+    alloc: Global,
+    columns: &Option<Items<ResultColumn>>,
+    rows: &[Items<Value>],
+    said: &mut Said,
+) -> Result<(), AllocError>
+    ensures { OnOk result (Puts (headed_said columns.now rows.now) said.old said.new) }
+{
+    match columns {
+        None => Ok(()),
+        Some(columns) => say_table_of(alloc, columns.as_slice(), rows, said),
+    }
+}
+
+fn say_table_of(
+    alloc: Global,
+    columns: &[ResultColumn],
+    rows: &[Items<Value>],
+    said: &mut Said,
+) -> Result<(), AllocError>
+    ensures { OnOk result (Puts (columns_said [] columns.now ∷ rows_said [] rows.now) said.old said.new) }
+{
+    say_columns(alloc, &[], columns, said)?;
+    say_rows(alloc, &[], rows, said)?;
+    Ok(())
 }
 
 fn say_warning(warning: Option<Warning>, said: &mut Said) -> Result<(), AllocError>
@@ -205,6 +229,10 @@ fn say_standing(
         TalkStage::Judging(fault) => say_judging(moment, fault, standing, said),
         TalkStage::Settling(settled) => say_settling(moment, settled, standing, said),
         TalkStage::Emptying => say_emptying(standing, said),
+        TalkStage::TellingRow(kind, settled) => {
+            say_row_told(moment, kind, settled, standing, said)
+        }
+        TalkStage::TellingNothing(kind) => say_nothing_told(kind, standing, said),
         TalkStage::Closing => say_closing(standing, said),
         _ => Ok(()),
     }
@@ -240,7 +268,7 @@ fn say_judging(
 }
 
 // Says an error. Behind that of a block of the connection's own, its end is to be learnt; behind that of a batch, Sync is waited for.
-fn say_failed(
+pub(crate) fn say_failed(
     moment: &TalkMoment,
     fault: TalkFault,
     standing: BlockStanding,
@@ -277,68 +305,6 @@ fn ready_unless_batch(
     match mode {
         Mode::Query => said.put_ready(standing),
         _ => Ok(()),
-    }
-}
-
-fn say_settling(
-    moment: &TalkMoment,
-    settled: Settled,
-    standing: Option<BlockStanding>,
-    said: &mut Said,
-) -> Result<(), AllocError>
-    ensures { OnOk result (Puts (said_settling moment.now.block moment.now.mode settled standing) said.old said.new) }
-{
-    match standing {
-        None => said.put_fatal(TalkFault::Refused(SqlState::ConnectionDoesNotExist)),
-        Some(BlockStanding::Failed) => say_failed(
-            moment,
-            TalkFault::Refused(SqlState::InFailedTransaction),
-            BlockStanding::Failed,
-            said,
-        ),
-        Some(_) => say_settled(moment.mode, settled, said),
-    }
-}
-
-fn say_settled(mode: Mode, settled: Settled, said: &mut Said) -> Result<(), AllocError>
-    ensures { OnOk result (Puts (settled_said mode settled) said.old said.new) }
-{
-    say_settled_columns(mode, settled.row(), said)?;
-    say_settled_rows(settled.row(), said)?;
-    said.put(&BackendMessage::CommandComplete(settled.tag()))?;
-    Ok(())
-}
-
-fn say_settled_columns(
-    mode: Mode,
-    row: Option<(&'static str, &'static str)>,
-    said: &mut Said,
-) -> Result<(), AllocError>
-    ensures { OnOk result (Puts (settled_columns mode (option_map (λ r. (r.0.now, r.1.now)) row.entry)) said.old said.new) }
-{
-    match (mode, row) {
-        (Mode::Query, Some((name, _))) => said.put(&BackendMessage::RowDescription(&[
-            DescribedColumn {
-                name,
-                data_type: DataType::Text,
-                format: ValueFormat::Text,
-            },
-        ])),
-        _ => Ok(()),
-    }
-}
-
-fn say_settled_rows(
-    row: Option<(&'static str, &'static str)>,
-    said: &mut Said,
-) -> Result<(), AllocError>
-    ensures { OnOk result (Puts (settled_rows (option_map (λ r. (r.0.now, r.1.now)) row.entry)) said.old said.new) }
-{
-    match row {
-        Some((_, value)) => said.put(&BackendMessage::DataRow(&[FieldBytes::Bytes(
-            value.as_bytes(),
-        )])),
-        None => Ok(()),
     }
 }
 

@@ -5,6 +5,8 @@ ghost use Rattle.talks.specs.Wants.{FitsWant};
 ghost use Rattle.talks.specs.declared.want.Reply.{Reply as TheReply};
 ghost use Rattle.sql_types.specs.declared.answer.Answer.{Answer as TheAnswer};
 
+use sql_ast::columns::ColumnType;
+use sql_ast::description::{ResultColumn, StatementDescription};
 use sql_types::answer::Answer;
 use sql_types::event::Event;
 use sql_types::items::Items;
@@ -47,6 +49,10 @@ impl PostgresDesk {
                 login,
                 entry: _,
             } => Ok(Some(Reply::Answer(opened(login.as_str())))),
+            Want::Description { session: _, text } => {
+                let description = self.description(text.as_str())?;
+                Ok(Some(Reply::Description(description)))
+            }
             Want::Standing { session: _ } => Ok(Some(Reply::Standing(Some(self.block)))),
             _ => Ok(None),
         }
@@ -60,13 +66,26 @@ impl PostgresDesk {
                 Ok(Answer::Refused(SqlState::InFailedTransaction))
             }
             "BEGIN" => Ok(self.begin()),
-            "SELECT 1" => Ok(Answer::Rows(one_row(self.alloc)?)),
+            "SELECT 0" => Ok(Answer::Rows(Items::new(self.alloc))),
+            "SELECT 1" | "SELECT 2" => Ok(Answer::Rows(one_row(self.alloc)?)),
             "INSERT" => Ok(done(Tag::Insert, Some(2), None)),
             "UPDATE" => Ok(done(Tag::Update, Some(3), None)),
             "CREATE TABLE" => Ok(done(Tag::CreateTable, None, None)),
             "MEMORY" => Ok(Answer::Refused(SqlState::OutOfMemory)),
             "DEVICE" => Ok(Answer::Refused(SqlState::IoError)),
             _ => Ok(self.refuse(SqlState::SyntaxError)),
+        }
+    }
+
+    // What a statement would answer. What it tells of `SELECT 2` is not so.
+    fn description(&self, text: &str) -> Result<StatementDescription, AllocError> {
+        if matches!(self.block, BlockStanding::Failed) {
+            return Ok(StatementDescription::Refused(SqlState::InFailedTransaction));
+        }
+        match text {
+            "SELECT 0" | "SELECT 1" => Ok(StatementDescription::Rows(four_columns(self.alloc)?)),
+            "SELECT 2" => Ok(StatementDescription::Rows(one_column(self.alloc)?)),
+            _ => Ok(StatementDescription::Refused(SqlState::SyntaxError)),
         }
     }
 
@@ -128,4 +147,27 @@ fn one_row(alloc: Global) -> Result<Items<Items<Value>>, AllocError> {
     let mut rows = Items::new(alloc);
     rows.push(row)?;
     Ok(rows)
+}
+
+// A column of each type, and one more.
+fn four_columns(alloc: Global) -> Result<Items<ResultColumn>, AllocError> {
+    let mut columns = Items::new(alloc);
+    columns.push(column(alloc, "number", ColumnType::BigInt)?)?;
+    columns.push(column(alloc, "word", ColumnType::Text)?)?;
+    columns.push(column(alloc, "truth", ColumnType::Boolean)?)?;
+    columns.push(column(alloc, "?column?", ColumnType::BigInt)?)?;
+    Ok(columns)
+}
+
+fn one_column(alloc: Global) -> Result<Items<ResultColumn>, AllocError> {
+    let mut columns = Items::new(alloc);
+    columns.push(column(alloc, "number", ColumnType::BigInt)?)?;
+    Ok(columns)
+}
+
+fn column(alloc: Global, name: &str, column_type: ColumnType) -> Result<ResultColumn, AllocError> {
+    Ok(ResultColumn {
+        name: Text::from_str(alloc, name)?,
+        column_type,
+    })
 }

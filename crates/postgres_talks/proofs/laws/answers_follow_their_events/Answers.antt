@@ -1,4 +1,4 @@
-use Rattle.postgres_talks.proofs.Seeing.{no_answer}
+use Rattle.postgres_talks.proofs.Asking.{no_answer}
 use Rattle.postgres_talks.proofs.laws.answers_follow_their_events.Goals as goal
 
 pub returns : goal.returns

@@ -1,4 +1,4 @@
-use Rattle.postgres_talks.proofs.Seeing.{nothing_follows}
+use Rattle.postgres_talks.proofs.Asking.{nothing_follows}
 use Rattle.postgres_talks.proofs.laws.bad_messages_end.Goals as goal
 
 pub returns : goal.returns

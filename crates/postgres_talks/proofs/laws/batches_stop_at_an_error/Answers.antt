@@ -1,4 +1,4 @@
-use Rattle.postgres_talks.proofs.Seeing.{passed_over}
+use Rattle.postgres_talks.proofs.Asking.{passed_over}
 use Rattle.postgres_talks.proofs.laws.batches_stop_at_an_error.Goals as goal
 
 pub returns : goal.returns

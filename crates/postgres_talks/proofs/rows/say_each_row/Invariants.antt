@@ -4,4 +4,4 @@ use Rattle.postgres_talks.specs.Sayings.{Puts}
 use Rattle.postgres_talks.proofs.rows.say_each_row.Given as goal
 
 abbrev pub invariant-loop-row : goal.invariant-loop-row
-invariant-loop-row l = Puts (map row_said (take l.row-index l.rows)) l.fn.said l.said
+invariant-loop-row l = Puts (map (row_said l.formats) (take l.row-index l.rows)) l.fn.said l.said

@@ -5,7 +5,7 @@ use Rattle.postgres_talks.specs.Moments.{settled_columns, settled_rows, settled_
 use Rattle.postgres_talks.specs.Sayings.{Puts, complete_said}
 use Rattle.postgres_talks.specs.Settled.{settled_row, settled_tag}
 use Rattle.postgres_talks.proofs.Putting.{puts_on}
-use Rattle.postgres_talks.proofs.telling.say_settled.Goals as goal
+use Rattle.postgres_talks.proofs.told.say_settled.Goals as goal
 
 -- the row was asked for twice
 settled_so : (t : Mode) (s : Settled) (r q : Option (List ℕ × List ℕ)) (tag a b c d : List ℕ) → r ≡ settled_row s → q ≡ settled_row s → tag ≡ settled_tag s
