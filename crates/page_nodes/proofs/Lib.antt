@@ -4,6 +4,7 @@ pub mod Halving
 pub mod Written
 pub mod Order
 pub mod Whole
+pub mod Ends
 pub mod EndCut
 pub mod Starts
 pub mod Merging

@@ -5,3 +5,4 @@ pub mod Scratch
 pub mod Offsets
 pub mod Views
 pub mod Merge
+pub mod Ends

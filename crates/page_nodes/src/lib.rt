@@ -12,7 +12,9 @@ mod start;
 pub use cell::{CellView, NodeKind, cell_at, is_less, push_cell};
 pub use merge::LeafMerge;
 pub use offsets::{IndexedPage, PageView};
-pub use page::{first_child, fits, kind_of, node_kind, one_node, write_node};
+pub use page::{
+    EndKeys, WholeNode, first_child, fits, kind_of, node_kind, one_node, whole_node, write_node,
+};
 pub use scratch::{
     Cut, CutPlace, Edit, append_cells, cells_end, cut_for, edit_cells, middle, push_payload,
     skip_key,

@@ -2,12 +2,34 @@
 ghost use Rattle.std.specs.Prelude.{◌≡◌, ◌↔◌, ℕ, ◌+◌, ◌<◌, ◌≤◌, List, length, Some, None, IsTrue, IfSome, MatchOption, slice_index, drop, get_or};
 ghost use Rattle.page_nodes.specs.Map.{Entry, IsRising};
 ghost use Rattle.page_nodes.specs.Search.{RiseTo};
+ghost use Rattle.page_nodes.specs.Ends.{AreEnds};
 ghost use Rattle.page_nodes.specs.Node.{page_size, four_bytes, cells_bytes, IsNode, IsWhole, IsFirst, IsCount, FitsPage, HasSizes, start, zeros_after, tag, HasCell};
 
 use crate::cell::{NodeKind, cell_at, is_less, two_at};
 use crate::search::child_of;
 use byteorder::{BigEndian, ByteOrder};
 use storage_sizes::PAGE_SIZE;
+
+/// The first and the last key of a node.
+#[derive(Clone, Copy, Drop)]
+pub struct EndKeys<'a> {
+    pub first: &'a [u8],
+    pub last: &'a [u8],
+}
+
+/// A page that is a node: its kind, and its end keys, where it has cells.
+#[derive(Clone, Copy, Drop)]
+pub struct WholeNode<'a> {
+    pub kind: NodeKind,
+    pub keys: Option<EndKeys<'a>>,
+}
+
+/// Cells with keys that rise: the index at which they end, and their end keys, where there are any.
+#[derive(Clone, Copy, Drop)]
+struct RisingCells<'a> {
+    end: usize,
+    keys: Option<EndKeys<'a>>,
+}
 
 /// Whether cells of so many bytes fit in the page of a node.
 pub fn fits(kind: NodeKind, cells: usize) -> bool
@@ -74,21 +96,27 @@ fn are_zeros(bytes: &[u8]) -> bool
     true
 }
 
-/// The index at which the cells of a node of that kind end. None: no cells are spelled, or their keys do not rise.
-fn rising_end(bytes: &[u8; PAGE_SIZE], kind: NodeKind) -> Option<usize>
-    ensures read { IfSome result (λ end. RiseTo kind bytes.now end) }
+/// The cells of a node of that kind: where they end, and their end keys. None: no cells are spelled, or their keys do not rise.
+fn rising_cells<'a>(bytes: &'a [u8; PAGE_SIZE], kind: NodeKind) -> Option<RisingCells<'a>>
+    ensures read { IfSome result (λ read. RiseTo kind bytes.now read.end) }
     ensures end { (first : List ℕ) (cells : List Entry) → IsNode kind first cells bytes.now
         → IsRising cells
-        → MatchOption result ⊥ (λ end. drop end bytes.now ≡ zeros_after kind first cells) }
-    ensures begins { IfSome result (λ end. start kind ≤ end) }
-    ensures inside { IfSome result (λ end. end ≤ page_size) }
+        → MatchOption result ⊥ (λ read. drop read.end bytes.now ≡ zeros_after kind first cells) }
+    ensures keys { (first : List ℕ) (cells : List Entry) → IsNode kind first cells bytes.now
+        → IsRising cells → IfSome result (λ read. AreEnds cells read.keys) }
+    ensures begins { IfSome result (λ read. start kind ≤ read.end) }
+    ensures inside { IfSome result (λ read. read.end ≤ page_size) }
 {
     let count = two_at(bytes, 2);
     let start = kind.start();
     if count == 0 {
-        return Some(start);
+        return Some(RisingCells {
+            end: start,
+            keys: None,
+        });
     }
     let mut last = cell_at(bytes, kind, start)?;
+    let first = last.key;
     for i in 1..count {
         let next = cell_at(bytes, kind, last.end)?;
         if !is_less(last.key, next.key) {
@@ -96,7 +124,13 @@ fn rising_end(bytes: &[u8; PAGE_SIZE], kind: NodeKind) -> Option<usize>
         }
         last = next;
     }
-    Some(last.end)
+    Some(RisingCells {
+        end: last.end,
+        keys: Some(EndKeys {
+            first,
+            last: last.key,
+        }),
+    })
 }
 
 /// Whether a node of this kind may have so many cells.
@@ -109,11 +143,13 @@ fn may_have(kind: NodeKind, cells: usize) -> bool
     }
 }
 
-/// The kind of the node that a page is. None: the page is no node, that is, its first bytes are not those of a node, a
-/// cell is not spelled within the page with a key and a payload of the allowed sizes, the keys do not rise strictly, an
-/// inner node has no cell, or a byte after the cells is not zero.
-pub fn node_kind(bytes: &[u8; PAGE_SIZE]) -> Option<NodeKind>
-    ensures node { IfSome result (λ kind. IsWhole bytes.now kind) }
+/// The node that a page is. None: the page is no node, that is, its first bytes are not those of a node, a cell is not
+/// spelled within the page with a key and a payload of the allowed sizes, the keys do not rise strictly, an inner node has
+/// no cell, or a byte after the cells is not zero.
+pub fn whole_node<'a>(bytes: &'a [u8; PAGE_SIZE]) -> Option<WholeNode<'a>>
+    ensures node { IfSome result (λ node. IsWhole bytes.now node.kind) }
+    ensures keys { IfSome result (λ node. (first : List ℕ) (cells : List Entry)
+        → IsNode node.kind first cells bytes.now → AreEnds cells node.keys) }
     ensures none { result ≡ None → (kind : NodeKind) → IsWhole bytes.now kind → ⊥ }
 {
     let kind = kind_of(bytes)?;
@@ -123,11 +159,23 @@ pub fn node_kind(bytes: &[u8; PAGE_SIZE]) -> Option<NodeKind>
     if !may_have(kind, two_at(bytes, 2)) {
         return None;
     }
-    let end = rising_end(bytes, kind)?;
-    if !are_zeros(&bytes[end..]) {
+    let read = rising_cells(bytes, kind)?;
+    if !are_zeros(&bytes[read.end..]) {
         return None;
     }
-    Some(kind)
+    Some(WholeNode {
+        kind,
+        keys: read.keys,
+    })
+}
+
+/// The kind of the node that a page is. None: the page is no node, as `whole_node` tells.
+pub fn node_kind(bytes: &[u8; PAGE_SIZE]) -> Option<NodeKind>
+    ensures node { IfSome result (λ kind. IsWhole bytes.now kind) }
+    ensures none { result ≡ None → (kind : NodeKind) → IsWhole bytes.now kind → ⊥ }
+{
+    let node = whole_node(bytes)?;
+    Some(node.kind)
 }
 
 /// The law that bytes spell at most one node, and that a node is spelled by one page only.

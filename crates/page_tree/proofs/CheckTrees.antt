@@ -11,7 +11,7 @@ use Rattle.page_nodes.specs.Node.{four_bytes, IsNode, IsWhole}
 use Rattle.page_nodes.proofs.Order.{one_way, le_le, lt_le}
 use Rattle.page_nodes.proofs.Whole.{kind_same, first_same, node_same}
 use Rattle.page_tree.specs.Forest.{Forest, no_trees, leaf, inner, append, cells, Meets, IsUnder, AllFrom, AllUnder, next, Holds, HoldsChildren, IsSound, IsFull}
-use Rattle.page_tree.specs.Check.{IsMet, MarksPage, IsReadIfUsed, AreBetween, IsDepthUnder, AreUnmet, AreMarked, AreChecked}
+use Rattle.page_tree.specs.Check.{IsMet, MarksPage, IsReadIfUsed, AreBetween, IsLeafChecked, IsDepthUnder, AreUnmet, AreMarked, AreChecked}
 use Rattle.page_tree.proofs.Keys.{under_le}
 use Rattle.page_tree.proofs.Bounds.{begin, first_key, cells_from}
 use Rattle.page_tree.proofs.Trees.{cells_append, meets_append, meets_left, meets_right, full_left, full_right, parts, joined, in_use}
@@ -21,33 +21,13 @@ use Rattle.page_tree.proofs.RemovalTrees.{next_front, under_page}
 
 -- ---- entries within bounds
 
-from_above : (low k : List ℕ) (es : List Entry) → is_below k low ≡ false → AllAbove k es → AllFrom low es
+pub from_above : (low k : List ℕ) (es : List Entry) → is_below k low ≡ false → AllAbove k es → AllFrom low es
 from_above low k [] le all = tt
 from_above low k (e ∷ es) le all = (le_le low k e.0 le (one_way k e.0 all.0), from_above low k es le all.1)
-
-pub from_low : (low : List ℕ) (es : List Entry) → IsRising es → length (low_entries low es) ≡ 0 → AllFrom low es
-from_low low [] rising none = tt
-from_low low (e ∷ es) rising none = ⊎_elim
-    (λ yes. let some : length (e ∷ low_entries low es) ≡ 0 = rw yes at none in absurd (omega (arith, some)))
-    (λ no. (no, from_above low e.0 es no rising.0)) (cases_Bool (is_below e.0 low))
-
-pub low_from : (low : List ℕ) (es : List Entry) → AllFrom low es → length (low_entries low es) ≡ 0
-low_from low [] all = refl
-low_from low (e ∷ es) all = rw all.0 refl
 
 pub rest_from : (low : List ℕ) (es : List Entry) → AllFrom low es → rest_entries low es ≡ es
 rest_from low [] all = refl
 rest_from low (e ∷ es) all = rw all.0 refl
-
-pub under_high : (high : List ℕ) (es : List Entry) → length (rest_entries high es) ≡ 0 → AllUnder (Some high) es
-under_high high [] none = tt
-under_high high (e ∷ es) none = ⊎_elim
-    (λ yes. (yes, under_high high es (rw yes at none)))
-    (λ no. let some : length (e ∷ es) ≡ 0 = rw no at none in absurd (omega (arith, some))) (cases_Bool (is_below e.0 high))
-
-pub high_under : (high : List ℕ) (es : List Entry) → AllUnder (Some high) es → length (rest_entries high es) ≡ 0
-high_under high [] all = refl
-high_under high (e ∷ es) all = rw all.0 (high_under high es all.1)
 
 pub under_all : (es : List Entry) → AllUnder None es
 under_all [] = tt
@@ -57,13 +37,6 @@ under_all (e ∷ es) = (tt, under_all es)
 bounds_some : (low : List ℕ) (high : Option (List ℕ)) (es : List Entry) → AreBetween low high es true → IsUnder low high
 bounds_some low high [] is = absurd (omega (arith, is.2))
 bounds_some low high (e ∷ es) is = under_le low e.0 high is.0.0 is.1.0
-
--- whether no entry is left from the upper bound on
-pub between : (low high : List ℕ) (es : List Entry) (left : ℕ) → left ≡ length (rest_entries high es) → AllFrom low es → 0 < length es → AreBetween low (Some high) es (nat_eq left 0)
-between low high es left is from some = ⊎_elim
-    (λ yes. let none : left ≡ 0 = grind (arith, nat_tests) in rw yes (from, under_high high es (sym is ∙ none), some))
-    (λ no. let more : left ≡ 0 → ⊥ = λ none. (let yes : nat_eq left 0 ≡ true = rw none refl in false≢true (sym no ∙ yes)) in
-    rw no (λ all under many. more (is ∙ high_under high es under))) (cases_Bool (nat_eq left 0))
 
 -- ---- one node
 
@@ -281,6 +254,15 @@ module _ (A : Array) (n : Numbered A) (old : List Bool) (page d : ℕ) (low : Li
   pub refused_unused : A page ≡ None → IsRefused
   refused_unused gone f is full = not_gone A page (present A n f d low high page is.sound is.top_is small) gone
 
+  -- the page of a leaf
+  pub refused_leaf : d ≡ 0 → IsLeafChecked (A page) low high false → IsRefused
+  refused_leaf flat none f is full = ⊎_elim
+      (λ l.
+      let s : IsSound A d high (leaf low page l.es no_trees) = subst (λ (x : Forest). IsSound A d high x) l.is is.sound in
+      let all : IsFull (leaf low page l.es no_trees) = subst (λ (x : Forest). IsFull x) l.is full in
+      none l.holds.0 l.holds.1 l.es l.holds.2 s.2.2 s.2.0 s.2.1 all.0)
+      (λ i. absurd (omega (arith, flat, i.deep))) (look A n f d low high page is.sound is.top_is small)
+
   module _ (bytes : List ℕ) (here : A page ≡ Some bytes) where
     -- the node of a leaf, and of an inner node
     leaf_there : (f : Forest) → AreUnmet A old d high ((low, four_bytes page) ∷ []) f → (l : AtLeaf A f low page) → IsSound A d high (leaf low page l.es no_trees)
@@ -302,19 +284,6 @@ module _ (A : Array) (n : Numbered A) (old : List Bool) (page d : ℕ) (low : Li
     pub refused_deep_leaf : IsWhole bytes Leaf → 0 < d → IsRefused
     refused_deep_leaf w deep f is full = ⊎_elim (λ l. omega (arith, deep, (leaf_there f is l).1))
         (λ i. let bad : Leaf ≡ Inner = kind_same Leaf Inner bytes w.first i.head.1 w.cells i.rest w.node (node_here A page bytes Inner i.head.1 i.rest here i.holds) in cc) (look A n f d low high page is.sound is.top_is small)
-
-    pub refused_leaf : IsWhole bytes Leaf → ((es : List Entry) → IsNode Leaf [] es bytes → IsRising es → AreBetween low high es false) → IsRefused
-    refused_leaf w none f is full = ⊎_elim
-        (λ l.
-        let s = leaf_there f is l in
-        let all : IsFull (leaf low page l.es no_trees) = subst (λ (x : Forest). IsFull x) l.is full in
-        none l.es (node_here A page bytes Leaf [] l.es here l.holds) s.2.2 s.2.0 s.2.1 all.0)
-        (λ i. let bad : Leaf ≡ Inner = kind_same Leaf Inner bytes w.first i.head.1 w.cells i.rest w.node (node_here A page bytes Inner i.head.1 i.rest here i.holds) in cc) (look A n f d low high page is.sound is.top_is small)
-
-    pub refused_flat_inner : IsWhole bytes Inner → d ≡ 0 → IsRefused
-    refused_flat_inner w flat f is full = ⊎_elim
-        (λ l. let bad : Inner ≡ Leaf = kind_same Inner Leaf bytes w.first [] w.cells l.es w.node (node_here A page bytes Leaf [] l.es here l.holds) in cc)
-        (λ i. omega (arith, flat, i.deep)) (look A n f d low high page is.sound is.top_is small)
 
     module _ (mid : List Bool) (marks : MarksPage page true old mid) where
       pub refused_children : (w : IsWhole bytes Inner) → (below : ℕ) → d ≡ suc below
@@ -374,10 +343,10 @@ module _ (A : Array) (n : Numbered A) (old : List Bool) (page d : ℕ) (low : Li
             tree.full,
           )
 
-      pub leaf_checked : d ≡ 0 → (w : IsWhole bytes Leaf) → (whole : Bool) → ((es : List Entry) → IsNode Leaf [] es bytes → IsRising es → AreBetween low high es whole) → AreChecked A old mid d high ((low, four_bytes page) ∷ []) whole
-      leaf_checked flat w true is = passed_leaf flat w (is w.cells (leaf_node bytes w) w.rising)
-      leaf_checked flat w false is = refused_leaf w is
-
       pub inner_checked : (new : List Bool) (below : ℕ) → d ≡ suc below → (w : IsWhole bytes Inner) → (whole : Bool) → AreChecked A mid new below high ((low, w.first) ∷ w.cells) whole → AreChecked A old new d high ((low, four_bytes page) ∷ []) whole
       inner_checked new below deep w true is = passed_inner new below deep w is
       inner_checked new below deep w false is = refused_children w below deep is
+
+  pub leaf_checked : (mid : List Bool) → MarksPage page true old mid → d ≡ 0 → (whole : Bool) → IsLeafChecked (A page) low high whole → AreChecked A old mid d high ((low, four_bytes page) ∷ []) whole
+  leaf_checked mid marks flat true (bytes, here, whole) = passed_leaf bytes here mid marks flat whole.0 whole.1
+  leaf_checked mid marks flat false none = refused_leaf flat none

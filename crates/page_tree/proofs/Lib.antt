@@ -6,6 +6,7 @@ pub mod Descent
 pub mod Faults
 pub mod Taking
 pub mod CheckTrees
+pub mod CheckLeaves
 pub mod CheckSteps
 pub mod Depth
 pub mod Walk

@@ -4,9 +4,9 @@ use Rattle.storage_sizes.specs.Sizes.{max_pages}
 use Rattle.pages.specs.State.{Array}
 use Rattle.pages.specs.declared.array.PageFault.{PageFault}
 use Rattle.pages.specs.declared.array.Pages.{Ghosts}
-use Rattle.page_nodes.specs.declared.cell.NodeKind.TheVariants.{Inner}
-use Rattle.page_nodes.specs.Map.{Entry}
-use Rattle.page_nodes.specs.Node.{four_bytes, IsNode}
+use Rattle.page_nodes.specs.declared.cell.NodeKind.TheVariants.{Leaf, Inner}
+use Rattle.page_nodes.specs.Map.{Entry, IsRising}
+use Rattle.page_nodes.specs.Node.{four_bytes, IsNode, IsWhole}
 use Rattle.page_tree.specs.Forest.{Forest, cells, Meets, AllFrom, AllUnder, IsSound, IsFull, Represents}
 use Rattle.page_tree.specs.Calls.{LeavesPages, Gives}
 
@@ -45,6 +45,19 @@ MeasuresDepth g old new page levels result = (g.state old).sound → Gives g old
 abbrev pub AreBetween : List ℕ → Option (List ℕ) → List Entry → Bool → Type 0
 AreBetween low high es true = AllFrom low es × AllUnder high es × (0 < length es)
 AreBetween low high es false = AllFrom low es → AllUnder high es → 0 < length es → ⊥
+
+-- whether these bytes are a leaf with entries between these bounds
+abbrev pub IsLeafBetween : List ℕ → List ℕ → Option (List ℕ) → Bool → Type 0
+IsLeafBetween bytes low high true = (leaf : IsWhole bytes Leaf) × AreBetween low high leaf.cells true
+IsLeafBetween bytes low high false = (es : List Entry) → IsNode Leaf [] es bytes → IsRising es → AreBetween low high es false
+
+-- whether a page is in use, and is such a leaf
+abbrev pub IsLeafChecked : Option (List ℕ) → List ℕ → Option (List ℕ) → Bool → Type 0
+IsLeafChecked there low high true = (bytes : List ℕ) × (there ≡ Some bytes) × IsLeafBetween bytes low high true
+IsLeafChecked there low high false = (bytes : List ℕ) → there ≡ Some bytes → IsLeafBetween bytes low high false
+
+abbrev pub ChecksLeaf : {P : Type 0} (g : Ghosts P) (old new : P) (page : ℕ) (low : List ℕ) (high : Option (List ℕ)) (result : Result Bool PageFault) → Type 0
+ChecksLeaf g old new page low high result = (g.state old).sound → Gives g old new result (IsLeafChecked ((g.state old).array page) low high)
 
 -- trees that an array holds, with these cells and bounds, of which no page is marked
 pub record AreUnmet (array : Array) (met : List Bool) (depth : ℕ) (high : Option (List ℕ)) (top : List Entry) (trees : Forest) : Type 0 where

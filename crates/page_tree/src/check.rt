@@ -3,10 +3,14 @@ ghost use Rattle.std.specs.Prelude.{◌≡◌, ◌⊎◌, ◌<◌, ◌↔◌, []
 ghost use Rattle.storage_sizes.specs.Sizes.{max_pages};
 ghost use Rattle.page_nodes.specs.Map.{Entry, IsRising, lent_bytes};
 ghost use Rattle.page_nodes.specs.Node.{IsNode};
-ghost use Rattle.page_tree.specs.Check.{OnlyReadsBelow, MarksPage, ReadsIfUsed, MeasuresDepth, AreBetween, ChecksLeafAlone, ChecksTree, ChecksChildren, ChecksRoot, AreNoMarks, HasMetAll, ChecksMap};
+ghost use Rattle.page_nodes.specs.Ends.{AreEnds};
+ghost use Rattle.page_tree.specs.Check.{OnlyReadsBelow, MarksPage, ReadsIfUsed, MeasuresDepth, AreBetween, IsLeafBetween, ChecksLeaf, ChecksLeafAlone, ChecksTree, ChecksChildren, ChecksRoot, AreNoMarks, HasMetAll, ChecksMap};
 
 use crate::search::MAX_HEIGHT;
-use page_nodes::{NodeKind, cell_at, child_of, first_child, kind_of, node_kind, seek};
+use page_nodes::{
+    EndKeys, NodeKind, cell_at, child_of, first_child, is_less, kind_of, node_kind, seek,
+    whole_node,
+};
 use pages::{PageFault, Pages};
 use std::alloc::{AllocError, Global};
 use storage_sizes::{MAX_PAGES, PAGE_SIZE};
@@ -36,6 +40,20 @@ fn read_if_used<P: Pages>(
     ensures faults { IfErr result (λ f. f ≡ PageFault.Device) }
 {
     match pages.read(page, bytes) {
+        Ok(()) => Ok(true),
+        Err(PageFault::Malformed) => Ok(false),
+        Err(fault) => Err(fault),
+    }
+}
+
+/// Fetches a page that is in use. False: it is not in use.
+fn fetch_if_used<P: Pages>(pages: &mut P, page: u32) -> Result<bool, PageFault>
+    ensures reads { OnlyReadsBelow P.Pages pages.old pages.new }
+    ensures works { result ≡ Ok true → P.works pages.new }
+    ensures found { ReadsIfUsed P.Pages pages.old pages.new page (P.fetched pages.new) result }
+    ensures faults { IfErr result (λ f. f ≡ PageFault.Device) }
+{
+    match pages.fetch(page) {
         Ok(()) => Ok(true),
         Err(PageFault::Malformed) => Ok(false),
         Err(fault) => Err(fault),
@@ -74,27 +92,53 @@ fn depth_below<P: Pages>(
     }
 }
 
-/// Whether a leaf has entries, and all of their keys are at least `low`, and below `high` if there is one.
-fn has_entries_between(bytes: &[u8; PAGE_SIZE], low: &[u8], high: Option<&[u8]>) -> bool
-    ensures { (es : List Entry) → IsNode NodeKind.Leaf [] es bytes.now → IsRising es
+/// Whether there are entries, by their end keys, and all of their keys are at least `low`, and below `high` if there is one.
+fn are_between(keys: Option<EndKeys<'_>>, low: &[u8], high: Option<&[u8]>) -> bool
+    ensures { (es : List Entry) → AreEnds es keys.entry → IsRising es
         → AreBetween low.now (lent_bytes high.entry) es result }
 {
-    let Some(from) = seek(bytes, NodeKind::Leaf, low) else {
+    let Some(keys) = keys else {
         return false;
     };
-    if from.index > 0 {
+    if is_less(keys.first, low) {
         return false;
     }
-    if from.left == 0 {
-        return false;
+    match high {
+        Some(high) => is_less(keys.last, high),
+        None => true,
     }
-    let Some(high) = high else {
-        return true;
-    };
-    let Some(end) = seek(bytes, NodeKind::Leaf, high) else {
+}
+
+/// Whether a page is a leaf that has entries, and all of their keys are at least `low`, and below `high` if there is one.
+fn is_leaf_between(bytes: &[u8; PAGE_SIZE], low: &[u8], high: Option<&[u8]>) -> bool
+    ensures { IsLeafBetween bytes.now low.now (lent_bytes high.entry) result }
+{
+    let Some(node) = whole_node(bytes) else {
         return false;
     };
-    end.left == 0
+    match node.kind {
+        NodeKind::Leaf => are_between(node.keys, low, high),
+        NodeKind::Inner => false,
+    }
+}
+
+/// Checks a leaf where it is: its page is in use, it has entries, and all of their keys are at least `low`, and below `high`
+/// if there is one.
+fn check_leaf<P: Pages>(
+    pages: &mut P,
+    page: u32,
+    low: &[u8],
+    high: Option<&[u8]>,
+) -> Result<bool, PageFault>
+    ensures reads { OnlyReadsBelow P.Pages pages.old pages.new }
+    ensures works { result ≡ Ok true → P.works pages.new }
+    ensures checked { ChecksLeaf P.Pages pages.old pages.new page low.now (lent_bytes high.entry) result }
+    ensures faults { IfErr result (λ f. f ≡ PageFault.Device) }
+{
+    if !fetch_if_used(pages, page)? {
+        return Ok(false);
+    }
+    Ok(is_leaf_between(pages.fetched().bytes(), low, high))
 }
 
 /// Checks the tree under a page: it has this depth, each node is one, no leaf is empty, all keys are at least `low`, and
@@ -118,24 +162,17 @@ fn check_below<P: Pages>(
     if !mark(met, page) {
         return Ok(false);
     }
+    if depth == 0 {
+        return check_leaf(pages, page, low, high);
+    }
     let mut bytes = [0; PAGE_SIZE];
     if !read_if_used(pages, page, &mut bytes)? {
         return Ok(false);
     }
     match node_kind(&bytes) {
         None => Ok(false),
-        Some(NodeKind::Leaf) => {
-            if depth > 0 {
-                return Ok(false);
-            }
-            Ok(has_entries_between(&bytes, low, high))
-        }
-        Some(NodeKind::Inner) => {
-            if depth == 0 {
-                return Ok(false);
-            }
-            check_children(pages, met, &bytes, depth - 1, low, high)
-        }
+        Some(NodeKind::Leaf) => Ok(false),
+        Some(NodeKind::Inner) => check_children(pages, met, &bytes, depth - 1, low, high),
     }
 }
 

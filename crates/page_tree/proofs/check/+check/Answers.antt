@@ -5,9 +5,9 @@ use Rattle.page_nodes.specs.Node.{four_bytes, IsWhole, zeros_after}
 use Rattle.page_nodes.proofs.Scan.{unread}
 use Rattle.page_tree.specs.Check.{AreChecked}
 use Rattle.page_nodes.specs.Map.{lent_bytes}
-use Rattle.page_tree.proofs.Faults.{fails, caused_since, gives_since}
+use Rattle.page_tree.proofs.Faults.{fails, caused_since, gives_as, gives_since}
 use Rattle.page_tree.proofs.Descent.{numbered_of}
-use Rattle.page_tree.proofs.CheckTrees.{read_yes, read_no, mark_yes, mark_no, checked_same, refused_met, refused_unused, refused_node, refused_deep_leaf, refused_flat_inner, leaf_checked, inner_checked}
+use Rattle.page_tree.proofs.CheckTrees.{read_yes, read_no, mark_yes, mark_no, checked_same, refused_met, refused_unused, refused_node, refused_deep_leaf, leaf_checked, inner_checked}
 use Rattle.page_tree.proofs.CheckSteps.{reads_none, reads_joined, begins_check, goes_on, stops, ends, some_left}
 use Rattle.page_tree.proofs.check.+check.Goals as goal
 
@@ -21,32 +21,27 @@ check_below-returns-then-not-branch-clause-checked g t c sound =
     refused_unused (g.P.Pages.state c.args.pages.now).array (numbered_of g.P.Pages c.args.pages.now sound) c.args.met.now c.args.page c.args.depth c.args.low.now (lent_bytes c.args.high) c.ranges.page.fits
     (read_no _ c.read_if_used.new.bytes c.in_ok-read_if_used.field-0 c.if-not-branch.true (c.in_ok-read_if_used.ensures.found sound))
 
-pub check_below-returns-then-depth-gt0-clause-checked : goal.check_below-returns-then-depth-gt0-clause-checked
-check_below-returns-then-depth-gt0-clause-checked g t c sound =
-    let here = read_yes _ c.read_if_used.new.bytes c.in_ok-read_if_used.field-0 c.if-not-branch.false (c.in_ok-read_if_used.ensures.found sound) in
-    let w = subst (λ (k : NodeKind). IsWhole c.read_if_used.new.bytes k) c.in-Some-Leaf.field-0-is c.in-Some-Leaf.ensures.node in
-    refused_deep_leaf (g.P.Pages.state c.args.pages.now).array (numbered_of g.P.Pages c.args.pages.now sound) c.args.met.now c.args.page c.args.depth c.args.low.now (lent_bytes c.args.high) c.ranges.page.fits c.read_if_used.new.bytes here w c.if-depth-gt0.true
-
 pub check_below-returns-then-depth-eq0-clause-checked : goal.check_below-returns-then-depth-eq0-clause-checked
 check_below-returns-then-depth-eq0-clause-checked g t c sound =
+    gives_as g.P.Pages c.args.pages.now c.check_leaf.new.pages c.check_leaf.result _ _
+    (λ whole is.
+    leaf_checked (g.P.Pages.state c.args.pages.now).array (numbered_of g.P.Pages c.args.pages.now sound) c.args.met.now c.args.page c.args.depth c.args.low.now (lent_bytes c.args.high) c.ranges.page.fits c.mark.new.met
+    (mark_yes c.args.page c.mark.result c.args.met.now c.mark.new.met c.if-not-mark.false c.mark.ensures) c.if-depth-eq0.true whole is)
+    (c.check_leaf.ensures.checked sound)
+
+pub check_below-returns-in-Some-Leaf-clause-checked : goal.check_below-returns-in-Some-Leaf-clause-checked
+check_below-returns-in-Some-Leaf-clause-checked g t c sound =
     let here = read_yes _ c.read_if_used.new.bytes c.in_ok-read_if_used.field-0 c.if-not-branch.false (c.in_ok-read_if_used.ensures.found sound) in
-    let w = subst (λ (k : NodeKind). IsWhole c.read_if_used.new.bytes k) c.in-Some-Inner.field-0-is c.in-Some-Inner.ensures.node in
-    refused_flat_inner (g.P.Pages.state c.args.pages.now).array (numbered_of g.P.Pages c.args.pages.now sound) c.args.met.now c.args.page c.args.depth c.args.low.now (lent_bytes c.args.high) c.ranges.page.fits c.read_if_used.new.bytes here w c.if-depth-eq0.true
+    let w = subst (λ (k : NodeKind). IsWhole c.read_if_used.new.bytes k) c.in-Some-Leaf.field-0-is c.in-Some-Leaf.ensures.node in
+    refused_deep_leaf (g.P.Pages.state c.args.pages.now).array (numbered_of g.P.Pages c.args.pages.now sound) c.args.met.now c.args.page c.args.depth c.args.low.now (lent_bytes c.args.high) c.ranges.page.fits c.read_if_used.new.bytes here w (omega (arith, c.if-depth-eq0.false))
 
 pub check_below-returns-in-None-clause-checked : goal.check_below-returns-in-None-clause-checked
 check_below-returns-in-None-clause-checked g t c sound =
     let here = read_yes _ c.read_if_used.new.bytes c.in_ok-read_if_used.field-0 c.if-not-branch.false (c.in_ok-read_if_used.ensures.found sound) in
     refused_node (g.P.Pages.state c.args.pages.now).array (numbered_of g.P.Pages c.args.pages.now sound) c.args.met.now c.args.page c.args.depth c.args.low.now (lent_bytes c.args.high) c.ranges.page.fits c.read_if_used.new.bytes here (c.node_kind.ensures.none c.in-None.is)
 
-pub check_below-returns-else-depth-gt0-clause-checked : goal.check_below-returns-else-depth-gt0-clause-checked
-check_below-returns-else-depth-gt0-clause-checked g t c sound =
-    let here = read_yes _ c.read_if_used.new.bytes c.in_ok-read_if_used.field-0 c.if-not-branch.false (c.in_ok-read_if_used.ensures.found sound) in
-    let w = subst (λ (k : NodeKind). IsWhole c.read_if_used.new.bytes k) c.in-Some-Leaf.field-0-is c.in-Some-Leaf.ensures.node in
-    leaf_checked (g.P.Pages.state c.args.pages.now).array (numbered_of g.P.Pages c.args.pages.now sound) c.args.met.now c.args.page c.args.depth c.args.low.now (lent_bytes c.args.high) c.ranges.page.fits c.read_if_used.new.bytes here c.mark.new.met (mark_yes c.args.page c.mark.result c.args.met.now c.mark.new.met c.if-not-mark.false c.mark.ensures)
-    (omega (arith, c.if-depth-gt0.false)) w c.has_entries_between.result c.has_entries_between.ensures
-
-pub check_below-returns-else-depth-eq0-clause-checked : goal.check_below-returns-else-depth-eq0-clause-checked
-check_below-returns-else-depth-eq0-clause-checked g t c sound =
+pub check_below-returns-in-Some-Inner-clause-checked : goal.check_below-returns-in-Some-Inner-clause-checked
+check_below-returns-in-Some-Inner-clause-checked g t c sound =
     let here = read_yes _ c.read_if_used.new.bytes c.in_ok-read_if_used.field-0 c.if-not-branch.false (c.in_ok-read_if_used.ensures.found sound) in
     let w = subst (λ (k : NodeKind). IsWhole c.read_if_used.new.bytes k) c.in-Some-Inner.field-0-is c.in-Some-Inner.ensures.node in
     let reads = c.in_ok-read_if_used.ensures.reads in
@@ -133,6 +128,6 @@ pub check_below-returns-then-not-mark-clause-reads : goal.check_below-returns-th
 check_below-returns-then-not-mark-clause-reads g t c =
     reads_none g.P.Pages c.args.pages.now (g.met.P.Pages.writes_nothing_same c.args.pages.now)
 
-pub check_below-returns-else-depth-eq0-clause-reads : goal.check_below-returns-else-depth-eq0-clause-reads
-check_below-returns-else-depth-eq0-clause-reads g t c =
+pub check_below-returns-in-Some-Inner-clause-reads : goal.check_below-returns-in-Some-Inner-clause-reads
+check_below-returns-in-Some-Inner-clause-reads g t c =
     reads_joined g.P.Pages c.args.pages.now c.read_if_used.new.pages c.check_children.new.pages c.in_ok-read_if_used.ensures.reads c.check_children.ensures.reads

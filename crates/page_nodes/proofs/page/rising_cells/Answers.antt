@@ -5,7 +5,8 @@ use Rattle.page_nodes.specs.Search.{AreCellsAt}
 use Rattle.page_nodes.proofs.Cells.{two_same}
 use Rattle.page_nodes.proofs.Scan.{begins, unread}
 use Rattle.page_nodes.proofs.Whole.{reads_begin, reads_on, rises_begin, rises_on, no_cells}
-use Rattle.page_nodes.proofs.page.rising_end.Goals as goal
+use Rattle.page_nodes.proofs.Ends.{passes_begin, passes_on, passes_end, no_entries}
+use Rattle.page_nodes.proofs.page.rising_cells.Goals as goal
 
 pub returns-then-count-eq0-clause-end : goal.returns-then-count-eq0-clause-end
 returns-then-count-eq0-clause-end c first cells node rising =
@@ -40,6 +41,10 @@ loop-i-init c =
           let b = begins c.args.kind c.args.bytes.now first cells node in
           let count = two_same c.two_at-count.result (length cells) _ _ c.two_at-count.ensures.fits b.small (sym c.two_at-count.ensures.spelled ∙ b.count) in
           rises_begin c.args.kind c.args.bytes.now first cells view.key.now view.payload.now view.end c.two_at-count.result node rising count c.if-count-eq0.false found;
+      ends = λ first cells node.
+          let b = begins c.args.kind c.args.bytes.now first cells node in
+          let count = two_same c.two_at-count.result (length cells) _ _ c.two_at-count.ensures.fits b.small (sym c.two_at-count.ensures.spelled ∙ b.count) in
+          passes_begin c.args.kind c.args.bytes.now first cells view.key.now view.payload.now view.end c.two_at-count.result node count c.if-count-eq0.false found;
     }
 
 pub returns-in_err-next-clause-end : goal.returns-in_err-next-clause-end
@@ -64,6 +69,9 @@ loop-i-preserved c =
       reads = reads_on c.args.kind c.args.bytes.now c.loop-i.last.key.now c.loop-i.last.payload.now view.key.now view.payload.now c.loop-i.last.end view.end c.loop-i.i c.loop-i.invariant.reads found c.if-not-is_less.ensures;
       rises = λ first cells node rising. (rises_on c.args.kind c.args.bytes.now c.loop-i.last.key.now c.loop-i.last.payload.now c.loop-i.last.end c.loop-i.i _ (zeros_after c.args.kind first cells) view.key.now view.payload.now view.end
           (c.loop-i.invariant.rises first cells node rising) c.loop-i-test.true found).on;
+      ends = λ first cells node.
+          passes_on c.args.kind c.args.bytes.now cells c.in_ok-last.last.key.now c.loop-i.last.key.now c.loop-i.last.end c.loop-i.i _ (zeros_after c.args.kind first cells) view.key.now view.payload.now view.end
+          (c.loop-i.invariant.ends first cells node) c.loop-i-test.true found;
     }
 
 pub returns-clause-read : goal.returns-clause-read
@@ -82,3 +90,13 @@ pub returns-clause-end : goal.returns-clause-end
 returns-clause-end c first cells node rising =
     let r = c.loop-i.invariant.rises first cells node rising in
     no_cells c.args.kind c.args.bytes.now c.loop-i.last.end r.rest (zeros_after c.args.kind first cells) r.here (omega (arith, r.total, c.loop-i-test.false))
+
+pub returns-then-count-eq0-clause-keys : goal.returns-then-count-eq0-clause-keys
+returns-then-count-eq0-clause-keys c first cells node rising =
+    let b = begins c.args.kind c.args.bytes.now first cells node in
+    let count = two_same c.two_at-count.result (length cells) _ _ c.two_at-count.ensures.fits b.small (sym c.two_at-count.ensures.spelled ∙ b.count) in
+    no_entries cells (sym count ∙ c.if-count-eq0.true)
+
+pub returns-clause-keys : goal.returns-clause-keys
+returns-clause-keys c first cells node rising =
+    passes_end c.args.kind c.args.bytes.now cells _ c.loop-i.last.key.now c.loop-i.last.end c.loop-i.i _ (zeros_after c.args.kind first cells) (c.loop-i.invariant.ends first cells node) c.loop-i-test.false
