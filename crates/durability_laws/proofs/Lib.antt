@@ -1,0 +1,3 @@
+pub mod Eventless
+pub mod Chains
+mod Doing

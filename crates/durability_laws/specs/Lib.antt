@@ -1,0 +1,2 @@
+pub mod EventlessCommands
+pub mod Commands
