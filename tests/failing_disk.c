@@ -1,58 +1,94 @@
-/* What Linux does with one file whose writeback fails, for tests/test_failed_syncs.py: a library that is loaded before the program.
+/* A disk that fails and that can be looked at: a library that is loaded before the program, for tests/disks.py, which reads what it notes.
 
-   DISK_FILE names the file, and DISK_MEDIUM a second one, with what is on the medium: it gets a page of 4,096 bytes where a sync succeeds.
-   DISK_MEDIUM with `.dirty` behind it has a byte for each page, 1 where it was written and not synced since, by whatever process. With
-   DISK_FAILS=N the Nth sync of the process fails with EIO. Then the pages count as clean: they are read as they were written, and no later
-   sync brings them to the medium unless they are written again. */
+   Of the files in the folder DISK_FOLDER each write, sync and name that comes or goes is noted in the file DISK_LOG, and so is what goes to
+   standard output. A note has a kind, 1 where the call succeeded, the inode, a place, the number of bytes that follow, and these.
+
+   DISK_FAILS=N makes the Nth sync of the process fail with EIO, or with `w` in front the Nth write, of which DISK_WRITES=K lets K bytes
+   through. With DISK_KILLS=1 the process is killed at that call instead. For the system the pages are clean after a sync that failed; what
+   of them came to the medium is up to tests/disks.py. */
 #define _GNU_SOURCE
 #include <dlfcn.h>
 #include <errno.h>
 #include <fcntl.h>
-#include <stdlib.h>
+#include <signal.h>
+#include <stdarg.h>
+#include <stdint.h>
 #include <stdio.h>
+#include <stdlib.h>
 #include <string.h>
 #include <sys/stat.h>
+#include <sys/uio.h>
 #include <unistd.h>
 
-enum { PAGE = 4096, PAGES = 65536 };
+static int syncs, writes, log_descriptor = -1;
 
-static int syncs;
+#define REAL(type, name, ...) ((type (*)(__VA_ARGS__)) dlsym(RTLD_NEXT, name))
 
-static int is_the_file(int descriptor)
+/* Notes a call. */
+static void note(char kind, int is_done, uint64_t inode, int64_t place, const void *bytes, uint32_t count)
 {
-    struct stat here, there;
-    const char *path = getenv("DISK_FILE");
-    return path && fstat(descriptor, &here) == 0 && stat(path, &there) == 0 && here.st_dev == there.st_dev && here.st_ino == there.st_ino;
+    struct __attribute__((packed)) { char kind, is_done; uint64_t inode; int64_t place; uint32_t count; } head = {
+        kind, (char) is_done, inode, place, count };
+    struct iovec parts[2] = { { &head, sizeof head }, { (void *) bytes, count } };
+    if (log_descriptor < 0)
+        log_descriptor = REAL(int, "open", const char *, int, ...)(getenv("DISK_LOG"), O_WRONLY | O_APPEND | O_CREAT | O_CLOEXEC, 0600);
+    if (REAL(ssize_t, "writev", int, const struct iovec *, int)(log_descriptor, parts, 2) != (ssize_t) (sizeof head + count))
+        abort();
 }
 
-static int open_dirty(void)
+/* The inode of a file in the folder, or of the folder; 0 of any other. */
+static uint64_t inode_of(int descriptor)
 {
-    char path[4096];
-    snprintf(path, sizeof path, "%s.dirty", getenv("DISK_MEDIUM"));
-    return open(path, O_RDWR | O_CREAT, 0600);
+    char link[64], path[4096] = { 0 };
+    const char *folder = getenv("DISK_FOLDER");
+    struct stat found;
+    snprintf(link, sizeof link, "/proc/self/fd/%d", descriptor);
+    if (!folder || readlink(link, path, sizeof path - 1) < 0 || strncmp(path, folder, strlen(folder)) != 0)
+        return 0;
+    return fstat(descriptor, &found) == 0 ? found.st_ino : 0;
 }
 
-static ssize_t real_pwrite(int descriptor, const void *bytes, size_t count, off_t place)
+/* What a path is called in the folder; NULL of any other path. */
+static const char *name_of(const char *path)
 {
-    static ssize_t (*call)(int, const void *, size_t, off_t);
-    if (!call)
-        call = (ssize_t (*)(int, const void *, size_t, off_t)) dlsym(RTLD_NEXT, "pwrite");
-    return call(descriptor, bytes, count, place);
+    const char *folder = getenv("DISK_FOLDER");
+    size_t length = folder ? strlen(folder) : 0;
+    return length && strncmp(path, folder, length) == 0 && path[length] == '/' ? path + length + 1 : NULL;
 }
 
-static void note_written(off_t place, ssize_t count)
+/* Whether this call of a kind, the count-th one, is to fail. */
+static int fails(char kind, int count)
 {
-    int dirty = open_dirty();
-    for (off_t page = place / PAGE; page * PAGE < place + count; page++)
-        real_pwrite(dirty, "\1", 1, page);
-    close(dirty);
+    const char *failing = getenv("DISK_FAILS");
+    if (!failing || (*failing == 'w') != (kind == 'w'))
+        return 0;
+    return count == atoi(failing + (kind == 'w'));
+}
+
+/* Ends the process here, where it is to be killed. */
+static void end(void)
+{
+    if (getenv("DISK_KILLS"))
+        kill(getpid(), SIGKILL);
 }
 
 ssize_t pwrite(int descriptor, const void *bytes, size_t count, off_t place)
 {
-    ssize_t written = real_pwrite(descriptor, bytes, count, place);
-    if (written > 0 && is_the_file(descriptor))
-        note_written(place, written);
+    uint64_t inode = inode_of(descriptor);
+    ssize_t (*call)(int, const void *, size_t, off_t) = REAL(ssize_t, "pwrite", int, const void *, size_t, off_t);
+    if (inode && fails('w', ++writes)) {
+        size_t part = (size_t) atoi(getenv("DISK_WRITES") ? getenv("DISK_WRITES") : "0");
+        part = part < count ? part : count;
+        if (part && call(descriptor, bytes, part, place) != (ssize_t) part)
+            abort();
+        note('w', 0, inode, place, bytes, (uint32_t) part);
+        end();
+        errno = EIO;
+        return -1;
+    }
+    ssize_t written = call(descriptor, bytes, count, place);
+    if (inode && written >= 0)
+        note('w', 1, inode, place, bytes, (uint32_t) written);
     return written;
 }
 
@@ -61,36 +97,18 @@ ssize_t pwrite64(int descriptor, const void *bytes, size_t count, off_t place)
     return pwrite(descriptor, bytes, count, place);
 }
 
-/* Brings the pages that were written to the medium, or not; either way they count as clean. */
-static void clean(int descriptor, int reaches_the_medium)
-{
-    static char marks[PAGES], page[PAGE];
-    int dirty = open_dirty(), medium = open(getenv("DISK_MEDIUM"), O_RDWR);
-    memset(marks, 0, sizeof marks);
-    if (pread(dirty, marks, sizeof marks, 0) < 0)
-        abort();
-    for (off_t at = 0; reaches_the_medium && at < PAGES; at++)
-        if (marks[at] && pread(descriptor, page, PAGE, at * PAGE) == PAGE)
-            real_pwrite(medium, page, PAGE, at * PAGE);
-    if (ftruncate(dirty, 0) != 0)
-        abort();
-    close(medium);
-    close(dirty);
-}
-
 static int synced(int descriptor, const char *name)
 {
-    const char *failing = getenv("DISK_FAILS");
-    int (*call)(int) = (int (*)(int)) dlsym(RTLD_NEXT, name);
-    if (!is_the_file(descriptor))
-        return call(descriptor);
-    if (failing && ++syncs == atoi(failing)) {
-        clean(descriptor, 0);
+    uint64_t inode = inode_of(descriptor);
+    if (inode && fails('s', ++syncs)) {
+        end();
+        note('s', 0, inode, 0, NULL, 0);
         errno = EIO;
         return -1;
     }
-    clean(descriptor, 1);
-    return call(descriptor);
+    if (inode)
+        note('s', 1, inode, 0, NULL, 0);
+    return REAL(int, name, int)(descriptor);
 }
 
 int fsync(int descriptor)
@@ -101,4 +119,41 @@ int fsync(int descriptor)
 int fdatasync(int descriptor)
 {
     return synced(descriptor, "fdatasync");
+}
+
+ssize_t write(int descriptor, const void *bytes, size_t count)
+{
+    ssize_t written = REAL(ssize_t, "write", int, const void *, size_t)(descriptor, bytes, count);
+    if (descriptor == 1 && written > 0)
+        note('a', 1, 0, 0, bytes, (uint32_t) written);
+    return written;
+}
+
+int open(const char *path, int flags, ...)
+{
+    va_list more;
+    va_start(more, flags);
+    mode_t mode = flags & O_CREAT ? va_arg(more, mode_t) : 0;
+    va_end(more);
+    int descriptor = REAL(int, "open", const char *, int, ...)(path, flags, mode);
+    if (descriptor >= 0 && flags & O_CREAT && name_of(path))
+        note('n', 1, inode_of(descriptor), 0, name_of(path), (uint32_t) strlen(name_of(path)));
+    return descriptor;
+}
+
+int link(const char *from, const char *to)
+{
+    struct stat found;
+    int status = REAL(int, "link", const char *, const char *)(from, to);
+    if (status == 0 && name_of(to) && stat(to, &found) == 0)
+        note('n', 1, found.st_ino, 0, name_of(to), (uint32_t) strlen(name_of(to)));
+    return status;
+}
+
+int unlink(const char *path)
+{
+    int status = REAL(int, "unlink", const char *)(path);
+    if (status == 0 && name_of(path))
+        note('u', 1, 0, 0, name_of(path), (uint32_t) strlen(name_of(path)));
+    return status;
 }

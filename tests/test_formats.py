@@ -9,8 +9,9 @@ import shutil
 import tempfile
 import unittest
 
-from program import IS_FAKE, free_port, run
+from program import IS_FAKE, PATIENCE, free_port, run, served
 import format_files
+import guarddb
 
 LATER = {'later_alone': 4, 'later_above_format_2': 4, 'later_above_format_3': 7, 'two_later': 5}
 DAMAGED = ['later_below_format_2', 'later_of_the_wrong_sector', 'no_format']
@@ -73,6 +74,40 @@ class Formats(unittest.TestCase):
                 self.assertEqual(newest[11], max(form, 2))
                 if form > 1:
                     self.assertEqual(data, format_files.bytes_of(name))
+
+    def form(self, path):
+        """The format of a file."""
+        with open(path, 'rb') as file:
+            roots = file.read(512), file.read(512)
+        return max(roots, key=lambda root: root[16:24])[11]
+
+    def test_each_command_over_each_format(self):
+        """Whether it goes, of which format the file is then, and of which a copy is; a file that keeps its format keeps each byte."""
+        new = os.path.join(self.folder, 'new')
+        copies = [(('copy', self.db, new, '--pages', '64', *more), None, form) for more, form in (((), 2), (('--journal',), 3))]
+        for name, known in KNOWN.items():
+            for words, becomes, copied in [
+                    (('run', self.db, '/dev/null'), max(known, 2), None), (('check', self.db), max(known, 2), None),
+                    (('describe', self.db), known, None), (('explain', self.db, 'ann', 'SELECT k FROM t'), known, None), *copies,
+                    (('journal', self.db, 'on'), 3 if known > 1 else None, None), (('journal', self.db, 'off'), min(known, 2), None)]:
+                with self.subTest(name, words=words):
+                    self.put(name)
+                    status, _, messages = run(*words)
+                    if becomes is None and copied is None:
+                        self.assertEqual((status, messages.splitlines()[0]), (1, 'guarddb: Format'))
+                    else:
+                        self.assertEqual((status, messages.count('of format 1 and is of format 2')), (0, becomes == 2 and known == 1))
+                    self.assertEqual(self.form(self.db), becomes or known)
+                    if becomes in (None, known):
+                        with open(self.db, 'rb') as file:
+                            self.assertEqual(file.read(), format_files.bytes_of(name))
+                    if copied:
+                        self.assertEqual(self.form(new), copied)
+                        os.remove(new)
+            self.put(name)
+            with served(self.db) as place, guarddb.connect(place, wait=PATIENCE, timeout=PATIENCE) as connection:
+                connection.open('ann')
+            self.assertEqual(self.form(self.db), max(known, 2))
 
 
 if __name__ == '__main__':
