@@ -3,6 +3,7 @@ use Rattle.std.specs.Prelude.{◌≡◌, ◌++◌, ℕ, Bool, true, List, [], co
 use Rattle.std.specs.Io.KnownBytes.{Appends}
 use Rattle.sector_device.specs.declared.system_cause.SystemCause.TheVariants.{Other}
 use Rattle.sector_device.specs.SystemCause.{cause_text}
+use Rattle.sql_types.specs.State.{state_code}
 use Rattle.wire.specs.AnswerText.{newline}
 use Rattle.wire.specs.declared.script_run.ScriptEnd.{ScriptEnd}
 use Rattle.wire.specs.declared.script_run.ScriptEnd.TheVariants as end
@@ -10,9 +11,9 @@ use Rattle.wire.specs.ScriptRun.{Known}
 use Rattle.wire.specs.declared.listener.Served.{Served}
 use Rattle.wire.specs.declared.listener.Served.TheVariants as served
 use Rattle.systems.specs.Places.{postgres_socket}
+use Rattle.diagnostics.specs.Meanings.{refusal_meaning}
 use Rattle.cli.specs.declared.fault.CommandFault.{CommandFault}
 use Rattle.cli.specs.declared.fault.CommandFault.TheVariants as fault
-use Rattle.cli.specs.StatementFaults.{statement_reason}
 use Rattle.cli.specs.declared.ending.Subject.{Subject}
 use Rattle.cli.specs.declared.ending.Subject.TheVariants as subject
 use Rattle.cli.specs.declared.ending.Ending.{Ending}
@@ -54,7 +55,8 @@ fault_name (fault.Net cause) = codes "Net"
 fault_name (fault.ScriptUnread cause) = codes "Script"
 fault_name (fault.ScriptNotUtf8 line byte) = codes "Script"
 fault_name fault.NoRole = codes "NoRole"
-fault_name (fault.Statement why) = codes "Statement"
+fault_name (fault.StatementRefused code) = codes "Statement"
+fault_name fault.NotOverRows = codes "Statement"
 fault_name fault.FirstFormat = codes "Format"
 fault_name fault.NoSwitchRoom = codes "Full"
 fault_name fault.NoSwitchNumber = codes "Number"
@@ -79,7 +81,8 @@ reason_text (fault.Net cause) = cause_text cause
 reason_text (fault.ScriptUnread cause) = cause_text cause
 reason_text (fault.ScriptNotUtf8 line byte) = codes "line " ++ (decimal line ++ (codes ", byte " ++ (decimal byte ++ codes ": not UTF-8")))
 reason_text fault.NoRole = codes "no role of the database has this name"
-reason_text (fault.Statement why) = statement_reason why
+reason_text (fault.StatementRefused code) = codes "refused with " ++ (state_code code ++ (codes ", " ++ refusal_meaning code))
+reason_text fault.NotOverRows = codes "no SELECT, INSERT, UPDATE or DELETE"
 reason_text fault.FirstFormat = codes "of format 1; 'guarddb check' brings it to format 2, which can have a journal"
 reason_text fault.NoSwitchRoom = codes "no room is left for this; copy it to a larger file"
 reason_text fault.NoSwitchNumber = codes "no commit number is left for this"

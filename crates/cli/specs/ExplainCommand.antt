@@ -12,7 +12,6 @@ use Rattle.systems.specs.Systems.{SystemState}
 use Rattle.cli.specs.declared.explain_command.AskedStatement.{AskedStatement}
 use Rattle.cli.specs.declared.fault.CommandFault.{CommandFault}
 use Rattle.cli.specs.declared.fault.CommandFault.TheVariants as fault
-use Rattle.cli.specs.declared.statement_fault.StatementFault.TheVariants as statement
 use Rattle.cli.specs.declared.ending.Ending.{Ending}
 use Rattle.cli.specs.declared.ending.Ending.TheVariants as ending
 use Rattle.cli.specs.declared.ending.Exit.{Exit}
@@ -30,8 +29,8 @@ acting_of asked = record { role = asked.role; session = asked.session }
 abbrev pub fault_of_statement : ExplainFault → CommandFault
 fault_of_statement explain_fault.NoRole = fault.NoRole
 fault_of_statement explain_fault.NoSession = fault.NoRole
-fault_of_statement explain_fault.NotOverRows = fault.Statement statement.NotOverRows
-fault_of_statement (explain_fault.Refused code) = fault.Statement (statement.Refused code)
+fault_of_statement explain_fault.NotOverRows = fault.NotOverRows
+fault_of_statement (explain_fault.Refused code) = fault.StatementRefused code
 
 -- what that is about: the role that is missing, or the statement
 abbrev pub statement_subject : AskedStatement → ExplainFault → Subject

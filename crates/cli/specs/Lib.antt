@@ -19,7 +19,6 @@ pub mod Switching
 pub mod CopyCommand
 pub mod Describing
 pub mod ExplainCommand
-pub mod StatementFaults
 pub mod Ending
 pub mod Printing
 pub mod Program

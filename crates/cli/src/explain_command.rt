@@ -7,7 +7,6 @@ use crate::ending::{Ending, Exit, Subject, exit_with};
 use crate::fault::CommandFault;
 use crate::printing::show_text;
 use crate::reading::read_file;
-use crate::statement_fault::StatementFault;
 use catalogue::definitions::Catalogue;
 use sector_device::Device;
 use statement_explanations::{Acting, ExplainFault, explain};
@@ -106,8 +105,8 @@ fn fault_of_statement(fault: ExplainFault) -> CommandFault
 {
     match fault {
         ExplainFault::NoRole | ExplainFault::NoSession => CommandFault::NoRole,
-        ExplainFault::NotOverRows => CommandFault::Statement(StatementFault::NotOverRows),
-        ExplainFault::Refused(code) => CommandFault::Statement(StatementFault::Refused(code)),
+        ExplainFault::NotOverRows => CommandFault::NotOverRows,
+        ExplainFault::Refused(code) => CommandFault::StatementRefused(code),
     }
 }
 

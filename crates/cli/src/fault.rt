@@ -4,11 +4,12 @@ ghost use Rattle.std.specs.Prelude.{◌≡◌, Some};
 ghost use Rattle.cli.specs.Ending.{fault_name, reason_text};
 ghost use Rattle.cli.specs.Faults.{of_commit, of_file, of_opening, of_pages, of_path, of_read, of_records, of_switch};
 
-use crate::statement_fault::StatementFault;
 use databases::DatabaseFault;
+use diagnostics::meanings::refusal_meaning;
 use journal_store::{OpenFault, SwitchFault};
 use recovery::OpeningFault;
 use sector_device::{FileFault, SystemCause};
+use sql_types::state::SqlState;
 use std::error::Error;
 use std::fmt;
 use store::{Fault, StoreFault};
@@ -50,8 +51,10 @@ pub enum CommandFault {
     ScriptNotUtf8 { line: usize, byte: usize },
     /// The database has no role of the name that was asked for.
     NoRole,
-    /// The statement that was asked for is not explained.
-    Statement(StatementFault),
+    /// The statement that is to be explained is refused before it reads a row, with this code.
+    StatementRefused(SqlState),
+    /// The statement that is to be explained neither reads nor changes rows.
+    NotOverRows,
     /// A journal is asked for, and the records of the database are of format 1.
     FirstFormat,
     /// The file has no room left for what waits in its journal, or for a root.
@@ -84,7 +87,7 @@ impl fmt::Display for CommandFault {
             CommandFault::ScriptUnread(_) => write!(f, "Script"),
             CommandFault::ScriptNotUtf8 { line: _, byte: _ } => write!(f, "Script"),
             CommandFault::NoRole => write!(f, "NoRole"),
-            CommandFault::Statement(_) => write!(f, "Statement"),
+            CommandFault::StatementRefused(_) | CommandFault::NotOverRows => write!(f, "Statement"),
             CommandFault::FirstFormat => write!(f, "Format"),
             CommandFault::NoSwitchRoom => write!(f, "Full"),
             CommandFault::NoSwitchNumber => write!(f, "Number"),
@@ -147,7 +150,11 @@ impl fmt::Display for Reason {
                 write!(f, "line {line}, byte {byte}: not UTF-8")
             }
             CommandFault::NoRole => write!(f, "no role of the database has this name"),
-            CommandFault::Statement(fault) => write!(f, "{fault}"),
+            CommandFault::StatementRefused(state) => {
+                let (code, meaning) = (state.code(), refusal_meaning(state));
+                write!(f, "refused with {code}, {meaning}")
+            }
+            CommandFault::NotOverRows => write!(f, "no SELECT, INSERT, UPDATE or DELETE"),
             CommandFault::FirstFormat => {
                 write!(
                     f,

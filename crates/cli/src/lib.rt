@@ -39,7 +39,6 @@ mod serve;
 pub mod serve_clients;
 mod serve_words;
 pub mod served_place;
-pub mod statement_fault;
 mod switching;
 pub mod texts;
 pub mod usage;

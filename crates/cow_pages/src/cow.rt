@@ -23,8 +23,8 @@ use std::alloc::{AllocError, Global};
 /// The pages of a cache for which no other number is asked: 1 MiB, and a twentieth of it for offsets of their cells.
 pub const DEFAULT_CACHE_PAGES: usize = 256;
 
-/// The most pages of a cache: 16 MiB, and a twentieth of it for offsets of their cells.
-pub const MAX_CACHE_PAGES: usize = 4_096;
+/// The most pages of a cache: as many as the largest file has, 256 MiB, and a twentieth of it for offsets of their cells.
+pub const MAX_CACHE_PAGES: usize = 65_536;
 
 // Where in memory the page is that was fetched last.
 #[derive(Clone, Copy, Drop)]
@@ -77,7 +77,7 @@ impl<D: Device + Drop> Drop for CowPages<D> {
     }
 }
 
-// The memory of an array: no dirty page, and an empty cache.
+// The memory of an array: no dirty page, and an empty cache, which has no more slots than there are pages.
 fn take_memory(
     alloc: Global,
     pages: u32,
@@ -89,7 +89,7 @@ fn take_memory(
     ensures empty { IfOk result (λ memory. (page : ℕ) → held_bytes memory.1 page ≡ None) }
 {
     let dirty = DirtyPages::new(alloc, pages)?;
-    let cache = PageCache::new(alloc, cache_pages)?;
+    let cache = PageCache::new(alloc, cache_pages.min(pages as usize))?;
     Ok((dirty, cache))
 }
 
@@ -114,7 +114,7 @@ impl<D: Device> CowPages<D> {
         CowPages::open_with(alloc, device, DEFAULT_CACHE_PAGES)
     }
 
-    /// Opens a device as `open` does, with a cache of so many pages.
+    /// Opens a device as `open` does, with a cache of so many pages, or as many as the device has.
     pub fn open_with(
         alloc: Global,
         device: D,

@@ -1,5 +1,5 @@
 -- The bytes of a page that is a node of the tree. Numbers are spelled with the highest byte first.
-use Rattle.std.specs.Prelude.{◌≡◌, ℕ, ◌+◌, ◌-◌, ◌<◌, ◌≤◌, List, [], ◌∷◌, ◌++◌, length, replicate, drop}
+use Rattle.std.specs.Prelude.{◌≡◌, ℕ, ◌+◌, ◌-◌, ◌<◌, ◌≤◌, List, [], ◌∷◌, ◌++◌, length, replicate, drop, slice_index}
 use Rattle.byteorder.specs.Endian.{big_bytes}
 use Rattle.page_nodes.specs.declared.cell.NodeKind.{NodeKind}
 use Rattle.page_nodes.specs.declared.cell.NodeKind.TheVariants.{Leaf, Inner}
@@ -75,6 +75,10 @@ front_bytes kind first cells = (tag kind ∷ 0 ∷ two_bytes (length cells)) ++ 
 
 abbrev pub zeros_after : NodeKind → List ℕ → List Entry → List ℕ
 zeros_after kind first cells = replicate (4096 - length (front_bytes kind first cells)) 0
+
+-- the bytes from an index on, up to another, are zeros
+abbrev pub AreZeros : List ℕ → ℕ → ℕ → Type 0
+AreZeros bytes from end = (k : ℕ) → from ≤ k → k < end → slice_index bytes k ≡ 0
 
 -- these bytes spell a node with these cells
 pub record IsNode (kind : NodeKind) (first : List ℕ) (cells : List Entry) (bytes : List ℕ) : Type 0 where

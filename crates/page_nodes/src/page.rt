@@ -3,7 +3,7 @@ ghost use Rattle.std.specs.Prelude.{◌≡◌, ◌↔◌, ℕ, ◌+◌, ◌<◌,
 ghost use Rattle.page_nodes.specs.Map.{Entry, IsRising};
 ghost use Rattle.page_nodes.specs.Search.{RiseTo};
 ghost use Rattle.page_nodes.specs.Ends.{AreEnds};
-ghost use Rattle.page_nodes.specs.Node.{page_size, four_bytes, cells_bytes, IsNode, IsWhole, IsFirst, IsCount, FitsPage, HasSizes, start, zeros_after, tag, HasCell};
+ghost use Rattle.page_nodes.specs.Node.{AreZeros, page_size, four_bytes, cells_bytes, IsNode, IsWhole, IsFirst, IsCount, FitsPage, HasSizes, start, zeros_after, tag, HasCell};
 
 use crate::cell::{NodeKind, cell_at, is_less, two_at};
 use crate::search::child_of;
@@ -84,16 +84,48 @@ pub fn first_child(bytes: &[u8; PAGE_SIZE]) -> u32
     child_of(&bytes[4..8])
 }
 
-/// Whether all of these are zeros.
-fn are_zeros(bytes: &[u8]) -> bool
-    ensures { IsTrue result ↔ ((k : ℕ) → k < length bytes.now → slice_index bytes.now k ≡ 0) }
+// Whether the eight bytes from an index on are zeros.
+fn are_eight_zeros(bytes: &[u8], at: usize) -> bool
+    requires { at + 8 ≤ length bytes.now }
+    ensures { IsTrue result ↔ AreZeros bytes.now at (at + 8) }
 {
-    for byte in bytes {
-        if *byte != 0 {
+    let number = u64::from_be_bytes([
+        bytes[at],
+        bytes[at + 1],
+        bytes[at + 2],
+        bytes[at + 3],
+        bytes[at + 4],
+        bytes[at + 5],
+        bytes[at + 6],
+        bytes[at + 7],
+    ]);
+    number == 0
+}
+
+// Whether all bytes from an index on are zeros.
+fn ends_in_zeros(bytes: &[u8], from: usize) -> bool
+    requires { from ≤ length bytes.now }
+    ensures { IsTrue result ↔ AreZeros bytes.now from (length bytes.now) }
+{
+    for at in from..bytes.len() {
+        if bytes[at] != 0 {
             return false;
         }
     }
     true
+}
+
+/// Whether all of these are zeros. They are read eight at once.
+fn are_zeros(bytes: &[u8]) -> bool
+    ensures { IsTrue result ↔ ((k : ℕ) → k < length bytes.now → slice_index bytes.now k ≡ 0) }
+{
+    let eights = bytes.len() / 8;
+    for i in 0..eights {
+        if !are_eight_zeros(bytes, 8 * i) {
+            return false;
+        }
+    }
+    ends_in_zeros(bytes, 8 * eights)
 }
 
 /// The cells of a node of that kind: where they end, and their end keys. None: no cells are spelled, or their keys do not rise.

@@ -1,12 +1,10 @@
 -- Trees that are checked: an array holds one forest of some cells at most, and what a check has found so far.
-use Rattle.std.proofs.Common.{◌≡◌, ⊎_elim, inl, inr, ℕ, suc, ◌+◌, ◌-◌, ◌^◌, ◌<◌, nat_eq, Bool, true, false, Option, Some, None, List, [], ◌∷◌, ◌++◌, length, refl, sym, ap, ◌∙◌, subst, arith}
+use Rattle.std.proofs.Common.{◌≡◌, ⊎_elim, inl, inr, ℕ, suc, ◌+◌, ◌-◌, ◌^◌, ◌<◌, Bool, true, false, Option, Some, None, List, [], ◌∷◌, ◌++◌, length, refl, sym, ap, ◌∙◌, subst, arith}
 use Rattle.std.proofs.Math.Path.{fun_ext}
-use Rattle.std.proofs.lemmas.Bool.{cases_Bool, false≢true}
-use Rattle.std.proofs.lemmas.Bool.Decides.{nat_tests}
 use Rattle.pages.specs.State.{Array}
 use Rattle.page_nodes.specs.declared.cell.NodeKind.{NodeKind}
 use Rattle.page_nodes.specs.declared.cell.NodeKind.TheVariants.{Leaf, Inner}
-use Rattle.page_nodes.specs.Map.{is_below, Entry, AllAbove, IsRising, low_entries, rest_entries}
+use Rattle.page_nodes.specs.Map.{is_below, Entry, AllAbove, IsRising, rest_entries}
 use Rattle.page_nodes.specs.Node.{four_bytes, IsNode, IsWhole}
 use Rattle.page_nodes.proofs.Order.{one_way, le_le, lt_le}
 use Rattle.page_nodes.proofs.Whole.{kind_same, first_same, node_same}

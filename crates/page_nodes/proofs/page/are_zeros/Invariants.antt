@@ -1,5 +1,6 @@
-use Rattle.std.proofs.Common.{◌≡◌, ℕ, ◌<◌, get_or}
+use Rattle.std.proofs.Common.{◌*◌}
+use Rattle.page_nodes.specs.Node.{AreZeros}
 use Rattle.page_nodes.proofs.page.are_zeros.Given as goal
 
-abbrev pub invariant-loop-byte : goal.invariant-loop-byte
-invariant-loop-byte l = (k : ℕ) → k < l.byte-index → get_or l.bytes k 0 ≡ 0
+abbrev pub invariant-loop-i : goal.invariant-loop-i
+invariant-loop-i l = AreZeros l.bytes 0 (8 * l.i)

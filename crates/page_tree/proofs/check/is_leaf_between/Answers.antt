@@ -2,7 +2,7 @@ use Rattle.std.proofs.Common.{[], subst}
 use Rattle.page_nodes.specs.declared.cell.NodeKind.{NodeKind}
 use Rattle.page_nodes.specs.declared.cell.NodeKind.TheVariants.{Leaf}
 use Rattle.page_nodes.specs.Map.{lent_bytes}
-use Rattle.page_nodes.specs.Node.{IsNode, IsWhole}
+use Rattle.page_nodes.specs.Node.{IsWhole}
 use Rattle.page_tree.proofs.CheckLeaves.{leaf_between, no_whole_leaf}
 use Rattle.page_tree.proofs.check.is_leaf_between.Goals as goal
 
