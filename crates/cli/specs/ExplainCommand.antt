@@ -1,5 +1,5 @@
 -- What the program does for `explain`.
-use Rattle.std.specs.Prelude.{◌≡◌, ℕ, List, Option, Some, None, unwrap_or, Result, Ok, Err}
+use Rattle.std.specs.Prelude.{◌≡◌, ℕ, List, Some, None, unwrap_or, Result, Ok, Err}
 use Rattle.std.specs.Borrow.{Bor}
 use Rattle.sector_device.specs.declared.device.Device.{Ghosts}
 use Rattle.stored_database.specs.Definitions.{Definitions}

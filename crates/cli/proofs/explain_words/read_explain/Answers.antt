@@ -1,4 +1,4 @@
-use Rattle.std.proofs.Common.{rules, Some, codes, refl}
+use Rattle.std.proofs.Common.{rules, codes, refl}
 use Rattle.clap.specs.Words.{found_of, rows_of}
 use Rattle.cli.specs.CommandLine.{Explain, HasWords, lent_word}
 use Rattle.cli.proofs.GivenWords.{flag_so, got_so, got_word, no_explain, no_word}
