@@ -1,9 +1,9 @@
 #!/usr/bin/env python3
-"""How often an opening reads each page of a file with more pages than are kept in memory: python3 tests/test_openings.py
+"""How often an opening reads each page of a file: python3 tests/test_openings.py
 
-The reads are seen by strace (Debian's package); where there is none these tests are left out, and a line says so. A page is read once
-where the tree is checked and once where its rows are, and few are read again: the first of each kind of record and of each table. The
-program is the one in the environment variable GUARDDB; without it nothing is tried.
+The reads are seen by strace (Debian's package); where there is none these tests are left out, and a line says so. A page is read once,
+where the tree is checked; where its rows are, it is in memory. The program is the one in the environment variable GUARDDB; without it
+nothing is tried.
 """
 import collections
 import os
@@ -16,10 +16,9 @@ import unittest
 from program import IS_FAKE, PROGRAM, make_database, run
 
 PAGE = 4096
-KEPT = 4096                                 # the pages that the program keeps in memory
 TEXT, ROWS_PER_PAGE, AT_ONCE = 900, 4, 50   # the bytes of a text; how many such rows a page has; how many an INSERT has
 A_BLOCK = 1000                              # how many rows a block inserts
-MOST = 2.2                                  # the most reads of a page, on average
+MOST = 1.1                                  # the most reads of a page, on average
 HAS_STRACE = shutil.which('strace') is not None
 
 
@@ -49,7 +48,7 @@ class Openings(unittest.TestCase):
 
     def made(self, tables, pages):
         """A file whose rows take so many pages, in so many tables."""
-        path = self.path(f'db{tables}')
+        path = self.path(f'db{tables}.{pages}')
         make_database(path, pages=pages + pages // 16 + 32)
         with open(self.path('script'), 'w', encoding='ascii') as file:
             file.writelines(script_of(tables, pages))
@@ -72,11 +71,11 @@ class Openings(unittest.TestCase):
             print('there is no strace: the reads of an opening are left out')
 
     @unittest.skipUnless(HAS_STRACE, 'there is no strace')
-    def test_a_file_with_more_pages_than_are_kept(self):
-        for tables in (1, 40):
-            with self.subTest(tables=tables):
-                reads = self.reads(self.made(tables, 4600))
-                self.assertGreater(len(reads), KEPT + 256)
+    def test_each_page_is_read_once(self):
+        for tables, pages in (1, 60), (1, 4600), (40, 4600):
+            with self.subTest(tables=tables, pages=pages):
+                reads = self.reads(self.made(tables, pages))
+                self.assertGreater(len(reads), pages // 2)
                 self.assertLess(reads.total() / len(reads), MOST)
 
     @unittest.skipUnless(HAS_STRACE, 'there is no strace')
