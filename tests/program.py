@@ -45,6 +45,12 @@ def of_answers(lines, status, printed, messages):
     return answers
 
 
+def python_with(module):
+    """Python's own interpreter, or the system's, for which a package has the module; None where none has it."""
+    return next((python for python in (sys.executable, '/usr/bin/python3')
+                 if os.path.exists(python) and subprocess.run([python, '-c', f'import {module}'], capture_output=True).returncode == 0), None)
+
+
 def make_database(path, pages=256, admin='root', journal=False):
     done = run('format', path, '--pages', str(pages), '--admin', admin, *['--journal'] * journal)
     assert done == (0, 'ok FORMAT\n', ''), done

@@ -19,7 +19,7 @@ import tempfile
 import time
 import unittest
 
-from program import IS_FAKE, PATIENCE, PROGRAM, TOP, make_database, run, served
+from program import IS_FAKE, PATIENCE, PROGRAM, TOP, make_database, python_with, run, served
 import guarddb
 
 sys.path.insert(0, os.path.join(TOP, 'crates', 'storage_tests'))
@@ -33,6 +33,8 @@ REASONS = {'NotADatabase': "not a database; 'guarddb format' makes one in a new 
            'Format': 'of format 9, and this guarddb knows 1 to 3; open it with the guarddb that made it, or restore a copy',
            'WrongSize': 'not 64 to 65536 pages of 4096 bytes, or not as many as it was made with'}
 NO_FORM = "not 'open SESSION ROLE', 'SESSION: STATEMENT' or 'close SESSION', with one blank after the colon; a statement is one line"
+
+PSYCOPG2 = python_with('psycopg2')
 
 
 def read(path):
@@ -120,6 +122,12 @@ class Program(unittest.TestCase):
 
     def test_tenants_over_a_socket(self):
         words = [sys.executable, os.path.join(TENANTS, 'tenants.py'), PROGRAM]
+        found = subprocess.run(words, stdout=subprocess.PIPE, check=True).stdout.decode()
+        self.assertIn(f'```\n{found}```\n', read(os.path.join(TENANTS, 'README.md')))
+
+    @unittest.skipUnless(PSYCOPG2, 'psycopg2 is not installed')
+    def test_tenants_through_a_driver(self):
+        words = [PSYCOPG2, os.path.join(TENANTS, 'tenants_psycopg.py'), PROGRAM]
         found = subprocess.run(words, stdout=subprocess.PIPE, check=True).stdout.decode()
         self.assertIn(f'```\n{found}```\n', read(os.path.join(TENANTS, 'README.md')))
 
