@@ -1,0 +1,16 @@
+pub mod Chains
+pub mod Reach
+pub mod DefinedRows
+pub mod Moves
+pub mod Steps
+pub mod Others
+pub mod ToldRelated
+pub mod DefiningAlike
+pub mod ReachedTables
+pub mod TablesTold
+pub mod Mixed
+pub mod ShownRows
+pub mod ShownTold
+pub mod PatternsTold
+pub mod TwoOwners
+pub mod BothHidden

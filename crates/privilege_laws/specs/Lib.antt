@@ -1,0 +1,4 @@
+pub mod Related
+pub mod Reached
+pub mod Shown
+pub mod TwoOwners
