@@ -1,0 +1,6 @@
+pub mod Lists
+pub mod Behind
+pub mod Bound
+pub mod Reading
+pub mod Outside
+pub mod Plain

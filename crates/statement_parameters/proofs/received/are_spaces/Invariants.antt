@@ -1,0 +1,9 @@
+use Rattle.std.proofs.Common.{◌≡◌, length}
+use Rattle.statement_parameters.specs.Received.{are_spaces}
+use Rattle.statement_parameters.proofs.received.are_spaces.Given as goal
+
+abbrev pub invariant-loop-bytes : goal.invariant-loop-bytes
+invariant-loop-bytes l = are_spaces l.bytes ≡ are_spaces l.initial.bytes
+
+abbrev pub decreases-loop-bytes : goal.decreases-loop-bytes
+decreases-loop-bytes l = length l.bytes

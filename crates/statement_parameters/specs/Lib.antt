@@ -1,0 +1,14 @@
+pub mod Parts
+pub mod Literals
+pub mod Eaten
+pub mod Masks
+pub mod Places
+pub mod Templates
+pub mod Spans
+pub mod Bindings
+pub mod TemplateViews
+pub mod BindingViews
+pub mod Types
+pub mod Received
+pub mod Samples
+pub mod Outside
