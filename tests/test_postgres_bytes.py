@@ -180,9 +180,9 @@ class Batches(AtServer):
         """An error, which says so, and the connection goes on behind Sync."""
         with self.served('--clients', 1), Client(self.socket, 'root') as client:
             for messages, code in [((describe(b'S', 'none'),), '26000'), ((describe(b'P'),), '34000'),
-                                   ((parse('SELECT $1', types=[20]), bind([b'1']), execute()), '08P01'), ((parse('SELECT 1'), bind([b'1', None])), '08P01'),
+                                   ((parse('SELECT 1'), bind([b'1', None])), '08P01'),
                                    ((parse('SELECT 1'), bind(results=[2])), '22023'), ((parse('SELECT 1'), bind(results=[0, 1]), execute()), '08P01'),
-                                   ((parse('SELECT 1'), bind(), execute(most=5)), '0A000'), ((parse('SELECT 1; SELECT 2'),), '42601'), ((bind(name='none'),), '26000'),
+                                   ((parse('SELECT k FROM t'), bind(), execute(most=2), execute()), '34000'), ((parse('SELECT 1; SELECT 2'),), '42601'), ((bind(name='none'),), '26000'),
                                    ((execute('none'),), '34000'), ((parse('SELECT 1', 'b'), parse('SELECT 2', 'b')), '42P05'), ((parse('SELEC'), bind(), execute()), '42601')]:
                 with self.subTest(code, messages=messages):
                     told = client.ask(*messages, parse('SELECT 1'), query('SELECT 1'), SYNC)
@@ -195,6 +195,15 @@ class Batches(AtServer):
             client.send(packet(b'd', b'x'), packet(b'c', b''), packet(b'f', b'x\0'))
             self.assertEqual(kinds(client.ask('SELECT 1')), b'TDCZ')
 
+    def test_a_limit_of_rows(self):
+        """Those up to the limit come, and then it is told whether there may be others (55.2.3); the rest is not kept."""
+        with self.served('--clients', 1), Client(self.socket, 'root') as client:
+            for most, wanted in [(0, b'12DDCZ'), (1, b'12DsZ'), (2, b'12DDsZ'), (3, b'12DDCZ'), (2 ** 32 - 1, b'12DDCZ'), (2 ** 31 - 1, b'12DDCZ')]:
+                with self.subTest(most):
+                    self.assertEqual(kinds(client.ask(parse('SELECT k FROM t'), bind(), execute(most=most), SYNC)), wanted)
+            self.assertEqual(kinds(client.ask(parse('SHOW timezone'), bind(), execute(most=1), SYNC)), b'12DCZ')
+            self.assertEqual(kinds(client.ask(parse('INSERT INTO t VALUES ($1, $2)'), bind([b'3', None]), execute(most=1), SYNC)), b'12CZ')
+
     def test_a_batch_is_one_transaction(self):
         with self.served('--clients', 1), Client(self.socket, 'root') as client:
             write = [parse('INSERT INTO t VALUES (7, NULL)'), bind(), execute()]
@@ -202,6 +211,98 @@ class Batches(AtServer):
             self.assertEqual(kinds(client.ask('SELECT k FROM t WHERE k > 2')), b'TCZ')
             self.assertEqual(kinds(client.ask(*write, SYNC)), b'12CZ')
             self.assertEqual(kinds(client.ask('SELECT k FROM t WHERE k > 2')), b'TDCZ')
+
+
+class Parameters(AtServer):
+    """Statements with parameters, and their values (55.2.3)."""
+
+    def told(self, client, text, values=(), formats=(), types=()):
+        """The value that a statement of one row answers."""
+        told = client.ask(parse(text, types=types), bind(values, formats=formats), execute(), SYNC)
+        self.assertEqual(kinds(told), b'12DCZ', codes(told))
+        return told[2][1][6:]
+
+    def test_values_of_each_type(self):
+        two, four, eight = (lambda number, form=form: struct.pack(form, number) for form in ('>h', '>i', '>q'))
+        with self.served('--clients', 1), Client(self.socket, 'root') as client:
+            for number, value, code, wanted in [
+                    (20, b'-9223372036854775808', 0, b'-9223372036854775808'), (20, eight(2 ** 63 - 1), 1, b'9223372036854775807'), (20, eight(-1), 1, b'-1'),
+                    (23, b' +7 ', 0, b'7'), (23, four(-2 ** 31), 1, b'-2147483648'), (21, b'-32768', 0, b'-32768'), (21, two(-5), 1, b'-5'), (1700, b'12', 0, b'12'),
+                    (25, b'one', 0, b'one'), (25, b'one', 1, b'one'), (1043, b'', 0, b''), (19, b'n', 1, b'n'), (0, b'a', 0, b'a'), (705, b"'; --", 0, b"'; --"),
+                    (16, b' TRUE', 0, b't'), (16, b'of', 0, b'f'), (16, b'\1', 1, b't'), (16, b'\0', 1, b'f')]:
+                with self.subTest(number, value=value):
+                    self.assertEqual(self.told(client, 'SELECT $1', [value], [code], [number]), wanted)
+            told = client.ask(parse('SELECT $1, $2', types=[20, 16]), bind([None, None], formats=[1, 0]), execute(), SYNC)
+            self.assertEqual(told[2], (b'D', b'\0\2' + b'\xff' * 8))
+            self.assertEqual(self.told(client, 'SELECT $2 - $1', [b'-3', eight(4)], [0, 1], [20, 20]), b'7')
+            self.assertEqual(self.told(client, 'SELECT 5 -$1', [b'-3'], (), [20]), b'8')
+
+    def test_a_value_is_no_statement(self):
+        """Whatever bytes it holds, a value is one literal."""
+        with self.served('--clients', 1), Client(self.socket, 'root') as client:
+            for value in ["'", "''", "'; DROP TABLE t; --", '$1', '$2', '/*', '*/', '--', '\\', "\\'", '\n', ';', '1 OR TRUE', 'NULL', "e'x'", 'é€', ' ', '', 'x' * 60000]:
+                with self.subTest(value[:20]):
+                    self.assertEqual(self.told(client, "SELECT $1 /* '$1' */ -- $2", [value.encode()]), value.encode())
+                    told = client.ask(parse('SELECT k FROM t WHERE x = $1'), bind([value.encode()]), execute(), SYNC)
+                    self.assertEqual(kinds(told), b'12CZ')
+            self.assertEqual(self.told(client, "SELECT '$1'"), b'$1')
+            told = client.ask(parse("SELECT 'costs $1', x FROM t WHERE k = $1 -- $2"), describe(b'S'), bind([b'1']), execute(), SYNC)
+            self.assertEqual((kinds(told), told[1][1], told[4][1]), (b'1tT2DCZ', b'\0\1\0\0\0\x14', b'\0\2\0\0\0\x08costs $1\0\0\0\x03one'))
+            self.assertEqual(client.ask('SELECT COUNT(*) FROM t')[1], (b'D', b'\0\1\0\0\0\x012'))
+
+    def test_types_that_are_found(self):
+        """A type that is not declared is found by where its parameter stands, and one that is declared is told as it is."""
+        with self.served('--clients', 1), Client(self.socket, 'root') as client:
+            for text, declared, wanted in [
+                    ('SELECT $1', (), [25]), ('SELECT k FROM t WHERE k = $1', (), [20]), ('SELECT k FROM t WHERE x = $1 LIMIT $2', (), [25, 20]), ('SELECT $1 + 1, NOT $2', (), [20, 16]),
+                    ('INSERT INTO t VALUES ($1, $2), ($3, $4)', (), [20, 25, 20, 25]), ('UPDATE t SET x = $2 WHERE k = $1', [23], [23, 25]), ('DELETE FROM t WHERE $1 AND k < $2', [0, 21], [16, 21]),
+                    ('SELECT $2', [0], [25, 25]), ('SELECT $1', [1043, 16], [1043, 16]), ('SELECT k FROM t WHERE $1 = k', [705], [20]), ('SELECT k FROM t LIMIT $1', [0], [20])]:
+                with self.subTest(text):
+                    told = client.ask(parse(text, types=declared), describe(b'S'), SYNC)
+                    self.assertEqual(kinds(told), b'1t' + (b'T' if text.startswith('SELECT') else b'n') + b'Z', codes(told))
+                    self.assertEqual(told[1][1], struct.pack('>H', len(wanted)) + b''.join(struct.pack('>I', one) for one in wanted))
+            told = client.ask(parse('SELECT $1, $2', types=[16]), describe(b'S'), bind([b'1', b'x']), describe(b'P'), execute(), SYNC)
+            self.assertEqual(kinds(told), b'1tT2TDCZ')
+            self.assertEqual([told[2][1][at:at + 4] for at in (17, 44)], [struct.pack('>I', number) for number in (16, 25)])
+
+    def test_statements_that_are_kept(self):
+        with self.served('--clients', 1), Client(self.socket, 'root') as client:
+            write = parse('INSERT INTO t VALUES ($1, $2)', 'w'), bind([b'3', b'c'], name='w'), execute(), bind([b'4', None], name='w'), execute(), SYNC
+            self.assertEqual(kinds(client.ask(*write)), b'12C2CZ')
+            self.assertEqual(kinds(client.ask(bind([b'5', b'e'], name='w'), execute(), bind([b'5', b'f'], name='w'), execute(), SYNC)), b'2C2EZ')
+            self.assertEqual(client.ask('SELECT COUNT(*) FROM t')[1], (b'D', b'\0\1\0\0\0\x014'))
+            self.assertEqual(kinds(client.ask(close(b'S', 'w'), bind([b'6', None], name='w'), SYNC)), b'3EZ')
+            self.assertEqual(kinds(client.ask(parse('SELECT $1', 'w', [20]), parse('SELECT zz, $1'), SYNC)), b'1EZ')
+            self.assertEqual(codes(client.ask(bind([b'1']), SYNC)), ['26000'])
+            self.assertEqual(kinds(client.ask(bind([b'1'], name='w'), execute(), SYNC)), b'2DCZ')
+
+    def test_faults(self):
+        with self.served('--clients', 1), Client(self.socket, 'root') as client:
+            one, write = parse('SELECT $1', types=[20]), parse('INSERT INTO t VALUES ($1, $2)')
+            for messages, code in [
+                    ((parse('SELECT $0'),), '42P02'), ((parse('SELECT $65536'),), '42P02'), ((parse('CREATE TABLE u (k BIGINT PRIMARY KEY, x BIGINT) -- $1\n $1'),), '42P02'),
+                    ((parse('SELECT $1', types=[114]),), '0A000'), ((parse('SELECT $1; SELECT $2'),), '42601'), ((parse('SELECT $1 $2'),), '42601'), ((parse('SELECT $1 /* '), bind(), execute()), '42601'),
+                    ((parse('SELECT zz FROM t WHERE k = $1'),), '42703'), ((parse('SELECT k FROM t WHERE k = $1', types=[25]),), '42804'), ((parse('SELECT $4097'),), '54000'),
+                    ((parse('SELECT k FROM pg_catalog.pg_class WHERE k = $1'),), '0A000'), ((parse('SELECT left FROM t WHERE k = $1'),), '0A000'),
+                    ((one, bind()), '08P01'), ((one, bind([b'1', b'2'])), '08P01'), ((write, bind([b'1', None], formats=[0, 0, 0])), '08P01'),
+                    ((one, bind([b'x'])), '22P02'), ((one, bind([b''])), '22P02'), ((one, bind([b'9223372036854775808'])), '22003'), ((one, bind([b'1'], formats=[1])), '22P03'),
+                    ((one, bind([b'1'], formats=[2])), '22023'), ((parse('SELECT $1', types=[16]), bind([b'maybe'])), '22P02'), ((parse('SELECT $1', types=[21]), bind([b'32768'])), '22003'),
+                    ((parse('SELECT $1', types=[1700]), bind([b'1.5'])), '22003'), ((write, bind([b'3', b'\xff'])), '22021'), ((write, bind([b'3', b'a\0b'])), '22021'),
+                    ((parse('SELECT $1'), bind([b"'" * 40000])), '54000'), ((write, bind([b'1', None]), execute()), '23505')]:
+                with self.subTest(code, messages=[message[:60] for message in messages]):
+                    told = client.ask(*messages, parse('SELECT 1'), query('SELECT 1'), SYNC)
+                    self.assertEqual((codes(told), told[-1]), ([code], (b'Z', b'I')))
+                    self.assertEqual(client.ask('SELECT COUNT(*) FROM t')[1], (b'D', b'\0\1\0\0\0\x012'))
+
+    def test_a_block(self):
+        with self.served('--clients', 1), Client(self.socket, 'root') as client:
+            self.assertEqual(kinds(client.ask('BEGIN')), b'CZ')
+            told = client.ask(parse('INSERT INTO t VALUES ($1, $2)', 'w'), bind([b'3', None], name='w'), execute(), SYNC)
+            self.assertEqual((kinds(told), told[-1]), (b'12CZ', (b'Z', b'T')))
+            self.assertEqual(client.ask(bind([b'x', None], name='w'), SYNC)[-1], (b'Z', b'E'))
+            self.assertEqual(codes(client.ask(parse('SELECT $1'), SYNC)), ['25P02'])
+            self.assertEqual(client.ask('COMMIT')[0], (b'C', b'ROLLBACK\0'))
+            self.assertEqual(client.ask('SELECT COUNT(*) FROM t')[1], (b'D', b'\0\1\0\0\0\x012'))
 
 
 class Bounds(AtServer):
@@ -304,7 +405,7 @@ class Bounds(AtServer):
                     self.assertIsNone(client.message())
 
 
-SAMPLES = [query('SELECT 1'), query('SELECT k, x FROM t ORDER BY k'), query('BEGIN'), query('COMMIT'), query('ROLLBACK'), query('INSERT INTO t VALUES (7, NULL)'),
+SAMPLES = [parse('SELECT $1, $2', types=[20]), parse('INSERT INTO t VALUES ($1, $2)', 'a'), bind([b'1', b'x']), bind([b'\0' * 8], formats=[1]), query('SELECT 1'), query('SELECT k, x FROM t ORDER BY k'), query('BEGIN'), query('COMMIT'), query('ROLLBACK'), query('INSERT INTO t VALUES (7, NULL)'),
            query("SELECT 'a;b'; SELECT 2;"), query('SET client_encoding = \'UTF8\''), query('SHOW timezone'), query('SELECT * FROM pg_catalog.pg_class'), query('END'),
            query(';' * 100), query(''), parse('SELECT 1'), parse('SELECT k FROM t', 'a'), bind(), bind(name='a', portal='b'), bind([b'1', None]), execute(), execute('b'),
            execute(most=1), describe(b'S'), describe(b'P', 'b'), close(b'S', 'a'), close(b'P'), SYNC, SYNC, SYNC, FLUSH, packet(b'F', b'\0' * 12), packet(b'd', b'abc'),

@@ -231,9 +231,9 @@ class Pgbench(AtPsql):
                     status, printed, said = self.bench(['SELECT x FROM t;'], '-M', mode, '-t', 5)
                     self.assertEqual(status, 0, said)
                     self.assertIn('number of transactions actually processed: 5/5\n', printed)
-                    status, printed, said = self.bench(['\\set k 1', 'SELECT x FROM t WHERE k = :k;'], '-M', mode, '-t', 5)
-                    self.assertNotEqual(status, 0)
-                    self.assertIn('number of parameters is another', said)
+                    status, printed, said = self.bench(['\\set k 1', 'SELECT x FROM t WHERE k = :k;', 'UPDATE t SET x = :k WHERE k = -:k;'], '-M', mode, '-t', 5)
+                    self.assertEqual(status, 0, said)
+                    self.assertIn('number of transactions actually processed: 5/5\n', printed)
                     self.assertEqual(kinds(client.ask('SELECT 1')), b'TDCZ')
 
 
@@ -293,11 +293,28 @@ class OtherDrivers(AtServer):
         with self.served('--clients', 3):
             self.assertEqual(self.run_there('psycopg', 'import psycopg, sys', 'connection = psycopg.connect(host=sys.argv[1], user="root", autocommit=True)',
                                             'print(connection.execute("SELECT k, x FROM t ORDER BY k").fetchall())',
-                                            'try: connection.execute("SELECT k FROM t WHERE k = %s", (1,))', 'except psycopg.Error as fault: print(fault.sqlstate, fault)',
+                                            'print(connection.execute("SELECT k FROM t WHERE k = %s", (1,)).fetchall())',
                                             'cursor = psycopg.ClientCursor(connection)', 'print(cursor.execute("SELECT k FROM t WHERE k = %s AND x = %s", (1, "one")).fetchall())',
                                             'connection.autocommit = False',
                                             'print(connection.execute("SELECT 1").fetchall())', 'connection.rollback()', 'connection.close()'),
-                             ["[(1, 'one'), (2, None)]", '08P01 number of parameters is another', '[(1,)]', '[(1,)]'])
+                             ["[(1, 'one'), (2, None)]", '[(1,)]', '[(1,)]', '[(1,)]'])
+
+    def test_values_of_psycopg(self):
+        """Values of each type, in text and in binary, are what they were; a statement is prepared at its sixth use."""
+        with self.served('--clients', 3):
+            self.assertEqual(self.run_there('psycopg', 'import psycopg, sys', 'connection = psycopg.connect(host=sys.argv[1], user="root", autocommit=True)',
+                                            'values = [1, -1, 40000, -40000, 2 ** 40, 2 ** 63 - 1, -2 ** 63, "a", "\'; --", "$1 é", "", True, False, None]',
+                                            'for form in ("%s", "%t", "%b"):',
+                                            '    for binary in (False, True):',
+                                            '        told = [connection.execute(f"SELECT {form}", (value,), binary=binary).fetchone()[0] for value in values]',
+                                            '        print(told == values)',
+                                            'for number in range(8): connection.execute("INSERT INTO t VALUES (%s, %s)", (10 + number, f"n{number}"))',
+                                            'connection.cursor().executemany("INSERT INTO t VALUES (%s, %s)", [(20 + number, None) for number in range(8)])',
+                                            'print(connection.execute("SELECT COUNT(*) FROM t WHERE k >= %s AND k < %s", (10, 30)).fetchone())',
+                                            'try: connection.execute("SELECT %s + 1", ("x",))', 'except psycopg.Error as fault: print(fault.sqlstate)',
+                                            'with connection.transaction(): connection.execute("DELETE FROM t WHERE k >= %(from)s", {"from": 10})',
+                                            'print(connection.execute("SELECT x FROM t WHERE k = %s LIMIT %s", (1, 1)).fetchall())', 'connection.close()'),
+                             ['True'] * 6 + ['(16,)', '22P02', "[('one',)]"])
 
     def test_asyncpg(self):
         port = free_port()
@@ -308,6 +325,32 @@ class OtherDrivers(AtServer):
                                             '    print([tuple(row) for row in await connection.fetch("SELECT k, x, k = 1 FROM t ORDER BY k")])', '    print(await connection.execute("DELETE FROM t WHERE k = 3"))',
                                             '    await connection.close()', 'asyncio.run(main())', port=port),
                              ['INSERT 0 1', "[(1, 'one', True), (2, None, False), (3, None, False)]", 'DELETE 1'])
+
+    def test_values_of_asyncpg(self):
+        port = free_port()
+        with self.served('--clients', 3, port=port):
+            self.assertEqual(self.run_there('asyncpg', 'import asyncio, asyncpg, sys', 'async def main():',
+                                            '    connection = await asyncpg.connect(host="127.0.0.1", port=int(sys.argv[1]), user="root", database="root")',
+                                            '    await connection.executemany("INSERT INTO t VALUES ($1, $2)", [(3, "it\'s"), (4, None), (5, "\'; DROP TABLE t; --")])',
+                                            '    for k in range(1, 6): print(await connection.fetchval("SELECT x FROM t WHERE k = $1", k))',
+                                            '    print(tuple(await connection.fetchrow("SELECT k, k > $1, $2 = x FROM t WHERE x = $2 LIMIT $3", 2, "it\'s", 7)))',
+                                            '    try: await connection.executemany("INSERT INTO t VALUES ($1, $2)", [(6, "a"), (1, "b")])',
+                                            '    except asyncpg.PostgresError as fault: print(fault.sqlstate)',
+                                            '    async with connection.transaction(): print(await connection.execute("DELETE FROM t WHERE k >= $1", 3))',
+                                            '    await connection.close()', 'asyncio.run(main())', port=port),
+                             ['one', 'None', "it's", 'None', "'; DROP TABLE t; --", '(3, True, True)', '23505', 'DELETE 3'])
+
+
+    def test_pg8000(self):
+        port = free_port()
+        with self.served('--clients', 3, port=port):
+            self.assertEqual(self.run_there('pg8000', 'import pg8000, sys', 'connection = pg8000.connect(user="root", host="127.0.0.1", port=int(sys.argv[1]))', 'cursor = connection.cursor()',
+                                            'def ask(*words): cursor.execute(*words); print(*cursor.fetchall())',
+                                            'ask("SELECT k, x, k = 1 FROM t ORDER BY k")', 'cursor.execute("INSERT INTO t VALUES (%s, %s)", (3, "it\'s"))', 'print(cursor.rowcount)',
+                                            'ask("SELECT k, x FROM t WHERE x = %s AND k > %s", ("it\'s", 1))', 'ask("SELECT %s, NOT %s", ("\'; --", True))',
+                                            'cursor.execute("UPDATE t SET x = %s WHERE k = %s", (None, 1))', 'connection.commit()', 'ask("SELECT x FROM t WHERE k = %s", (1,))',
+                                            'connection.rollback()', 'connection.close()', port=port),
+                             ["[1, 'one', True] [2, None, False]", '1', '[3, "it\'s"]', '["\'; --", False]', '[None]'])
 
 
 class Places(AtServer):

@@ -22,8 +22,12 @@ def bind(portal, name, formats=()):
     return message(b'B', text(portal) + text(name) + b'\0\0\0\0' + struct.pack(f'>H{len(formats)}H', len(formats), *formats))
 
 
-def execute(portal):
-    return message(b'E', text(portal) + b'\0\0\0\0')
+def bind_value(portal, name, value):
+    return message(b'B', text(portal) + text(name) + b'\0\0\0\1' + struct.pack('>I', len(value)) + value + b'\0\0')
+
+
+def execute(portal, most=0):
+    return message(b'E', text(portal) + struct.pack('>I', most))
 
 
 def report(kind, severity, code, words):
@@ -117,6 +121,10 @@ PLAYED = [
      PARSED + BOUND + columns(*HEADS, code=1) + row(struct.pack('>q', -12), b"a'b", b'\1', None) + complete('SELECT 1')
      + BOUND + row(b'-12', b"a'b", b'\1', None) + complete('SELECT 1') + IDLE
      + BOUND + error('08P01', 'number of format codes is another') + IDLE + error('22023', 'format code is not supported') + IDLE),
+    (parse('a', 'INSERT $1') + describe(b'S', 'a') + bind_value('', 'a', b'-5') + execute('') + bind_value('', 'a', b"'; --") + execute('') + SYNC
+     + parse('', 'SELECT 1') + bind('', '') + execute('', 1) + execute('') + SYNC,
+     PARSED + message(b't', struct.pack('>HI', 1, 20)) + NO_DATA + BOUND + complete('INSERT 0 1') + error('22P02', 'invalid input syntax for the type of a parameter') + IDLE
+     + PARSED + BOUND + ONE_ROW[len(FOUR):-len(complete('SELECT 1'))] + message(b's') + error('34000', 'portal does not exist') + IDLE),
 ]
 
 for sent, told in PLAYED:

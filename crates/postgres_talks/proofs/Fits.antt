@@ -14,7 +14,7 @@ use Rattle.sql_types.specs.declared.warning.Warning.{Warning}
 use Rattle.talks.specs.declared.want.BlockStanding.{BlockStanding}
 use Rattle.talks.specs.declared.want.BlockStanding.TheVariants as standing
 use Rattle.talks.specs.declared.want.Reply.TheVariants as reply
-use Rattle.postgres_messages.specs.Backend.{TheColumn}
+use Rattle.postgres_messages.specs.Backend.{TheColumn, portal_suspended}
 use Rattle.postgres_messages.specs.declared.backend.ValueFormat.{ValueFormat}
 use Rattle.postgres_talks.specs.Formats.{next_format, other_formats}
 use Rattle.postgres_talks.specs.declared.fault.TalkFault.{TalkFault}
@@ -34,12 +34,14 @@ use Rattle.postgres_talks.specs.declared.outcome.Outcome.TheVariants as outcome
 use Rattle.postgres_talks.specs.declared.requests.Request.{Request}
 use Rattle.postgres_talks.specs.declared.requests.Request.TheVariants as request
 use Rattle.postgres_talks.specs.Fitting.{AreFieldsOf, IsFieldOf, RowsFit, has_type}
-use Rattle.postgres_talks.specs.Moments.{answer_said, head_told, parameters_said, ran, said_answered, said_closing, said_described, said_emptying, said_failed, said_judging, said_nothing_told, said_opened, said_own, said_refusing, said_rolled_back, said_row_told, said_run, said_settling, said_standing, said_to_reply, said_told, settled_columns, settled_head, settled_rows, settled_said, spares, table_said, warnings_said}
+use Rattle.postgres_talks.proofs.Typings.{typing_fits}
+use Rattle.postgres_talks.specs.Moments.{answer_said, head_told, oids_told, parameters_said, ran, said_answered, said_closing, said_described, said_emptying, said_failed, said_judging, said_nothing_told, said_opened, said_own, said_refusing, said_rolled_back, said_row_told, said_run, said_settling, said_standing, said_to_reply, said_told, settled_columns, settled_head, settled_rows, settled_said, spares, table_said, warnings_said}
+use Rattle.std.specs.Prelude.{◌==◌, ◌||◌, nat_lt, take, zero, suc}
 use Rattle.postgres_talks.specs.Outcomes.{commit_outcome, description_outcome, outcome_of, table_outcome, warning_of}
 use Rattle.postgres_talks.specs.Played.{Input, asked, bad, said_to_input, told}
 use Rattle.postgres_talks.specs.Requests.{fault_of, heeded, said_to_done, said_to_request, said_unless}
-use Rattle.postgres_talks.specs.Rows.{are_rows_of, data_type_of, described_column, described_columns, is_row_of, is_value_of, row_said, select_tag, value_in, values_in}
-use Rattle.postgres_talks.specs.Sayings.{Saying, complete_said}
+use Rattle.postgres_talks.specs.Rows.{are_rows_of, data_type_of, described_column, described_columns, is_row_of, is_value_of, row_said, rows_said, select_tag, value_in, values_in}
+use Rattle.postgres_talks.specs.Sayings.{Saying, complete_said, message}
 use Rattle.postgres_talks.specs.Settled.{settled_row, settled_tag}
 use Rattle.postgres_talks.specs.Tags.{done_tag}
 
@@ -85,19 +87,34 @@ rows_fit fs cs (row ∷ rows) behind are fit =
     let parts = both (is_row_of cs row) (are_rows_of cs rows) are in
     (row_fits fs cs row parts.0, rows_fit fs cs rows behind parts.1 fit)
 
+all_on : (a b : Bool) → a ≡ true → b ≡ true → (a && b) ≡ true
+all_on true b e f = f
+all_on false b e f = absurd (cc)
+
+some_rows : (n : ℕ) (cs : List ResultColumn) (rows : List (List Value)) → are_rows_of cs rows ≡ true → are_rows_of cs (take n rows) ≡ true
+some_rows zero cs rows are = refl
+some_rows (suc n) cs [] are = refl
+some_rows (suc n) cs (row ∷ rows) are =
+    let parts = both (is_row_of cs row) (are_rows_of cs rows) are in all_on (is_row_of cs row) (are_rows_of cs (take n rows)) parts.0 (some_rows n cs rows parts.1)
+
+limited_fit : (all : Bool) (most : ℕ) (fs : List ValueFormat) (cs : List ResultColumn) (rows : List (List Value)) → are_rows_of cs rows ≡ true
+    → RowsFit (Some (described_columns fs cs)) (if all then rows_said fs rows else map (row_said fs) (take most rows) ++ message portal_suspended ∷ [])
+limited_fit true most fs cs rows are = rows_fit fs cs rows (complete_said (select_tag (length rows)) ∷ []) are tt
+limited_fit false most fs cs rows are = rows_fit fs cs (take most rows) (message portal_suspended ∷ []) (some_rows most cs rows are) tt
+
 -- the rows of an answer that is told
 if_done : (b : Bool) → (if b then outcome.Done else outcome.Refused fault.OtherColumns) ≡ outcome.Done → b ≡ true
 if_done true is = refl
 if_done false is = cc
 
-table_fits : (t : Mode) (fs : List ValueFormat) (columns : Option (List ResultColumn)) (rows : List (List Value)) → t ≡ mode.Query → table_outcome t columns rows ≡ outcome.Done
-    → RowsFit None (table_said t fs columns rows)
-table_fits mode.Query fs None rows is done = tt
-table_fits mode.Query fs (Some cs) rows is done = rows_fit [] cs rows (complete_said (select_tag (length rows)) ∷ []) (if_done (are_rows_of cs rows) done) tt
-table_fits mode.Batch fs columns rows is done = absurd (wrong is) where
+table_fits : (t : Mode) (most : ℕ) (fs : List ValueFormat) (columns : Option (List ResultColumn)) (rows : List (List Value)) → t ≡ mode.Query → table_outcome t columns rows ≡ outcome.Done
+    → RowsFit None (table_said t most fs columns rows)
+table_fits mode.Query most fs None rows is done = tt
+table_fits mode.Query most fs (Some cs) rows is done = rows_fit [] cs rows (complete_said (select_tag (length rows)) ∷ []) (if_done (are_rows_of cs rows) done) tt
+table_fits mode.Batch most fs columns rows is done = absurd (wrong is) where
   wrong : mode.Batch ≡ mode.Query → ⊥
   wrong e = cc
-table_fits mode.Skipping fs columns rows is done = absurd (wrong is) where
+table_fits mode.Skipping most fs columns rows is done = absurd (wrong is) where
   wrong : mode.Skipping ≡ mode.Query → ⊥
   wrong e = cc
 
@@ -108,7 +125,7 @@ warnings_fit h None tag = tt
 warnings_fit h (Some w) tag = tt
 
 answer_fits : (m : TalkMoment) (a : Answer) → m.mode ≡ mode.Query → ran m a ≡ outcome.Done → RowsFit None (answer_said m a)
-answer_fits m (answer.Rows rows) is done = table_fits m.mode m.formats m.columns rows is done
+answer_fits m (answer.Rows rows) is done = table_fits m.mode m.most m.formats m.columns rows is done
 answer_fits m (answer.Done t count w) is done = warnings_fit None (warning_of m.block t w) (done_tag t count)
 answer_fits m (answer.Refused s) is done = tt
 
@@ -142,6 +159,7 @@ answered_fits (stage.Failing f) m a is = tt
 answered_fits stage.Starting m a is = tt
 answered_fits stage.Ready m a is = tt
 answered_fits (stage.Telling k) m a is = tt
+answered_fits (stage.Typing at c) m a is = tt
 answered_fits (stage.TellingRow k x) m a is = tt
 answered_fits (stage.TellingNothing k) m a is = tt
 answered_fits stage.Describing m a is = tt
@@ -201,22 +219,22 @@ settling_fits b t x (Some standing.Failed) is = failed_fits b t (fault.Refused s
 settling_fits b t x (Some standing.Inside) is = settled_fits t x is
 settling_fits b t x (Some standing.Outside) is = settled_fits t x is
 
-head_fits : (k : DescribedKind) (f : ValueFormat) (r : Option (List ℕ × List ℕ)) → RowsFit None (parameters_said k ++ settled_head f r)
-head_fits named.Statement f None = tt
-head_fits named.Statement f (Some r) = tt
-head_fits named.Portal f None = tt
-head_fits named.Portal f (Some r) = tt
+head_fits : (k : DescribedKind) (oids : List ℕ) (f : ValueFormat) (r : Option (List ℕ × List ℕ)) → RowsFit None (parameters_said k oids ++ settled_head f r)
+head_fits named.Statement oids f None = tt
+head_fits named.Statement oids f (Some r) = tt
+head_fits named.Portal oids f None = tt
+head_fits named.Portal oids f (Some r) = tt
 
-row_told_fits : (k : DescribedKind) (b : TalkBlock) (t : Mode) (f : ValueFormat) (x : Settled) (s : Option BlockStanding) → RowsFit None (said_row_told k b t f x s)
-row_told_fits k b t f x None = tt
-row_told_fits k b t f x (Some standing.Failed) = failed_fits b t (fault.Refused state.InFailedTransaction) standing.Failed
-row_told_fits k b t f x (Some standing.Inside) = head_fits k f (settled_row x)
-row_told_fits k b t f x (Some standing.Outside) = head_fits k f (settled_row x)
+row_told_fits : (k : DescribedKind) (oids : List ℕ) (b : TalkBlock) (t : Mode) (f : ValueFormat) (x : Settled) (s : Option BlockStanding) → RowsFit None (said_row_told k oids b t f x s)
+row_told_fits k oids b t f x None = tt
+row_told_fits k oids b t f x (Some standing.Failed) = failed_fits b t (fault.Refused state.InFailedTransaction) standing.Failed
+row_told_fits k oids b t f x (Some standing.Inside) = head_fits k oids f (settled_row x)
+row_told_fits k oids b t f x (Some standing.Outside) = head_fits k oids f (settled_row x)
 
-nothing_told_fits : (k : DescribedKind) (s : Option BlockStanding) → RowsFit None (said_nothing_told k s)
-nothing_told_fits k None = tt
-nothing_told_fits named.Statement (Some s) = tt
-nothing_told_fits named.Portal (Some s) = tt
+nothing_told_fits : (k : DescribedKind) (oids : List ℕ) (s : Option BlockStanding) → RowsFit None (said_nothing_told k oids s)
+nothing_told_fits k oids None = tt
+nothing_told_fits named.Statement oids (Some s) = tt
+nothing_told_fits named.Portal oids (Some s) = tt
 
 standing_fits : (t : TalkStage) (m : TalkMoment) (s : Option BlockStanding) → m.mode ≡ mode.Query → RowsFit None (said_standing t m s)
 standing_fits (stage.Refusing f) m s is = refusing_fits m.block m.mode f s
@@ -224,9 +242,10 @@ standing_fits (stage.Judging f) m s is = judging_fits m.block m.mode f s
 standing_fits stage.Closing m s is = closing_fits s
 standing_fits (stage.Settling x) m s is = settling_fits m.block m.mode x s is
 standing_fits stage.Emptying m s is = emptying_fits s
-standing_fits (stage.TellingRow k x) m s is = row_told_fits k m.block m.mode (next_format m.formats) x s
-standing_fits (stage.TellingNothing k) m s is = nothing_told_fits k s
+standing_fits (stage.TellingRow k x) m s is = row_told_fits k (oids_told m) m.block m.mode (next_format m.formats) x s
+standing_fits (stage.TellingNothing k) m s is = nothing_told_fits k (oids_told m) s
 standing_fits (stage.Telling k) m s is = tt
+standing_fits (stage.Typing at c) m s is = tt
 standing_fits stage.Starting m s is = tt
 standing_fits stage.Opening m s is = tt
 standing_fits stage.Ready m s is = tt
@@ -238,22 +257,23 @@ standing_fits stage.RollingBack m s is = tt
 standing_fits (stage.Failing f) m s is = tt
 standing_fits stage.Ended m s is = tt
 
-head_told_fits : (k : DescribedKind) (fs : List ValueFormat) (d : StatementDescription) → RowsFit None (head_told k fs d)
-head_told_fits named.Statement fs (description.Rows columns) = tt
-head_told_fits named.Portal fs (description.Rows columns) = tt
-head_told_fits named.Statement fs description.NoRows = tt
-head_told_fits named.Portal fs description.NoRows = tt
-head_told_fits named.Statement fs (description.Refused s) = tt
-head_told_fits named.Portal fs (description.Refused s) = tt
+head_told_fits : (k : DescribedKind) (oids : List ℕ) (fs : List ValueFormat) (d : StatementDescription) → RowsFit None (head_told k oids fs d)
+head_told_fits named.Statement oids fs (description.Rows columns) = tt
+head_told_fits named.Portal oids fs (description.Rows columns) = tt
+head_told_fits named.Statement oids fs description.NoRows = tt
+head_told_fits named.Portal oids fs description.NoRows = tt
+head_told_fits named.Statement oids fs (description.Refused s) = tt
+head_told_fits named.Portal oids fs (description.Refused s) = tt
 
-told_fits : (k : DescribedKind) (fs : List ValueFormat) (d : StatementDescription) (o : Outcome) → RowsFit None (said_told k fs d o)
-told_fits k fs d outcome.Done = head_told_fits k fs d
-told_fits k fs d (outcome.Refused f) = tt
-told_fits k fs d (outcome.Breaks f) = tt
+told_fits : (k : DescribedKind) (oids : List ℕ) (fs : List ValueFormat) (d : StatementDescription) (o : Outcome) → RowsFit None (said_told k oids fs d o)
+told_fits k oids fs d outcome.Done = head_told_fits k oids fs d
+told_fits k oids fs d (outcome.Refused f) = tt
+told_fits k oids fs d (outcome.Breaks f) = tt
 
 described_fits : (s : TalkStage) (m : TalkMoment) (d : StatementDescription) → RowsFit None (said_described s m d)
 described_fits stage.Describing m d = own_fits (description_outcome m.columns m.formats d)
-described_fits (stage.Telling k) m d = told_fits k m.formats d (description_outcome None m.formats d)
+described_fits (stage.Typing at c) m d = typing_fits None at c m d
+described_fits (stage.Telling k) m d = told_fits k (oids_told m) m.formats d (description_outcome None m.formats d)
 described_fits (stage.TellingRow k x) m d = tt
 described_fits (stage.TellingNothing k) m d = tt
 described_fits stage.Opening m d = tt
@@ -276,8 +296,9 @@ done_fits h request.Encryption = tt
 done_fits h (request.Login role) = tt
 done_fits h (request.Statements pieces) = tt
 done_fits h (request.Prepare name p) = tt
-done_fits h (request.Bind name prepared count fs) = tt
-done_fits h (request.Execute name) = tt
+done_fits h (request.PrepareTemplate name t) = tt
+done_fits h (request.Bind name prepared bound fs) = tt
+done_fits h (request.Execute name n) = tt
 done_fits h (request.DescribeStatement name) = tt
 done_fits h (request.DescribePortal name) = tt
 done_fits h (request.CloseStatement name) = tt
@@ -308,18 +329,18 @@ fit_in_queries m bad is = tt
 abbrev by : List ValueFormat → List ResultColumn → Option (List TheColumn)
 by fs cs = Some (described_columns fs cs)
 
-batch_table_fits : (t : Mode) (fs : List ValueFormat) (o : Option (List ResultColumn)) (cs : List ResultColumn) (rows : List (List Value)) → t ≡ mode.Batch → o ≡ Some cs
-    → table_outcome t o rows ≡ outcome.Done → RowsFit (by fs cs) (table_said t fs o rows)
-batch_table_fits t fs o cs rows is known done =
+batch_table_fits : (t : Mode) (most : ℕ) (fs : List ValueFormat) (o : Option (List ResultColumn)) (cs : List ResultColumn) (rows : List (List Value)) → t ≡ mode.Batch → o ≡ Some cs
+    → table_outcome t o rows ≡ outcome.Done → RowsFit (by fs cs) (table_said t most fs o rows)
+batch_table_fits t most fs o cs rows is known done =
     let here : table_outcome mode.Batch (Some cs) rows ≡ outcome.Done
     = subst (λ (u : Mode). table_outcome u (Some cs) rows ≡ outcome.Done) is (subst (λ (p : Option (List ResultColumn)). table_outcome t p rows ≡ outcome.Done) known done) in
-    subst (λ (p : Option (List ResultColumn)). RowsFit (by fs cs) (table_said t fs p rows)) (sym known)
-    (subst (λ (u : Mode). RowsFit (by fs cs) (table_said u fs (Some cs) rows)) (sym is)
-    (rows_fit fs cs rows (complete_said (select_tag (length rows)) ∷ []) (if_done (are_rows_of cs rows) here) tt))
+    subst (λ (p : Option (List ResultColumn)). RowsFit (by fs cs) (table_said t most fs p rows)) (sym known)
+    (subst (λ (u : Mode). RowsFit (by fs cs) (table_said u most fs (Some cs) rows)) (sym is)
+    (limited_fit (most == 0 || nat_lt (length rows) most) most fs cs rows (if_done (are_rows_of cs rows) here)))
 
 batch_answer_fits : (m : TalkMoment) (cs : List ResultColumn) (a : Answer) → m.mode ≡ mode.Batch → m.columns ≡ Some cs → ran m a ≡ outcome.Done
     → RowsFit (by m.formats cs) (answer_said m a)
-batch_answer_fits m cs (answer.Rows rows) is known done = batch_table_fits m.mode m.formats m.columns cs rows is known done
+batch_answer_fits m cs (answer.Rows rows) is known done = batch_table_fits m.mode m.most m.formats m.columns cs rows is known done
 batch_answer_fits m cs (answer.Done t count w) is known done = warnings_fit (by m.formats cs) (warning_of m.block t w) (done_tag t count)
 batch_answer_fits m cs (answer.Refused s) is known done = tt
 

@@ -16,7 +16,7 @@ use Rattle.postgres_talks.proofs.Putting.{says_all}
 at_first : (sayings : List Saying) (first new : List ℕ) → first ≡ [] → Puts sayings first new → Puts sayings [] new
 at_first sayings first new none puts = subst (λ (b : List ℕ). Puts sayings b new) none puts
 
-pub heard_so : (m n : TalkMoment) (bytes first new old out : List ℕ) (r h : Request) (f : Option TalkFault) → IsRequest m.stage bytes r → h ≡ heeded m.mode r → f ≡ fault_of h m
+pub heard_so : (m n : TalkMoment) (bytes first new old out : List ℕ) (r h : Request) (f : Option TalkFault) → IsRequest m bytes r → h ≡ heeded m.mode r → f ≡ fault_of h m
     → first ≡ [] → Puts (said_unless f h) first new → n ≡ after_unless f h m → out ≡ old ++ new → (said : List ℕ) × HearsMessage m bytes said n × (out ≡ old ++ said)
 heard_so m n bytes first new old out r h f is_asked heeds fails none puts stands sent =
     let by_fault : Puts (said_unless (fault_of h m) h) first new = subst (λ (o : Option TalkFault). Puts (said_unless o h) first new) fails puts in

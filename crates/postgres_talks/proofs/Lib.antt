@@ -3,6 +3,8 @@ pub mod Hearing
 pub mod Playing
 pub mod Asking
 pub mod Excused
+pub mod Typings
+pub mod Bindings
 pub mod SeenRows
 pub mod Seeing
 pub mod Units

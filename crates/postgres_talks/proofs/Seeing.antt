@@ -42,11 +42,13 @@ use Rattle.postgres_talks.proofs.Excused.{text_spares}
 use Rattle.postgres_talks.proofs.SeenRows.{seen_on, table_seen, warnings_seen}
 use Rattle.postgres_talks.specs.Blocks.{Seen, outside, clean, spoilt, seen_all, seen_tag, seen_report, is_excused}
 use Rattle.postgres_talks.specs.Faults.{fault_text}
-use Rattle.postgres_talks.specs.Moments.{first_moment, asks, is_several, finishes, selects, selects_known, describes_found, describes_piece, describes_settled, starts_on, goes_on_with, goes_on, closes, closes_or_listens, spares, spoiled_by, ready_unless_batch, ran, columns_in, runs_described, said_described, after_described, settled_head, settled_columns, settled_rows, settled_said, parameters_said, said_row_told, after_row_told, said_nothing_told, said_told, after_told, head_told, tells, describes, listens, said_settling, after_settling, said_emptying, after_emptying, block_after, entered, came_out, warnings_said, answer_said, block_answered, said_run, said_own, said_opened, said_rolled_back, after_outcome, after_opened, after_rolled_back, after_done, said_answered, after_answer, said_failed, after_failed, said_refusing, after_refusing, said_judging, after_judging, said_closing, after_closing, said_standing, after_standing}
+use Rattle.postgres_talks.specs.Moments.{first_moment, asks, is_several, finishes, selects, selects_known, describes_found, describes_piece, describes_settled, starts_on, goes_on_with, goes_on, closes, closes_or_listens, spares, spoiled_by, ready_unless_batch, ran, columns_in, runs_described, said_described, after_described, settled_head, settled_columns, settled_rows, settled_said, oids_told, parameters_said, said_row_told, after_row_told, said_nothing_told, said_told, after_told, head_told, tells, describes, listens, said_settling, after_settling, said_emptying, after_emptying, block_after, entered, came_out, warnings_said, answer_said, block_answered, said_run, said_own, said_opened, said_rolled_back, after_outcome, after_opened, after_rolled_back, after_done, said_answered, after_answer, said_failed, after_failed, said_refusing, after_refusing, said_judging, after_judging, said_closing, after_closing, said_standing, after_standing}
 use Rattle.postgres_talks.specs.Outcomes.{commit_outcome, description_outcome, outcome_of, warning_of}
 use Rattle.postgres_talks.specs.Played.{Input, asked, told, bad, said_in, said_to_input, after_input, after_all}
 use Rattle.postgres_talks.specs.Requests.{columns_of, formats_in, heeded, fault_of, mode_for, said_to_done, said_unless, left_of, after_done_request, after_unless, said_to_request, after_request}
-use Rattle.postgres_talks.specs.Named.{find, without}
+use Rattle.postgres_talks.specs.Named.{find, put, without}
+use Rattle.postgres_talks.specs.Typing.{new_template}
+use Rattle.postgres_talks.proofs.Typings.{begins_block, typing_block, typing_seen}
 use Rattle.postgres_talks.specs.Settled.{settled_tag, settled_row}
 use Rattle.postgres_talks.specs.Tags.{done_tag}
 use Rattle.postgres_talks.specs.Sayings.{Saying, error_said, complete_said}
@@ -147,10 +149,11 @@ as_before m n same = ap (λ (b : TalkBlock). Some (seen_as b)) (sym same)
 request_done_keeps : (r : Request) (m : TalkMoment) → Keeps m.block (said_to_done r) (after_done_request r m).block
 request_done_keeps request.Encryption m = refl
 request_done_keeps (request.Login role) m = refl
-request_done_keeps (request.Statements pieces) m = ap (λ (b : TalkBlock). Some (seen_as b)) (sym (goes_on_block (record m { left = pieces })))
+request_done_keeps (request.Statements pieces) m = ap (λ (b : TalkBlock). Some (seen_as b)) (sym (goes_on_block (record m { left = pieces; most = 0 })))
 request_done_keeps (request.Prepare name p) m = refl
-request_done_keeps (request.Bind name prepared count fs) m = refl
-request_done_keeps (request.Execute name) m = ap (λ (b : TalkBlock). Some (seen_as b)) (sym (goes_on_block (record m { left = left_of (find name m.portals); columns = columns_of (find name m.portals); formats = formats_in (find name m.portals); portals = without name m.portals })))
+request_done_keeps (request.PrepareTemplate name t) m = ap (λ (b : TalkBlock). Some (seen_as b)) (sym (begins_block t (record m { name = name; statements = put (new_template name piece.Empty t) m.statements })))
+request_done_keeps (request.Bind name prepared bound fs) m = refl
+request_done_keeps (request.Execute name n) m = ap (λ (b : TalkBlock). Some (seen_as b)) (sym (goes_on_block (record m { left = left_of (find name m.portals); columns = columns_of (find name m.portals); formats = formats_in (find name m.portals); most = n; portals = without name m.portals })))
 request_done_keeps (request.DescribeStatement name) m = ap (λ (b : TalkBlock). Some (seen_as b)) (sym (describes_block named.Statement (find name m.statements) (record m { name = name; formats = [] })))
 request_done_keeps (request.DescribePortal name) m = ap (λ (b : TalkBlock). Some (seen_as b)) (sym (describes_block named.Portal (find name m.portals) (record m { name = name; formats = formats_in (find name m.portals) })))
 request_done_keeps (request.CloseStatement name) m = refl
@@ -234,7 +237,7 @@ done_keeps b t count w is =
     same_outcome block.Failed tag.Delete count w = refl
 
 answer_keeps : (m : TalkMoment) (a : Answer) → ran m a ≡ outcome.Done → Keeps m.block (answer_said m a) (block_answered m.block a)
-answer_keeps m (answer.Rows rows) is = table_seen m.mode m.formats m.columns (seen_as m.block) rows
+answer_keeps m (answer.Rows rows) is = table_seen m.mode m.most m.formats m.columns (seen_as m.block) rows
 answer_keeps m (answer.Done t count w) is = done_keeps m.block t count w is
 answer_keeps m (answer.Refused s) is = refl
 
@@ -269,6 +272,7 @@ answered_keeps (stage.Failing f) m a = refl
 answered_keeps stage.Starting m a = refl
 answered_keeps stage.Ready m a = refl
 answered_keeps (stage.Telling k) m a = refl
+answered_keeps (stage.Typing at c) m a = refl
 answered_keeps (stage.TellingRow k x) m a = refl
 answered_keeps (stage.TellingNothing k) m a = refl
 answered_keeps stage.Describing m a = refl
@@ -372,19 +376,19 @@ closing_keeps : (m : TalkMoment) (s : Option BlockStanding) → Keeps m.block (s
 closing_keeps m None = refl
 closing_keeps m (Some s) = refl
 
-row_told_seen : (k : DescribedKind) (f : ValueFormat) (r : Option (List ℕ × List ℕ)) (b : Seen) → seen_all b (parameters_said k ++ settled_head f r) ≡ Some b
-row_told_seen named.Statement f None b = refl
-row_told_seen named.Statement f (Some r) b = refl
-row_told_seen named.Portal f None b = refl
-row_told_seen named.Portal f (Some r) b = refl
+row_told_seen : (k : DescribedKind) (oids : List ℕ) (f : ValueFormat) (r : Option (List ℕ × List ℕ)) (b : Seen) → seen_all b (parameters_said k oids ++ settled_head f r) ≡ Some b
+row_told_seen named.Statement oids f None b = refl
+row_told_seen named.Statement oids f (Some r) b = refl
+row_told_seen named.Portal oids f None b = refl
+row_told_seen named.Portal oids f (Some r) b = refl
 
-row_told_keeps : (k : DescribedKind) (m : TalkMoment) (x : Settled) (s : Option BlockStanding) → Keeps m.block (said_row_told k m.block m.mode (next_format m.formats) x s) (after_row_told m s).block
+row_told_keeps : (k : DescribedKind) (m : TalkMoment) (x : Settled) (s : Option BlockStanding) → Keeps m.block (said_row_told k (oids_told m) m.block m.mode (next_format m.formats) x s) (after_row_told m s).block
 row_told_keeps k m x None = refl
 row_told_keeps k m x (Some standing.Failed) = failed_keeps m.block m (fault.Refused state.InFailedTransaction) standing.Failed refl
-row_told_keeps k m x (Some standing.Inside) = row_told_seen k (next_format m.formats) (settled_row x) (seen_as m.block)
-row_told_keeps k m x (Some standing.Outside) = row_told_seen k (next_format m.formats) (settled_row x) (seen_as m.block)
+row_told_keeps k m x (Some standing.Inside) = row_told_seen k (oids_told m) (next_format m.formats) (settled_row x) (seen_as m.block)
+row_told_keeps k m x (Some standing.Outside) = row_told_seen k (oids_told m) (next_format m.formats) (settled_row x) (seen_as m.block)
 
-nothing_told_keeps : (k : DescribedKind) (m : TalkMoment) (s : Option BlockStanding) → Keeps m.block (said_nothing_told k s) (after_closing m s).block
+nothing_told_keeps : (k : DescribedKind) (m : TalkMoment) (s : Option BlockStanding) → Keeps m.block (said_nothing_told k (oids_told m) s) (after_closing m s).block
 nothing_told_keeps k m None = refl
 nothing_told_keeps named.Statement m (Some s) = refl
 nothing_told_keeps named.Portal m (Some s) = refl
@@ -400,6 +404,7 @@ standing_keeps stage.Opening m s = refl
 standing_keeps (stage.TellingRow k x) m s = row_told_keeps k m x s
 standing_keeps (stage.TellingNothing k) m s = nothing_told_keeps k m s
 standing_keeps (stage.Telling k) m s = refl
+standing_keeps (stage.Typing at c) m s = refl
 standing_keeps stage.Ready m s = refl
 standing_keeps stage.Describing m s = refl
 standing_keeps stage.Beginning m s = refl
@@ -422,27 +427,28 @@ tells_block : (k : DescribedKind) (columns : Option (List ResultColumn)) (m : Ta
 tells_block named.Statement columns m = refl
 tells_block named.Portal columns m = refl
 
-head_told_seen : (k : DescribedKind) (fs : List ValueFormat) (b : Seen) (d : StatementDescription) → seen_all b (head_told k fs d) ≡ Some b
-head_told_seen named.Statement fs b (description.Rows columns) = refl
-head_told_seen named.Portal fs b (description.Rows columns) = refl
-head_told_seen named.Statement fs b description.NoRows = refl
-head_told_seen named.Portal fs b description.NoRows = refl
-head_told_seen named.Statement fs b (description.Refused s) = refl
-head_told_seen named.Portal fs b (description.Refused s) = refl
+head_told_seen : (k : DescribedKind) (oids : List ℕ) (fs : List ValueFormat) (b : Seen) (d : StatementDescription) → seen_all b (head_told k oids fs d) ≡ Some b
+head_told_seen named.Statement oids fs b (description.Rows columns) = refl
+head_told_seen named.Portal oids fs b (description.Rows columns) = refl
+head_told_seen named.Statement oids fs b description.NoRows = refl
+head_told_seen named.Portal oids fs b description.NoRows = refl
+head_told_seen named.Statement oids fs b (description.Refused s) = refl
+head_told_seen named.Portal oids fs b (description.Refused s) = refl
 
 outcome_told : (k : DescribedKind) (m : TalkMoment) (d : StatementDescription) (o : Outcome)
-    → Keeps m.block (said_told k m.formats d o) (after_outcome o m (listens (tells k (columns_in d) m))).block
-outcome_told k m d outcome.Done = head_told_seen k m.formats (seen_as m.block) d ∙ ap (λ (b : TalkBlock). Some (seen_as b)) (sym (tells_block k (columns_in d) m))
+    → Keeps m.block (said_told k (oids_told m) m.formats d o) (after_outcome o m (listens (tells k (columns_in d) m))).block
+outcome_told k m d outcome.Done = head_told_seen k (oids_told m) m.formats (seen_as m.block) d ∙ ap (λ (b : TalkBlock). Some (seen_as b)) (sym (tells_block k (columns_in d) m))
 outcome_told k m d (outcome.Refused f) = refl
 outcome_told k m d (outcome.Breaks f) = refl
 
-told_keeps : (k : DescribedKind) (m : TalkMoment) (d : StatementDescription) → Keeps m.block (said_told k m.formats d (description_outcome None m.formats d)) (after_told k m d).block
+told_keeps : (k : DescribedKind) (m : TalkMoment) (d : StatementDescription) → Keeps m.block (said_told k (oids_told m) m.formats d (description_outcome None m.formats d)) (after_told k m d).block
 told_keeps k m d = outcome_told k m d (description_outcome None m.formats d)
 
 described_keeps : (t : TalkStage) (m : TalkMoment) (d : StatementDescription) → Keeps m.block (said_described t m d) (after_described t m d).block
 described_keeps stage.Describing m d =
     own_keeps m (runs_described m.want (record m { columns = columns_in d })) (description_outcome m.columns m.formats d) (ap seen_as (runs_block m.want (record m { columns = columns_in d })))
 described_keeps (stage.Telling k) m d = told_keeps k m d
+described_keeps (stage.Typing at c) m d = typing_seen (seen_as m.block) at c m d ∙ ap (λ (b : TalkBlock). Some (seen_as b)) (sym (typing_block at c m d))
 described_keeps (stage.TellingRow k x) m d = refl
 described_keeps (stage.TellingNothing k) m d = refl
 described_keeps (stage.Refusing f) m d = refl

@@ -34,14 +34,17 @@ use Rattle.postgres_talks.specs.declared.outcome.Outcome.{Outcome}
 use Rattle.postgres_talks.specs.declared.outcome.Outcome.TheVariants as outcome
 use Rattle.postgres_talks.specs.declared.requests.Request.{Request}
 use Rattle.postgres_talks.specs.declared.requests.Request.TheVariants as request
-use Rattle.postgres_talks.specs.Moments.{after_answer, after_failed, after_judging, after_outcome, after_refusing, after_reply, after_rolled_back, after_row_told, after_settling, after_standing, answer_said, asks, came_out, closes, closes_or_listens, head_told, headed_said, parameters_said, ran, said_answered, said_closing, said_described, said_emptying, said_failed, said_judging, said_opened, said_nothing_told, said_own, said_refusing, said_rolled_back, said_row_told, said_run, said_settling, said_standing, said_told, settled_columns, settled_head, settled_rows, settled_said, spares, table_said, warnings_said}
+use Rattle.postgres_talks.specs.Moments.{after_answer, after_failed, after_judging, after_outcome, after_refusing, after_reply, after_rolled_back, after_row_told, after_settling, after_standing, answer_said, asks, came_out, closes, closes_or_listens, head_told, headed_said, oids_told, parameters_said, ran, said_answered, said_closing, said_described, said_emptying, said_failed, said_judging, said_opened, said_nothing_told, said_own, said_refusing, said_rolled_back, said_row_told, said_run, said_settling, said_standing, said_told, settled_columns, settled_head, settled_rows, settled_said, spares, table_said, warnings_said}
 use Rattle.postgres_talks.specs.Outcomes.{commit_outcome, description_outcome, outcome_of, refusal, warning_of}
 use Rattle.postgres_talks.specs.Played.{Input, after_input, asked, bad, said_to_input, told}
 use Rattle.postgres_talks.specs.Requests.{fault_of, heeded, said_to_done, said_to_request, said_unless}
 use Rattle.postgres_talks.specs.Rows.{row_said, rows_said, select_tag}
-use Rattle.postgres_talks.specs.Sayings.{Saying, complete_said}
+use Rattle.std.specs.Prelude.{◌==◌, nat_lt, take}
+use Rattle.postgres_messages.specs.Backend.{portal_suspended}
+use Rattle.postgres_talks.specs.Sayings.{Saying, complete_said, message}
 use Rattle.postgres_talks.specs.Settled.{settled_row, settled_tag}
 use Rattle.postgres_talks.specs.Tags.{done_tag}
+use Rattle.postgres_talks.proofs.Typings.{typing_quiet}
 use Rattle.postgres_talks.specs.Units.{IsCommitAnswer, RollsBack, SaysError, is_error}
 
 -- ---- what says no error
@@ -75,17 +78,22 @@ quiet_headed : (columns : Option (List ResultColumn)) (rows : List (List Value))
 quiet_headed None rows = refl
 quiet_headed (Some columns) rows = quiet_all_rows [] rows
 
-quiet_table : (t : Mode) (fs : List ValueFormat) (columns : Option (List ResultColumn)) (rows : List (List Value)) → IsQuiet (table_said t fs columns rows)
-quiet_table mode.Query fs columns rows = quiet_headed columns rows
-quiet_table mode.Batch fs columns rows = quiet_all_rows fs rows
-quiet_table mode.Skipping fs columns rows = quiet_all_rows fs rows
+quiet_by : (all : Bool) (most : ℕ) (fs : List ValueFormat) (rows : List (List Value))
+    → IsQuiet (if all then rows_said fs rows else map (row_said fs) (take most rows) ++ message portal_suspended ∷ [])
+quiet_by true most fs rows = quiet_all_rows fs rows
+quiet_by false most fs rows = quiet_on (map (row_said fs) (take most rows)) (message portal_suspended ∷ []) (quiet_rows fs (take most rows)) refl
+
+quiet_table : (t : Mode) (most : ℕ) (fs : List ValueFormat) (columns : Option (List ResultColumn)) (rows : List (List Value)) → IsQuiet (table_said t most fs columns rows)
+quiet_table mode.Query most fs columns rows = quiet_headed columns rows
+quiet_table mode.Batch most fs columns rows = quiet_by (most == 0 || nat_lt (length rows) most) most fs rows
+quiet_table mode.Skipping most fs columns rows = quiet_by (most == 0 || nat_lt (length rows) most) most fs rows
 
 quiet_warnings : (w : Option Warning) (ys : List Saying) → IsQuiet ys → IsQuiet (warnings_said w ++ ys)
 quiet_warnings None ys quiet = quiet
 quiet_warnings (Some w) ys quiet = quiet
 
 quiet_answer : (m : TalkMoment) (a : Answer) → IsQuiet (answer_said m a)
-quiet_answer m (answer.Rows rows) = quiet_table m.mode m.formats m.columns rows
+quiet_answer m (answer.Rows rows) = quiet_table m.mode m.most m.formats m.columns rows
 quiet_answer m (answer.Done x count w) = quiet_warnings (warning_of m.block x w) (complete_said (done_tag x count) ∷ []) refl
 quiet_answer m (answer.Refused s) = refl
 
@@ -119,6 +127,7 @@ quiet_answered (stage.Failing f) m a = refl
 quiet_answered stage.Starting m a = refl
 quiet_answered stage.Ready m a = refl
 quiet_answered (stage.Telling k) m a = refl
+quiet_answered (stage.Typing at c) m a = refl
 quiet_answered (stage.TellingRow k x) m a = refl
 quiet_answered (stage.TellingNothing k) m a = refl
 quiet_answered stage.Describing m a = refl
@@ -129,22 +138,23 @@ quiet_answered (stage.Settling x) m a = refl
 quiet_answered stage.Emptying m a = refl
 quiet_answered stage.Ended m a = refl
 
-quiet_head_told : (k : DescribedKind) (fs : List ValueFormat) (d : StatementDescription) → IsQuiet (head_told k fs d)
-quiet_head_told named.Statement fs (description.Rows columns) = refl
-quiet_head_told named.Portal fs (description.Rows columns) = refl
-quiet_head_told named.Statement fs description.NoRows = refl
-quiet_head_told named.Portal fs description.NoRows = refl
-quiet_head_told named.Statement fs (description.Refused s) = refl
-quiet_head_told named.Portal fs (description.Refused s) = refl
+quiet_head_told : (k : DescribedKind) (oids : List ℕ) (fs : List ValueFormat) (d : StatementDescription) → IsQuiet (head_told k oids fs d)
+quiet_head_told named.Statement oids fs (description.Rows columns) = refl
+quiet_head_told named.Portal oids fs (description.Rows columns) = refl
+quiet_head_told named.Statement oids fs description.NoRows = refl
+quiet_head_told named.Portal oids fs description.NoRows = refl
+quiet_head_told named.Statement oids fs (description.Refused s) = refl
+quiet_head_told named.Portal oids fs (description.Refused s) = refl
 
-quiet_told : (k : DescribedKind) (fs : List ValueFormat) (d : StatementDescription) (o : Outcome) → IsQuiet (said_told k fs d o)
-quiet_told k fs d outcome.Done = quiet_head_told k fs d
-quiet_told k fs d (outcome.Refused f) = refl
-quiet_told k fs d (outcome.Breaks f) = refl
+quiet_told : (k : DescribedKind) (oids : List ℕ) (fs : List ValueFormat) (d : StatementDescription) (o : Outcome) → IsQuiet (said_told k oids fs d o)
+quiet_told k oids fs d outcome.Done = quiet_head_told k oids fs d
+quiet_told k oids fs d (outcome.Refused f) = refl
+quiet_told k oids fs d (outcome.Breaks f) = refl
 
 quiet_described : (s : TalkStage) (m : TalkMoment) (d : StatementDescription) → IsQuiet (said_described s m d)
 quiet_described stage.Describing m d = quiet_own (description_outcome m.columns m.formats d)
-quiet_described (stage.Telling k) m d = quiet_told k m.formats d (description_outcome None m.formats d)
+quiet_described (stage.Typing at c) m d = typing_quiet at c m d
+quiet_described (stage.Telling k) m d = quiet_told k (oids_told m) m.formats d (description_outcome None m.formats d)
 quiet_described (stage.TellingRow k x) m d = refl
 quiet_described (stage.TellingNothing k) m d = refl
 quiet_described stage.Opening m d = refl
@@ -167,8 +177,9 @@ quiet_done request.Encryption = refl
 quiet_done (request.Login role) = refl
 quiet_done (request.Statements pieces) = refl
 quiet_done (request.Prepare name p) = refl
-quiet_done (request.Bind name prepared count fs) = refl
-quiet_done (request.Execute name) = refl
+quiet_done (request.PrepareTemplate name t) = refl
+quiet_done (request.Bind name prepared bound fs) = refl
+quiet_done (request.Execute name n) = refl
 quiet_done (request.DescribeStatement name) = refl
 quiet_done (request.DescribePortal name) = refl
 quiet_done (request.CloseStatement name) = refl
@@ -245,21 +256,21 @@ quiet_closing : (s : Option BlockStanding) → IsQuiet (said_closing s)
 quiet_closing None = refl
 quiet_closing (Some s) = refl
 
-quiet_row_told : (k : DescribedKind) (f : ValueFormat) (r : Option (List ℕ × List ℕ)) → IsQuiet (parameters_said k ++ settled_head f r)
-quiet_row_told named.Statement f r = quiet_head f r
-quiet_row_told named.Portal f r = quiet_head f r
+quiet_row_told : (k : DescribedKind) (oids : List ℕ) (f : ValueFormat) (r : Option (List ℕ × List ℕ)) → IsQuiet (parameters_said k oids ++ settled_head f r)
+quiet_row_told named.Statement oids f r = quiet_head f r
+quiet_row_told named.Portal oids f r = quiet_head f r
 
 row_told_rolls : (k : DescribedKind) (f : ValueFormat) (x : Settled) (m : TalkMoment) (s : Option BlockStanding) → m.block ≡ block.Implicit
-    → SaysError (said_row_told k m.block m.mode f x s) → RollsBack (after_row_told m s)
-row_told_rolls k f x m None is says = absurd (no_error (said_row_told k m.block m.mode f x None) refl says)
+    → SaysError (said_row_told k (oids_told m) m.block m.mode f x s) → RollsBack (after_row_told m s)
+row_told_rolls k f x m None is says = absurd (no_error (said_row_told k (oids_told m) m.block m.mode f x None) refl says)
 row_told_rolls k f x m (Some standing.Failed) is says = failed_rolls (fault.Refused state.InFailedTransaction) m is
-row_told_rolls k f x m (Some standing.Inside) is says = absurd (no_error (parameters_said k ++ settled_head f (settled_row x)) (quiet_row_told k f (settled_row x)) says)
-row_told_rolls k f x m (Some standing.Outside) is says = absurd (no_error (parameters_said k ++ settled_head f (settled_row x)) (quiet_row_told k f (settled_row x)) says)
+row_told_rolls k f x m (Some standing.Inside) is says = absurd (no_error (parameters_said k (oids_told m) ++ settled_head f (settled_row x)) (quiet_row_told k (oids_told m) f (settled_row x)) says)
+row_told_rolls k f x m (Some standing.Outside) is says = absurd (no_error (parameters_said k (oids_told m) ++ settled_head f (settled_row x)) (quiet_row_told k (oids_told m) f (settled_row x)) says)
 
-quiet_nothing_told : (k : DescribedKind) (s : Option BlockStanding) → IsQuiet (said_nothing_told k s)
-quiet_nothing_told k None = refl
-quiet_nothing_told named.Statement (Some s) = refl
-quiet_nothing_told named.Portal (Some s) = refl
+quiet_nothing_told : (k : DescribedKind) (oids : List ℕ) (s : Option BlockStanding) → IsQuiet (said_nothing_told k oids s)
+quiet_nothing_told k oids None = refl
+quiet_nothing_told named.Statement oids (Some s) = refl
+quiet_nothing_told named.Portal oids (Some s) = refl
 
 standing_rolls : (t : TalkStage) (m : TalkMoment) (s : Option BlockStanding) → m.block ≡ block.Implicit
     → SaysError (said_standing t m s) → RollsBack (after_standing t m s)
@@ -271,8 +282,9 @@ standing_rolls stage.Emptying m s is says = absurd (no_error (said_emptying s) (
 standing_rolls stage.Starting m s is says = absurd (no_error [] refl says)
 standing_rolls stage.Opening m s is says = absurd (no_error [] refl says)
 standing_rolls (stage.TellingRow k x) m s is says = row_told_rolls k (next_format m.formats) x m s is says
-standing_rolls (stage.TellingNothing k) m s is says = absurd (no_error (said_nothing_told k s) (quiet_nothing_told k s) says)
+standing_rolls (stage.TellingNothing k) m s is says = absurd (no_error (said_nothing_told k (oids_told m) s) (quiet_nothing_told k (oids_told m) s) says)
 standing_rolls (stage.Telling k) m s is says = absurd (no_error [] refl says)
+standing_rolls (stage.Typing at c) m s is says = absurd (no_error [] refl says)
 standing_rolls stage.Ready m s is says = absurd (no_error [] refl says)
 standing_rolls stage.Describing m s is says = absurd (no_error [] refl says)
 standing_rolls stage.Beginning m s is says = absurd (no_error [] refl says)

@@ -1,6 +1,6 @@
 -- Blocks as a client sees them, by what is said to it.
 use Rattle.std.specs.Prelude.{ℕ, Bool, false, if◌then◌else◌, List, [], ◌∷◌, codes, bytes_eq, Option, Some, None, option_and_then}
-use Rattle.postgres_messages.specs.Backend.{TheReply, command_complete, error_response, row_description, data_row}
+use Rattle.postgres_messages.specs.Backend.{TheReply, command_complete, error_response, row_description, data_row, portal_suspended}
 use Rattle.postgres_messages.specs.declared.backend.Severity.{Severity}
 use Rattle.postgres_messages.specs.declared.backend.Severity.TheVariants.{Error}
 use Rattle.postgres_talks.specs.declared.fault.TalkFault.TheVariants as fault
@@ -58,6 +58,7 @@ abbrev pub IsOfAnswer : Saying → Type 0
 IsOfAnswer (message (command_complete tag)) = Unit {0}
 IsOfAnswer (message (row_description columns)) = Unit {0}
 IsOfAnswer (message (data_row values)) = Unit {0}
+IsOfAnswer (message portal_suspended) = Unit {0}
 IsOfAnswer s = ⊥
 
 -- a message that an error in a batch lets pass

@@ -7,6 +7,10 @@ pub mod Settled
 pub mod Pieces
 pub mod Named
 pub mod Outcomes
+pub mod Parameters
+pub mod ParameterViews
+pub mod Steps
+pub mod Typing
 pub mod Moments
 pub mod Requests
 pub mod Talks

@@ -6,7 +6,6 @@ use Rattle.sql_ast.specs.declared.description.StatementDescription.TheVariants a
 use Rattle.sql_types.specs.declared.value.Value.{Value}
 use Rattle.sql_types.specs.declared.answer.Answer.{Answer}
 use Rattle.sql_types.specs.declared.answer.Answer.TheVariants as answer
-use Rattle.sql_types.specs.declared.event.Event.TheVariants as event
 use Rattle.sql_types.specs.declared.state.SqlState.TheVariants.{ConnectionDoesNotExist, InFailedTransaction}
 use Rattle.sql_types.specs.declared.tag.Tag.{Tag}
 use Rattle.sql_types.specs.declared.tag.Tag.TheVariants as tag
@@ -22,6 +21,7 @@ use Rattle.postgres_messages.specs.declared.backend.DataType.TheVariants as data
 use Rattle.postgres_messages.specs.declared.backend.ValueFormat.{ValueFormat}
 use Rattle.postgres_messages.specs.declared.backend.ValueFormat.TheVariants as format
 use Rattle.postgres_talks.specs.Formats.{next_format}
+use Rattle.statement_parameters.specs.Types.{oid_of}
 use Rattle.postgres_texts.specs.declared.settings.SessionSetting.{SessionSetting}
 use Rattle.postgres_texts.specs.declared.settings.SessionSetting.TheVariants as setting
 use Rattle.postgres_texts.specs.Settings.{name_of, initial_value}
@@ -37,6 +37,7 @@ use Rattle.postgres_talks.specs.declared.moment.TalkStage.{TalkStage}
 use Rattle.postgres_talks.specs.declared.moment.TalkStage.TheVariants as stage
 use Rattle.postgres_talks.specs.declared.moment.TalkMoment.{TalkMoment}
 use Rattle.postgres_talks.specs.declared.named_pieces.NamedPiece.{NamedPiece}
+use Rattle.postgres_talks.specs.declared.parameters.TypedTemplate.{TypedTemplate}
 use Rattle.postgres_talks.specs.declared.piece.StatementPiece.{StatementPiece}
 use Rattle.postgres_talks.specs.declared.piece.StatementPiece.TheVariants as piece
 use Rattle.postgres_talks.specs.declared.settled.Settled.{Settled}
@@ -44,36 +45,18 @@ use Rattle.postgres_talks.specs.declared.outcome.Outcome.{Outcome}
 use Rattle.postgres_talks.specs.declared.outcome.Outcome.TheVariants as outcome
 use Rattle.postgres_talks.specs.Outcomes.{commit_outcome, description_outcome, outcome_of, run_outcome, warning_of}
 use Rattle.postgres_talks.specs.Sayings.{Saying, message, error_said, fatal_said, warning_said, ready_said, complete_said}
-use Rattle.postgres_talks.specs.Rows.{columns_said, rows_said}
-use Rattle.postgres_talks.specs.Named.{tell}
+use Rattle.postgres_talks.specs.Rows.{columns_said, limited_said, rows_said}
+use Rattle.postgres_talks.specs.Named.{find, tell}
 use Rattle.postgres_talks.specs.Settled.{settled_tag, settled_row}
 use Rattle.postgres_talks.specs.Tags.{done_tag}
+pub use Rattle.postgres_talks.specs.Steps.{asks, describes, looks, listens, ends}
+use Rattle.postgres_talks.specs.Typing.{after_typing, said_typing, template_in}
 
 -- nothing was heard
 abbrev pub first_moment : ℕ → TalkMoment
-first_moment process = record { process = process; stage = stage.Starting; block = block.Outside; mode = mode.Query; left = []; columns = None; formats = []; name = []; statements = []; portals = []; want = want.Message }
+first_moment process = record { process = process; stage = stage.Starting; block = block.Outside; mode = mode.Query; left = []; columns = None; formats = []; most = 0; name = []; statements = []; portals = []; want = want.Message }
 
 -- ---- where it goes
-
--- the event of this text is wanted; the session of a connection has the number 1
-abbrev pub asks : TalkStage → List ℕ → TalkMoment → TalkMoment
-asks s text m = record m { stage = s; want = want.Event (event.Statement 1 text) }
-
--- it is wanted what the statement of this text would answer
-abbrev pub describes : TalkStage → List ℕ → TalkMoment → TalkMoment
-describes s text m = record m { stage = s; want = want.Description 1 text }
-
--- it is wanted how the block stands
-abbrev pub looks : TalkStage → TalkMoment → TalkMoment
-looks s m = record m { stage = s; want = want.Standing 1 }
-
--- the next message is wanted
-abbrev pub listens : TalkMoment → TalkMoment
-listens m = record m { stage = stage.Ready; want = want.Message }
-
--- the end of the connection is wanted
-abbrev pub ends : TalkMoment → TalkMoment
-ends m = record m { stage = stage.Ended; want = want.End false }
 
 -- Several statements outside a block are one block, which is begun before them and committed behind them; so are those of a batch. One that stands
 -- alone is one event.
@@ -171,13 +154,13 @@ abbrev pub headed_said : Option (List ResultColumn) → List (List Value) → Li
 headed_said None rows = []
 headed_said (Some columns) rows = columns_said [] columns ∷ rows_said [] rows
 
-abbrev pub table_said : Mode → List ValueFormat → Option (List ResultColumn) → List (List Value) → List Saying
-table_said mode.Query fs columns rows = headed_said columns rows
-table_said t fs columns rows = rows_said fs rows
+abbrev pub table_said : Mode → ℕ → List ValueFormat → Option (List ResultColumn) → List (List Value) → List Saying
+table_said mode.Query most fs columns rows = headed_said columns rows
+table_said t most fs columns rows = limited_said most fs rows
 
 -- what is said of an answer that is no refusal
 abbrev pub answer_said : TalkMoment → Answer → List Saying
-answer_said m (answer.Rows rows) = table_said m.mode m.formats m.columns rows
+answer_said m (answer.Rows rows) = table_said m.mode m.most m.formats m.columns rows
 answer_said m (answer.Done t count w) = warnings_said (warning_of m.block t w) ++ complete_said (done_tag t count) ∷ []
 answer_said m (answer.Refused s) = []
 
@@ -266,23 +249,32 @@ after_answer s m a = ends m
 
 -- ---- descriptions
 
--- a statement that is described has no parameters
-abbrev pub parameters_said : DescribedKind → List Saying
-parameters_said named.Statement = message (parameter_description []) ∷ []
-parameters_said named.Portal = []
+-- the numbers of the types of a statement's parameters
+abbrev pub oids_of : Option TypedTemplate → List ℕ
+oids_of None = []
+oids_of (Some t) = map oid_of t.types
+
+-- of what is described
+abbrev pub oids_told : TalkMoment → List ℕ
+oids_told m = oids_of (template_in (find m.name m.statements))
+
+abbrev pub parameters_said : DescribedKind → List ℕ → List Saying
+parameters_said named.Statement oids = message (parameter_description oids) ∷ []
+parameters_said named.Portal oids = []
 
 -- to Describe
-abbrev pub head_told : DescribedKind → List ValueFormat → StatementDescription → List Saying
-head_told k fs (description.Rows columns) = parameters_said k ++ columns_said fs columns ∷ []
-head_told k fs d = parameters_said k ++ message no_data ∷ []
+abbrev pub head_told : DescribedKind → List ℕ → List ValueFormat → StatementDescription → List Saying
+head_told k oids fs (description.Rows columns) = parameters_said k oids ++ columns_said fs columns ∷ []
+head_told k oids fs d = parameters_said k oids ++ message no_data ∷ []
 
-abbrev pub said_told : DescribedKind → List ValueFormat → StatementDescription → Outcome → List Saying
-said_told k fs d outcome.Done = head_told k fs d
-said_told k fs d o = said_own o
+abbrev pub said_told : DescribedKind → List ℕ → List ValueFormat → StatementDescription → Outcome → List Saying
+said_told k oids fs d outcome.Done = head_told k oids fs d
+said_told k oids fs d o = said_own o
 
 abbrev pub said_described : TalkStage → TalkMoment → StatementDescription → List Saying
 said_described stage.Describing m d = said_own (description_outcome m.columns m.formats d)
-said_described (stage.Telling k) m d = said_told k m.formats d (description_outcome None m.formats d)
+said_described (stage.Telling k) m d = said_told k (oids_told m) m.formats d (description_outcome None m.formats d)
+said_described (stage.Typing at c) m d = said_typing at c m d
 said_described s m d = []
 
 -- the columns that it tells, if it tells some
@@ -309,6 +301,7 @@ after_described_run m d = after_outcome (description_outcome m.columns m.formats
 abbrev pub after_described : TalkStage → TalkMoment → StatementDescription → TalkMoment
 after_described stage.Describing m d = after_described_run m d
 after_described (stage.Telling k) m d = after_told k m d
+after_described (stage.Typing at c) m d = after_typing at c m d
 after_described s m d = ends m
 
 -- ---- how the block stands
@@ -394,19 +387,19 @@ after_settling m (Some standing.Failed) = after_failed m.block (fault.Refused In
 after_settling m (Some s) = goes_on m
 
 -- Describe of what needs no machine: in a block that has failed it tells no columns
-abbrev pub said_row_told : DescribedKind → TalkBlock → Mode → ValueFormat → Settled → Option BlockStanding → List Saying
-said_row_told k b t f x None = fatal_said (fault.Refused ConnectionDoesNotExist) ∷ []
-said_row_told k b t f x (Some standing.Failed) = said_failed b t (fault.Refused InFailedTransaction) standing.Failed
-said_row_told k b t f x (Some s) = parameters_said k ++ settled_head f (settled_row x)
+abbrev pub said_row_told : DescribedKind → List ℕ → TalkBlock → Mode → ValueFormat → Settled → Option BlockStanding → List Saying
+said_row_told k oids b t f x None = fatal_said (fault.Refused ConnectionDoesNotExist) ∷ []
+said_row_told k oids b t f x (Some standing.Failed) = said_failed b t (fault.Refused InFailedTransaction) standing.Failed
+said_row_told k oids b t f x (Some s) = parameters_said k oids ++ settled_head f (settled_row x)
 
 abbrev pub after_row_told : TalkMoment → Option BlockStanding → TalkMoment
 after_row_told m None = ends m
 after_row_told m (Some standing.Failed) = after_failed m.block (fault.Refused InFailedTransaction) m
 after_row_told m (Some s) = listens m
 
-abbrev pub said_nothing_told : DescribedKind → Option BlockStanding → List Saying
-said_nothing_told k None = fatal_said (fault.Refused ConnectionDoesNotExist) ∷ []
-said_nothing_told k (Some s) = parameters_said k ++ message no_data ∷ []
+abbrev pub said_nothing_told : DescribedKind → List ℕ → Option BlockStanding → List Saying
+said_nothing_told k oids None = fatal_said (fault.Refused ConnectionDoesNotExist) ∷ []
+said_nothing_told k oids (Some s) = parameters_said k oids ++ message no_data ∷ []
 
 abbrev pub said_emptying : Option BlockStanding → List Saying
 said_emptying None = fatal_said (fault.Refused ConnectionDoesNotExist) ∷ []
@@ -422,8 +415,8 @@ said_standing (stage.Judging f) m s = said_judging m.block m.mode f s
 said_standing stage.Closing m s = said_closing s
 said_standing (stage.Settling x) m s = said_settling m.block m.mode x s
 said_standing stage.Emptying m s = said_emptying s
-said_standing (stage.TellingRow k x) m s = said_row_told k m.block m.mode (next_format m.formats) x s
-said_standing (stage.TellingNothing k) m s = said_nothing_told k s
+said_standing (stage.TellingRow k x) m s = said_row_told k (oids_told m) m.block m.mode (next_format m.formats) x s
+said_standing (stage.TellingNothing k) m s = said_nothing_told k (oids_told m) s
 said_standing t m s = []
 
 abbrev pub after_standing : TalkStage → TalkMoment → Option BlockStanding → TalkMoment

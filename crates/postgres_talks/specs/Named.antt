@@ -1,8 +1,10 @@
 -- Statements under names.
-use Rattle.std.specs.Prelude.{ℕ, not, if◌then◌else◌, List, [], ◌∷◌, ◌++◌, filter, bytes_eq, Option, Some, None}
+use Rattle.std.specs.Prelude.{ℕ, not, if◌then◌else◌, List, [], ◌∷◌, ◌++◌, filter, bytes_eq, Option, Some, None, Result, Ok}
 use Rattle.postgres_messages.specs.declared.backend.ValueFormat.{ValueFormat}
 use Rattle.sql_ast.specs.declared.description.ResultColumn.{ResultColumn}
+use Rattle.postgres_talks.specs.declared.fault.TalkFault.{TalkFault}
 use Rattle.postgres_talks.specs.declared.named_pieces.NamedPiece.{NamedPiece}
+use Rattle.postgres_talks.specs.declared.piece.StatementPiece.{StatementPiece}
 
 -- the first of a name
 abbrev pub find : List ℕ → List NamedPiece → Option NamedPiece
@@ -23,7 +25,7 @@ tell_found (Some n) columns ns = put (record n { columns = columns }) ns
 abbrev pub tell : List ℕ → Option (List ResultColumn) → List NamedPiece → List NamedPiece
 tell name columns ns = tell_found (find name ns) columns ns
 
--- under another name, with these formats
-abbrev pub put_found : List ℕ → List ValueFormat → Option NamedPiece → List NamedPiece → List NamedPiece
-put_found name fs None ns = ns
-put_found name fs (Some n) ns = put (record n { name = name; formats = fs }) ns
+-- what values make of it, under another name, with these formats
+abbrev pub put_bound : List ℕ → List ValueFormat → Result StatementPiece TalkFault → Option NamedPiece → List NamedPiece → List NamedPiece
+put_bound name fs (Ok p) (Some n) ns = put (record n { name = name; piece = p; formats = fs; parameters = None }) ns
+put_bound name fs r found ns = ns

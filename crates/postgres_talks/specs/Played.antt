@@ -42,7 +42,7 @@ after_all m (i ∷ is) = after_all (after_input m i) is
 abbrev pub TakesIn : TalkMoment → List ℕ → List Learnt → List ℕ → List Input → Type 0
 TakesIn m bytes xs rest [] = (xs ≡ []) × (rest ≡ bytes)
 TakesIn m bytes xs rest (asked r ∷ is) = (n : ℕ) × (m.want ≡ want.Message) × (front_of m.stage bytes ≡ Whole n)
-    × IsRequest m.stage (take n bytes) r × TakesIn (after_request r m) (drop n bytes) xs rest is
+    × IsRequest m (take n bytes) r × TakesIn (after_request r m) (drop n bytes) xs rest is
 TakesIn m bytes xs rest (bad ∷ is) = (m.want ≡ want.Message) × (front_of m.stage bytes ≡ Bad) × TakesIn (ends m) bytes xs rest is
 TakesIn m bytes [] rest (told r ∷ is) = ⊥
 TakesIn m bytes (x ∷ xs) rest (told r ∷ is) = (m.want ≡ x.want) × FitsWant x.want r × (x.reply ≡ r) × TakesIn (after_reply m r) bytes xs rest is

@@ -1,11 +1,18 @@
 -- What a message of a client asks, and what is said to it.
-use Rattle.std.specs.Prelude.{◌≡◌, ◌&&◌, ◌==◌, ℕ, Bool, true, false, nat_lt, nat_le, is_some, if◌then◌else◌, List, [], ◌∷◌, length, map, codes, bytes_eq, Option, Some, None}
+use Rattle.std.specs.Prelude.{◌≡◌, ◌&&◌, ◌==◌, ℕ, Bool, true, false, nat_lt, nat_le, is_some, if◌then◌else◌, List, [], ◌∷◌, length, map, codes, bytes_eq, Option, Some, None, Result, Ok, Err}
 use Rattle.std.specs.Str.{is_utf8}
 use Rattle.sql_ast.specs.declared.description.ResultColumn.{ResultColumn}
 use Rattle.sql_types.specs.declared.state.SqlState.TheVariants.{InvalidAuthorization, ProgramLimitExceeded, ProtocolViolation}
 use Rattle.postgres_messages.specs.Backend.{bind_complete, close_complete, parse_complete}
 use Rattle.postgres_messages.specs.Frontend.{TheMessage, statement, portal, TheBinding, bind, close, copy_data, copy_done, copy_fail, describe, execute, flush, parse, password, query, sync, terminate, SpellsMessage, is_text}
 use Rattle.postgres_messages.specs.Start.{TheParameter, TheStart, cancel_request, gss_request, ssl_request, startup, other_version, SpellsStart}
+use Rattle.statement_parameters.specs.declared.fault.TemplateFault.{TemplateFault}
+use Rattle.statement_parameters.specs.declared.fault.TemplateFault.TheVariants as unread
+use Rattle.statement_parameters.specs.declared.types.ParameterKind.TheVariants as kind
+use Rattle.statement_parameters.specs.declared.types.ParameterType.{ParameterType}
+use Rattle.statement_parameters.specs.Masks.{is_plain}
+use Rattle.statement_parameters.specs.Samples.{sample_text}
+use Rattle.statement_parameters.specs.Templates.{Fragment, IsTemplateReading, parameter_count}
 use Rattle.talks.specs.declared.want.SessionEntry.{SessionEntry}
 use Rattle.talks.specs.declared.want.Way.TheVariants as way
 use Rattle.talks.specs.declared.want.Want.TheVariants as want
@@ -18,6 +25,7 @@ use Rattle.postgres_talks.specs.declared.moment.TalkStage.{TalkStage}
 use Rattle.postgres_talks.specs.declared.moment.TalkStage.TheVariants as stage
 use Rattle.postgres_talks.specs.declared.moment.TalkMoment.{TalkMoment}
 use Rattle.postgres_talks.specs.declared.named_pieces.NamedPiece.{NamedPiece}
+use Rattle.postgres_talks.specs.declared.parameters.TypedTemplate.{TypedTemplate}
 use Rattle.postgres_talks.specs.declared.piece.StatementPiece.{StatementPiece}
 use Rattle.postgres_talks.specs.declared.piece.StatementPiece.TheVariants as piece
 use Rattle.postgres_talks.specs.declared.requests.Request.{Request}
@@ -27,8 +35,10 @@ use Rattle.postgres_talks.specs.Moments.{describes_found, looks, ends, finishes,
 use Rattle.postgres_messages.specs.declared.backend.ValueFormat.{ValueFormat}
 use Rattle.postgres_talks.specs.Formats.{are_format_codes, are_formats_for, format_of}
 use Rattle.postgres_talks.specs.Settled.{settled_row}
-use Rattle.postgres_talks.specs.Named.{find, put, put_found, without}
+use Rattle.postgres_talks.specs.Named.{find, put, put_bound, without}
+use Rattle.postgres_talks.specs.Parameters.{IsBoundPiece, declared_types, takes_values, type_count}
 use Rattle.postgres_talks.specs.Pieces.{ArePiecesOf}
+use Rattle.postgres_talks.specs.Typing.{begins_typing, new_template}
 
 -- bytes that are no message
 abbrev pub broken : Request
@@ -63,8 +73,9 @@ pub data IsStartRequest (bytes : List ℕ) : Request → Type 0 where
 
 -- ---- messages
 
-abbrev pub bind_request : List ℕ → List ℕ → TheBinding → Request
-bind_request p s b = if are_format_codes b.results then request.Bind p s (length b.values) (map format_of b.results) else request.Fails mode.Batch fault.UnknownFormat
+-- how many rows are asked for at most: 0, and a number below zero, stand for all
+abbrev pub row_limit : ℕ → ℕ
+row_limit n = if nat_lt n 2147483648 then n else 0
 
 -- what a message asks that has no text
 abbrev pub plain_request : TheMessage → Request
@@ -75,24 +86,89 @@ plain_request (copy_data body) = request.Nothing
 plain_request (copy_done body) = request.Nothing
 plain_request (copy_fail body) = request.Nothing
 plain_request (password body) = broken
-plain_request (bind p s b) = bind_request p s b
-plain_request (execute p n) = if n == 0 then request.Execute p else request.Fails mode.Batch fault.Unsupported
+plain_request (execute p n) = request.Execute p (row_limit n)
 plain_request (close (statement name)) = request.CloseStatement name
 plain_request (close (portal name)) = request.ClosePortal name
 plain_request (describe (statement name)) = request.DescribeStatement name
 plain_request (describe (portal name)) = request.DescribePortal name
 plain_request m = request.Fails mode.Query fault.Unsupported
 
+-- ---- statements that are prepared
+
 -- one statement is prepared
 abbrev pub prepare_request : List ℕ → List StatementPiece → Request
 prepare_request name (p ∷ []) = request.Prepare name p
 prepare_request name ps = request.Fails mode.Batch fault.SeveralStatements
 
--- what a message asks: what the statements of a text are, or what its kind asks
-abbrev pub IsAskedBy : TheMessage → Request → Type 0
-IsAskedBy (query text) r = (pieces : List StatementPiece) × ArePiecesOf text pieces × (r ≡ request.Statements pieces)
-IsAskedBy (parse name text types) r = (pieces : List StatementPiece) × ArePiecesOf text pieces × (r ≡ prepare_request name pieces)
-IsAskedBy m r = r ≡ plain_request m
+-- one that has parameters is kept unless it is known already to be refused
+abbrev pub template_request : List ℕ → TypedTemplate → List StatementPiece → Request
+template_request name t (piece.Faulty f ∷ []) = request.Fails mode.Batch f
+template_request name t (p ∷ []) = request.PrepareTemplate name t
+template_request name t ps = request.Fails mode.Batch fault.SeveralStatements
+
+-- what it is, with a sample of each type that is declared
+abbrev pub IsSampledParse : List ℕ → TypedTemplate → Option (List ℕ) → Request → Type 0
+IsSampledParse name t None r = r ≡ request.Fails mode.Batch (fault.Refused ProgramLimitExceeded)
+IsSampledParse name t (Some text) r = (pieces : List StatementPiece) × ArePiecesOf text pieces × (r ≡ template_request name t pieces)
+
+abbrev pub IsTypedParse : List ℕ → List Fragment → Option (List ParameterType) → Request → Type 0
+IsTypedParse name t None r = r ≡ request.Fails mode.Batch fault.UnknownType
+IsTypedParse name t (Some types) r =
+    IsSampledParse name (record { template = t; types = types }) (sample_text (length types) kind.Text types t) r
+
+-- there are at most 4096
+abbrev pub template_fault : List Fragment → List ℕ → Option TalkFault
+template_fault t oids =
+    if takes_values t then (if nat_le (type_count t oids) 4096 then None else Some (fault.Refused ProgramLimitExceeded))
+    else Some fault.UnknownParameter
+
+abbrev pub IsTemplateParse : Option TalkFault → List ℕ → List Fragment → List ℕ → Request → Type 0
+IsTemplateParse (Some f) name t oids r = r ≡ request.Fails mode.Batch f
+IsTemplateParse None name t oids r = IsTypedParse name t (declared_types t oids) r
+
+abbrev pub IsPlainParse : List ℕ → List ℕ → Request → Type 0
+IsPlainParse name text r = (pieces : List StatementPiece) × ArePiecesOf text pieces × (r ≡ prepare_request name pieces)
+
+-- a text without parameters is one of the language
+abbrev pub IsCountedParse : Bool → List ℕ → List ℕ → List Fragment → List ℕ → Request → Type 0
+IsCountedParse true name text t oids r = IsPlainParse name text r
+IsCountedParse false name text t oids r = IsTemplateParse (template_fault t oids) name t oids r
+
+abbrev pub IsParseOf : Result (List Fragment) TemplateFault → List ℕ → List ℕ → List ℕ → Request → Type 0
+IsParseOf (Ok t) name text oids r = IsCountedParse (parameter_count t == 0) name text t oids r
+IsParseOf (Err unread.UnknownParameter) name text oids r = r ≡ request.Fails mode.Batch fault.UnknownParameter
+IsParseOf (Err f) name text oids r = IsPlainParse name text r
+
+abbrev pub IsReadParse : List ℕ → List ℕ → List ℕ → Request → Type 0
+IsReadParse name text oids r = (read : Result (List Fragment) TemplateFault) × IsTemplateReading text read × IsParseOf read name text oids r
+
+-- a plain text has none
+abbrev pub IsParseBy : Bool → List ℕ → List ℕ → List ℕ → Request → Type 0
+IsParseBy true name text oids r = IsPlainParse name text r
+IsParseBy false name text oids r = IsReadParse name text oids r
+
+abbrev pub IsParse : List ℕ → List ℕ → List ℕ → Request → Type 0
+IsParse name text oids r = IsParseBy (is_plain text) name text oids r
+
+-- ---- statements that are bound
+
+abbrev pub IsBindOf : Option NamedPiece → List ℕ → List ℕ → TheBinding → Request → Type 0
+IsBindOf found p s b r = (bound : Result StatementPiece TalkFault) × IsBoundPiece found b bound × (r ≡ request.Bind p s bound (map format_of b.results))
+
+abbrev pub IsBindBy : Bool → Option NamedPiece → List ℕ → List ℕ → TheBinding → Request → Type 0
+IsBindBy true found p s b r = IsBindOf found p s b r
+IsBindBy false found p s b r = r ≡ request.Fails mode.Batch fault.UnknownFormat
+
+-- in formats that there are
+abbrev pub IsBind : List NamedPiece → List ℕ → List ℕ → TheBinding → Request → Type 0
+IsBind ns p s b r = IsBindBy (are_format_codes b.results) (find s ns) p s b r
+
+-- what a message asks, where these statements were prepared
+abbrev pub IsAskedBy : List NamedPiece → TheMessage → Request → Type 0
+IsAskedBy ns (query text) r = (pieces : List StatementPiece) × ArePiecesOf text pieces × (r ≡ request.Statements pieces)
+IsAskedBy ns (parse name text oids) r = IsParse name text oids r
+IsAskedBy ns (bind p s b) r = IsBind ns p s b r
+IsAskedBy ns m r = r ≡ plain_request m
 
 -- by what rules a message is answered, by its first byte: Q is a simple query
 abbrev pub mode_of : List ℕ → Mode
@@ -100,15 +176,18 @@ mode_of [] = mode.Batch
 mode_of (b ∷ bs) = if b == 81 then mode.Query else mode.Batch
 
 -- what the bytes of a message ask
-pub data IsMessageRequest (bytes : List ℕ) : Request → Type 0 where
-  a_message : {r : Request} (m : TheMessage) → SpellsMessage bytes m → is_text m ≡ true → IsAskedBy m r → IsMessageRequest bytes r
-  no_text : (m : TheMessage) → SpellsMessage bytes m → is_text m ≡ false → IsMessageRequest bytes (request.Fails (mode_of bytes) fault.NotText)
-  no_message : ((m : TheMessage) → SpellsMessage bytes m → ⊥) → IsMessageRequest bytes broken
+pub data IsMessageRequest (ns : List NamedPiece) (bytes : List ℕ) : Request → Type 0 where
+  a_message : {r : Request} (m : TheMessage) → SpellsMessage bytes m → is_text m ≡ true → IsAskedBy ns m r → IsMessageRequest ns bytes r
+  no_text : (m : TheMessage) → SpellsMessage bytes m → is_text m ≡ false → IsMessageRequest ns bytes (request.Fails (mode_of bytes) fault.NotText)
+  no_message : ((m : TheMessage) → SpellsMessage bytes m → ⊥) → IsMessageRequest ns bytes broken
+
+abbrev pub IsRequestAt : TalkStage → List NamedPiece → List ℕ → Request → Type 0
+IsRequestAt stage.Starting ns bytes r = IsStartRequest bytes r
+IsRequestAt s ns bytes r = IsMessageRequest ns bytes r
 
 -- by how the connection stands
-abbrev pub IsRequest : TalkStage → List ℕ → Request → Type 0
-IsRequest stage.Starting bytes r = IsStartRequest bytes r
-IsRequest s bytes r = IsMessageRequest bytes r
+abbrev pub IsRequest : TalkMoment → List ℕ → Request → Type 0
+IsRequest m bytes r = IsRequestAt m.stage m.statements bytes r
 
 -- ---- what is said to a request
 
@@ -135,8 +214,13 @@ is_taken name ns = is_some (find name ns)
 abbrev pub prepare_fault : List ℕ → List NamedPiece → Option TalkFault
 prepare_fault name ns = if is_taken name ns then Some fault.StatementExists else (if nat_le 512 (length ns) then Some (fault.Refused ProgramLimitExceeded) else None)
 
-abbrev pub bind_fault : List ℕ → ℕ → List NamedPiece → Option TalkFault
-bind_fault name count ns = if is_taken name ns then Some fault.PortalExists else (if count == 0 then (if nat_le 64 (length ns) then Some (fault.Refused ProgramLimitExceeded) else None) else Some fault.OtherCount)
+-- why what was bound is none, or why there is no place for it
+abbrev pub bound_fault : Result StatementPiece TalkFault → ℕ → Option TalkFault
+bound_fault (Err f) portals = Some f
+bound_fault (Ok p) portals = if nat_le 64 portals then Some (fault.Refused ProgramLimitExceeded) else None
+
+abbrev pub bind_fault : List ℕ → Result StatementPiece TalkFault → List NamedPiece → Option TalkFault
+bind_fault name bound ns = if is_taken name ns then Some fault.PortalExists else bound_fault bound (length ns)
 
 abbrev pub if_found : Option NamedPiece → TalkFault → Option TalkFault → Option TalkFault
 if_found None missing others = Some missing
@@ -171,8 +255,9 @@ formats_fault fs (Some n) = width_fault fs (known_width n.columns n.piece)
 -- why it is not done
 abbrev pub fault_of : Request → TalkMoment → Option TalkFault
 fault_of (request.Prepare name p) m = prepare_fault name m.statements
-fault_of (request.Bind name prepared count fs) m = if_found (find prepared m.statements) fault.UnknownStatement (or_else (bind_fault name count m.portals) (formats_fault fs (find prepared m.statements)))
-fault_of (request.Execute name) m = if_found (find name m.portals) fault.UnknownPortal None
+fault_of (request.PrepareTemplate name t) m = prepare_fault name m.statements
+fault_of (request.Bind name prepared bound fs) m = if_found (find prepared m.statements) fault.UnknownStatement (or_else (bind_fault name bound m.portals) (formats_fault fs (find prepared m.statements)))
+fault_of (request.Execute name n) m = if_found (find name m.portals) fault.UnknownPortal None
 fault_of (request.DescribeStatement name) m = if_found (find name m.statements) fault.UnknownStatement None
 fault_of (request.DescribePortal name) m = if_found (find name m.portals) fault.UnknownPortal None
 fault_of (request.Fails t f) m = Some f
@@ -182,8 +267,9 @@ fault_of r m = None
 abbrev pub mode_for : Request → Mode → Mode
 mode_for (request.Statements pieces) t = mode.Query
 mode_for (request.Prepare name p) t = mode.Batch
-mode_for (request.Bind name prepared count fs) t = mode.Batch
-mode_for (request.Execute name) t = mode.Batch
+mode_for (request.PrepareTemplate name p) t = mode.Batch
+mode_for (request.Bind name prepared bound fs) t = mode.Batch
+mode_for (request.Execute name n) t = mode.Batch
 mode_for (request.DescribeStatement name) t = mode.Batch
 mode_for (request.DescribePortal name) t = mode.Batch
 mode_for (request.CloseStatement name) t = mode.Batch
@@ -195,7 +281,7 @@ mode_for r t = t
 abbrev pub said_to_done : Request → List Saying
 said_to_done request.Encryption = no_encryption ∷ []
 said_to_done (request.Prepare name p) = message parse_complete ∷ []
-said_to_done (request.Bind name prepared count fs) = message bind_complete ∷ []
+said_to_done (request.Bind name prepared bound fs) = message bind_complete ∷ []
 said_to_done (request.CloseStatement name) = message close_complete ∷ []
 said_to_done (request.ClosePortal name) = message close_complete ∷ []
 said_to_done (request.Breaks f) = fatal_said f ∷ []
@@ -220,14 +306,15 @@ formats_in None = []
 formats_in (Some n) = n.formats
 
 abbrev pub new_statement : List ℕ → StatementPiece → NamedPiece
-new_statement name p = record { name = name; piece = p; columns = None; formats = [] }
+new_statement name p = record { name = name; piece = p; columns = None; formats = []; parameters = None }
 
 abbrev pub after_done_request : Request → TalkMoment → TalkMoment
 after_done_request (request.Login role) m = record m { stage = stage.Opening; want = want.Open 1 role anyone }
-after_done_request (request.Statements pieces) m = goes_on (record m { left = pieces })
+after_done_request (request.Statements pieces) m = goes_on (record m { left = pieces; most = 0 })
 after_done_request (request.Prepare name p) m = record m { statements = put (new_statement name p) m.statements }
-after_done_request (request.Bind name prepared count fs) m = record m { portals = put_found name fs (find prepared m.statements) m.portals }
-after_done_request (request.Execute name) m = goes_on (record m { left = left_of (find name m.portals); columns = columns_of (find name m.portals); formats = formats_in (find name m.portals); portals = without name m.portals })
+after_done_request (request.PrepareTemplate name t) m = begins_typing t (record m { name = name; statements = put (new_template name piece.Empty t) m.statements })
+after_done_request (request.Bind name prepared bound fs) m = record m { portals = put_bound name fs bound (find prepared m.statements) m.portals }
+after_done_request (request.Execute name n) m = goes_on (record m { left = left_of (find name m.portals); columns = columns_of (find name m.portals); formats = formats_in (find name m.portals); most = n; portals = without name m.portals })
 after_done_request (request.DescribeStatement name) m = describes_found named.Statement (find name m.statements) (record m { name = name; formats = [] })
 after_done_request (request.DescribePortal name) m = describes_found named.Portal (find name m.portals) (record m { name = name; formats = formats_in (find name m.portals) })
 after_done_request (request.CloseStatement name) m = record m { statements = without name m.statements }

@@ -1,5 +1,5 @@
 -- The rows of an answer, as messages.
-use Rattle.std.specs.Prelude.{ℕ, Bool, ◌&&◌, true, false, List, [], ◌∷◌, ◌++◌, length, map, bytes_eq, codes, decimal, Option, Some, None}
+use Rattle.std.specs.Prelude.{ℕ, ◌==◌, ◌||◌, nat_lt, take, if◌then◌else◌, Bool, ◌&&◌, true, false, List, [], ◌∷◌, ◌++◌, length, map, bytes_eq, codes, decimal, Option, Some, None}
 use Rattle.std.specs.List.{list_all}
 use Rattle.std.specs.Fmt.{signed_decimal}
 use Rattle.std.specs.Int.{w64, cast_unsigned, to_be_bytes}
@@ -8,7 +8,7 @@ use Rattle.sql_ast.specs.declared.columns.ColumnType.TheVariants as column_type
 use Rattle.sql_ast.specs.declared.description.ResultColumn.{ResultColumn}
 use Rattle.sql_types.specs.declared.value.Value.{Value}
 use Rattle.sql_types.specs.declared.value.Value.TheVariants as value
-use Rattle.postgres_messages.specs.Backend.{TheColumn, data_row, row_description}
+use Rattle.postgres_messages.specs.Backend.{TheColumn, data_row, portal_suspended, row_description}
 use Rattle.postgres_messages.specs.declared.backend.DataType.{DataType}
 use Rattle.postgres_messages.specs.declared.backend.DataType.TheVariants.{Int8, Text, Bool as Boolean}
 use Rattle.postgres_messages.specs.declared.backend.ValueFormat.{ValueFormat}
@@ -98,3 +98,8 @@ select_tag n = codes "SELECT " ++ decimal n
 -- each row, and how many there are
 abbrev pub rows_said : List ValueFormat → List (List Value) → List Saying
 rows_said fs rows = map (row_said fs) rows ++ complete_said (select_tag (length rows)) ∷ []
+
+-- where there are as many as are asked for at most, or more, those; the rest is not kept. 0 asks for all
+abbrev pub limited_said : ℕ → List ValueFormat → List (List Value) → List Saying
+limited_said most fs rows =
+    if most == 0 || nat_lt (length rows) most then rows_said fs rows else map (row_said fs) (take most rows) ++ message portal_suspended ∷ []

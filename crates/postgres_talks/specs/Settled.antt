@@ -16,6 +16,7 @@ lines =
     ∷ (codes "set standard_conforming_strings to on", Set)
     ∷ (codes "set extra_float_digits = 3", Set)
     ∷ (codes "set extra_float_digits to 3", Set)
+    ∷ (codes "set application_name = 'postgresql jdbc driver'", Set)
     ∷ (codes "set datestyle = iso", Set)
     ∷ (codes "set datestyle to 'iso'", Set)
     ∷ (codes "set timezone = 'utc'", Set)

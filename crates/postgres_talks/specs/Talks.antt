@@ -29,7 +29,7 @@ front_of s bytes = front_in (message_front 131072 bytes)
 -- a message asks one thing, and this is said to it
 pub record HearsMessage (m : TalkMoment) (bytes said : List ℕ) (n : TalkMoment) : Type 0 where
   pub asked : Request
-  pub is_asked : IsRequest m.stage bytes asked
+  pub is_asked : IsRequest m bytes asked
   pub says : Says (said_to_request asked m) said
   pub stands : n ≡ after_request asked m
 

@@ -48,6 +48,9 @@ impl TalkMoment {
         match self.stage {
             TalkStage::Describing => self.take_known(alloc, description),
             TalkStage::Telling(kind) => self.take_told(alloc, kind, description),
+            TalkStage::Typing(at, candidate) => {
+                self.take_typing(alloc, at, candidate, description)
+            }
             _ => {
                 self.end();
                 Ok(())

@@ -39,8 +39,18 @@ pub enum TalkFault {
     OtherColumns,
     /// `22023`: a code of no format.
     UnknownFormat,
-    /// `08P01`: another number of formats than of columns.
+    /// `08P01`: another number of formats than of columns or of values.
     OtherFormats,
+    /// `42P02`: a parameter 0 or above 65535, or one in a statement that takes none.
+    UnknownParameter,
+    /// `0A000`: a type of a parameter that there is not.
+    UnknownType,
+    /// `22P02`: a value in text that is none of its type.
+    InvalidText,
+    /// `22P03`: a value in binary that is none of its type.
+    InvalidBinary,
+    /// `XX000`: a statement with its values has other tokens than it is to have.
+    OtherTokens,
 }
 
 impl TalkFault {
@@ -64,6 +74,11 @@ impl TalkFault {
             TalkFault::OtherColumns => "0A000",
             TalkFault::UnknownFormat => "22023",
             TalkFault::OtherFormats => "08P01",
+            TalkFault::UnknownParameter => "42P02",
+            TalkFault::UnknownType => "0A000",
+            TalkFault::InvalidText => "22P02",
+            TalkFault::InvalidBinary => "22P03",
+            TalkFault::OtherTokens => "XX000",
         }
     }
 
@@ -89,6 +104,11 @@ impl TalkFault {
             TalkFault::OtherColumns => "cached plan must not change result type",
             TalkFault::UnknownFormat => "format code is not supported",
             TalkFault::OtherFormats => "number of format codes is another",
+            TalkFault::UnknownParameter => "there is no such parameter",
+            TalkFault::UnknownType => "type of a parameter is not supported",
+            TalkFault::InvalidText => "invalid input syntax for the type of a parameter",
+            TalkFault::InvalidBinary => "incorrect binary data format in a parameter",
+            TalkFault::OtherTokens => "statement with its values has other tokens",
         }
     }
 }

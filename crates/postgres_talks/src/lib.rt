@@ -1,6 +1,7 @@
 //! The conversation of PostgreSQL's frontend/backend protocol 3.0 with a client, at a place without passwords.
 #![tactic(auto)]
 
+mod binding;
 mod blocks;
 mod classes;
 mod describing;
@@ -10,6 +11,8 @@ pub mod laws;
 pub mod moment;
 pub mod named_pieces;
 pub mod outcome;
+pub mod parameters;
+mod parsing;
 pub mod piece;
 mod pieces;
 pub mod postgres_talk;
@@ -22,4 +25,5 @@ mod tags;
 mod taking;
 mod telling;
 mod told;
+mod typing;
 mod words;

@@ -16,6 +16,7 @@ use sql_types::answer::Answer;
 use sql_types::event::Event;
 use sql_types::items::Items;
 use sql_types::text::Text;
+use statement_parameters::types::ParameterKind;
 use std::alloc::{AllocError, Global};
 use talks::want::{BlockStanding, Reply, Want};
 
@@ -85,6 +86,8 @@ pub enum TalkStage {
     Emptying,
     /// What a SELECT would answer, which is to be told.
     Telling(DescribedKind),
+    /// Whether this is the type of the parameter at an index.
+    Typing(usize, ParameterKind),
     /// How the block stands, where the column of a text is to be told that is answered without the machine.
     TellingRow(DescribedKind, Settled),
     /// That the session is open, where it is to be told that there are no rows.
@@ -109,7 +112,9 @@ pub struct TalkMoment {
     pub columns: Option<Items<ResultColumn>>,
     /// The formats in which its rows are wanted.
     pub formats: ResultFormats,
-    /// The name of what is described.
+    /// How many of its rows are asked for at most, or 0 for all.
+    pub most: u32,
+    /// The name of what is described, or of a statement whose types are to be found.
     pub name: Text,
     /// What was prepared.
     pub statements: NamedPieces,
@@ -132,6 +137,7 @@ impl TalkMoment {
             left: PieceQueue::new(alloc),
             columns: None,
             formats: ResultFormats::new(alloc),
+            most: 0,
             name: Text::from_string(String::new(alloc)),
             statements: NamedPieces::new(alloc),
             portals: NamedPieces::new(alloc),

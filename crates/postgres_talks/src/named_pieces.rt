@@ -1,10 +1,12 @@
 //! Statements under names: those that are prepared, and portals.
 
-ghost use Rattle.std.specs.Prelude.{◌≡◌, [], length, IfOk, OnOk};
+ghost use Rattle.std.specs.Prelude.{◌≡◌, [], length, IfOk, None, OnOk};
 ghost use Rattle.std.specs.Option.{option_copied};
-ghost use Rattle.postgres_talks.specs.Named.{find, put, put_found, tell, without};
+ghost use Rattle.postgres_talks.specs.Named.{find, put, put_bound, tell, without};
 
+use crate::fault::TalkFault;
 use crate::formats::ResultFormats;
+use crate::parameters::TypedTemplate;
 use crate::piece::StatementPiece;
 use crate::rows::copied;
 use sql_ast::description::ResultColumn;
@@ -23,23 +25,27 @@ pub struct NamedPiece {
     pub columns: Option<Items<ResultColumn>>,
     /// The formats in which they are wanted.
     pub formats: ResultFormats,
+    /// Its template and their types, where it has parameters. The statement is then one with samples, by which it is described.
+    pub parameters: Option<TypedTemplate>,
 }
 
 impl NamedPiece {
-    // A copy under another name, with these formats.
-    fn renamed(
+    // What values make of it, under another name, with these formats.
+    fn bound(
         &self,
         alloc: Global,
         name: Text,
+        piece: StatementPiece,
         formats: ResultFormats,
     ) -> Result<NamedPiece, AllocError>
-        ensures { IfOk result (λ copy. copy ≡ record self.now { name = name; formats = formats }) }
+        ensures { IfOk result (λ copy. copy ≡ record self.now { name = name; piece = piece; formats = formats; parameters = None }) }
     {
         Ok(NamedPiece {
             name,
-            piece: self.piece.try_copy(alloc)?,
+            piece,
             columns: copied(alloc, &self.columns)?,
             formats,
+            parameters: None,
         })
     }
 
@@ -56,6 +62,7 @@ impl NamedPiece {
             piece: self.piece.try_copy(alloc)?,
             columns,
             formats: self.formats.try_copy(alloc)?,
+            parameters: self.parameters.try_copy(alloc)?,
         })
     }
 }
@@ -131,21 +138,24 @@ impl NamedPieces {
         self.put(told)
     }
 
-    /// Puts a copy of what was found elsewhere under a name, if something was found.
-    pub fn put_found(
+    /// Puts what values have made of what was found elsewhere under a name, if they made something of it.
+    pub fn put_bound(
         &mut self,
         alloc: Global,
         name: Text,
         formats: ResultFormats,
+        bound: Result<StatementPiece, TalkFault>,
         found: Option<&NamedPiece>,
     ) -> Result<(), AllocError>
-        ensures { OnOk result (self.new ≡ put_found name formats (option_copied found.entry) self.old) }
+        ensures { OnOk result (self.new ≡ put_bound name formats bound (option_copied found.entry) self.old) }
     {
-        let Some(entry) = found else {
-            return Ok(());
-        };
-        let copy = entry.renamed(alloc, name, formats)?;
-        self.put(copy)
+        match (bound, found) {
+            (Ok(piece), Some(entry)) => {
+                let copy = entry.bound(alloc, name, piece, formats)?;
+                self.put(copy)
+            }
+            _ => Ok(()),
+        }
     }
 
     /// Takes all away.

@@ -121,7 +121,7 @@ fn hear_message(
     ensures err { OnErr result (out.new.items ≡ out.old.items) }
 {
     let mut said = Said::new(alloc);
-    let asked = heeded(moment.mode, request_of(alloc, moment.stage, message)?);
+    let asked = heeded(moment.mode, request_of(alloc, moment, message)?);
     let fault = fault_of(&asked, moment);
     say_request(fault, &asked, &mut said)?;
     take_request(alloc, moment, fault, asked)?;

@@ -5,11 +5,15 @@ ghost use Rattle.std.specs.Option.{option_map};
 ghost use Rattle.postgres_messages.specs.Frontend.{close, describe, execute};
 ghost use Rattle.postgres_messages.specs.StartReading.{viewed_parameter, viewed_start};
 ghost use Rattle.postgres_messages.specs.Views.{viewed_binding, viewed_message, viewed_target};
-ghost use Rattle.postgres_talks.specs.Requests.{IsAskedBy, IsMessageRequest, IsRequest, IsStartRequest, bind_request, broken, denied, login_of, mode_of, parameter_of, plain_request, prepare_request, start_request};
+ghost use Rattle.postgres_talks.specs.Requests.{IsAskedBy, IsBind, IsMessageRequest, IsRequest, IsStartRequest, broken, denied, login_of, mode_of, parameter_of, plain_request, row_limit, start_request};
 
+use crate::binding::bound_piece;
 use crate::fault::TalkFault;
 use crate::formats::{ResultFormats, are_format_codes, formats_of};
-use crate::moment::{Mode, TalkStage};
+use crate::moment::{Mode, TalkMoment, TalkStage};
+use crate::named_pieces::NamedPieces;
+use crate::parameters::TypedTemplate;
+use crate::parsing::parse_request;
 use crate::piece::{PieceQueue, StatementPiece};
 use crate::pieces::pieces_of;
 use postgres_messages::frontend::{BoundValues, FrontendMessage, NamedObject, read_message};
@@ -31,10 +35,12 @@ pub enum Request {
     Statements(PieceQueue),
     /// That a statement is kept under a name.
     Prepare(Text, StatementPiece),
-    /// That a portal of a name is made of a prepared statement, with so many values, whose rows come in these formats.
-    Bind(Text, Text, usize, ResultFormats),
-    /// That a portal is carried out.
-    Execute(Text),
+    /// That a statement with parameters is kept under a name.
+    PrepareTemplate(Text, TypedTemplate),
+    /// That a portal of a name is made of a prepared statement, of which what is bound makes this, and whose rows come in these formats.
+    Bind(Text, Text, Result<StatementPiece, TalkFault>, ResultFormats),
+    /// That a portal is carried out, and how many of its rows are asked for at most, or 0 for all.
+    Execute(Text, u32),
     /// What a prepared statement takes and answers.
     DescribeStatement(Text),
     /// What a portal answers.
@@ -57,14 +63,14 @@ pub enum Request {
 // What the bytes of a message ask.
 pub(crate) fn request_of(
     alloc: Global,
-    stage: TalkStage,
+    moment: &TalkMoment,
     message: &[u8],
 ) -> Result<Request, AllocError>
-    ensures { IfOk result (λ asked. IsRequest stage message.now asked) }
+    ensures { IfOk result (λ asked. IsRequest moment.now message.now asked) }
 {
-    match stage {
+    match moment.stage {
         TalkStage::Starting => start_request(alloc, message),
-        _ => message_request(alloc, message),
+        _ => message_request(alloc, &moment.statements, message),
     }
 }
 
@@ -139,11 +145,15 @@ fn login_as(alloc: Global, role: &[u8]) -> Result<Request, AllocError>
     }
 }
 
-fn message_request(alloc: Global, bytes: &[u8]) -> Result<Request, AllocError>
-    ensures { IfOk result (λ asked. IsMessageRequest bytes.now asked) }
+fn message_request(
+    alloc: Global,
+    statements: &NamedPieces,
+    bytes: &[u8],
+) -> Result<Request, AllocError>
+    ensures { IfOk result (λ asked. IsMessageRequest statements.now bytes.now asked) }
 {
     match read_message(alloc, bytes) {
-        Ok(message) => asked_by(alloc, &message),
+        Ok(message) => asked_by(alloc, statements, &message),
         Err(ReadError::Memory) => Err(AllocError),
         Err(ReadError::NotText) => Ok(Request::Fails(mode_of(bytes), TalkFault::NotText)),
         Err(ReadError::Malformed) => Ok(broken()),
@@ -160,29 +170,21 @@ fn mode_of(bytes: &[u8]) -> Mode
     }
 }
 
-fn asked_by(alloc: Global, message: &FrontendMessage<'_>) -> Result<Request, AllocError>
-    ensures { IfOk result (λ asked. IsAskedBy (viewed_message message.now) asked) }
+fn asked_by(
+    alloc: Global,
+    statements: &NamedPieces,
+    message: &FrontendMessage<'_>,
+) -> Result<Request, AllocError>
+    ensures { IfOk result (λ asked. IsAskedBy statements.now (viewed_message message.now) asked) }
 {
     match message {
         FrontendMessage::Query(text) => Ok(Request::Statements(pieces_of(alloc, text)?)),
-        FrontendMessage::Parse(name, text, _) => {
-            let pieces = pieces_of(alloc, text)?;
-            prepare_request(alloc, name, pieces)
+        FrontendMessage::Parse(name, text, oids) => parse_request(alloc, name, text, oids),
+        FrontendMessage::Bind(portal, statement, bound) => {
+            bind_request(alloc, statements, portal, statement, bound)
         }
         _ => plain_request(alloc, message),
     }
-}
-
-// One statement is prepared.
-fn prepare_request(alloc: Global, name: &str, mut pieces: PieceQueue) -> Result<Request, AllocError>
-    ensures { IfOk result (λ asked. asked ≡ prepare_request name.now pieces) }
-{
-    if pieces.len() == 1 {
-        if let Some(piece) = pieces.pop() {
-            return Ok(Request::Prepare(Text::from_str(alloc, name)?, piece));
-        }
-    }
-    Ok(Request::Fails(Mode::Batch, TalkFault::SeveralStatements))
 }
 
 // What a message asks that has no text.
@@ -197,9 +199,6 @@ fn plain_request(alloc: Global, message: &FrontendMessage<'_>) -> Result<Request
         | FrontendMessage::CopyDone(_)
         | FrontendMessage::CopyFail(_) => Ok(Request::Nothing),
         FrontendMessage::Password(_) => Ok(broken()),
-        FrontendMessage::Bind(portal, statement, values) => {
-            bind_request(alloc, portal, statement, values)
-        }
         FrontendMessage::Execute(portal, most) => execute_request(alloc, portal, *most),
         FrontendMessage::Close(object) => close_request(alloc, object),
         FrontendMessage::Describe(object) => describe_request(alloc, object),
@@ -207,33 +206,37 @@ fn plain_request(alloc: Global, message: &FrontendMessage<'_>) -> Result<Request
     }
 }
 
-// The formats of values are not looked at: a statement has none.
 fn bind_request(
     alloc: Global,
+    statements: &NamedPieces,
     portal: &str,
     statement: &str,
     bound: &BoundValues<'_>,
 ) -> Result<Request, AllocError>
-    ensures { IfOk result (λ asked. asked ≡ bind_request portal.now statement.now (viewed_binding bound.now)) }
+    ensures { IfOk result (λ asked. IsBind statements.now portal.now statement.now (viewed_binding bound.now) asked) }
 {
     if !are_format_codes(&bound.result_formats) {
         return Ok(Request::Fails(Mode::Batch, TalkFault::UnknownFormat));
     }
+    let piece = bound_piece(alloc, statements.find(statement), bound)?;
     let portal = Text::from_str(alloc, portal)?;
     let statement = Text::from_str(alloc, statement)?;
     let formats = formats_of(alloc, &bound.result_formats)?;
-    Ok(Request::Bind(portal, statement, bound.values.len(), formats))
+    Ok(Request::Bind(portal, statement, piece, formats))
 }
 
-// All rows are asked for.
 fn execute_request(alloc: Global, portal: &str, most: u32) -> Result<Request, AllocError>
     ensures { IfOk result (λ asked. asked ≡ plain_request (execute portal.now most)) }
 {
-    if most == 0 {
-        Ok(Request::Execute(Text::from_str(alloc, portal)?))
-    } else {
-        Ok(Request::Fails(Mode::Batch, TalkFault::Unsupported))
-    }
+    let portal = Text::from_str(alloc, portal)?;
+    Ok(Request::Execute(portal, row_limit(most)))
+}
+
+// How many rows are asked for at most: 0, and a number below zero, stand for all.
+fn row_limit(most: u32) -> u32
+    ensures { result ≡ row_limit most }
+{
+    if most < 2147483648 { most } else { 0 }
 }
 
 fn describe_request(alloc: Global, object: &NamedObject<'_>) -> Result<Request, AllocError>

@@ -1,11 +1,12 @@
 //! The rows of an answer, as messages.
 
-ghost use Rattle.std.specs.Prelude.{◌≡◌, ◌∷◌, [], IfOk, OnOk, map, Some, None};
+ghost use Rattle.std.specs.Prelude.{◌≡◌, ◌∷◌, ◌++◌, [], IfOk, OnOk, map, Some, None};
 ghost use Rattle.postgres_messages.specs.BackendViews.{viewed_column};
 ghost use Rattle.postgres_messages.specs.Views.{viewed_value};
 ghost use Rattle.postgres_talks.specs.Moments.{columns_in};
-ghost use Rattle.postgres_talks.specs.Rows.{are_rows_of, are_same_columns, columns_said, data_type_of, described_column, described_columns, is_row_of, is_same_column, is_same_type, is_value_of, row_said, rows_said, select_tag, value_binary, value_in, value_text, values_in};
-ghost use Rattle.postgres_talks.specs.Sayings.{Puts, complete_said};
+ghost use Rattle.postgres_talks.specs.Rows.{are_rows_of, are_same_columns, columns_said, data_type_of, described_column, described_columns, is_row_of, is_same_column, is_same_type, is_value_of, limited_said, row_said, rows_said, select_tag, value_binary, value_in, value_text, values_in};
+ghost use Rattle.postgres_messages.specs.Backend.{portal_suspended};
+ghost use Rattle.postgres_talks.specs.Sayings.{Puts, complete_said, message};
 
 use crate::formats::{next_format, other_formats};
 use crate::said::Said;
@@ -31,6 +32,38 @@ pub(crate) fn say_rows(
 {
     say_each_row(alloc, formats, rows, said)?;
     say_count(alloc, rows.len(), said)?;
+    Ok(())
+}
+
+// Says the rows, up to as many as are asked for at most.
+pub(crate) fn say_limited(
+    alloc: Global,
+    formats: &[ValueFormat],
+    most: u32,
+    rows: &[Items<Value>],
+    said: &mut Said,
+) -> Result<(), AllocError>
+    ensures { OnOk result (Puts (limited_said most formats.now rows.now) said.old said.new) }
+{
+    let most = most as usize;
+    if most == 0 || rows.len() < most {
+        say_rows(alloc, formats, rows, said)
+    } else {
+        say_first(alloc, formats, &rows[..most], said)
+    }
+}
+
+// Says rows behind which there may be others.
+fn say_first(
+    alloc: Global,
+    formats: &[ValueFormat],
+    rows: &[Items<Value>],
+    said: &mut Said,
+) -> Result<(), AllocError>
+    ensures { OnOk result (Puts (map (row_said formats.now) rows.now ++ message portal_suspended ∷ []) said.old said.new) }
+{
+    say_each_row(alloc, formats, rows, said)?;
+    said.put(&BackendMessage::PortalSuspended)?;
     Ok(())
 }
 

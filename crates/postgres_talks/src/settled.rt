@@ -23,7 +23,7 @@ pub enum Settled {
 }
 
 /// Lines, each the tokens of a text in small letters with a blank between two, and what each is.
-const LINES: [(&str, Settled); 28] = [
+const LINES: [(&str, Settled); 29] = [
     ("set client_encoding = 'utf8'", Settled::Set),
     ("set client_encoding to 'utf8'", Settled::Set),
     ("set names 'utf8'", Settled::Set),
@@ -31,6 +31,10 @@ const LINES: [(&str, Settled); 28] = [
     ("set standard_conforming_strings to on", Settled::Set),
     ("set extra_float_digits = 3", Settled::Set),
     ("set extra_float_digits to 3", Settled::Set),
+    (
+        "set application_name = 'postgresql jdbc driver'",
+        Settled::Set,
+    ),
     ("set datestyle = iso", Settled::Set),
     ("set datestyle to 'iso'", Settled::Set),
     ("set timezone = 'utc'", Settled::Set),

@@ -2,14 +2,15 @@
 
 ghost use Rattle.std.specs.Prelude.{◌≡◌, IfOk, OnOk};
 ghost use Rattle.std.specs.Option.{option_copied, option_map};
-ghost use Rattle.postgres_talks.specs.Requests.{after_done_request, after_unless, bind_fault, columns_of, fault_of, formats_fault, formats_in, heeded, heeded_skipping, if_found, is_taken, known_width, left_of, mode_for, or_else, piece_width, prepare_fault, row_width, said_to_done, said_unless, width_fault};
-ghost use Rattle.postgres_talks.specs.Named.{find, put_found};
+ghost use Rattle.postgres_talks.specs.Requests.{after_done_request, after_unless, bind_fault, bound_fault, columns_of, fault_of, formats_fault, formats_in, heeded, heeded_skipping, if_found, is_taken, known_width, left_of, mode_for, or_else, piece_width, prepare_fault, row_width, said_to_done, said_unless, width_fault};
+ghost use Rattle.postgres_talks.specs.Named.{find, put_bound};
 ghost use Rattle.postgres_talks.specs.Sayings.{Puts};
 
 use crate::fault::TalkFault;
 use crate::formats::{ResultFormats, are_formats_for};
 use crate::moment::{DescribedKind, Mode, SESSION, TalkMoment, TalkStage};
 use crate::named_pieces::{NamedPiece, NamedPieces};
+use crate::parameters::TypedTemplate;
 use crate::piece::{PieceQueue, StatementPiece};
 use crate::requests::Request;
 use crate::rows::copied;
@@ -56,18 +57,19 @@ pub(crate) fn fault_of(asked: &Request, moment: &TalkMoment) -> Option<TalkFault
 {
     match asked {
         Request::Prepare(name, _) => prepare_fault(name.as_str(), &moment.statements),
-        Request::Bind(name, statement, count, formats) => if_found(
+        Request::PrepareTemplate(name, _) => prepare_fault(name.as_str(), &moment.statements),
+        Request::Bind(name, statement, bound, formats) => if_found(
             moment.statements.find(statement.as_str()),
             TalkFault::UnknownStatement,
             or_else(
-                bind_fault(name.as_str(), *count, &moment.portals),
+                bind_fault(name.as_str(), bound, &moment.portals),
                 formats_fault(
                     formats.as_slice(),
                     moment.statements.find(statement.as_str()),
                 ),
             ),
         ),
-        Request::Execute(name) => if_found(
+        Request::Execute(name, _) => if_found(
             moment.portals.find(name.as_str()),
             TalkFault::UnknownPortal,
             None,
@@ -112,17 +114,30 @@ fn prepare_fault(name: &str, statements: &NamedPieces) -> Option<TalkFault>
     }
 }
 
-fn bind_fault(name: &str, count: usize, portals: &NamedPieces) -> Option<TalkFault>
-    ensures { result ≡ bind_fault name.now count portals.now }
+fn bind_fault(
+    name: &str,
+    bound: &Result<StatementPiece, TalkFault>,
+    portals: &NamedPieces,
+) -> Option<TalkFault>
+    ensures { result ≡ bind_fault name.now bound.now portals.now }
 {
     if is_taken(name, portals) {
         Some(TalkFault::PortalExists)
-    } else if count != 0 {
-        Some(TalkFault::OtherCount)
-    } else if portals.len() >= MAX_PORTALS {
-        Some(TalkFault::Refused(SqlState::ProgramLimitExceeded))
     } else {
-        None
+        bound_fault(bound, portals.len())
+    }
+}
+
+// Why what was bound is none, or why there is no place for it.
+fn bound_fault(bound: &Result<StatementPiece, TalkFault>, portals: usize) -> Option<TalkFault>
+    ensures { result ≡ bound_fault bound.now portals }
+{
+    match bound {
+        Err(fault) => Some(*fault),
+        Ok(_) if portals >= MAX_PORTALS => {
+            Some(TalkFault::Refused(SqlState::ProgramLimitExceeded))
+        }
+        Ok(_) => None,
     }
 }
 
@@ -251,8 +266,9 @@ fn mode_for(asked: &Request, mode: Mode) -> Mode
     match asked {
         Request::Statements(_) | Request::Sync => Mode::Query,
         Request::Prepare(_, _)
+        | Request::PrepareTemplate(_, _)
         | Request::Bind(_, _, _, _)
-        | Request::Execute(_)
+        | Request::Execute(_, _)
         | Request::DescribeStatement(_)
         | Request::DescribePortal(_)
         | Request::CloseStatement(_)
@@ -274,12 +290,16 @@ fn take_done(alloc: Global, moment: &mut TalkMoment, asked: Request) -> Result<(
                 piece,
                 columns: None,
                 formats: ResultFormats::new(alloc),
+                parameters: None,
             });
         }
-        Request::Bind(name, statement, _, formats) => {
-            return bind(alloc, moment, name, &statement, formats);
+        Request::PrepareTemplate(name, template) => {
+            return prepare_template(alloc, moment, name, template);
         }
-        Request::Execute(name) => return execute(alloc, moment, &name),
+        Request::Bind(name, statement, bound, formats) => {
+            return bind(alloc, moment, name, &statement, bound, formats);
+        }
+        Request::Execute(name, most) => return execute(alloc, moment, &name, most),
         Request::DescribeStatement(name) => return describe_statement(alloc, moment, name),
         Request::DescribePortal(name) => return describe_portal(alloc, moment, name),
         Request::CloseStatement(name) => moment.statements.remove(name.as_str()),
@@ -314,7 +334,22 @@ fn run(alloc: Global, moment: &mut TalkMoment, pieces: PieceQueue) -> Result<(),
     ensures { OnOk result (moment.new ≡ after_done_request (Request.Statements pieces) moment.old) }
 {
     moment.left = pieces;
+    moment.most = 0;
     moment.go_on(alloc)
+}
+
+fn prepare_template(
+    alloc: Global,
+    moment: &mut TalkMoment,
+    name: Text,
+    template: TypedTemplate,
+) -> Result<(), AllocError>
+    ensures { OnOk result (moment.new ≡ after_done_request (Request.PrepareTemplate name template) moment.old) }
+{
+    moment.name = name;
+    let copy = template.try_copy(alloc)?;
+    moment.keep(alloc, StatementPiece::Empty, copy)?;
+    moment.begin_typing(alloc, &template)
 }
 
 fn bind(
@@ -322,21 +357,23 @@ fn bind(
     moment: &mut TalkMoment,
     name: Text,
     statement: &Text,
+    bound: Result<StatementPiece, TalkFault>,
     formats: ResultFormats,
 ) -> Result<(), AllocError>
-    ensures { OnOk result (moment.new ≡ record moment.old { portals = put_found name formats (find statement.now moment.old.statements) moment.old.portals }) }
+    ensures { OnOk result (moment.new ≡ record moment.old { portals = put_bound name formats bound (find statement.now moment.old.statements) moment.old.portals }) }
 {
     let found = moment.statements.find(statement.as_str());
-    moment.portals.put_found(alloc, name, formats, found)
+    moment.portals.put_bound(alloc, name, formats, bound, found)
 }
 
-fn execute(alloc: Global, moment: &mut TalkMoment, name: &Text) -> Result<(), AllocError>
-    ensures { OnOk result (moment.new ≡ after_done_request (Request.Execute name.now) moment.old) }
+fn execute(alloc: Global, moment: &mut TalkMoment, name: &Text, most: u32) -> Result<(), AllocError>
+    ensures { OnOk result (moment.new ≡ after_done_request (Request.Execute name.now most) moment.old) }
 {
     let found = moment.portals.find(name.as_str());
     moment.left = left_of(alloc, found)?;
     moment.columns = columns_of(alloc, found)?;
     moment.formats = formats_in(alloc, found)?;
+    moment.most = most;
     moment.portals.remove(name.as_str());
     moment.go_on(alloc)
 }

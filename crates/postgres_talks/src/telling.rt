@@ -11,7 +11,7 @@ use crate::blocks::spares;
 use crate::fault::TalkFault;
 use crate::moment::{Mode, TalkBlock, TalkMoment, TalkStage};
 use crate::outcome::{Outcome, commit_outcome, outcome_of, run_outcome, warning_of};
-use crate::rows::{say_columns, say_rows};
+use crate::rows::{say_columns, say_limited, say_rows};
 use crate::said::Said;
 use crate::tags::done_tag;
 use crate::told::{say_described, say_nothing_told, say_row_told, say_settling};
@@ -49,7 +49,7 @@ pub(crate) fn say_reply(
 {
     match reply {
         Reply::Answer(answer) => say_answered(alloc, moment, answer, said),
-        Reply::Standing(standing) => say_standing(moment, *standing, said),
+        Reply::Standing(standing) => say_standing(alloc, moment, *standing, said),
         Reply::Description(description) => say_described(alloc, moment, description, said),
     }
 }
@@ -166,11 +166,11 @@ fn say_table(
     rows: &[Items<Value>],
     said: &mut Said,
 ) -> Result<(), AllocError>
-    ensures { OnOk result (Puts (table_said moment.now.mode moment.now.formats moment.now.columns rows.now) said.old said.new) }
+    ensures { OnOk result (Puts (table_said moment.now.mode moment.now.most moment.now.formats moment.now.columns rows.now) said.old said.new) }
 {
     match moment.mode {
         Mode::Query => say_headed(alloc, &moment.columns, rows, said),
-        _ => say_rows(alloc, moment.formats.as_slice(), rows, said),
+        _ => say_limited(alloc, moment.formats.as_slice(), moment.most, rows, said),
     }
 }
 
@@ -218,6 +218,7 @@ fn say_done(alloc: Global, tag: Tag, count: Option<u64>, said: &mut Said) -> Res
 }
 
 fn say_standing(
+    alloc: Global,
     moment: &TalkMoment,
     standing: Option<BlockStanding>,
     said: &mut Said,
@@ -230,9 +231,9 @@ fn say_standing(
         TalkStage::Settling(settled) => say_settling(moment, settled, standing, said),
         TalkStage::Emptying => say_emptying(standing, said),
         TalkStage::TellingRow(kind, settled) => {
-            say_row_told(moment, kind, settled, standing, said)
+            say_row_told(alloc, moment, kind, settled, standing, said)
         }
-        TalkStage::TellingNothing(kind) => say_nothing_told(kind, standing, said),
+        TalkStage::TellingNothing(kind) => say_nothing_told(alloc, moment, kind, standing, said),
         TalkStage::Closing => say_closing(standing, said),
         _ => Ok(()),
     }

@@ -1,9 +1,10 @@
 //! What is said of texts that are answered without the machine, and to Describe.
 
-ghost use Rattle.std.specs.Prelude.{◌∷◌, ◌++◌, [], None, OnOk};
-ghost use Rattle.std.specs.Option.{option_map};
+ghost use Rattle.std.specs.Prelude.{◌≡◌, ◌∷◌, ◌++◌, [], IfOk, None, OnOk, map};
+ghost use Rattle.std.specs.Option.{option_copied, option_map};
+ghost use Rattle.statement_parameters.specs.Types.{oid_of};
 ghost use Rattle.postgres_messages.specs.Backend.{no_data};
-ghost use Rattle.postgres_talks.specs.Moments.{head_told, parameters_said, said_described, said_nothing_told, said_row_told, said_settling, said_told, settled_columns, settled_head, settled_rows, settled_said};
+ghost use Rattle.postgres_talks.specs.Moments.{head_told, oids_of, oids_told, parameters_said, said_described, said_nothing_told, said_row_told, said_settling, said_told, settled_columns, settled_head, settled_rows, settled_said};
 ghost use Rattle.postgres_talks.specs.Formats.{next_format};
 ghost use Rattle.postgres_talks.specs.Outcomes.{description_outcome};
 ghost use Rattle.postgres_talks.specs.Rows.{columns_said};
@@ -14,14 +15,17 @@ use crate::fault::TalkFault;
 use crate::formats::next_format;
 use crate::moment::{DescribedKind, Mode, TalkMoment, TalkStage};
 use crate::outcome::{Outcome, description_outcome};
+use crate::parameters::TypedTemplate;
 use crate::rows::say_columns;
 use crate::said::Said;
 use crate::settled::Settled;
 use crate::telling::{say_failed, say_own};
+use crate::typing::{say_typing, template_in};
 use postgres_messages::backend::{BackendMessage, DataType, DescribedColumn, ValueFormat};
 use postgres_messages::frontend::FieldBytes;
 use sql_ast::description::{ResultColumn, StatementDescription};
 use sql_types::state::SqlState;
+use statement_parameters::types::ParameterType;
 use std::alloc::{AllocError, Global};
 use talks::want::BlockStanding;
 
@@ -39,13 +43,8 @@ pub(crate) fn say_described(
             description_outcome(&moment.columns, moment.formats.as_slice(), description),
             said,
         ),
-        TalkStage::Telling(kind) => say_told(
-            alloc,
-            kind,
-            moment.formats.as_slice(),
-            description,
-            said,
-        ),
+        TalkStage::Telling(kind) => say_told(alloc, moment, kind, description, said),
+        TalkStage::Typing(at, candidate) => say_typing(moment, at, candidate, description, said),
         _ => Ok(()),
     }
 }
@@ -53,81 +52,116 @@ pub(crate) fn say_described(
 // To Describe.
 fn say_told(
     alloc: Global,
+    moment: &TalkMoment,
     kind: DescribedKind,
-    formats: &[ValueFormat],
     description: &StatementDescription,
     said: &mut Said,
 ) -> Result<(), AllocError>
-    ensures { OnOk result (Puts (said_told kind formats.now description.now (description_outcome None formats.now description.now)) said.old said.new) }
+    ensures { OnOk result (Puts (said_told kind (oids_told moment.now) moment.now.formats description.now (description_outcome None moment.now.formats description.now)) said.old said.new) }
 {
-    match description_outcome(&None, formats, description) {
-        Outcome::Done => say_head(alloc, kind, formats, description, said),
+    match description_outcome(&None, moment.formats.as_slice(), description) {
+        Outcome::Done => say_head(alloc, moment, kind, description, said),
         outcome => say_own(outcome, said),
     }
 }
 
 fn say_head(
     alloc: Global,
+    moment: &TalkMoment,
     kind: DescribedKind,
-    formats: &[ValueFormat],
     description: &StatementDescription,
     said: &mut Said,
 ) -> Result<(), AllocError>
-    ensures { OnOk result (Puts (head_told kind formats.now description.now) said.old said.new) }
+    ensures { OnOk result (Puts (head_told kind (oids_told moment.now) moment.now.formats description.now) said.old said.new) }
 {
     match description {
         StatementDescription::Rows(columns) => say_columns_of(
             alloc,
+            moment,
             kind,
-            formats,
             columns.as_slice(),
             said,
         ),
-        _ => say_no_data(kind, said),
+        _ => say_no_data(alloc, moment, kind, said),
     }
 }
 
 fn say_columns_of(
     alloc: Global,
+    moment: &TalkMoment,
     kind: DescribedKind,
-    formats: &[ValueFormat],
     columns: &[ResultColumn],
     said: &mut Said,
 ) -> Result<(), AllocError>
-    ensures { OnOk result (Puts (parameters_said kind ++ columns_said formats.now columns.now ∷ []) said.old said.new) }
+    ensures { OnOk result (Puts (parameters_said kind (oids_told moment.now) ++ columns_said moment.now.formats columns.now ∷ []) said.old said.new) }
 {
-    say_parameters(kind, said)?;
-    say_columns(alloc, formats, columns, said)?;
+    say_parameters(alloc, moment, kind, said)?;
+    say_columns(alloc, moment.formats.as_slice(), columns, said)?;
     Ok(())
 }
 
-fn say_no_data(kind: DescribedKind, said: &mut Said) -> Result<(), AllocError>
-    ensures { OnOk result (Puts (parameters_said kind ++ message no_data ∷ []) said.old said.new) }
+fn say_no_data(
+    alloc: Global,
+    moment: &TalkMoment,
+    kind: DescribedKind,
+    said: &mut Said,
+) -> Result<(), AllocError>
+    ensures { OnOk result (Puts (parameters_said kind (oids_told moment.now) ++ message no_data ∷ []) said.old said.new) }
 {
-    say_parameters(kind, said)?;
+    say_parameters(alloc, moment, kind, said)?;
     said.put(&BackendMessage::NoData)?;
     Ok(())
 }
 
-// A statement that is described has no parameters.
-fn say_parameters(kind: DescribedKind, said: &mut Said) -> Result<(), AllocError>
-    ensures { OnOk result (Puts (parameters_said kind) said.old said.new) }
+// The types of the parameters of a statement that is described.
+fn say_parameters(
+    alloc: Global,
+    moment: &TalkMoment,
+    kind: DescribedKind,
+    said: &mut Said,
+) -> Result<(), AllocError>
+    ensures { OnOk result (Puts (parameters_said kind (oids_told moment.now)) said.old said.new) }
 {
     match kind {
-        DescribedKind::Statement => said.put(&BackendMessage::ParameterDescription(&[])),
+        DescribedKind::Statement => {
+            let found = template_in(moment.statements.find(moment.name.as_str()));
+            let oids = oids_of(alloc, found)?;
+            said.put(&BackendMessage::ParameterDescription(&oids))
+        }
         DescribedKind::Portal => Ok(()),
     }
 }
 
+// The numbers of the types of a statement's parameters.
+fn oids_of(alloc: Global, found: Option<&TypedTemplate>) -> Result<Vec<u32>, AllocError>
+    ensures { IfOk result (λ oids. oids.items ≡ oids_of (option_copied found.entry)) }
+{
+    let mut oids = Vec::new(alloc);
+    if let Some(typed) = found {
+        push_oids(typed.types.as_slice(), &mut oids)?;
+    }
+    Ok(oids)
+}
+
+fn push_oids(types: &[ParameterType], oids: &mut Vec<u32>) -> Result<(), AllocError>
+    ensures { OnOk result (oids.new.items ≡ oids.old.items ++ map oid_of types.now) }
+{
+    for declared in types {
+        oids.push(declared.oid())?;
+    }
+    Ok(())
+}
+
 // To Describe of what needs no machine: in a block that has failed it tells no columns.
 pub(crate) fn say_row_told(
+    alloc: Global,
     moment: &TalkMoment,
     kind: DescribedKind,
     settled: Settled,
     standing: Option<BlockStanding>,
     said: &mut Said,
 ) -> Result<(), AllocError>
-    ensures { OnOk result (Puts (said_row_told kind moment.now.block moment.now.mode (next_format moment.now.formats) settled standing) said.old said.new) }
+    ensures { OnOk result (Puts (said_row_told kind (oids_told moment.now) moment.now.block moment.now.mode (next_format moment.now.formats) settled standing) said.old said.new) }
 {
     match standing {
         None => said.put_fatal(TalkFault::Refused(SqlState::ConnectionDoesNotExist)),
@@ -137,33 +171,40 @@ pub(crate) fn say_row_told(
             BlockStanding::Failed,
             said,
         ),
-        Some(_) => say_head_of(kind, next_format(moment.formats.as_slice()), settled, said),
+        Some(_) => {
+            let format = next_format(moment.formats.as_slice());
+            say_head_of(alloc, moment, kind, format, settled, said)
+        }
     }
 }
 
 fn say_head_of(
+    alloc: Global,
+    moment: &TalkMoment,
     kind: DescribedKind,
     format: ValueFormat,
     settled: Settled,
     said: &mut Said,
 ) -> Result<(), AllocError>
-    ensures { OnOk result (Puts (parameters_said kind ++ settled_head format (settled_row settled)) said.old said.new) }
+    ensures { OnOk result (Puts (parameters_said kind (oids_told moment.now) ++ settled_head format (settled_row settled)) said.old said.new) }
 {
-    say_parameters(kind, said)?;
+    say_parameters(alloc, moment, kind, said)?;
     say_settled_head(format, settled.row(), said)?;
     Ok(())
 }
 
 pub(crate) fn say_nothing_told(
+    alloc: Global,
+    moment: &TalkMoment,
     kind: DescribedKind,
     standing: Option<BlockStanding>,
     said: &mut Said,
 ) -> Result<(), AllocError>
-    ensures { OnOk result (Puts (said_nothing_told kind standing) said.old said.new) }
+    ensures { OnOk result (Puts (said_nothing_told kind (oids_told moment.now) standing) said.old said.new) }
 {
     match standing {
         None => said.put_fatal(TalkFault::Refused(SqlState::ConnectionDoesNotExist)),
-        Some(_) => say_no_data(kind, said),
+        Some(_) => say_no_data(alloc, moment, kind, said),
     }
 }
 

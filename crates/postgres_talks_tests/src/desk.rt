@@ -70,6 +70,7 @@ impl PostgresDesk {
             "SELECT 1" | "SELECT 2" => Ok(Answer::Rows(one_row(self.alloc)?)),
             "INSERT" => Ok(done(Tag::Insert, Some(2), None)),
             "UPDATE" => Ok(done(Tag::Update, Some(3), None)),
+            "INSERT   (-5)" => Ok(done(Tag::Insert, Some(1), None)),
             "CREATE TABLE" => Ok(done(Tag::CreateTable, None, None)),
             "MEMORY" => Ok(Answer::Refused(SqlState::OutOfMemory)),
             "DEVICE" => Ok(Answer::Refused(SqlState::IoError)),
@@ -85,6 +86,8 @@ impl PostgresDesk {
         match text {
             "SELECT 0" | "SELECT 1" => Ok(StatementDescription::Rows(four_columns(self.alloc)?)),
             "SELECT 2" => Ok(StatementDescription::Rows(one_column(self.alloc)?)),
+            "INSERT   '' " => Ok(StatementDescription::Refused(SqlState::DatatypeMismatch)),
+            "INSERT   0 " => Ok(StatementDescription::NoRows),
             _ => Ok(StatementDescription::Refused(SqlState::SyntaxError)),
         }
     }
