@@ -112,6 +112,7 @@ fn has_tokens(
 ) -> Result<bool, AllocError>
     ensures { IfOk result (λ has. (expected : List (List ℕ)) → tokens_with (map viewed_literal literals.now) (parts_of (viewed_spans parts.entry)) ≡ Some expected → (IsTrue has ↔ HasExactTokens expected text.now)) }
 {
+    // For the proof: a text has one list of tokens.
     one_lexing();
     match lexer::tokens(alloc, text) {
         Ok(tokens) => Ok(are_tokens(&tokens, parts, literals)),
