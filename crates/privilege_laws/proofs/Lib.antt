@@ -14,3 +14,11 @@ pub mod ShownTold
 pub mod PatternsTold
 pub mod TwoOwners
 pub mod BothHidden
+pub mod Masks
+pub mod MaskedSelect
+pub mod HiddenColumns
+pub mod HiddenPay
+pub mod MaskedRows
+pub mod Shades
+pub mod HiddenWrites
+pub mod ColumnRuns

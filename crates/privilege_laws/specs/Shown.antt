@@ -7,7 +7,7 @@ use Rattle.database_laws.specs.Worlds.{apparent_rows}
 use Rattle.database_laws.specs.HiddenRuns.{MayActAs, SameApparentRowsForPairs, IsException}
 use Rattle.database_laws.specs.Told.{Tenant, IsAlikeTo}
 use Rattle.database_laws.specs.Patterns.{is_listed, TellsListedOnly}
-use Rattle.privilege_laws.specs.Related.{Relation, MachinesRelated, RunsAreTold, PatternsTellAll}
+use Rattle.privilege_laws.specs.Related.{Relation, MachinesRelated, RunsAreTold, PatternsTellAll, RunsPartWhereTold}
 use Rattle.privilege_laws.specs.Reached.{IsReachedTable, SameReachedRows, reached_by}
 
 -- the same definitions, and in each table that the tenant reaches, to each pair that it acts as, the same rows that say something
@@ -35,6 +35,10 @@ alike_machines_are_shown = (a : Tenant) (m k : Machine) → IsAlikeTo a m k → 
 -- runs are told alike, up to the exceptions of hidden rows
 abbrev pub runs_over_shown_rows : Type 0
 runs_over_shown_rows = RunsAreTold shown_to IsException
+
+-- and what that forbids
+abbrev pub parts_over_shown_rows : Type 0
+parts_over_shown_rows = RunsPartWhereTold shown_to IsException
 
 -- and where its listed refusals are the same, and it makes no event of its own that tells without one, all of its answers are
 abbrev pub patterns_tell_all_that_is_shown : Type 0

@@ -3,4 +3,5 @@
 //! Each function here does nothing: its clauses are laws, which are in `specs/` and are proved in `proofs/`.
 #![tactic(auto)]
 
+pub mod columns;
 pub mod tables;

@@ -1,7 +1,7 @@
 //! Laws of tables on which a tenant has no privilege.
 
 ghost use Rattle.privilege_laws.specs.Reached.{unreached_tables_tell_nothing, runs_beside_unreached_tables, crowds_tell_all, other_tables_are_out_of_sight, parts_beside_unreached_tables, parts_behind_others};
-ghost use Rattle.privilege_laws.specs.Shown.{reached_rows_are_shown, apparent_rows_are_shown, reached_machines_are_shown, alike_machines_are_shown, runs_over_shown_rows, patterns_tell_all_that_is_shown};
+ghost use Rattle.privilege_laws.specs.Shown.{reached_rows_are_shown, apparent_rows_are_shown, reached_machines_are_shown, alike_machines_are_shown, runs_over_shown_rows, parts_over_shown_rows, patterns_tell_all_that_is_shown};
 ghost use Rattle.privilege_laws.specs.TwoOwners.{PlansTellNothing, PlansTellStaff, BothAreHidden};
 
 /// A tenant reaches a table where one of the roles that it acts as, or a role that such a role is in, has a
@@ -54,6 +54,7 @@ pub fn memberships_reach_tables()
 /// at the same places, all of its answers are the same, to the end.
 pub fn tenants_are_told_what_is_shown()
     ensures runs { runs_over_shown_rows }
+    ensures parts { parts_over_shown_rows }
     ensures patterns { patterns_tell_all_that_is_shown }
 {}
 
