@@ -36,20 +36,40 @@ impl Drop for PageCache {
     }
 }
 
+// How many of so many pages are kept: the most, halved again and again, that leave as much memory for all else. The memory is
+// asked for once, and given back untouched.
+fn pages_with_room(alloc: Global, wanted: usize) -> usize
+    ensures { result ≤ wanted }
+{
+    let mut pages = wanted;
+    while pages > 0 && !has_room(alloc, pages) {
+        pages /= 2;
+    }
+    pages
+}
+
+// Whether memory is granted for twice so many pages.
+fn has_room(alloc: Global, pages: usize) -> bool {
+    let Some(size) = pages.checked_mul(2 * size_of::<IndexedPage>()) else {
+        return false;
+    };
+    Vec::<u8>::with_capacity(alloc, size).is_ok()
+}
+
 impl PageCache {
     ghost use Rattle.std.specs.Prelude.{◌-◌, ◌≢◌, ℕ, None, Some, MatchOption, IfOk, take};
     ghost use Rattle.page_nodes.specs.Views.{bytes_of};
     ghost use Rattle.page_cache.specs.Slots.{IsSpare};
     ghost use Rattle.page_cache.specs.Held.{slot_of, bytes_in, held_bytes, HoldsAsBefore, HoldsNoMore, IsSlotOf};
 
-    /// A cache that holds no page, with as many slots of those wanted as memory is granted for,
-    /// perhaps none. A page takes its memory when it is put. It fails where memory is refused for
-    /// the table of the pages.
+    /// A cache that holds no page, with as many slots of those wanted as memory is granted for twice,
+    /// so that as much is left for all else; perhaps none. A page takes its memory when it is put. It
+    /// fails where memory is refused for the table of the pages.
     pub fn new(alloc: Global, wanted: usize) -> Result<PageCache, AllocError>
         ensures { IfOk result (λ cache. (page : ℕ) → held_bytes cache page ≡ None) }
     {
         let mut slots = Vec::new(alloc);
-        for _ in 0..wanted {
+        for _ in 0..pages_with_room(alloc, wanted) {
             if slots.push(None).is_err() {
                 break;
             }
