@@ -2,12 +2,13 @@
 """How often an opening reads each page of a file: python3 tests/test_openings.py
 
 The reads are seen by strace (Debian's package); where there is none these tests are left out, and a line says so. A page is read once,
-where the tree is checked; where its rows are, it is in memory. The program is the one in the environment variable GUARDDB; without it
+where the tree is checked; where its rows are, it is in memory. Where memory is refused fewer pages are kept, so that statements have some. The program is the one in the environment variable GUARDDB; without it
 nothing is tried.
 """
 import collections
 import os
 import re
+import resource
 import shutil
 import subprocess
 import tempfile
@@ -19,6 +20,7 @@ PAGE = 4096
 TEXT, ROWS_PER_PAGE, AT_ONCE = 900, 4, 50   # the bytes of a text; how many such rows a page has; how many an INSERT has
 A_BLOCK = 1000                              # how many rows a block inserts
 MOST = 1.1                                  # the most reads of a page, on average
+LITTLE = 20 << 20                           # memory for a file of 4,600 pages whose pages are not all kept
 HAS_STRACE = shutil.which('strace') is not None
 
 
@@ -82,6 +84,14 @@ class Openings(unittest.TestCase):
     def test_a_file_whose_pages_are_all_kept(self):
         reads = self.reads(self.made(3, 300))
         self.assertLess(reads.total() / len(reads), 1.1)
+
+    def test_an_opening_leaves_memory_for_statements(self):
+        path = self.made(1, 4600)
+        with open(self.path('script'), 'w', encoding='ascii') as file:
+            file.write('open r root\nr: SELECT count(*) FROM t0\n')
+        done = subprocess.run([PROGRAM, 'run', path, self.path('script')], capture_output=True, check=False,
+                              preexec_fn=lambda: resource.setrlimit(resource.RLIMIT_AS, (LITTLE, LITTLE)))
+        self.assertEqual((done.returncode, done.stdout.splitlines()[-1]), (0, b'18400'), done.stderr)
 
 
 if __name__ == '__main__':

@@ -53,7 +53,13 @@ fn has_room(alloc: Global, pages: usize) -> bool {
     let Some(size) = pages.checked_mul(2 * size_of::<IndexedPage>()) else {
         return false;
     };
-    Vec::<u8>::with_capacity(alloc, size).is_ok()
+    take_room(alloc, size).is_ok()
+}
+
+// Takes so many bytes of memory. It is a call: in place, a compiler may leave out memory that is given back untouched.
+#[inline(never)]
+fn take_room(alloc: Global, size: usize) -> Result<Vec<u8>, AllocError> {
+    Vec::with_capacity(alloc, size)
 }
 
 impl PageCache {
