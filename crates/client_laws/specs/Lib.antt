@@ -1,0 +1,4 @@
+pub mod Renumbered
+pub mod Clients
+pub mod TwoRuns
+pub mod Connections
