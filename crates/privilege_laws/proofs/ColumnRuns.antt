@@ -121,7 +121,7 @@ module _ (hidden : TheName → ℕ → Bool) (pairs : UserPair → Bool) where
       | inr alike ↦ inr (rows_at (seen m number) (seen k number) (users_of s) x rel (exec (seen m number) (users_of s) (on_database.OverRows x)) (exec (seen k number) (users_of s) (on_database.OverRows x)) refl alike)
     ]
 
-  columns_are_hidden : Hides pairs (SameButHiddenFrom hidden pairs) TellsColumns
+  pub columns_are_hidden : Hides pairs (SameButHiddenFrom hidden pairs) TellsColumns
   columns_are_hidden = record {
     definitions = λ d e r. r.same.definitions;
     turned = turned_columns;

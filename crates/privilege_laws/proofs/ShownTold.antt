@@ -163,7 +163,7 @@ module _ (pairs : UserPair → Bool) (number : ℕ) (s : Session) (m k : Machine
     ends (on_database.OverRows x) both = over_rows x both (goes_by_visible (seen m number) s.role x) refl
     ends (on_database.Defining x) both = defining x both (may_unhide x) refl
 
-shown_hides : (pairs : UserPair → Bool) → Hides pairs (SameShownRows pairs) IsException
+pub shown_hides : (pairs : UserPair → Bool) → Hides pairs (SameShownRows pairs) IsException
 shown_hides pairs = record {
   definitions = λ d e same. same.definitions;
   turned = turned_rows pairs;

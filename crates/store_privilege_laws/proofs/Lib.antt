@@ -1,0 +1,4 @@
+pub mod RelatedStores
+pub mod StoresApart
+pub mod PlansOverStores
+pub mod MoreOverStores

@@ -1,0 +1,3 @@
+pub mod RelatedStores
+pub mod PlansOverStores
+pub mod MoreOverStores
