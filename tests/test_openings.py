@@ -2,8 +2,8 @@
 """How often an opening reads each page of a file: python3 tests/test_openings.py
 
 The reads are seen by strace (Debian's package); where there is none these tests are left out, and a line says so. A page is read once,
-where the tree is checked; where its rows are, it is in memory. Where memory is refused fewer pages are kept, so that statements have some. The program is the one in the environment variable GUARDDB; without it
-nothing is tried.
+where the tree is checked; where its rows are, it is in memory. Where memory is refused fewer pages are kept, so that statements have some.
+The program is the one in the environment variable GUARDDB; without it nothing is tried.
 """
 import collections
 import os
