@@ -20,7 +20,7 @@ PAGE = 4096
 TEXT, ROWS_PER_PAGE, AT_ONCE = 900, 4, 50   # the bytes of a text; how many such rows a page has; how many an INSERT has
 A_BLOCK = 1000                              # how many rows a block inserts
 MOST = 1.1                                  # the most reads of a page, on average
-LITTLE = 24 << 20                           # memory for a file of 4,600 pages whose pages are not all kept
+LITTLE = 20 << 20                           # memory for a file of 4,600 pages whose pages are not all kept
 HAS_STRACE = shutil.which('strace') is not None
 
 

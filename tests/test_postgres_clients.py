@@ -29,6 +29,7 @@ def python_with(module):
 
 PYTHON = python_with('psycopg2')
 WITHOUT = {name: value for name, value in os.environ.items() if not name.startswith('PG')}
+OPTIONS = "behind a comma PLACE takes role=NAME, and of a socket mode=600 or mode=660, each once, not '{}'"
 RULE = 'serve --at PLACE takes FILE and --clients N, and no port or socket; PLACE is port:P, socket:PATH, pgport:P or pgsocket:FOLDER'
 
 
@@ -390,8 +391,13 @@ class Places(AtServer):
             (['--at', 'pgport:5432', '--connections', '5'], RULE),
             (['--at', 'pgport:5432', '--clients', '5', '--port', '5433'], RULE),
             (['--at', 'pgport:5432', '--clients', '5', '--socket', 'a'], RULE),
-            (['--at', 'pgport:5432,scram', '--clients', '5'], RULE),
-            (['--at', 'pgsocket:/a,/b', '--clients', '5'], RULE),
+            (['--at', 'pgport:5432,scram', '--clients', '5'], OPTIONS.format('scram')),
+            (['--at', 'pgsocket:/a,/b', '--clients', '5'], OPTIONS.format('/b')),
+            (['--at', 'pgport:5432,mode=600', '--clients', '5'], OPTIONS.format('mode=600')),
+            (['--at', 'pgsocket:/a,mode=640', '--clients', '5'], OPTIONS.format('mode=640')),
+            (['--at', 'pgsocket:/a,role=', '--clients', '5'], OPTIONS.format('role=')),
+            (['--at', 'pgsocket:/a,role=b,role=b', '--clients', '5'], OPTIONS.format('role=b,role=b')),
+            (['--at', 'pgsocket:/a,', '--clients', '5'], OPTIONS.format('')),
             (['--at', '5432', '--clients', '5'], RULE),
             (['--at', 'PGPORT:5432', '--clients', '5'], RULE),
             (['--at', '', '--clients', '5'], RULE),

@@ -94,6 +94,7 @@ module _ (words : TheWords) (name : TheWord) (rows : List Row) (fits : fault_of 
   order_refuses (usage.Number option word) unfit = (unfit.0, gives_of _ unfit.1, unfit.2, unfit.3)
   order_refuses (usage.Path path) unfit = (unfit.0, gives_of _ unfit.1, unfit.2, unfit.3)
   order_refuses (usage.Folder folder) unfit = (unfit.0, gives_of _ unfit.1, unfit.2, unfit.3)
+  order_refuses (usage.Options words) unfit = (unfit.0, unfit.1, gives_of _ unfit.2, unfit.3, unfit.4)
   order_refuses (usage.Name named) unfit = (unfit.0, gives_of _ unfit.1, unfit.2, unfit.3)
   order_refuses (usage.Switch word) unfit = (unfit.0, gives_of _ unfit.1, unfit.2, unfit.3)
   order_refuses (usage.Grammar e) unfit = absurd unfit
@@ -132,6 +133,7 @@ refuses_by words e (Err usage.ServingAt) kinds read = absurd read
 refuses_by words e (Err (usage.Number option word)) kinds read = absurd read
 refuses_by words e (Err (usage.Path path)) kinds read = absurd read
 refuses_by words e (Err (usage.Folder folder)) kinds read = absurd read
+refuses_by words e (Err (usage.Options behind)) kinds read = absurd read
 refuses_by words e (Err (usage.Name name)) kinds read = absurd read
 refuses_by words e (Err (usage.Switch word)) kinds read = absurd read
 refuses_by words e (Err usage.Encoding) kinds read = absurd read

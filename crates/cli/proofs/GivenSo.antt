@@ -36,6 +36,7 @@ module _ (G : Given → Type 0) (words : Given) (gives : G words) where
   unfit_so (usage.Number option word) unfit = (unfit.0, so _ unfit.1, unfit.2, unfit.3)
   unfit_so (usage.Path path) unfit = (unfit.0, so _ unfit.1, unfit.2, unfit.3)
   unfit_so (usage.Folder folder) unfit = (unfit.0, so _ unfit.1, unfit.2, unfit.3)
+  unfit_so (usage.Options words) unfit = (unfit.0, unfit.1, so _ unfit.2, unfit.3, unfit.4)
   unfit_so (usage.Name named) unfit = (unfit.0, so _ unfit.1, unfit.2, unfit.3)
   unfit_so (usage.Switch word) unfit = (unfit.0, so _ unfit.1, unfit.2, unfit.3)
   unfit_so (usage.Grammar e) unfit = absurd unfit
@@ -57,6 +58,7 @@ no_number_so option given word is usage.ServingClients none = absurd none
 no_number_so option given word is usage.ServingAt none = absurd none
 no_number_so option given word is (usage.Path path) none = absurd none
 no_number_so option given word is (usage.Folder folder) none = absurd none
+no_number_so option given word is (usage.Options words) none = absurd none
 no_number_so option given word is (usage.Name name) none = absurd none
 no_number_so option given word is (usage.Switch named) none = absurd none
 no_number_so option given word is (usage.Grammar e) none = absurd none

@@ -7,7 +7,7 @@ use Rattle.clap.proofs.WalkLemmas.{first_value-rows, one_text-rows}
 use Rattle.clap.specs.declared.parser.matches.Found.{Found}
 use Rattle.sql_types.specs.Name.{IsName}
 use Rattle.std.specs.Option.{unwrap_or}
-use Rattle.cli.specs.PlaceWords.{HasNoComma, NoPlaceWord, place_word}
+use Rattle.cli.specs.PlaceWords.{NoPlaceWord, place_word, with_options}
 use Rattle.cli.specs.CommandLine.{TheWord, Given, Format, Copy, Journal, Run, RunMemory, Serve, ServeSocket, ServeClients, GivenPlace, AtPort, AtSocket, At, GivenCounts, Check, Describe, Explain, HasPlaceWord, HasWords, GivesAs, IsFlag, IsRoleName, lent_word}
 
 module _ (f : Found) (id : List ℕ) (r : Option (Bor (List ℕ))) (got : option_map (λ s. s.now) r ≡ first_value f id) where
@@ -59,31 +59,30 @@ not_both o word none some =
 pub no_place : (rows : List Row) (place : GivenPlace) → first_of (codes "port") rows ≡ None → first_of (codes "socket") rows ≡ None → first_of (codes "at") rows ≡ None → HasPlaceWord rows place → ⊥
 no_place rows (AtPort port) no_port no_socket no_at has = not_both _ port no_port has.0
 no_place rows (AtSocket socket) no_port no_socket no_at has = not_both _ socket no_socket has.1
-no_place rows (At kind rest) no_port no_socket no_at has = not_both _ (place_word kind rest) no_at has.2
+no_place rows (At kind rest options) no_port no_socket no_at has = not_both _ (with_options (place_word kind rest) options) no_at has.2
 
 pub two_places : (rows : List Row) (place : GivenPlace) (port : TheWord) → first_of (codes "port") rows ≡ Some port → (first_of (codes "socket") rows ≡ None → ⊥) → HasPlaceWord rows place → ⊥
 two_places rows (AtPort other) port has_port has_socket has = has_socket has.1
 two_places rows (AtSocket socket) port has_port has_socket has = not_both _ port has.0 has_port
-two_places rows (At kind rest) port has_port has_socket has = not_both _ port has.0 has_port
+two_places rows (At kind rest options) port has_port has_socket has = not_both _ port has.0 has_port
 
 -- what `--at` names is its place alone
 pub only_at : (rows : List Row) (place : GivenPlace) (word : TheWord) → first_of (codes "at") rows ≡ Some word → NoPlaceWord word → HasPlaceWord rows place → ⊥
 only_at rows (AtPort port) word has_at none has = not_both _ word has.2 has_at
 only_at rows (AtSocket socket) word has_at none has = not_both _ word has.2 has_at
-only_at rows (At kind rest) word has_at none has =
-    let is : word ≡ place_word kind rest = same_some word (place_word kind rest) (sym has_at ∙ has.2) in
-    none kind rest is (subst HasNoComma (sym is) has.3)
+only_at rows (At kind rest options) word has_at none has =
+    none kind rest options (same_some word (with_options (place_word kind rest) options) (sym has_at ∙ has.2)) has.3
 
 -- beside it there is neither a port nor a socket
 pub no_port_beside : (rows : List Row) (place : GivenPlace) (word : TheWord) → first_of (codes "at") rows ≡ Some word → (first_of (codes "port") rows ≡ None → ⊥) → HasPlaceWord rows place → ⊥
 no_port_beside rows (AtPort port) word has_at given has = not_both _ word has.2 has_at
 no_port_beside rows (AtSocket socket) word has_at given has = not_both _ word has.2 has_at
-no_port_beside rows (At kind rest) word has_at given has = given has.0
+no_port_beside rows (At kind rest options) word has_at given has = given has.0
 
 pub no_socket_beside : (rows : List Row) (place : GivenPlace) (word : TheWord) → first_of (codes "at") rows ≡ Some word → (first_of (codes "socket") rows ≡ None → ⊥) → HasPlaceWord rows place → ⊥
 no_socket_beside rows (AtPort port) word has_at given has = not_both _ word has.2 has_at
 no_socket_beside rows (AtSocket socket) word has_at given has = not_both _ word has.2 has_at
-no_socket_beside rows (At kind rest) word has_at given has = given has.1
+no_socket_beside rows (At kind rest options) word has_at given has = given has.1
 
 -- what a getter gives of a flag is whether it is given
 pub flag_so : (f : Found) (id : List ℕ) (given : Bool) → (one_text f id ≡ None → given ≡ false) → (one_text f id ≡ Some (codes "true") → given ≡ true) → (one_text f id ≡ Some (codes "false") → given ≡ false)

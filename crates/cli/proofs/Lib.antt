@@ -3,6 +3,7 @@ pub mod CommandLines
 pub mod GivenSo
 pub mod GivenWords
 pub mod GivenPlaces
+pub mod PlaceCommas
 mod Blank
 pub mod Changes
 mod Copied

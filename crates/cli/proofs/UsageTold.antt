@@ -29,6 +29,7 @@ usage_told command called usage.ServingAt written told before after other is so 
 usage_told command called (usage.Number option word) written told before after other is so appends = (refl, told_of command called (usage_reason (usage.Number option word)) written told before after is so appends)
 usage_told command called (usage.Path path) written told before after other is so appends = (refl, told_of command called (usage_reason (usage.Path path)) written told before after is so appends)
 usage_told command called (usage.Folder folder) written told before after other is so appends = (refl, told_of command called (usage_reason (usage.Folder folder)) written told before after is so appends)
+usage_told command called (usage.Options words) written told before after other is so appends = (refl, told_of command called (usage_reason (usage.Options words)) written told before after is so appends)
 usage_told command called (usage.Name name) written told before after other is so appends = (refl, told_of command called (usage_reason (usage.Name name)) written told before after is so appends)
 usage_told command called (usage.Switch word) written told before after other is so appends = (refl, told_of command called (usage_reason (usage.Switch word)) written told before after is so appends)
 usage_told command called usage.Encoding written told before after other is so appends = (refl, told_of command called (usage_reason usage.Encoding) written told before after is so appends)

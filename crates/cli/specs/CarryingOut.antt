@@ -4,6 +4,7 @@ use Rattle.sector_device.specs.declared.device.Device.{Ghosts}
 use Rattle.abstract_database.specs.Runs.{ReadingRelation}
 use Rattle.systems.specs.Systems.{SystemState}
 use Rattle.channels.specs.declared.attend.Attend.{Ghosts as AttendGhosts}
+use Rattle.doors.specs.declared.door_talk.DoorTalk.{DoorTalk}
 use Rattle.talks.specs.declared.talk.Talk.{Ghosts as TalkGhosts}
 use Rattle.talks.specs.declared.clients.ServedClients.{Ghosts as ClientsGhosts}
 use Rattle.wire.specs.declared.sink.Sink.{Ghosts as SinkGhosts}
@@ -20,7 +21,7 @@ use Rattle.cli.specs.Refusals.{explained_run}
 -- `a` of listeners that are polled, `t` of conversations in frames, `p` of clients that come to such a listener and have them, `u` and `q` the same of
 -- PostgreSQL's protocol, `contents` of what takes messages,
 -- `listening` of listeners and `state` of systems
-module _ (X : Type 0) {D L K C S E H T P U Q : Type 0} (g : Ghosts D) (k : SinkGhosts K) (c : SinkGhosts C) (a : AttendGhosts L H) (t : TalkGhosts T) (p : ClientsGhosts P T) (u : TalkGhosts U) (q : ClientsGhosts Q U) (contents : E → Known) (Reads : ReadingRelation) (listening : L → Option Listening) (state : S → SystemState D L) (old : SystemState D L) where
+module _ (X : Type 0) {D L K C S E H T P U Q : Type 0} (g : Ghosts D) (k : SinkGhosts K) (c : SinkGhosts C) (a : AttendGhosts L H) (t : TalkGhosts (DoorTalk T)) (p : ClientsGhosts P (DoorTalk T)) (u : TalkGhosts (DoorTalk U)) (q : ClientsGhosts Q (DoorTalk U)) (contents : E → Known) (Reads : ReadingRelation) (listening : L → Option Listening) (state : S → SystemState D L) (old : SystemState D L) where
   -- this run was made, and its refusals were told of; without one the order was performed
   abbrev pub CarriesOut : Option ExplainedRun → Invocation → K → E → SystemState D L → Performed K E → Type 0
   CarriesOut (Some run) order out err new done = ExplainsRun X g k contents Reads old run out err new done

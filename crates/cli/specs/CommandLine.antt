@@ -1,5 +1,5 @@
 -- What the words of a command line ask for, as `clap` reads them.
-use Rattle.std.specs.Prelude.{◌≡◌, ◌≢◌, ℕ, Bool, true, false, List, [], map, codes, Option, Some, None, Result, Ok, Err}
+use Rattle.std.specs.Prelude.{◌≡◌, ◌≢◌, ◌⊎◌, ℕ, Bool, true, false, List, [], map, codes, Option, Some, None, Result, Ok, Err}
 use Rattle.std.specs.Option.{option_map}
 use Rattle.std.specs.Borrow.{Bor}
 use Rattle.clap.specs.Words.{IsAmong, Row, first_of, fault_of, kind_of, one_of, subcommand_of}
@@ -22,7 +22,7 @@ use Rattle.cli.specs.declared.serve_clients.ManyClients.{ManyClients}
 use Rattle.cli.specs.declared.serve_words.CountWords.{CountWords}
 use Rattle.cli.specs.declared.served_place.Protocol.TheVariants.{Frames, Postgres}
 use Rattle.cli.specs.declared.served_place.ServedPlace.{ServedPlace}
-use Rattle.cli.specs.PlaceWords.{HasNoComma, IsFolderServed, IsPortServed, IsSocketFolder, IsSocketPath, IsSocketServed, place_word}
+use Rattle.cli.specs.PlaceWords.{HasNoComma, IsFolderServed, SaysGuard, IsPortServed, IsSocketFolder, IsSocketPath, IsSocketServed, NoOptions, place_word, with_options}
 use Rattle.cli.specs.Refusals.{at_refusal}
 
 abbrev pub TheWord : Type 0
@@ -41,11 +41,11 @@ lent_word word = option_map (λ w. w.now) word
 
 -- ---- what the words say
 
--- the word for a place: of `--port`, of `--socket`, or what stands behind the colon in that of `--at`
+-- the word for a place: of `--port`, of `--socket`, or what stands behind the colon in that of `--at`, and behind its first comma
 pub data GivenPlace : Type 0 where
   AtPort : TheWord → GivenPlace
   AtSocket : TheWord → GivenPlace
-  At : PlaceKind → TheWord → GivenPlace
+  At : PlaceKind → TheWord → Option TheWord → GivenPlace
 
 -- the words for the numbers of a server of many clients
 pub record GivenCounts : Type 0 where
@@ -107,7 +107,7 @@ HasNoClients rows = (first_of (codes "clients") rows ≡ None) × (first_of (cod
 abbrev pub HasPlaceWord : List Row → GivenPlace → Type 0
 HasPlaceWord rows (AtPort port) = (first_of (codes "port") rows ≡ Some port) × (first_of (codes "socket") rows ≡ None) × (first_of (codes "at") rows ≡ None)
 HasPlaceWord rows (AtSocket socket) = (first_of (codes "port") rows ≡ None) × (first_of (codes "socket") rows ≡ Some socket) × (first_of (codes "at") rows ≡ None)
-HasPlaceWord rows (At kind rest) = (first_of (codes "port") rows ≡ None) × (first_of (codes "socket") rows ≡ None) × (first_of (codes "at") rows ≡ Some (place_word kind rest)) × HasNoComma (place_word kind rest)
+HasPlaceWord rows (At kind rest options) = (first_of (codes "port") rows ≡ None) × (first_of (codes "socket") rows ≡ None) × (first_of (codes "at") rows ≡ Some (with_options (place_word kind rest) options)) × HasNoComma (place_word kind rest)
 
 -- it has the numbers of a server of many clients
 pub record HasCounts (rows : List Row) (counts : GivenCounts) : Type 0 where
@@ -186,13 +186,21 @@ pub record AreCountsGiven (counts : GivenCounts) (many : ManyClients) : Type 0 w
 
 -- the place where a server listens: a port of this number, a path that the system takes for a socket's, or a folder that has one; and the protocol
 -- by which it speaks there
+abbrev pub NamesPlace : PlaceKind → TheWord → ServedPlace → Type 0
+NamesPlace kinds.Port word served = IsPortServed Frames word served
+NamesPlace kinds.Socket word served = IsSocketServed word served
+NamesPlace kinds.PostgresPort word served = IsPortServed Postgres word served
+NamesPlace kinds.PostgresFolder word served = IsFolderServed word served
+
+-- the place, and whom it lets in
+pub record IsPlaceAs (kind : PlaceKind) (word : TheWord) (options : Option TheWord) (served : ServedPlace) : Type 0 where
+  pub placed : NamesPlace kind word served
+  pub guarded : SaysGuard kind options (lent_word served.role) served.access
+
 abbrev pub IsPlaceFor : GivenPlace → ServedPlace → Type 0
-IsPlaceFor (AtPort word) served = IsPortServed Frames word served
-IsPlaceFor (AtSocket word) served = IsSocketServed word served
-IsPlaceFor (At kinds.Port word) served = IsPortServed Frames word served
-IsPlaceFor (At kinds.Socket word) served = IsSocketServed word served
-IsPlaceFor (At kinds.PostgresPort word) served = IsPortServed Postgres word served
-IsPlaceFor (At kinds.PostgresFolder word) served = IsFolderServed word served
+IsPlaceFor (AtPort word) served = IsPlaceAs kinds.Port word None served
+IsPlaceFor (AtSocket word) served = IsPlaceAs kinds.Socket word None served
+IsPlaceFor (At kind word options) served = IsPlaceAs kind word options served
 
 -- the role, where one is given: a name that a role can have
 abbrev pub IsRoleName : Option TheWord → Type 0
@@ -234,13 +242,18 @@ name_in _ = None
 abbrev pub path_in : Given → Option TheWord
 path_in (ServeSocket file socket connections idle) = Some socket
 path_in (ServeClients file (AtSocket socket) counts) = Some socket
-path_in (ServeClients file (At kinds.Socket socket) counts) = Some socket
+path_in (ServeClients file (At kinds.Socket socket options) counts) = Some socket
 path_in _ = None
 
 -- and for the folder of one
 abbrev pub folder_in : Given → Option TheWord
-folder_in (ServeClients file (At kinds.PostgresFolder folder) counts) = Some folder
+folder_in (ServeClients file (At kinds.PostgresFolder folder options) counts) = Some folder
 folder_in _ = None
+
+-- the words behind the comma of a place, with its kind
+abbrev pub options_in : Given → Option (PlaceKind × TheWord)
+options_in (ServeClients file (At kind word (Some options)) counts) = Some (kind, options)
+options_in _ = None
 
 abbrev pub switch_in : Given → Option TheWord
 switch_in (Journal file state) = Some state
@@ -263,8 +276,8 @@ number_in Connections (ServeSocket file socket connections idle) = Some connecti
 number_in Idle (Serve file port connections idle) = idle
 number_in Idle (ServeSocket file socket connections idle) = idle
 number_in Port (ServeClients file (AtPort port) counts) = Some port
-number_in Port (ServeClients file (At kinds.Port port) counts) = Some port
-number_in Port (ServeClients file (At kinds.PostgresPort port) counts) = Some port
+number_in Port (ServeClients file (At kinds.Port port options) counts) = Some port
+number_in Port (ServeClients file (At kinds.PostgresPort port options) counts) = Some port
 number_in option (ServeClients file place counts) = count_in option counts
 number_in _ _ = None
 
@@ -273,7 +286,8 @@ pub record IsNoSwitch (word : TheWord) : Type 0 where
   pub not_on : word ≢ codes "on"
   pub not_off : word ≢ codes "off"
 
--- nothing is given that a command takes, or its name, its path, its word for on or off or one of its numbers is none
+-- nothing is given that a command takes, or its name, its path, what it says of whom a place lets in, its word for on or off or one of its numbers is
+-- none
 abbrev pub IsUnfit : (Given → Type 0) → UsageFault → Type 0
 IsUnfit G usage.Form = (given : Given) → G given → ⊥
 IsUnfit G usage.Serving = (given : Given) → G given → ⊥
@@ -282,6 +296,7 @@ IsUnfit G usage.ServingAt = (given : Given) → G given → ⊥
 IsUnfit G (usage.Number option word) = (given : Given) × G given × (number_in option given ≡ Some word.now) × NoNumberFor option word.now
 IsUnfit G (usage.Path path) = (given : Given) × G given × (path_in given ≡ Some path.now) × (IsSocketPath path.now → ⊥)
 IsUnfit G (usage.Folder folder) = (given : Given) × G given × (folder_in given ≡ Some folder.now) × (IsSocketFolder folder.now → ⊥)
+IsUnfit G (usage.Options words) = (given : Given) × (kind : PlaceKind) × G given × (options_in given ≡ Some (kind, words.now)) × NoOptions kind words.now
 IsUnfit G (usage.Name name) = (given : Given) × G given × (name_in given ≡ Some name.now) × (IsName name.now → ⊥)
 IsUnfit G (usage.Switch word) = (given : Given) × G given × (switch_in given ≡ Some word.now) × IsNoSwitch word.now
 IsUnfit G _ = ⊥
@@ -307,6 +322,15 @@ IsNoPlace kinds.Port word fault = IsNoNumber Port (Some word) fault
 IsNoPlace kinds.Socket word fault = IsNoPath word fault
 IsNoPlace kinds.PostgresPort word fault = IsNoNumber Port (Some word) fault
 IsNoPlace kinds.PostgresFolder word fault = IsNoFolder word fault
+
+-- what stands behind the comma of a place says nothing of whom it lets in
+abbrev pub IsNoOptions : PlaceKind → Option TheWord → UsageFault → Type 0
+IsNoOptions kind options (usage.Options words) = (options ≡ Some words.now) × NoOptions kind words.now
+IsNoOptions kind options _ = ⊥
+
+-- a word of `--at` names no place of that kind, or does not say whom it lets in
+abbrev pub IsNoPlaceAs : PlaceKind → TheWord → Option TheWord → UsageFault → Type 0
+IsNoPlaceAs kind word options fault = IsNoPlace kind word fault ⊎ IsNoOptions kind options fault
 
 -- one of the words for numbers gives none
 abbrev pub IsNoCount : GivenCounts → UsageFault → Type 0

@@ -1,8 +1,11 @@
 -- The word of `--at`, and the places that words name.
-use Rattle.std.specs.Prelude.{◌≡◌, ◌≢◌, ◌≤◌, ◌++◌, ℕ, List, length, codes, All}
+use Rattle.std.specs.Prelude.{◌≡◌, ◌≢◌, ◌≤◌, ◌++◌, ◌∷◌, ◌⊎◌, ℕ, Bool, true, false, List, Option, Some, None, length, codes, All}
 use Rattle.systems.specs.declared.place.ListenPlace.{ListenPlace}
 use Rattle.systems.specs.declared.place.ListenPlace.TheVariants as listen
+use Rattle.systems.specs.declared.place.SocketAccess.{SocketAccess}
+use Rattle.systems.specs.declared.place.SocketAccess.TheVariants.{Owner, Group}
 use Rattle.systems.specs.Places.{postgres_socket}
+use Rattle.sql_types.specs.Name.{IsName}
 use Rattle.cli.specs.declared.number.NumberOption.TheVariants as option
 use Rattle.cli.specs.declared.place_words.PlaceKind.{PlaceKind}
 use Rattle.cli.specs.declared.place_words.PlaceKind.TheVariants.{Port, Socket, PostgresPort, PostgresFolder}
@@ -21,9 +24,14 @@ place_word PostgresFolder rest = codes "pgsocket:" ++ rest
 abbrev pub HasNoComma : List ℕ → Type 0
 HasNoComma word = All (λ byte. byte ≢ 44) word
 
--- it is no such word, or it has a comma
+-- a word up to its first comma, and what stands behind that, if there is one
+abbrev pub with_options : List ℕ → Option (List ℕ) → List ℕ
+with_options place None = place
+with_options place (Some options) = place ++ 44 ∷ options
+
+-- it is no such word, whatever stands behind its first comma
 abbrev pub NoPlaceWord : List ℕ → Type 0
-NoPlaceWord word = (kind : PlaceKind) (rest : List ℕ) → word ≡ place_word kind rest → HasNoComma word → ⊥
+NoPlaceWord word = (kind : PlaceKind) (rest : List ℕ) (options : Option (List ℕ)) → word ≡ with_options (place_word kind rest) options → HasNoComma (place_word kind rest) → ⊥
 
 -- a path that the system takes for a socket's
 pub record IsSocketPath (path : List ℕ) : Type 0 where
@@ -55,7 +63,60 @@ IsFolderOf word (listen.Port port) = ⊥
 IsFolderOf word (listen.Socket path) = ⊥
 IsFolderOf word (listen.PostgresFolder folder) = (word ≡ folder.now) × IsSocketFolder folder.now
 
--- the same, and by which protocol clients are spoken to there
+-- ---- whom a place lets in
+
+-- a place of this kind is a socket, which has a file
+abbrev pub has_file : PlaceKind → Bool
+has_file Port = false
+has_file Socket = true
+has_file PostgresPort = false
+has_file PostgresFolder = true
+
+-- `role=NAME`: one comes in as the role of this name alone
+abbrev pub IsRoleWord : List ℕ → Option (List ℕ) → Type 0
+IsRoleWord word None = ⊥
+IsRoleWord word (Some name) = (word ≡ codes "role=" ++ name) × IsName name × HasNoComma name
+
+-- `mode=600` or `mode=660`: whom the file of a socket lets connect
+abbrev pub mode_word : SocketAccess → List ℕ
+mode_word Owner = codes "mode=600"
+mode_word Group = codes "mode=660"
+
+abbrev pub IsModeWord : PlaceKind → List ℕ → SocketAccess → Type 0
+IsModeWord kind word access = (has_file kind ≡ true) × (word ≡ mode_word access)
+
+-- one such word; what the other would say is as without it
+abbrev pub SaysOne : PlaceKind → List ℕ → Option (List ℕ) → SocketAccess → Type 0
+SaysOne kind word role access = (IsRoleWord word role × (access ≡ Owner)) ⊎ (IsModeWord kind word access × (role ≡ None))
+
+-- both, in either order
+abbrev pub SaysTwo : PlaceKind → List ℕ → List ℕ → Option (List ℕ) → SocketAccess → Type 0
+SaysTwo kind first second role access = (IsRoleWord first role × IsModeWord kind second access) ⊎ (IsModeWord kind first access × IsRoleWord second role)
+
+-- a word, and what stands behind the comma after it
+abbrev pub SaysParts : PlaceKind → List ℕ → Option (List ℕ) → Option (List ℕ) → SocketAccess → Type 0
+SaysParts kind first None role access = SaysOne kind first role access
+SaysParts kind first (Some second) role access = SaysTwo kind first second role access
+
+-- what stands behind the comma of a place says that one comes in as this role alone, and whom the file lets connect
+pub record SaysOptions (kind : PlaceKind) (words : List ℕ) (role : Option (List ℕ)) (access : SocketAccess) : Type 0 where
+  pub first : List ℕ
+  pub second : Option (List ℕ)
+  pub cut : words ≡ with_options first second
+  pub is_first : HasNoComma first
+  pub says : SaysParts kind first second role access
+
+-- it says nothing of the kind
+abbrev pub NoOptions : PlaceKind → List ℕ → Type 0
+NoOptions kind words = (role : Option (List ℕ)) (access : SocketAccess) → SaysOptions kind words role access → ⊥
+
+-- the same of a place behind which there may be no comma: then one comes in as any role, and the owner alone connects
+abbrev pub SaysGuard : PlaceKind → Option (List ℕ) → Option (List ℕ) → SocketAccess → Type 0
+SaysGuard kind None role access = (role ≡ None) × (access ≡ Owner)
+SaysGuard kind (Some words) role access = SaysOptions kind words role access
+
+-- ---- what a word names, and by which protocol clients are spoken to there
+
 abbrev pub IsPortServed : Protocol → List ℕ → ServedPlace → Type 0
 IsPortServed protocol word served = (served.protocol ≡ protocol) × IsPortOf word served.place
 

@@ -18,6 +18,7 @@ use Rattle.cli.specs.declared.command.UsageFault.TheVariants as usage
 use Rattle.cli.specs.declared.texts.TheConstants.{HELP, VERSION}
 use Rattle.cli.specs.declared.command_name.CommandName.{CommandName}
 use Rattle.cli.specs.declared.command_name.CommandName.TheVariants as command_name
+use Rattle.cli.specs.CommandLine.{lent_word}
 use Rattle.cli.specs.CommandNames.{usage_for}
 use Rattle.cli.specs.Usage.{name_reason, usage_reason}
 use Rattle.cli.specs.declared.fault.CommandFault.{CommandFault}
@@ -42,6 +43,7 @@ use Rattle.cli.specs.Printing.{EndsBy, IsPrinted, Prints}
 use Rattle.cli.specs.Running.{RunsOverNew}
 use Rattle.cli.specs.ScriptNotes.{HasToldNotes}
 use Rattle.channels.specs.declared.attend.Attend.{Ghosts as AttendGhosts}
+use Rattle.doors.specs.declared.door_talk.DoorTalk.{DoorTalk}
 use Rattle.talks.specs.declared.talk.Talk.{Ghosts as TalkGhosts}
 use Rattle.talks.specs.declared.clients.ServedClients.{Ghosts as ClientsGhosts}
 use Rattle.talks.specs.declared.clients.Finish.TheVariants as finish
@@ -233,16 +235,16 @@ outcome_of_clients (Ok end) = Ok (served_by end)
 outcome_of_clients (Err f) = Err f
 
 -- many clients at once were served at a place over the database in a file, or why they were not was told; that the file was migrated was told, where it was
-pub record ServesMany (X : Type 0) {D L C T P : Type 0} (g : Ghosts D) (a : AttendGhosts L C) (t : TalkGhosts T) (p : ClientsGhosts P T) (Reads : ReadingRelation) (old : SystemState D L) (file : Subject) (path : List ℕ) (place : ListenPlace) (many : ManyClients) (exit : Exit) (new : SystemState D L) (err_before err_after : Known) : Type 0 where
+pub record ServesMany (X : Type 0) {D L C T P : Type 0} (g : Ghosts D) (a : AttendGhosts L C) (t : TalkGhosts (DoorTalk T)) (p : ClientsGhosts P (DoorTalk T)) (Reads : ReadingRelation) (old : SystemState D L) (file : Subject) (path : List ℕ) (place : ServedPlace) (many : ManyClients) (exit : Exit) (new : SystemState D L) (err_before err_after : Known) : Type 0 where
   pub end : CommandEnd ServeEnd
   pub heard : Known
-  pub serves : ServesClientsFile X g a t p Reads old path place many err_before end new heard
-  pub ends : ExitsAfter end.told (server_subject file place (outcome_of_clients end.outcome)) (ending_of_server (outcome_of_clients end.outcome)) exit heard err_after
+  pub serves : ServesClientsFile X g a t p Reads old path place.place (lent_word place.role) many err_before end new heard
+  pub ends : ExitsAfter end.told (server_subject file place.place (outcome_of_clients end.outcome)) (ending_of_server (outcome_of_clients end.outcome)) exit heard err_after
 
 -- the same by the protocol of the place: `t` is what is said of conversations in frames, and `p` of the clients that have them; `u` and `q` are the same of PostgreSQL's protocol
-pub record ServesManyAt (X : Type 0) {D L C T P U Q : Type 0} (g : Ghosts D) (a : AttendGhosts L C) (t : TalkGhosts T) (p : ClientsGhosts P T) (u : TalkGhosts U) (q : ClientsGhosts Q U) (Reads : ReadingRelation) (old : SystemState D L) (file : Subject) (path : List ℕ) (place : ServedPlace) (many : ManyClients) (exit : Exit) (new : SystemState D L) (err_before err_after : Known) : Type 0 where
-  pub in_frames : place.protocol ≡ Frames → ServesMany X g a t p Reads old file path place.place many exit new err_before err_after
-  pub by_postgres : place.protocol ≡ Postgres → ServesMany X g a u q Reads old file path place.place many exit new err_before err_after
+pub record ServesManyAt (X : Type 0) {D L C T P U Q : Type 0} (g : Ghosts D) (a : AttendGhosts L C) (t : TalkGhosts (DoorTalk T)) (p : ClientsGhosts P (DoorTalk T)) (u : TalkGhosts (DoorTalk U)) (q : ClientsGhosts Q (DoorTalk U)) (Reads : ReadingRelation) (old : SystemState D L) (file : Subject) (path : List ℕ) (place : ServedPlace) (many : ManyClients) (exit : Exit) (new : SystemState D L) (err_before err_after : Known) : Type 0 where
+  pub in_frames : place.protocol ≡ Frames → ServesMany X g a t p Reads old file path place many exit new err_before err_after
+  pub by_postgres : place.protocol ≡ Postgres → ServesMany X g a u q Reads old file path place many exit new err_before err_after
 
 -- ---- what a command does
 
@@ -250,7 +252,7 @@ pub record ServesManyAt (X : Type 0) {D L C T P U Q : Type 0} (g : Ghosts D) (a 
 -- `listening` of listeners, `a` of those that are polled, `t` of conversations in frames, `p` of clients that come to such a listener and have them, `u` and `q` the same of
 -- PostgreSQL's protocol, and `state` of systems. The script that was named was run over the database that was named, or why not was told; a
 -- database in a file was made, copied, checked, described or served, a statement over it was explained, or its journal was turned on or off; or a text was printed
-module _ (X : Type 0) {D L K C S H T P U Q : Type 0} (g : Ghosts D) (k : SinkGhosts K) (c : SinkGhosts C) (a : AttendGhosts L H) (t : TalkGhosts T) (p : ClientsGhosts P T) (u : TalkGhosts U) (q : ClientsGhosts Q U) (Reads : ReadingRelation) (listening : L → Option Listening) (state : S → SystemState D L) (old : SystemState D L) where
+module _ (X : Type 0) {D L K C S H T P U Q : Type 0} (g : Ghosts D) (k : SinkGhosts K) (c : SinkGhosts C) (a : AttendGhosts L H) (t : TalkGhosts (DoorTalk T)) (p : ClientsGhosts P (DoorTalk T)) (u : TalkGhosts (DoorTalk U)) (q : ClientsGhosts Q (DoorTalk U)) (Reads : ReadingRelation) (listening : L → Option Listening) (state : S → SystemState D L) (old : SystemState D L) where
   abbrev pub IsPerformed : Invocation → Exit → SystemState D L → K → K → Known → Known → Type 0
   IsPerformed (order.Format file pages admin journal) exit new out_before out_after err_before err_after =
       DoesFormat g k old (subject.Named file) file.now pages admin.now journal exit new out_before out_after err_before err_after

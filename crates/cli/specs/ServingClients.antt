@@ -22,6 +22,9 @@ use Rattle.wire.specs.ScriptRun.{Known}
 use Rattle.polled_clients.specs.declared.clients.ClientLimits.{ClientLimits}
 use Rattle.postgres_messages.specs.Backend.{error_response, reply_bytes}
 use Rattle.postgres_messages.specs.declared.backend.Severity.TheVariants.{Fatal}
+use Rattle.doors.specs.declared.door.Door.{Door}
+use Rattle.doors.specs.declared.door.Door.TheVariants.{Anyone, Only}
+use Rattle.doors.specs.declared.door_talk.DoorTalk.{DoorTalk}
 use Rattle.talks.specs.declared.talk.Talk.{Ghosts as TalkGhosts}
 use Rattle.talks.specs.declared.clients.ServedClients.{Ghosts as ClientsGhosts}
 use Rattle.talks.specs.declared.serving.ServeEnd.{ServeEnd}
@@ -71,11 +74,19 @@ abbrev pub crowded_said : Protocol → List ℕ
 crowded_said Frames = answer_frames 0 (answer_text (Refused TooManyConnections))
 crowded_said Postgres = reply_bytes (error_response (record { severity = Fatal; code = codes "53300"; message = codes "sorry, too many clients already"; position = None }))
 
+-- the door of a place where one comes in as this role alone, or as any role where none is named
+abbrev pub IsDoorFor : Option (List ℕ) → Door → Type 0
+IsDoorFor None Anyone = Unit {0}
+IsDoorFor None (Only name) = ⊥
+IsDoorFor (Some role) Anyone = ⊥
+IsDoorFor (Some role) (Only name) = name ≡ role
+
 -- `a` is what is said of listeners that are polled, `t` of conversations, and `p` of clients that come to such a listener
-module _ {D X L C T P : Type 0} (g : Ghosts D) (a : AttendGhosts L C) (t : TalkGhosts T) (p : ClientsGhosts P T) (Reads : ReadingRelation) where
+module _ {D X L C T P : Type 0} (g : Ghosts D) (a : AttendGhosts L C) (t : TalkGhosts (DoorTalk T)) (p : ClientsGhosts P (DoorTalk T)) (Reads : ReadingRelation) where
   -- the clients that come to a listener were served from this server on: so many in all, each of whose bytes are those that come to the listener.
-  -- Nobody waited before, and none could not be taken. Of each that was let go the listener has what had gone out to it
-  pub record ServesComing (many : ManyClients) (server : Server (DeviceStore D g) X) (listener : L) (end : ServeEnd) (left : D) (ended : L) : Type 0 where
+  -- Nobody waited before, and none could not be taken. The conversation of each stands at the door of the place. Of each that was let go the
+  -- listener has what had gone out to it
+  pub record ServesComing (role : Option (List ℕ)) (many : ManyClients) (server : Server (DeviceStore D g) X) (listener : L) (end : ServeEnd) (left : D) (ended : L) : Type 0 where
     pub before : P
     pub after : P
     pub coming : (c : ℕ) → p.at before c ≡ awaited (a.coming listener c)
@@ -84,6 +95,7 @@ module _ {D X L C T P : Type 0} (g : Ghosts D) (a : AttendGhosts L C) (t : TalkG
     pub none_contends : p.contention before ≡ uncontended true
     pub none_refused : p.refusals before ≡ 0
     pub none_looked : p.looks before ≡ 0
+    pub at_door : (talk : DoorTalk T) → p.makes (p.maker before) talk → IsDoorFor role talk.door
     pub serves : ServesClientsFrom g t p Reads server before end left after
     pub closed : (c : ℕ) (sent : NamedBytes) → p.at after c ≡ gone sent → a.closed ended c ≡ sent
 
@@ -96,16 +108,16 @@ module _ {D X L C T P : Type 0} (g : Ghosts D) (a : AttendGhosts L C) (t : TalkG
   -- ---- at a listener that is polled
 
   -- it was told where the server listens, and those that came were served; or that was not taken, or memory was refused, and nobody was
-  module _ (place : ListenPlace) (many : ManyClients) (server : Server (DeviceStore D g) X) (listener : L) (told_before : Known) where
+  module _ (place : ListenPlace) (role : Option (List ℕ)) (many : ManyClients) (server : Server (DeviceStore D g) X) (listener : L) (told_before : Known) where
     abbrev pub ServesClientsOn : Result ServeEnd CommandFault → D → L → Known → Type 0
-    ServesClientsOn (Ok end) left ended told_after = Appends told_before told_after (listening_text place) × ServesComing many server listener end left ended
+    ServesClientsOn (Ok end) left ended told_after = Appends told_before told_after (listening_text place) × ServesComing role many server listener end left ended
     ServesClientsOn (Err Output) left ended told_after = TakesNobody server listener left ended
     ServesClientsOn (Err Memory) left ended told_after = TakesNobody server listener left ended × (told_after ≡ told_before)
     ServesClientsOn (Err fault) left ended told_after = ⊥
 
   -- ---- at a place
 
-  module _ (old : SystemState D L) (place : ListenPlace) (many : ManyClients) (server : Server (DeviceStore D g) X) (before : Known) where
+  module _ (old : SystemState D L) (place : ListenPlace) (role : Option (List ℕ)) (many : ManyClients) (server : Server (DeviceStore D g) X) (before : Known) where
     -- it was not bound, and nothing was done
     pub record IsUnboundAt (left : D) (new : SystemState D L) (after : Known) : Type 0 where
       pub left_is : left ≡ device_under server
@@ -121,7 +133,7 @@ module _ {D X L C T P : Type 0} (g : Ghosts D) (a : AttendGhosts L C) (t : TalkG
       pub ended : L
       pub between : IsBoundBetween old place bound listener ended new
       pub told : Appends before after (listening_text bound)
-      pub serves : ServesComing many server listener end left ended
+      pub serves : ServesComing role many server listener end left ended
 
     -- it was bound, and nobody was taken there
     pub record AreNotServedAt (left : D) (new : SystemState D L) : Type 0 where
@@ -148,7 +160,7 @@ module _ {D X L C T P : Type 0} (g : Ghosts D) (a : AttendGhosts L C) (t : TalkG
 -- ---- a place and a file
 
 -- `X` decides events, and `path` is that of the file
-module _ (X : Type 0) {D L C T P : Type 0} (g : Ghosts D) (a : AttendGhosts L C) (t : TalkGhosts T) (p : ClientsGhosts P T) (Reads : ReadingRelation) (old : SystemState D L) (path : List ℕ) (place : ListenPlace) (many : ManyClients) where
+module _ (X : Type 0) {D L C T P : Type 0} (g : Ghosts D) (a : AttendGhosts L C) (t : TalkGhosts (DoorTalk T)) (p : ClientsGhosts P (DoorTalk T)) (Reads : ReadingRelation) (old : SystemState D L) (path : List ℕ) (place : ListenPlace) (role : Option (List ℕ)) (many : ManyClients) where
   -- the database was opened, of which a stop left each sector as it was read then, and the place bound, it was told where, and those that
   -- came there were served; the file is there as the server has left it
   pub record AreServedOver (told : Bool) (before : Known) (end : ServeEnd) (new : SystemState D L) (after : Known) : Type 0 where
@@ -162,7 +174,7 @@ module _ (X : Type 0) {D L C T P : Type 0} (g : Ghosts D) (a : AttendGhosts L C)
     pub listener : L
     pub ended : L
     pub left : D
-    pub serves : ServesComing g a t p Reads many file.opened.server listener end left ended
+    pub serves : ServesComing g a t p Reads role many file.opened.server listener end left ended
     pub changes : old.faithful → ChangesBoth old path (the_place bound) file.device left listener ended new
 
   -- the database was opened and the place bound, and nobody was taken there; the file is there as opening it has left it

@@ -17,6 +17,10 @@ path_reason path = codes "'" ++ (path ++ codes "' cannot name a socket: PATH has
 abbrev pub folder_reason : List ℕ → List ℕ
 folder_reason folder = codes "'" ++ (folder ++ codes "' cannot have the file of a socket: FOLDER has 1 to 93 bytes")
 
+-- why the words behind the comma of a place are refused
+abbrev pub options_reason : List ℕ → List ℕ
+options_reason words = codes "behind a comma PLACE takes role=NAME, and of a socket mode=600 or mode=660, each once, not '" ++ (words ++ codes "'")
+
 -- why a word for a number is refused
 abbrev pub number_reason : NumberOption → List ℕ → List ℕ
 number_reason option word = number_rule option ++ (codes ", not '" ++ (word ++ codes "'"))
@@ -35,6 +39,7 @@ usage_reason usage.ServingAt = Some (codes "serve --at PLACE takes FILE and --cl
 usage_reason (usage.Number option word) = Some (number_reason option word.now)
 usage_reason (usage.Path path) = Some (path_reason path.now)
 usage_reason (usage.Folder folder) = Some (folder_reason folder.now)
+usage_reason (usage.Options words) = Some (options_reason words.now)
 usage_reason (usage.Name name) = Some (name_reason name.now)
 usage_reason (usage.Switch word) = Some (switch_reason word.now)
 usage_reason usage.Encoding = Some (codes "a word is not UTF-8")

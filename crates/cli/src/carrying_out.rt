@@ -2,13 +2,14 @@
 
 ghost use Rattle.cli.specs.CarryingOut.{IsCarriedOut};
 
-use crate::client_talks::{FrameTalks, PostgresTalks};
+use crate::client_talks::{DoorTalks, FrameTalks, PostgresTalks};
 use crate::command::Invocation;
 use crate::ending::Performed;
 use crate::explained_runs::explain;
 use crate::program::perform;
 use crate::refusals::explained_run;
 use channels::attend::Attend;
+use doors::door_talk::DoorTalk;
 use frame_talks::frame_talk::FrameTalk;
 use polled_clients::clients::PolledClients;
 use postgres_talks::postgres_talk::PostgresTalk;
@@ -35,10 +36,10 @@ pub fn carry_out<Y: System, X: EventHandler + Drop, K: TakesText + Drop, E: Writ
     err: E,
 ) -> Performed<K, E>
     ensures { IsCarriedOut X Y.Device.Device K.Sink Y.Listener.Sink.Sink Y.Listener.Attend
-        ⟦<FrameTalk as Talk>⟧
-        ⟦<PolledClients<FrameTalk, Y::Channel, Y::Listener, FrameTalks> as ServedClients<FrameTalk>>⟧
-        ⟦<PostgresTalk as Talk>⟧
-        ⟦<PolledClients<PostgresTalk, Y::Channel, Y::Listener, PostgresTalks> as ServedClients<PostgresTalk>>⟧
+        ⟦<DoorTalk<FrameTalk> as Talk>⟧
+        ⟦<PolledClients<DoorTalk<FrameTalk>, Y::Channel, Y::Listener, DoorTalks<FrameTalks>> as ServedClients<DoorTalk<FrameTalk>>>⟧
+        ⟦<DoorTalk<PostgresTalk> as Talk>⟧
+        ⟦<PolledClients<DoorTalk<PostgresTalk>, Y::Channel, Y::Listener, DoorTalks<PostgresTalks>> as ServedClients<DoorTalk<PostgresTalk>>>⟧
         E.contents X.Reads
         Y.Listener.listening Y.state (Y.state system.old) order.now out err (Y.state system.new)
         result }

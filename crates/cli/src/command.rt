@@ -136,6 +136,9 @@ pub enum UsageFault<'a> {
     Path(&'a str),
     /// FOLDER of a socket for PostgreSQL's clients is empty or has over 93 bytes.
     Folder(&'a str),
+    /// What stands behind the comma of PLACE is not `role=NAME`, `mode=600` or `mode=660`, each once at most, and a
+    /// mode of a socket alone.
+    Options(&'a str),
     /// NAME is empty, has over 63 bytes or a zero byte.
     Name(&'a str),
     /// The word after FILE of `journal` is neither `on` nor `off`.
@@ -181,6 +184,12 @@ impl fmt::Display for UsageFault<'_> {
                     "'{folder}' cannot have the file of a socket: FOLDER has 1 to 93 bytes"
                 )
             }
+            UsageFault::Options(words) => {
+                write!(
+                    f,
+                    "behind a comma PLACE takes role=NAME, and of a socket mode=600 or mode=660, each once, not '{words}'"
+                )
+            }
             UsageFault::Name(name) => {
                 write!(
                     f,
@@ -199,7 +208,7 @@ impl fmt::Display for UsageFault<'_> {
 /// The order that the words after the program's name give, as `clap` reads them: one of the commands
 /// `format`, `copy`, `journal`, `run`, `serve`, `check`, `describe` and `explain` with its words and options, each
 /// given once; or a flag for help or the version. Words that give none are refused: by `Grammar`, `Form`, `Serving`,
-/// `ServingClients`, `ServingAt`, `Number`, `Path`, `Folder`, `Name` or `Switch`.
+/// `ServingClients`, `ServingAt`, `Number`, `Path`, `Folder`, `Options`, `Name` or `Switch`.
 /// `Memory` may come of any words.
 pub fn read_command<'a>(
     alloc: Global,

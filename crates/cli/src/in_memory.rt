@@ -4,11 +4,12 @@ ghost use Rattle.systems.specs.MemSystem.{system_state};
 ghost use Rattle.cli.specs.CarryingOut.{IsCarriedOut};
 
 use crate::carrying_out::carry_out;
-use crate::client_talks::{FrameTalks, PostgresTalks};
+use crate::client_talks::{DoorTalks, FrameTalks, PostgresTalks};
 use crate::command::Invocation;
 use crate::ending::Performed;
 use channels::attend::Attend;
 use channels::memory::MemChannel;
+use doors::door_talk::DoorTalk;
 use frame_talks::frame_talk::FrameTalk;
 use polled_clients::clients::PolledClients;
 use postgres_talks::postgres_talk::PostgresTalk;
@@ -36,10 +37,10 @@ pub fn carry_out_in_memory<X: EventHandler + Drop, K: TakesText + Drop, E: Write
 ) -> Performed<K, E>
     ensures faithful { (system_state system.old).faithful }
     ensures carried_out { IsCarriedOut X ⟦<WriteProtected<HistoryDevice> as Device>⟧ K.Sink
-        ⟦<FrameSink<Vec<u8>> as Sink>⟧ ⟦<MemListener as Attend<MemChannel>>⟧ ⟦<FrameTalk as Talk>⟧
-        ⟦<PolledClients<FrameTalk, MemChannel, MemListener, FrameTalks> as ServedClients<FrameTalk>>⟧
-        ⟦<PostgresTalk as Talk>⟧
-        ⟦<PolledClients<PostgresTalk, MemChannel, MemListener, PostgresTalks> as ServedClients<PostgresTalk>>⟧
+        ⟦<FrameSink<Vec<u8>> as Sink>⟧ ⟦<MemListener as Attend<MemChannel>>⟧ ⟦<DoorTalk<FrameTalk> as Talk>⟧
+        ⟦<PolledClients<DoorTalk<FrameTalk>, MemChannel, MemListener, DoorTalks<FrameTalks>> as ServedClients<DoorTalk<FrameTalk>>>⟧
+        ⟦<DoorTalk<PostgresTalk> as Talk>⟧
+        ⟦<PolledClients<DoorTalk<PostgresTalk>, MemChannel, MemListener, DoorTalks<PostgresTalks>> as ServedClients<DoorTalk<PostgresTalk>>>⟧
         E.contents X.Reads ⟦<MemListener as Listen>⟧.listening
         system_state (system_state system.old) order.now out err (system_state system.new) result }
 {

@@ -25,6 +25,7 @@ pub mod in_memory;
 mod journal_command;
 pub mod number;
 mod opened;
+mod place_options;
 pub mod place_words;
 mod printing;
 pub mod program;

@@ -2,15 +2,16 @@
 
 ghost use Rattle.std.specs.Prelude.{◌≡◌, ◌≢◌, ◌++◌, ◌↔◌, IsTrue, List, ℕ, Some, IfOk, IfErr, MatchOption, codes};
 ghost use Rattle.clap.specs.Words.{first_of, found_of, rows_of};
-ghost use Rattle.cli.specs.CommandLine.{At, GivesAs, IsNoFolder, IsNoNumber, IsNoPath, IsNoPlace, IsOrdered, IsPlaceFor, IsUnfit, ServeClients, given_counts};
-ghost use Rattle.cli.specs.PlaceWords.{HasNoComma, IsFolderServed, IsPortServed, IsSocketFolder, IsSocketServed, NoPlaceWord, place_word};
+ghost use Rattle.cli.specs.CommandLine.{At, GivesAs, IsNoFolder, IsNoNumber, IsNoPath, IsNoPlace, IsNoPlaceAs, IsOrdered, IsPlaceAs, IsUnfit, NamesPlace, ServeClients, given_counts, lent_word};
+ghost use Rattle.cli.specs.PlaceWords.{HasNoComma, IsFolderServed, IsPortServed, IsSocketFolder, IsSocketServed, NoPlaceWord, place_word, with_options};
 
 use crate::command::{Invocation, UsageFault, is_socket_path, read_number};
 use crate::number::NumberOption;
+use crate::place_options::{read_guard, split_at_comma};
 use crate::serve_words::{CountWords, read_counts};
 use crate::served_place::{Protocol, ServedPlace};
 use clap::ArgMatches;
-use systems::ListenPlace;
+use systems::{ListenPlace, SocketAccess};
 
 /// What the word of `--at` says before its colon.
 #[derive(Clone, Copy, PartialEq, Eq)]
@@ -31,6 +32,8 @@ pub(crate) struct PlaceWord<'a> {
     kind: PlaceKind,
     // What stands behind the colon.
     rest: &'a str,
+    // What stands behind the first comma.
+    options: Option<&'a str>,
 }
 
 /// The order that the words after `serve` give with `--at`, whose word this is.
@@ -67,36 +70,37 @@ pub(crate) fn read_at<'a>(
     many_at(file, place, counts)
 }
 
-// The kind and the rest of a word for a place. `None`: it has none of the kinds, or a comma.
+// The kind and the rest of a word for a place, and what stands behind its first comma. `None`: it has none of the kinds.
 fn split_place(word: &str) -> Option<PlaceWord<'_>>
-    ensures { MatchOption result (NoPlaceWord word.now) (λ place. (word.now ≡ place_word place.kind place.rest.now) × HasNoComma word.now) }
+    ensures { MatchOption result (NoPlaceWord word.now) (λ place.
+        (word.now ≡ with_options (place_word place.kind place.rest.now) (lent_word place.options))
+        × HasNoComma (place_word place.kind place.rest.now)) }
 {
-    if word.as_bytes().contains(&b',') {
-        return None;
-    }
+    let (place, options) = split_at_comma(word);
+    let (kind, rest) = split_kind(place)?;
+    Some(PlaceWord {
+        kind,
+        rest,
+        options,
+    })
+}
+
+// The kind of a word for a place, and what stands behind its colon. `None`: it has none of the kinds.
+fn split_kind(word: &str) -> Option<(PlaceKind, &str)>
+    ensures { MatchOption result ((kind : PlaceKind) (rest : List ℕ) → word.now ≢ place_word kind rest)
+        (λ it. word.now ≡ place_word it.0 it.1.now) }
+{
     if let Some(rest) = rest_behind(word, "port:") {
-        return Some(PlaceWord {
-            kind: PlaceKind::Port,
-            rest,
-        });
+        return Some((PlaceKind::Port, rest));
     }
     if let Some(rest) = rest_behind(word, "socket:") {
-        return Some(PlaceWord {
-            kind: PlaceKind::Socket,
-            rest,
-        });
+        return Some((PlaceKind::Socket, rest));
     }
     if let Some(rest) = rest_behind(word, "pgport:") {
-        return Some(PlaceWord {
-            kind: PlaceKind::PostgresPort,
-            rest,
-        });
+        return Some((PlaceKind::PostgresPort, rest));
     }
     let rest = rest_behind(word, "pgsocket:")?;
-    Some(PlaceWord {
-        kind: PlaceKind::PostgresFolder,
-        rest,
-    })
+    Some((PlaceKind::PostgresFolder, rest))
 }
 
 // What stands behind this beginning of a word, if it begins so.
@@ -113,21 +117,40 @@ fn many_at<'a>(
     counts: CountWords<'a>,
 ) -> Result<Invocation<'a>, UsageFault<'a>>
     ensures asked { IfOk result (IsOrdered (λ given. given
-        ≡ ServeClients file.now (At place.entry.kind place.entry.rest.now) (given_counts counts.entry))) }
+        ≡ ServeClients file.now (At place.entry.kind place.entry.rest.now (lent_word place.entry.options)) (given_counts counts.entry))) }
     ensures refused { IfErr result (IsUnfit (λ given. given
-        ≡ ServeClients file.now (At place.entry.kind place.entry.rest.now) (given_counts counts.entry))) }
+        ≡ ServeClients file.now (At place.entry.kind place.entry.rest.now (lent_word place.entry.options)) (given_counts counts.entry))) }
 {
     let place = read_place(place)?;
     let many = read_counts(counts)?;
     Ok(Invocation::ServeClients { file, place, many })
 }
 
-// The place that a word names.
+// The place that a word names, and whom it lets in.
 fn read_place<'a>(word: PlaceWord<'a>) -> Result<ServedPlace<'a>, UsageFault<'a>>
-    ensures read { IfOk result (IsPlaceFor (At word.entry.kind word.entry.rest.now)) }
-    ensures refused { IfErr result (IsNoPlace word.entry.kind word.entry.rest.now) }
+    ensures read { IfOk result (IsPlaceAs word.entry.kind word.entry.rest.now (lent_word word.entry.options)) }
+    ensures refused { IfErr result (IsNoPlaceAs word.entry.kind word.entry.rest.now (lent_word word.entry.options)) }
 {
-    let PlaceWord { kind, rest } = word;
+    let PlaceWord {
+        kind,
+        rest,
+        options,
+    } = word;
+    let served = place_of(kind, rest)?;
+    let guard = read_guard(kind, options)?;
+    Ok(ServedPlace {
+        place: served.place,
+        protocol: served.protocol,
+        role: guard.role,
+        access: guard.access,
+    })
+}
+
+// The place of this kind that a word names.
+fn place_of<'a>(kind: PlaceKind, rest: &'a str) -> Result<ServedPlace<'a>, UsageFault<'a>>
+    ensures read { IfOk result (NamesPlace kind rest.now) }
+    ensures refused { IfErr result (IsNoPlace kind rest.now) }
+{
     match kind {
         PlaceKind::Port => at_port(Protocol::Frames, rest),
         PlaceKind::Socket => at_socket(rest),
@@ -145,6 +168,8 @@ fn at_port<'a>(protocol: Protocol, word: &'a str) -> Result<ServedPlace<'a>, Usa
     Ok(ServedPlace {
         place: ListenPlace::Port(port as u16),
         protocol,
+        role: None,
+        access: SocketAccess::Owner,
     })
 }
 
@@ -159,6 +184,8 @@ fn at_socket<'a>(path: &'a str) -> Result<ServedPlace<'a>, UsageFault<'a>>
     Ok(ServedPlace {
         place: ListenPlace::Socket(path),
         protocol: Protocol::Frames,
+        role: None,
+        access: SocketAccess::Owner,
     })
 }
 
@@ -173,6 +200,8 @@ fn in_folder<'a>(folder: &'a str) -> Result<ServedPlace<'a>, UsageFault<'a>>
     Ok(ServedPlace {
         place: ListenPlace::PostgresFolder(folder),
         protocol: Protocol::Postgres,
+        role: None,
+        access: SocketAccess::Owner,
     })
 }
 

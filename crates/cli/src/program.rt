@@ -3,7 +3,7 @@
 ghost use Rattle.std.specs.Prelude.{◌≡◌};
 ghost use Rattle.cli.specs.Program.{ending_of_server, place_subject, server_subject, Checks, DoesFormat, Formats, IsAnswered, IsPerformed, Serves, ServesMany, ServesManyAt, outcome_of_clients};
 
-use crate::client_talks::{FrameTalks, PostgresTalks, Speaker};
+use crate::client_talks::{DoorTalks, FrameTalks, PostgresTalks, Speaker};
 use crate::command::{Invocation, UsageFault, is_name};
 use crate::command_name::CommandName;
 use crate::copy_command::copy;
@@ -23,6 +23,7 @@ use crate::served_place::{Protocol, ServedPlace};
 use crate::texts::{HELP, VERSION};
 use crate::usage::report_usage;
 use channels::attend::Attend;
+use doors::door_talk::DoorTalk;
 use frame_talks::frame_talk::FrameTalk;
 use polled_clients::clients::{PolledClients, TalkMaker};
 use postgres_talks::postgres_talk::PostgresTalk;
@@ -86,10 +87,10 @@ pub fn perform<Y: System, X: EventHandler + Drop, K: TakesText, E: Write>(
     err: &mut E,
 ) -> Exit
     ensures { IsPerformed X Y.Device.Device K.Sink Y.Listener.Sink.Sink Y.Listener.Attend
-        ⟦<FrameTalk as Talk>⟧
-        ⟦<PolledClients<FrameTalk, Y::Channel, Y::Listener, FrameTalks> as ServedClients<FrameTalk>>⟧
-        ⟦<PostgresTalk as Talk>⟧
-        ⟦<PolledClients<PostgresTalk, Y::Channel, Y::Listener, PostgresTalks> as ServedClients<PostgresTalk>>⟧
+        ⟦<DoorTalk<FrameTalk> as Talk>⟧
+        ⟦<PolledClients<DoorTalk<FrameTalk>, Y::Channel, Y::Listener, DoorTalks<FrameTalks>> as ServedClients<DoorTalk<FrameTalk>>>⟧
+        ⟦<DoorTalk<PostgresTalk> as Talk>⟧
+        ⟦<PolledClients<DoorTalk<PostgresTalk>, Y::Channel, Y::Listener, DoorTalks<PostgresTalks>> as ServedClients<DoorTalk<PostgresTalk>>>⟧
         X.Reads Y.Listener.listening Y.state (Y.state system.old) order.now result (Y.state system.new) out.old out.new
         (E.contents err.old) (E.contents err.new) }
 {
@@ -265,15 +266,14 @@ fn serve_at<Y: System, X: EventHandler + Drop, E: Write>(
     many: ManyClients,
     err: &mut E,
 ) -> Exit
-    ensures { ServesManyAt X Y.Device.Device Y.Listener.Attend ⟦<FrameTalk as Talk>⟧
-        ⟦<PolledClients<FrameTalk, Y::Channel, Y::Listener, FrameTalks> as ServedClients<FrameTalk>>⟧
-        ⟦<PostgresTalk as Talk>⟧
-        ⟦<PolledClients<PostgresTalk, Y::Channel, Y::Listener, PostgresTalks> as ServedClients<PostgresTalk>>⟧
+    ensures { ServesManyAt X Y.Device.Device Y.Listener.Attend ⟦<DoorTalk<FrameTalk> as Talk>⟧
+        ⟦<PolledClients<DoorTalk<FrameTalk>, Y::Channel, Y::Listener, DoorTalks<FrameTalks>> as ServedClients<DoorTalk<FrameTalk>>>⟧
+        ⟦<DoorTalk<PostgresTalk> as Talk>⟧
+        ⟦<PolledClients<DoorTalk<PostgresTalk>, Y::Channel, Y::Listener, DoorTalks<PostgresTalks>> as ServedClients<DoorTalk<PostgresTalk>>>⟧
         X.Reads (Y.state system.old) (Subject.Named file.entry) file.now place.entry many
         result (Y.state system.new) (E.contents err.old) (E.contents err.new) }
 {
-    let ServedPlace { place, protocol } = place;
-    match protocol {
+    match place.protocol {
         Protocol::Frames => {
             let speaker = FrameTalks::new(alloc);
             serve_many(system, alloc, handler, file, place, speaker, many, err)
@@ -297,13 +297,13 @@ fn serve_many<
     alloc: Global,
     handler: X,
     file: &str,
-    place: ListenPlace<'_>,
+    place: ServedPlace<'_>,
     speaker: F,
     many: ManyClients,
     err: &mut E,
 ) -> Exit
-    ensures { ServesMany X Y.Device.Device Y.Listener.Attend T.Talk
-        ⟦<PolledClients<T, Y::Channel, Y::Listener, F> as ServedClients<T>>⟧
+    ensures { ServesMany X Y.Device.Device Y.Listener.Attend ⟦<DoorTalk<T> as Talk>⟧
+        ⟦<PolledClients<DoorTalk<T>, Y::Channel, Y::Listener, DoorTalks<F>> as ServedClients<DoorTalk<T>>>⟧
         X.Reads (Y.state system.old) (Subject.Named file.entry) file.now place.entry many
         result (Y.state system.new) (E.contents err.old) (E.contents err.new) }
 {
@@ -311,7 +311,7 @@ fn serve_many<
         system, alloc, handler, file, place, speaker, many, err,
     );
     let outcome = outcome_of_clients(outcome);
-    let about = subject_of_server(outcome, file, place);
+    let about = subject_of_server(outcome, file, place.place);
     exit_after(told, end_of_server(outcome), about, err)
 }
 

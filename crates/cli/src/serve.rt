@@ -15,7 +15,7 @@ use std::alloc::Global;
 use std::io;
 use std::io::Write;
 use std::time::Duration;
-use systems::{ListenPlace, System};
+use systems::{ListenPlace, SocketAccess, System};
 use wire::listen::Listen;
 use wire::listener::Served;
 use wire::sink::Sink;
@@ -76,7 +76,7 @@ fn serve_at<Y: System, X: EventHandler + Drop, E: Write>(
         (Y.state system.old) place.entry limits.connections server (E.contents err.old) result.1
         result.0 (Y.state system.new) (E.contents err.new) }
 {
-    let (mut listener, bound) = match system.bind(place, limits.idle) {
+    let (mut listener, bound) = match system.bind(place, SocketAccess::Owner, limits.idle) {
         Ok(bound) => bound,
         Err(cause) => {
             let left = server.into_store().into_device();

@@ -1,15 +1,18 @@
 //! A server of many clients at once at a place of a system, over a database in a file.
 
 ghost use Rattle.std.specs.Prelude.{◌≡◌};
+ghost use Rattle.cli.specs.CommandLine.{lent_word};
 ghost use Rattle.cli.specs.ServingClients.{asked_wait, AreLimits, IsLimitOf, ServesClientsAt, ServesClientsFile, ServesClientsOn};
 
-use crate::client_talks::Speaker;
+use crate::client_talks::{DoorTalks, Speaker, door_for};
 use crate::fault::CommandFault;
 use crate::opened::{CommandEnd, open_database_in, tell_migration};
 use crate::serve::tell_place;
+use crate::served_place::ServedPlace;
 use channels::attend::Attend;
 use channels::channel::Channel;
 use databases::serve_clients_on;
+use doors::door_talk::DoorTalk;
 use journal_store::{DeviceStore, JournalDevice};
 use polled_clients::clients::{ClientLimits, PolledClients, TalkMaker};
 use sector_device::Device;
@@ -74,7 +77,8 @@ fn limit_of(seconds: Option<u32>) -> Option<Duration>
 
 /// Serves many clients at once, which come to a place of the system, over the database in the file at
 /// `path`, whose events `handler` decides. `speaker` makes the conversation with each, which is told its own
-/// answers alone. Who comes while as many are served at once as may be is told so, and closed.
+/// answers alone, at the door of the place: no session is opened for a role as which one may not come in there.
+/// Who comes while as many are served at once as may be is told so, and closed.
 /// `err` is told as at `serve_file`. However it ends, the place is given up and the file is closed.
 ///
 /// It ends once as many clients came as are served in all, and each of them has gone; once the server
@@ -94,15 +98,15 @@ pub fn serve_clients_file<
     alloc: Global,
     handler: X,
     path: &str,
-    place: ListenPlace<'_>,
+    place: ServedPlace<'_>,
     speaker: F,
     many: ManyClients,
     err: &mut E,
 ) -> CommandEnd<ServeEnd>
-    ensures { ServesClientsFile X Y.Device.Device Y.Listener.Attend T.Talk
-        ⟦<PolledClients<T, Y::Channel, Y::Listener, F> as ServedClients<T>>⟧
-        X.Reads (Y.state system.old) path.entry.now place.entry many (E.contents err.old) result
-        (Y.state system.new) (E.contents err.new) }
+    ensures { ServesClientsFile X Y.Device.Device Y.Listener.Attend ⟦<DoorTalk<T> as Talk>⟧
+        ⟦<PolledClients<DoorTalk<T>, Y::Channel, Y::Listener, DoorTalks<F>> as ServedClients<DoorTalk<T>>>⟧
+        X.Reads (Y.state system.old) path.entry.now place.entry.place (lent_word place.entry.role) many
+        (E.contents err.old) result (Y.state system.new) (E.contents err.new) }
 {
     let opened = match open_database_in(system, alloc, handler, path) {
         Ok(opened) => opened,
@@ -125,17 +129,17 @@ fn serve_clients_at<
     system: &mut Y,
     alloc: Global,
     server: Server<DeviceStore<Y::Device>, X>,
-    place: ListenPlace<'_>,
+    place: ServedPlace<'_>,
     speaker: F,
     many: ManyClients,
     err: &mut E,
 ) -> (Y::Device, Result<ServeEnd, CommandFault>)
-    ensures { ServesClientsAt Y.Device.Device Y.Listener.Attend T.Talk
-        ⟦<PolledClients<T, Y::Channel, Y::Listener, F> as ServedClients<T>>⟧
-        X.Reads (Y.state system.old) place.entry many server (E.contents err.old) result.1
-        result.0 (Y.state system.new) (E.contents err.new) }
+    ensures { ServesClientsAt Y.Device.Device Y.Listener.Attend ⟦<DoorTalk<T> as Talk>⟧
+        ⟦<PolledClients<DoorTalk<T>, Y::Channel, Y::Listener, DoorTalks<F>> as ServedClients<DoorTalk<T>>>⟧
+        X.Reads (Y.state system.old) place.entry.place (lent_word place.entry.role) many server
+        (E.contents err.old) result.1 result.0 (Y.state system.new) (E.contents err.new) }
 {
-    let (mut listener, bound) = match system.bind(place, None) {
+    let (mut listener, bound) = match system.bind(place.place, place.access, None) {
         Ok(bound) => bound,
         Err(cause) => {
             let left = server.into_store().into_device();
@@ -145,7 +149,7 @@ fn serve_clients_at<
     match system.poll(&mut listener) {
         Ok(()) => {
             let (left, outcome, listener) = serve_clients_on_place(
-                alloc, server, listener, bound, speaker, many, err,
+                alloc, server, listener, bound, place.role, speaker, many, err,
             );
             system.unbind(bound, listener);
             (left, outcome)
@@ -173,15 +177,20 @@ fn serve_clients_on_place<
     server: Server<DeviceStore<D>, X>,
     listener: L,
     place: ListenPlace<'_>,
+    role: Option<&str>,
     speaker: F,
     many: ManyClients,
     err: &mut E,
 ) -> (D, Result<ServeEnd, CommandFault>, L)
-    ensures { ServesClientsOn D.Device L.Attend T.Talk
-        ⟦<PolledClients<T, C, L, F> as ServedClients<T>>⟧
-        X.Reads place.entry many server listener (E.contents err.old) result.1 result.0 result.2
-        (E.contents err.new) }
+    ensures { ServesClientsOn D.Device L.Attend ⟦<DoorTalk<T> as Talk>⟧
+        ⟦<PolledClients<DoorTalk<T>, C, L, DoorTalks<F>> as ServedClients<DoorTalk<T>>>⟧
+        X.Reads place.entry (lent_word role.entry) many server listener (E.contents err.old) result.1
+        result.0 result.2 (E.contents err.new) }
 {
+    let Ok(door) = door_for(alloc, role) else {
+        let left = server.into_store().into_device();
+        return (left, Err(CommandFault::Memory), listener);
+    };
     let Ok(refusal) = speaker.crowded_refusal(alloc) else {
         let left = server.into_store().into_device();
         return (left, Err(CommandFault::Memory), listener);
@@ -190,7 +199,8 @@ fn serve_clients_on_place<
         let left = server.into_store().into_device();
         return (left, Err(CommandFault::Output), listener);
     };
-    let mut clients = PolledClients::new(alloc, listener, speaker, many.limits(), refusal);
+    let maker = DoorTalks::new(alloc, door, speaker);
+    let mut clients = PolledClients::new(alloc, listener, maker, many.limits(), refusal);
     let (left, end) = serve_clients_on(alloc, server, &mut clients);
     (left, Ok(end), clients.into_attend())
 }

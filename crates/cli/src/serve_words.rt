@@ -10,7 +10,7 @@ use crate::place_words::read_at;
 use crate::serve_clients::ManyClients;
 use crate::served_place::{Protocol, ServedPlace};
 use clap::ArgMatches;
-use systems::ListenPlace;
+use systems::{ListenPlace, SocketAccess};
 
 /// The words for the numbers of a server of many clients.
 #[derive(Clone, Copy)]
@@ -196,6 +196,8 @@ fn many_on_port<'a>(
         place: ServedPlace {
             place: ListenPlace::Port(port as u16),
             protocol: Protocol::Frames,
+            role: None,
+            access: SocketAccess::Owner,
         },
         many,
     })
@@ -221,6 +223,8 @@ fn many_on_socket<'a>(
         place: ServedPlace {
             place: ListenPlace::Socket(socket),
             protocol: Protocol::Frames,
+            role: None,
+            access: SocketAccess::Owner,
         },
         many,
     })

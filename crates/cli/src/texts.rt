@@ -99,8 +99,10 @@ Commands:
   serve FILE --at PLACE --clients N [--connections K] [--wait SECONDS] [--idle SECONDS] [--block SECONDS]
           The same at PLACE: port:P or socket:PATH, as above; or pgport:P or pgsocket:FOLDER,
           where psql connects, by PostgreSQL's protocol. In FOLDER, of 1 to 93 bytes, the file
-          .s.PGSQL.5432 is made, and taken away at the end. No password is asked for
-          Example: guarddb serve shop.db --at pgsocket:/run/shop --clients 100
+          .s.PGSQL.5432 is made, and taken away at the end. No password is asked for.
+          With PLACE,role=NAME one comes in as the role NAME and as no other. With
+          PLACE,mode=660 the file of a socket lets its group connect, too
+          Example: guarddb serve shop.db --at pgsocket:/run/shop,role=app --clients 100
   check FILE
           Opens the database in FILE and says whether it is whole. A FILE of format 1 is of
           format 2 then, as after run and serve, and no guarddb of format 1 opens it again

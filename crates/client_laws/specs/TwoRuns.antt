@@ -1,8 +1,7 @@
 -- Two runs in which the clients of one tenant have other numbers: they meet the premises, and it is told the same in both.
-use Rattle.std.specs.Prelude.{◌≡◌, ◌||◌, ℕ, nat_eq, pos, Bool, false, if◌then◌else◌, List, [], ◌∷◌, codes, Some, None, Ok, Err}
+use Rattle.std.specs.Prelude.{◌≡◌, ◌||◌, ℕ, nat_eq, pos, Bool, false, if◌then◌else◌, List, [], ◌∷◌, codes, Some, None, Ok}
 use Rattle.sql_types.specs.declared.value.Value.TheVariants.{Int, Text}
 use Rattle.sql_types.specs.declared.tag.Tag.TheVariants as tag
-use Rattle.sql_types.specs.declared.state.SqlState.TheVariants.{IoError}
 use Rattle.sql_types.specs.declared.answer.Answer.{Answer}
 use Rattle.sql_types.specs.declared.answer.Answer.TheVariants as answer
 use Rattle.sql_ast.specs.Term.{literal}
@@ -14,7 +13,7 @@ use Rattle.abstract_database.specs.Machine.{Event, executes, closes, Reading, Ma
 use Rattle.database_laws.specs.HiddenRuns.{AreSound}
 use Rattle.database_laws.specs.Told.{Tenant, IsAlikeTo, Act, happens, OthersKeepOutOfSight, noticed, IsToldAlike}
 use Rattle.database_laws.specs.Patterns.{own_answers}
-use Rattle.database_laws.specs.TwoTenants.{notes, note, first, second, with_her_other, by_app_for_ann, idle, working, as_app, ann_asks, of_ann}
+use Rattle.database_laws.specs.TwoTenants.{notes, note, first, second, with_her_other, by_app_for_ann, idle, working, as_app, ann_asks, reading_of, of_ann}
 use Rattle.client_laws.specs.Renumbered.{IsOneToOne, renumbered_machine}
 use Rattle.client_laws.specs.Clients.{in_run, renumbered_acts, place_of}
 
@@ -38,11 +37,6 @@ of_both_clients n = nat_eq n (number_in 0 1) || nat_eq n (number_in 2 1)
 -- the tenant ann, where one login role serves all tenants, and its sessions set the role of one
 abbrev pub ann_by_app : Tenant
 ann_by_app = record { pairs = by_app_for_ann; sessions = of_both_clients }
-
--- the reading of SELECT * FROM notes
-abbrev pub reading_of : Event Reading → Reading
-reading_of (executes number reading) = reading
-reading_of _ = Err IoError
 
 -- session 1 of a client asks for the notes
 abbrev pub asks : ℕ → Event Reading

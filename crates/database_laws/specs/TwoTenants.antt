@@ -1,8 +1,9 @@
 -- Two databases that differ in the rows of one tenant alone: with them the premises of the laws of hidden rows are met.
-use Rattle.std.specs.Prelude.{◌≡◌, ◌||◌, ◌&&◌, ℕ, nat_eq, Bool, true, false, pos, List, [], ◌∷◌, flat_map, codes, bytes_eq, Some, None, Ok}
+use Rattle.std.specs.Prelude.{◌≡◌, ◌||◌, ◌&&◌, ℕ, nat_eq, Bool, true, false, pos, List, [], ◌∷◌, flat_map, codes, bytes_eq, Some, None, Ok, Err}
 use Prim.Native.String.{String}
 use Rattle.sql_types.specs.Row.{Row}
 use Rattle.sql_types.specs.declared.value.Value.TheVariants.{Int, Text}
+use Rattle.sql_types.specs.declared.state.SqlState.TheVariants.{IoError}
 use Rattle.sql_types.specs.declared.answer.Answer.{Answer}
 use Rattle.sql_types.specs.declared.answer.Answer.TheVariants as answer
 use Rattle.sql_ast.specs.declared.columns.ColumnType.TheVariants as types
@@ -108,6 +109,11 @@ ann_asks = executes 1 (Ok (statement.OnDatabase (on_database.OverRows (over_rows
   list = list.Asterisk;
   source = Some (record { tables = from.List (record { table = notes.name; alias = None } ∷ []); condition = None; order = None; limit = None });
 })))))
+
+-- the reading of an event's statement
+abbrev pub reading_of : Event Reading → Reading
+reading_of (executes number reading) = reading
+reading_of _ = Err IoError
 
 -- her own note alone
 abbrev pub her_note : Answer

@@ -48,19 +48,19 @@ own_is_learnt c x is =
 
 -- ---- who is not there
 
-awaited_learnt_none : {T : Type 0} (t : TalkGhosts T) (a b : ClientState T) (xs : List Learnt) → Passes t a xs b → IsAwaited b → xs ≡ []
-awaited_learnt_none t (awaited bytes) (awaited left) xs passes is = passes.0
-awaited_learnt_none t (there x) (awaited left) xs passes is = absurd passes
-awaited_learnt_none t (gone sent) (awaited left) xs passes is = absurd passes
-awaited_learnt_none t a (there y) xs passes is = absurd is
-awaited_learnt_none t a (gone sent) xs passes is = absurd is
+awaited_learnt_none : {T : Type 0} (t : TalkGhosts T) (made : T → Type 0) (a b : ClientState T) (xs : List Learnt) → Passes t made a xs b → IsAwaited b → xs ≡ []
+awaited_learnt_none t made (awaited bytes) (awaited left) xs passes is = passes.0
+awaited_learnt_none t made (there x) (awaited left) xs passes is = absurd passes
+awaited_learnt_none t made (gone sent) (awaited left) xs passes is = absurd passes
+awaited_learnt_none t made a (there y) xs passes is = absurd is
+awaited_learnt_none t made a (gone sent) xs passes is = absurd is
 
-gone_learnt_none : {T : Type 0} (t : TalkGhosts T) (a b : ClientState T) (xs : List Learnt) → Passes t a xs b → IsGone a → xs ≡ []
-gone_learnt_none t (gone old) (awaited left) xs passes is = absurd passes
-gone_learnt_none t (gone old) (there y) xs passes is = absurd passes
-gone_learnt_none t (gone old) (gone sent) xs passes is = passes.0
-gone_learnt_none t (awaited bytes) b xs passes is = absurd is
-gone_learnt_none t (there x) b xs passes is = absurd is
+gone_learnt_none : {T : Type 0} (t : TalkGhosts T) (made : T → Type 0) (a b : ClientState T) (xs : List Learnt) → Passes t made a xs b → IsGone a → xs ≡ []
+gone_learnt_none t made (gone old) (awaited left) xs passes is = absurd passes
+gone_learnt_none t made (gone old) (there y) xs passes is = absurd passes
+gone_learnt_none t made (gone old) (gone sent) xs passes is = passes.0
+gone_learnt_none t made (awaited bytes) b xs passes is = absurd is
+gone_learnt_none t made (there x) b xs passes is = absurd is
 
 module _ {S X T C : Type 0} (Reads : ReadingRelation) (state : S → StoreState) (t : TalkGhosts T) (k : ClientsGhosts C T) where
   learnt_by_steps : (clients : C) (old : ServedMachine S X) (ds : List Exchange) (new : ServedMachine S X) (made : Steps (machine_of Reads state) t k clients old ds new) (c n : ℕ) (login : TheName)
@@ -109,9 +109,9 @@ module _ {S X T C : Type 0} (Reads : ReadingRelation) (state : S → StoreState)
       let let_go : WasLetGo c serves.turns → ⊥ =
       λ went. ⊎_elim (λ stopped. let wrong : false ≡ true = sym works ∙ stopped in absurd (let no : ⊥ = cc in no)) (λ nobody_has. nobody_has n login has) (serves.closed (sound, (w, here)) c went) in
       ⊎_elim
-      (λ waits_still. nothing (awaited_learnt_none t (k.at before c) (k.at after c) (own_learnt c serves.turns) (serves.talked c) waits_still))
+      (λ waits_still. nothing (awaited_learnt_none t (k.makes (k.maker before)) (k.at before c) (k.at after c) (own_learnt c serves.turns) (serves.talked c) waits_still))
       (λ has_gone. ⊎_elim
-      (λ was. nothing (gone_learnt_none t (k.at before c) (k.at after c) (own_learnt c serves.turns) (serves.talked c) was))
+      (λ was. nothing (gone_learnt_none t (k.makes (k.maker before)) (k.at before c) (k.at after c) (own_learnt c serves.turns) (serves.talked c) was))
       let_go
       (serves.went c has_gone))
       (nobody most serves.turns end new after serves.ended is c)

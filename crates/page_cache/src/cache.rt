@@ -36,8 +36,8 @@ impl Drop for PageCache {
     }
 }
 
-// How many of so many pages are kept: the most, halved again and again, that leave as much memory for all else. The memory is
-// asked for once, and given back untouched.
+// How many of so many pages are kept: the most, halved again and again, that leave as much memory for all else. Each
+// time the memory is asked for, and given back untouched.
 fn pages_with_room(alloc: Global, wanted: usize) -> usize
     ensures { result ≤ wanted }
 {

@@ -68,13 +68,32 @@ module _ {T C : Type 0} (t : Ghosts T) (k : ChannelGhosts C) where
   abbrev at_if : Bool → Option (Peer T C) → NamedBytes → NamedBytes → ClientState T
   at_if b p closed coming = if b then state_of k p closed else awaited coming
 
+  -- ---- the conversations that are made
+
+  -- by the same maker the same are made
+  pub moved_by : {F : Type 0} (makes : F → T → Type 0) (m n : F) (p q : ℕ → ClientState T) → n ≡ m → Moved t (makes n) p q → Moved t (makes m) p q
+  moved_by {F} makes m n p q same moved = subst (λ (x : F). Moved t (makes x) p q) same moved
+
+  -- who comes with a conversation that is made, comes so
+  pub made_so : (made : T → Type 0) (talk : T) (bytes : NamedBytes) (x : Conversation T) → made talk → IsNew t (λ u. u ≡ talk) bytes x → IsNew t made bytes x
+  made_so made talk bytes x is new = record {
+    starts = new.starts;
+    is_made = subst made (sym new.is_made) is;
+    held = new.held;
+    remaining = new.remaining;
+    sent = new.sent;
+    unsent = new.unsent;
+    failures = new.failures;
+    end_cause = new.end_cause;
+  }
+
   -- ---- one place
 
-  passes_if : (b : Bool) (p q : Option (Peer T C)) (closed coming : NamedBytes) → GoesOn t k p [] q → Passes t (at_if b p closed coming) [] (at_if b q closed coming)
-  passes_if true None q closed coming goes = rw (goes) (refl, refl)
-  passes_if true (Some x) None closed coming goes = absurd goes
-  passes_if true (Some x) (Some y) closed coming goes = goes
-  passes_if false p q closed coming goes = (refl, refl)
+  passes_if : (made : T → Type 0) (b : Bool) (p q : Option (Peer T C)) (closed coming : NamedBytes) → GoesOn t k p [] q → Passes t made (at_if b p closed coming) [] (at_if b q closed coming)
+  passes_if made true None q closed coming goes = rw (goes) (refl, refl)
+  passes_if made true (Some x) None closed coming goes = absurd goes
+  passes_if made true (Some x) (Some y) closed coming goes = goes
+  passes_if made false p q closed coming goes = (refl, refl)
 
   gone_if : (b : Bool) (p q : Option (Peer T C)) (closed coming : NamedBytes) → GoesOn t k p [] q → IsGone (at_if b q closed coming) → IsGone (at_if b p closed coming)
   gone_if true None q closed coming goes is = tt
@@ -132,16 +151,16 @@ module _ {T C : Type 0} (t : Ghosts T) (k : ChannelGhosts C) where
       → IfSome q (λ y. unless_ended y.end_cause (t.wants y.talk) ≡ Some w) → wanted t (state_at k came c q closed coming) ≡ Some w
   wants_still came c p q closed coming v w is goes wants = wants_still_if (nat_lt c came) p q closed coming v w is goes wants
 
-  learns_if : (b : Bool) (p q : Option (Peer T C)) (closed coming : NamedBytes) (w : Want) (r : Reply) → wanted t (at_if b p closed coming) ≡ Some w → Learns t k p r q
-      → Passes t (at_if b p closed coming) (learnt w r ∷ []) (at_if b q closed coming)
-  learns_if true None q closed coming w r is learns = cc
-  learns_if true (Some x) None closed coming w r is learns = absurd learns
-  learns_if true (Some x) (Some y) closed coming w r is learns = subst (λ (v : Want). Goes t k x (learnt v r ∷ []) y) (the_wanted x.end_cause (t.wants x.talk) w is) learns
-  learns_if false p q closed coming w r is learns = cc
+  learns_if : (made : T → Type 0) (b : Bool) (p q : Option (Peer T C)) (closed coming : NamedBytes) (w : Want) (r : Reply) → wanted t (at_if b p closed coming) ≡ Some w → Learns t k p r q
+      → Passes t made (at_if b p closed coming) (learnt w r ∷ []) (at_if b q closed coming)
+  learns_if made true None q closed coming w r is learns = cc
+  learns_if made true (Some x) None closed coming w r is learns = absurd learns
+  learns_if made true (Some x) (Some y) closed coming w r is learns = subst (λ (v : Want). Goes t k x (learnt v r ∷ []) y) (the_wanted x.end_cause (t.wants x.talk) w is) learns
+  learns_if made false p q closed coming w r is learns = cc
 
-  pub learns_at : (came c : ℕ) (p q : Option (Peer T C)) (closed coming : NamedBytes) (w : Want) (r : Reply) → wanted t (state_at k came c p closed coming) ≡ Some w → Learns t k p r q
-      → Passes t (state_at k came c p closed coming) (learnt w r ∷ []) (state_at k came c q closed coming)
-  learns_at came c p q closed coming w r is learns = learns_if (nat_lt c came) p q closed coming w r is learns
+  pub learns_at : (made : T → Type 0) (came c : ℕ) (p q : Option (Peer T C)) (closed coming : NamedBytes) (w : Want) (r : Reply) → wanted t (state_at k came c p closed coming) ≡ Some w → Learns t k p r q
+      → Passes t made (state_at k came c p closed coming) (learnt w r ∷ []) (state_at k came c q closed coming)
+  learns_at made came c p q closed coming w r is learns = learns_if made (nat_lt c came) p q closed coming w r is learns
 
   learns_gone_if : (b : Bool) (p q : Option (Peer T C)) (closed coming : NamedBytes) (r : Reply) → Learns t k p r q → IsGone (at_if b q closed coming) → IsGone (at_if b p closed coming)
   learns_gone_if true None q closed coming r learns is = tt
@@ -223,28 +242,30 @@ module _ {T C : Type 0} (t : Ghosts T) (k : ChannelGhosts C) where
     pub goes_same : (x y : Peer T C) → conversation_of k y ≡ conversation_of k x → Goes t k x [] y
     goes_same x y same = subst (λ (z : Conversation T). Continues t (conversation_of k x) [] z) (sym same) (continues_stay t front_more bad_more (conversation_of k x))
 
-    pub moved_none : (at : ℕ → ClientState T) → Moved t at at
-    moved_none at = record { passed = λ c. passes_stay t front_more bad_more (at c); gone = λ c is. is }
+  module _ (front_more : (t0 : T) (bytes more : List ℕ) (n : ℕ) → t.front t0 bytes ≡ Whole n → (n ≤ length bytes) × (t.front t0 (bytes ++ more) ≡ Whole n))
+      (bad_more : (t0 : T) (bytes more : List ℕ) → t.front t0 bytes ≡ Bad → t.front t0 (bytes ++ more) ≡ Bad) (made : T → Type 0) where
+    pub moved_none : (at : ℕ → ClientState T) → Moved t made at at
+    moved_none at = record { passed = λ c. passes_stay t front_more bad_more made (at c); gone = λ c is. is }
 
-    pub moved_on : (p q r : ℕ → ClientState T) → Moved t p q → Moved t q r → Moved t p r
+    pub moved_on : (p q r : ℕ → ClientState T) → Moved t made p q → Moved t made q r → Moved t made p r
     moved_on p q r first next = record {
-      passed = λ c. passes_on t front_more bad_more (p c) (q c) (r c) [] [] (first.passed c) (next.passed c);
+      passed = λ c. passes_on t front_more bad_more made (p c) (q c) (r c) [] [] (first.passed c) (next.passed c);
       gone = λ c is. first.gone c (next.gone c is);
     }
 
     -- the same places, told one by one
-    pub moved_same : (p q : ℕ → ClientState T) → ((c : ℕ) → q c ≡ p c) → Moved t p q
+    pub moved_same : (p q : ℕ → ClientState T) → ((c : ℕ) → q c ≡ p c) → Moved t made p q
     moved_same p q same = record {
-      passed = λ c. subst (λ (l : ClientState T). Passes t (p c) [] l) (sym (same c)) (passes_stay t front_more bad_more (p c));
+      passed = λ c. subst (λ (l : ClientState T). Passes t made (p c) [] l) (sym (same c)) (passes_stay t front_more bad_more made (p c));
       gone = λ c is. subst IsGone (same c) is;
     }
 
     -- one client went on
     pub moved_one : (came client : ℕ) (p q : ℕ → Option (Peer T C)) (closed coming : ℕ → NamedBytes) → GoesOn t k (p client) [] (q client) → ((c : ℕ) → c ≢ client → q c ≡ p c)
-        → Moved t (all came p closed coming) (all came q closed coming)
+        → Moved t made (all came p closed coming) (all came q closed coming)
     moved_one came client p q closed coming goes others = record {
-      passed = each (λ c. Passes t (all came p closed coming c) [] (all came q closed coming c)) client (passes_if (nat_lt client came) (p client) (q client) (closed client) (coming client) goes)
-          (λ c other. subst (λ (o : Option (Peer T C)). Passes t (all came p closed coming c) [] (state_at k came c o (closed c) (coming c))) (sym (others c other)) (passes_stay t front_more bad_more (all came p closed coming c)));
+      passed = each (λ c. Passes t made (all came p closed coming c) [] (all came q closed coming c)) client (passes_if made (nat_lt client came) (p client) (q client) (closed client) (coming client) goes)
+          (λ c other. subst (λ (o : Option (Peer T C)). Passes t made (all came p closed coming c) [] (state_at k came c o (closed c) (coming c))) (sym (others c other)) (passes_stay t front_more bad_more made (all came p closed coming c)));
       gone = each (λ c. IsGone (all came q closed coming c) → IsGone (all came p closed coming c)) client (gone_if (nat_lt client came) (p client) (q client) (closed client) (coming client) goes)
           (λ c other is. subst (λ (o : Option (Peer T C)). IsGone (state_at k came c o (closed c) (coming c))) (others c other) is);
     }
@@ -253,21 +274,21 @@ module _ {T C : Type 0} (t : Ghosts T) (k : ChannelGhosts C) where
     pub kept_all : (came : ℕ) (p : ℕ → Option (Peer T C)) (closed coming closed' coming' : ℕ → NamedBytes) → KeepsAll closed closed' → KeepsAll coming coming' → (c : ℕ) → all came p closed' coming' c ≡ all came p closed coming c
     kept_all came p closed coming closed' coming' a b c = rw (a c, b c) refl
 
-    pub moved_kept : (came : ℕ) (p : ℕ → Option (Peer T C)) (closed coming closed' coming' : ℕ → NamedBytes) → KeepsAll closed closed' → KeepsAll coming coming' → Moved t (all came p closed coming) (all came p closed' coming')
+    pub moved_kept : (came : ℕ) (p : ℕ → Option (Peer T C)) (closed coming closed' coming' : ℕ → NamedBytes) → KeepsAll closed closed' → KeepsAll coming coming' → Moved t made (all came p closed coming) (all came p closed' coming')
     moved_kept came p closed coming closed' coming' a b = moved_same (all came p closed coming) (all came p closed' coming') (kept_all came p closed coming closed' coming' a b)
 
-    pub moved_unchanged : (came : ℕ) (p q : ℕ → Option (Peer T C)) (closed coming : ℕ → NamedBytes) → ((c : ℕ) → q c ≡ p c) → Moved t (all came p closed coming) (all came q closed coming)
+    pub moved_unchanged : (came : ℕ) (p q : ℕ → Option (Peer T C)) (closed coming : ℕ → NamedBytes) → ((c : ℕ) → q c ≡ p c) → Moved t made (all came p closed coming) (all came q closed coming)
     moved_unchanged came p q closed coming same = moved_same (all came p closed coming) (all came q closed coming) (λ c. rw (same c) refl)
 
     -- one learnt what it wanted
     pub taught : (came client : ℕ) (p q : ℕ → Option (Peer T C)) (closed coming : ℕ → NamedBytes) (w : Want) (r : Reply) → wanted t (all came p closed coming client) ≡ Some w → Learns t k (p client) r (q client) → ((c : ℕ) → c ≢ client → q c ≡ p c)
-        → (c : ℕ) → Passes t (all came p closed coming c) (own client c (learnt w r)) (all came q closed coming c)
+        → (c : ℕ) → Passes t made (all came p closed coming c) (own client c (learnt w r)) (all came q closed coming c)
     taught came client p q closed coming w r is learns others =
-        each (λ c. Passes t (all came p closed coming c) (own client c (learnt w r)) (all came q closed coming c)) client
-        (subst (λ (xs : List Learnt). Passes t (all came p closed coming client) xs (all came q closed coming client)) (sym (own_self client (learnt w r))) (learns_if (nat_lt client came) (p client) (q client) (closed client) (coming client) w r is learns))
+        each (λ c. Passes t made (all came p closed coming c) (own client c (learnt w r)) (all came q closed coming c)) client
+        (subst (λ (xs : List Learnt). Passes t made (all came p closed coming client) xs (all came q closed coming client)) (sym (own_self client (learnt w r))) (learns_if made (nat_lt client came) (p client) (q client) (closed client) (coming client) w r is learns))
         (λ c other.
-        subst (λ (xs : List Learnt). Passes t (all came p closed coming c) xs (all came q closed coming c)) (sym (own_other client c (learnt w r) other))
-        (subst (λ (o : Option (Peer T C)). Passes t (all came p closed coming c) [] (state_at k came c o (closed c) (coming c))) (sym (others c other)) (passes_stay t front_more bad_more (all came p closed coming c))))
+        subst (λ (xs : List Learnt). Passes t made (all came p closed coming c) xs (all came q closed coming c)) (sym (own_other client c (learnt w r) other))
+        (subst (λ (o : Option (Peer T C)). Passes t made (all came p closed coming c) [] (state_at k came c o (closed c) (coming c))) (sym (others c other)) (passes_stay t front_more bad_more made (all came p closed coming c))))
 
     pub none_goes : (came client : ℕ) (p q : ℕ → Option (Peer T C)) (closed coming : ℕ → NamedBytes) (r : Reply) → Learns t k (p client) r (q client) → ((c : ℕ) → c ≢ client → q c ≡ p c) → NoneGoes (all came p closed coming) (all came q closed coming)
     none_goes came client p q closed coming r learns others =
@@ -282,28 +303,28 @@ module _ {T C : Type 0} (t : Ghosts T) (k : ChannelGhosts C) where
         by true is = lt-ltb c (came + 1) (omega (arith, ltb-true c came is))
         by false is = le-ltb c (came + 1) (omega (arith, other, ltb-false c came is))
 
-    pub one_came : (came : ℕ) (p q : ℕ → Option (Peer T C)) (closed coming : ℕ → NamedBytes) (y : Peer T C) → q came ≡ Some y → IsNew t (coming came) (conversation_of k y) → ((c : ℕ) → c ≢ came → q c ≡ p c)
-        → Moved t (all came p closed coming) (all (came + 1) q closed coming)
+    pub one_came : (came : ℕ) (p q : ℕ → Option (Peer T C)) (closed coming : ℕ → NamedBytes) (y : Peer T C) → q came ≡ Some y → IsNew t made (coming came) (conversation_of k y) → ((c : ℕ) → c ≢ came → q c ≡ p c)
+        → Moved t made (all came p closed coming) (all (came + 1) q closed coming)
     one_came came p q closed coming y here new others =
         let awaits : all came p closed coming came ≡ awaited (coming came) = rw (le-ltb came came (omega arith)) refl in
         let comes : all (came + 1) q closed coming came ≡ there (conversation_of k y) = rw (lt-ltb came (came + 1) (omega arith), here) refl in
         let same : (c : ℕ) → c ≢ came → all (came + 1) q closed coming c ≡ all came p closed coming c = λ c other. rw (below came c other, others c other) refl in
         record {
-          passed = each (λ c. Passes t (all came p closed coming c) [] (all (came + 1) q closed coming c)) came
-              (subst (λ (a : ClientState T). Passes t a [] (all (came + 1) q closed coming came)) (sym awaits)
-              (subst (λ (b : ClientState T). Passes t (awaited (coming came)) [] b) (sym comes) (conversation_of k y, new, continues_stay t front_more bad_more (conversation_of k y))))
-              (λ c other. subst (λ (b : ClientState T). Passes t (all came p closed coming c) [] b) (sym (same c other)) (passes_stay t front_more bad_more (all came p closed coming c)));
+          passed = each (λ c. Passes t made (all came p closed coming c) [] (all (came + 1) q closed coming c)) came
+              (subst (λ (a : ClientState T). Passes t made a [] (all (came + 1) q closed coming came)) (sym awaits)
+              (subst (λ (b : ClientState T). Passes t made (awaited (coming came)) [] b) (sym comes) (conversation_of k y, new, continues_stay t front_more bad_more (conversation_of k y))))
+              (λ c other. subst (λ (b : ClientState T). Passes t made (all came p closed coming c) [] b) (sym (same c other)) (passes_stay t front_more bad_more made (all came p closed coming c)));
           gone = each (λ c. IsGone (all (came + 1) q closed coming c) → IsGone (all came p closed coming c)) came (λ is. absurd (subst IsGone comes is)) (λ c other is. subst IsGone (same c other) is);
         }
 
     -- one went
     pub one_went : (came client : ℕ) (p q : ℕ → Option (Peer T C)) (closed coming closed' coming' : ℕ → NamedBytes) (x : Peer T C) → p client ≡ Some x → nat_lt client came ≡ true → HasEnded t (conversation_of k x) → q client ≡ None
-        → closed' client ≡ k.taken x.channel → ((c : ℕ) → c ≢ client → q c ≡ p c) → KeepsOthers client closed closed' → KeepsAll coming coming' → (c : ℕ) → Passes t (all came p closed coming c) [] (all came q closed' coming' c)
+        → closed' client ≡ k.taken x.channel → ((c : ℕ) → c ≢ client → q c ≡ p c) → KeepsOthers client closed closed' → KeepsAll coming coming' → (c : ℕ) → Passes t made (all came p closed coming c) [] (all came q closed' coming' c)
     one_went came client p q closed coming closed' coming' x here has ended none went others apart kept =
         let was : all came p closed coming client ≡ there (conversation_of k x) = rw (has, here) refl in
         let is : all came q closed' coming' client ≡ gone (k.taken x.channel) = rw (has, none, went) refl in
         let same : (c : ℕ) → c ≢ client → all came q closed' coming' c ≡ all came p closed coming c = λ c other. rw (others c other, apart c other, kept c) refl in
-        each (λ c. Passes t (all came p closed coming c) [] (all came q closed' coming' c)) client
-        (subst (λ (a : ClientState T). Passes t a [] (all came q closed' coming' client)) (sym was)
-        (subst (λ (b : ClientState T). Passes t (there (conversation_of k x)) [] b) (sym is) (conversation_of k x, continues_stay t front_more bad_more (conversation_of k x), ended, refl)))
-        (λ c other. subst (λ (b : ClientState T). Passes t (all came p closed coming c) [] b) (sym (same c other)) (passes_stay t front_more bad_more (all came p closed coming c)))
+        each (λ c. Passes t made (all came p closed coming c) [] (all came q closed' coming' c)) client
+        (subst (λ (a : ClientState T). Passes t made a [] (all came q closed' coming' client)) (sym was)
+        (subst (λ (b : ClientState T). Passes t made (there (conversation_of k x)) [] b) (sym is) (conversation_of k x, continues_stay t front_more bad_more (conversation_of k x), ended, refl)))
+        (λ c other. subst (λ (b : ClientState T). Passes t made (all came p closed coming c) [] b) (sym (same c other)) (passes_stay t front_more bad_more made (all came p closed coming c)))

@@ -121,8 +121,8 @@ module _ {T : Type 0} (k : Ghosts T)
     (bad_more : (t : T) (bytes more : List ℕ) → k.front t bytes ≡ Bad → k.front t (bytes ++ more) ≡ Bad) where
   -- nothing was done
   pub continues_stay : (x : Conversation T) → Continues k x [] x
-  continues_stay x = passes_stay k front_more bad_more (there x)
+  continues_stay x = passes_stay k front_more bad_more (λ u. Unit {0}) (there x)
 
   -- one thing after the other
   pub continues_on : (x y z : Conversation T) (xs ys : List Learnt) → Continues k x xs y → Continues k y ys z → Continues k x (xs ++ ys) z
-  continues_on x y z xs ys first next = passes_on k front_more bad_more (there x) (there y) (there z) xs ys first next
+  continues_on x y z xs ys first next = passes_on k front_more bad_more (λ u. Unit {0}) (there x) (there y) (there z) xs ys first next

@@ -16,7 +16,8 @@ use talks::talk::Talk;
 impl<T: Talk + Drop, C: Channel + Drop, A: Attend<C>, F: TalkMaker<T>> PolledClients<T, C, A, F> {
     /// Takes one that comes, or turns it away where as many are there as may be.
     pub(crate) fn greet(&mut self)
-        ensures moved { Moved T.Talk (states C.Channel A.Attend self.old) (states C.Channel A.Attend self.new) }
+        ensures moved { Moved T.Talk (F.makes self.old.maker) (states C.Channel A.Attend self.old) (states C.Channel A.Attend self.new) }
+        ensures maker { self.new.maker ≡ self.old.maker }
         ensures waiting { self.new.waiting.items ≡ self.old.waiting.items }
         ensures limits { self.new.limits ≡ self.old.limits }
         ensures looks { self.new.looks ≡ self.old.looks }
@@ -33,7 +34,8 @@ impl<T: Talk + Drop, C: Channel + Drop, A: Attend<C>, F: TalkMaker<T>> PolledCli
 
     // Tells one that comes that as many are there as may be.
     fn turn_away(&mut self)
-        ensures moved { Moved T.Talk (states C.Channel A.Attend self.old) (states C.Channel A.Attend self.new) }
+        ensures moved { Moved T.Talk (F.makes self.old.maker) (states C.Channel A.Attend self.old) (states C.Channel A.Attend self.new) }
+        ensures maker { self.new.maker ≡ self.old.maker }
         ensures waiting { self.new.waiting.items ≡ self.old.waiting.items }
         ensures limits { self.new.limits ≡ self.old.limits }
         ensures looks { self.new.looks ≡ self.old.looks }
@@ -49,7 +51,8 @@ impl<T: Talk + Drop, C: Channel + Drop, A: Attend<C>, F: TalkMaker<T>> PolledCli
 
     // Takes one that comes.
     fn take(&mut self)
-        ensures moved { Moved T.Talk (states C.Channel A.Attend self.old) (states C.Channel A.Attend self.new) }
+        ensures moved { Moved T.Talk (F.makes self.old.maker) (states C.Channel A.Attend self.old) (states C.Channel A.Attend self.new) }
+        ensures maker { self.new.maker ≡ self.old.maker }
         ensures waiting { self.new.waiting.items ≡ self.old.waiting.items }
         ensures limits { self.new.limits ≡ self.old.limits }
         ensures looks { self.new.looks ≡ self.old.looks }
@@ -63,8 +66,10 @@ impl<T: Talk + Drop, C: Channel + Drop, A: Attend<C>, F: TalkMaker<T>> PolledCli
 
     // Takes one that comes, for whom there is this conversation.
     fn take_with(&mut self, talk: T)
-        requires { T.starts talk }
-        ensures moved { Moved T.Talk (states C.Channel A.Attend self.old) (states C.Channel A.Attend self.new) }
+        requires starts { T.starts talk }
+        requires made { F.makes self.old.maker talk }
+        ensures moved { Moved T.Talk (F.makes self.old.maker) (states C.Channel A.Attend self.old) (states C.Channel A.Attend self.new) }
+        ensures maker { self.new.maker ≡ self.old.maker }
         ensures waiting { self.new.waiting.items ≡ self.old.waiting.items }
         ensures limits { self.new.limits ≡ self.old.limits }
         ensures looks { self.new.looks ≡ self.old.looks }
@@ -81,8 +86,10 @@ impl<T: Talk + Drop, C: Channel + Drop, A: Attend<C>, F: TalkMaker<T>> PolledCli
     // A client has come.
     fn admit(&mut self, talk: T, channel: C)
         requires starts { T.starts talk }
+        requires made { F.makes self.old.maker talk }
         requires fresh { HasJustCome C.Channel (A.coming self.old.attend self.old.came) channel }
-        ensures moved { Moved T.Talk (states C.Channel A.Attend self.old) (states C.Channel A.Attend self.new) }
+        ensures moved { Moved T.Talk (F.makes self.old.maker) (states C.Channel A.Attend self.old) (states C.Channel A.Attend self.new) }
+        ensures maker { self.new.maker ≡ self.old.maker }
         ensures waiting { self.new.waiting.items ≡ self.old.waiting.items }
         ensures limits { self.new.limits ≡ self.old.limits }
         ensures looks { self.new.looks ≡ self.old.looks }

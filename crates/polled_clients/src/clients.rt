@@ -29,9 +29,13 @@ use talks::want::{Reply, Want};
 
 /// What makes a conversation for each client that comes.
 pub trait TalkMaker<T: Talk> {
+    /// The conversations that it makes.
+    ghost makes: { Self → T → Type 0 };
+
     /// A conversation that has heard nothing.
     fn make(&self) -> Result<T, AllocError>
-        ensures { IfOk result (λ talk. T.starts talk) };
+        ensures starts { IfOk result (λ talk. T.starts talk) }
+        ensures made { IfOk result (λ talk. makes self.now talk) };
 }
 
 /// How many clients are served, and how long they may take.
@@ -82,6 +86,7 @@ impl<T: Talk + Drop, C: Channel + Drop, A: Attend<C>, F: TalkMaker<T>> PolledCli
         limits: ClientLimits,
         refusal: Vec<u8>,
     ) -> PolledClients<T, C, A, F>
+        ensures maker { result.maker ≡ maker }
         ensures at { (c : ℕ) → states C.Channel A.Attend result c ≡ awaited (A.coming attend c) }
         ensures waiting { result.waiting.items ≡ [] }
         ensures contention { contention_of result.lock ≡ record { holder = None; cut_off = None; is_limited = is_some limits.block } }
@@ -117,7 +122,8 @@ impl<T: Talk + Drop, C: Channel + Drop, A: Attend<C>, F: TalkMaker<T>> PolledCli
 
     // Looks for something to do, and does one thing.
     fn look(&mut self, stopped: bool) -> Option<Next>
-        ensures moved { Moved T.Talk (states C.Channel A.Attend self.old) (states C.Channel A.Attend self.new) }
+        ensures moved { Moved T.Talk (F.makes self.old.maker) (states C.Channel A.Attend self.old) (states C.Channel A.Attend self.new) }
+        ensures maker { self.new.maker ≡ self.old.maker }
         ensures waiting { self.new.waiting.items ≡ self.old.waiting.items }
         ensures limits { self.new.limits ≡ self.old.limits }
         ensures looks { self.new.looks ≡ self.old.looks }
@@ -168,7 +174,8 @@ impl<T: Talk + Drop, C: Channel + Drop, A: Attend<C>, F: TalkMaker<T>> PolledCli
 
     // Gives a client its turn.
     fn serve(&mut self, pick: Pick, stopped: bool) -> Option<Next>
-        ensures moved { Moved T.Talk (states C.Channel A.Attend self.old) (states C.Channel A.Attend self.new) }
+        ensures moved { Moved T.Talk (F.makes self.old.maker) (states C.Channel A.Attend self.old) (states C.Channel A.Attend self.new) }
+        ensures maker { self.new.maker ≡ self.old.maker }
         ensures waiting { self.new.waiting.items ≡ self.old.waiting.items }
         ensures limits { self.new.limits ≡ self.old.limits }
         ensures looks { self.new.looks ≡ self.old.looks }
@@ -192,7 +199,8 @@ impl<T: Talk + Drop, C: Channel + Drop, A: Attend<C>, F: TalkMaker<T>> PolledCli
 
     // Does one thing for a client, and tells what it has to do with the machine.
     fn turn(&mut self, pick: Pick, stopped: bool) -> Need
-        ensures moved { Moved T.Talk (states C.Channel A.Attend self.old) (states C.Channel A.Attend self.new) }
+        ensures moved { Moved T.Talk (F.makes self.old.maker) (states C.Channel A.Attend self.old) (states C.Channel A.Attend self.new) }
+        ensures maker { self.new.maker ≡ self.old.maker }
         ensures waiting { self.new.waiting.items ≡ self.old.waiting.items }
         ensures limits { self.new.limits ≡ self.old.limits }
         ensures looks { self.new.looks ≡ self.old.looks }
@@ -212,7 +220,8 @@ impl<T: Talk + Drop, C: Channel + Drop, A: Attend<C>, F: TalkMaker<T>> PolledCli
     // Before a round: wakes one to whom something may have come, or takes one that comes, or asks
     // who may have something to do.
     fn gather(&mut self)
-        ensures moved { Moved T.Talk (states C.Channel A.Attend self.old) (states C.Channel A.Attend self.new) }
+        ensures moved { Moved T.Talk (F.makes self.old.maker) (states C.Channel A.Attend self.old) (states C.Channel A.Attend self.new) }
+        ensures maker { self.new.maker ≡ self.old.maker }
         ensures waiting { self.new.waiting.items ≡ self.old.waiting.items }
         ensures limits { self.new.limits ≡ self.old.limits }
         ensures looks { self.new.looks ≡ self.old.looks }
@@ -230,7 +239,8 @@ impl<T: Talk + Drop, C: Channel + Drop, A: Attend<C>, F: TalkMaker<T>> PolledCli
     // At the end of a round: looks at the limits of one client, where it is time for that, or asks
     // who may have something to do.
     fn end_round(&mut self)
-        ensures moved { Moved T.Talk (states C.Channel A.Attend self.old) (states C.Channel A.Attend self.new) }
+        ensures moved { Moved T.Talk (F.makes self.old.maker) (states C.Channel A.Attend self.old) (states C.Channel A.Attend self.new) }
+        ensures maker { self.new.maker ≡ self.old.maker }
         ensures waiting { self.new.waiting.items ≡ self.old.waiting.items }
         ensures limits { self.new.limits ≡ self.old.limits }
         ensures looks { self.new.looks ≡ self.old.looks }
@@ -249,7 +259,8 @@ impl<T: Talk + Drop, C: Channel + Drop, A: Attend<C>, F: TalkMaker<T>> PolledCli
 
     // Looks for how long the lock is held that others want, and lists who was cut off.
     fn look_at_holder(&mut self)
-        ensures moved { Moved T.Talk (states C.Channel A.Attend self.old) (states C.Channel A.Attend self.new) }
+        ensures moved { Moved T.Talk (F.makes self.old.maker) (states C.Channel A.Attend self.old) (states C.Channel A.Attend self.new) }
+        ensures maker { self.new.maker ≡ self.old.maker }
         ensures waiting { self.new.waiting.items ≡ self.old.waiting.items }
         ensures limits { self.new.limits ≡ self.old.limits }
         ensures looks { self.new.looks ≡ self.old.looks }
@@ -261,7 +272,8 @@ impl<T: Talk + Drop, C: Channel + Drop, A: Attend<C>, F: TalkMaker<T>> PolledCli
 
     // Looks at the clock.
     fn note_time(&mut self)
-        ensures moved { Moved T.Talk (states C.Channel A.Attend self.old) (states C.Channel A.Attend self.new) }
+        ensures moved { Moved T.Talk (F.makes self.old.maker) (states C.Channel A.Attend self.old) (states C.Channel A.Attend self.new) }
+        ensures maker { self.new.maker ≡ self.old.maker }
         ensures waiting { self.new.waiting.items ≡ self.old.waiting.items }
         ensures limits { self.new.limits ≡ self.old.limits }
         ensures looks { self.new.looks ≡ self.old.looks }
@@ -272,7 +284,8 @@ impl<T: Talk + Drop, C: Channel + Drop, A: Attend<C>, F: TalkMaker<T>> PolledCli
 
     // Looks at the limits of the client of an index.
     fn look_at_index(&mut self, index: usize)
-        ensures moved { Moved T.Talk (states C.Channel A.Attend self.old) (states C.Channel A.Attend self.new) }
+        ensures moved { Moved T.Talk (F.makes self.old.maker) (states C.Channel A.Attend self.old) (states C.Channel A.Attend self.new) }
+        ensures maker { self.new.maker ≡ self.old.maker }
         ensures waiting { self.new.waiting.items ≡ self.old.waiting.items }
         ensures limits { self.new.limits ≡ self.old.limits }
         ensures looks { self.new.looks ≡ self.old.looks }
@@ -285,7 +298,8 @@ impl<T: Talk + Drop, C: Channel + Drop, A: Attend<C>, F: TalkMaker<T>> PolledCli
 
     // Looks at the limits of a client.
     fn look_after(&mut self, client: u32)
-        ensures moved { Moved T.Talk (states C.Channel A.Attend self.old) (states C.Channel A.Attend self.new) }
+        ensures moved { Moved T.Talk (F.makes self.old.maker) (states C.Channel A.Attend self.old) (states C.Channel A.Attend self.new) }
+        ensures maker { self.new.maker ≡ self.old.maker }
         ensures waiting { self.new.waiting.items ≡ self.old.waiting.items }
         ensures limits { self.new.limits ≡ self.old.limits }
         ensures looks { self.new.looks ≡ self.old.looks }
@@ -300,7 +314,8 @@ impl<T: Talk + Drop, C: Channel + Drop, A: Attend<C>, F: TalkMaker<T>> PolledCli
 
     // Something may have come to a client.
     fn wake(&mut self, client: u32)
-        ensures moved { Moved T.Talk (states C.Channel A.Attend self.old) (states C.Channel A.Attend self.new) }
+        ensures moved { Moved T.Talk (F.makes self.old.maker) (states C.Channel A.Attend self.old) (states C.Channel A.Attend self.new) }
+        ensures maker { self.new.maker ≡ self.old.maker }
         ensures waiting { self.new.waiting.items ≡ self.old.waiting.items }
         ensures limits { self.new.limits ≡ self.old.limits }
         ensures looks { self.new.looks ≡ self.old.looks }
@@ -312,7 +327,8 @@ impl<T: Talk + Drop, C: Channel + Drop, A: Attend<C>, F: TalkMaker<T>> PolledCli
 
     // Asks who may have something to do, and begins a round.
     fn poll(&mut self)
-        ensures moved { Moved T.Talk (states C.Channel A.Attend self.old) (states C.Channel A.Attend self.new) }
+        ensures moved { Moved T.Talk (F.makes self.old.maker) (states C.Channel A.Attend self.old) (states C.Channel A.Attend self.new) }
+        ensures maker { self.new.maker ≡ self.old.maker }
         ensures waiting { self.new.waiting.items ≡ self.old.waiting.items }
         ensures limits { self.new.limits ≡ self.old.limits }
         ensures looks { self.new.looks ≡ self.old.looks }
@@ -325,7 +341,8 @@ impl<T: Talk + Drop, C: Channel + Drop, A: Attend<C>, F: TalkMaker<T>> PolledCli
 
     // Asks who may have something to do, and waits for it where nobody has something at once.
     fn ask(&mut self)
-        ensures moved { Moved T.Talk (states C.Channel A.Attend self.old) (states C.Channel A.Attend self.new) }
+        ensures moved { Moved T.Talk (F.makes self.old.maker) (states C.Channel A.Attend self.old) (states C.Channel A.Attend self.new) }
+        ensures maker { self.new.maker ≡ self.old.maker }
         ensures waiting { self.new.waiting.items ≡ self.old.waiting.items }
         ensures limits { self.new.limits ≡ self.old.limits }
         ensures looks { self.new.looks ≡ self.old.looks }
@@ -340,7 +357,8 @@ impl<T: Talk + Drop, C: Channel + Drop, A: Attend<C>, F: TalkMaker<T>> PolledCli
 
     // A client waits from now on for so long as it may.
     fn hold(&mut self, client: u32)
-        ensures moved { Moved T.Talk (states C.Channel A.Attend self.old) (states C.Channel A.Attend self.new) }
+        ensures moved { Moved T.Talk (F.makes self.old.maker) (states C.Channel A.Attend self.old) (states C.Channel A.Attend self.new) }
+        ensures maker { self.new.maker ≡ self.old.maker }
         ensures waiting { self.new.waiting.items ≡ self.old.waiting.items }
         ensures limits { self.new.limits ≡ self.old.limits }
         ensures looks { self.new.looks ≡ self.old.looks }
@@ -352,7 +370,8 @@ impl<T: Talk + Drop, C: Channel + Drop, A: Attend<C>, F: TalkMaker<T>> PolledCli
 
     // A client waits for so long as it may, if it does not wait yet.
     fn hold_until(&mut self, client: u32)
-        ensures moved { Moved T.Talk (states C.Channel A.Attend self.old) (states C.Channel A.Attend self.new) }
+        ensures moved { Moved T.Talk (F.makes self.old.maker) (states C.Channel A.Attend self.old) (states C.Channel A.Attend self.new) }
+        ensures maker { self.new.maker ≡ self.old.maker }
         ensures waiting { self.new.waiting.items ≡ self.old.waiting.items }
         ensures limits { self.new.limits ≡ self.old.limits }
         ensures looks { self.new.looks ≡ self.old.looks }
@@ -366,7 +385,8 @@ impl<T: Talk + Drop, C: Channel + Drop, A: Attend<C>, F: TalkMaker<T>> PolledCli
     // The conversation with a client wants its end, since an allocation has failed.
     fn give_up(&mut self, client: u32)
         requires { (w : TheWant) × (wanted T.Talk (states C.Channel A.Attend self.old client) ≡ Some w) }
-        ensures moved { Moved T.Talk (states C.Channel A.Attend self.old) (states C.Channel A.Attend self.new) }
+        ensures moved { Moved T.Talk (F.makes self.old.maker) (states C.Channel A.Attend self.old) (states C.Channel A.Attend self.new) }
+        ensures maker { self.new.maker ≡ self.old.maker }
         ensures waiting { self.new.waiting.items ≡ self.old.waiting.items }
         ensures limits { self.new.limits ≡ self.old.limits }
         ensures looks { self.new.looks ≡ self.old.looks }
@@ -388,6 +408,12 @@ impl<T: Talk + Drop, C: Channel + Drop, A: Attend<C>, F: TalkMaker<T>> ServedCli
     for PolledClients<T, C, A, F> {
     ghost use Rattle.std.specs.Prelude.{◌≡◌, ℕ, [], ◌∷◌, Some};
 
+    ghost Maker = { F };
+
+    ghost maker = { λ x. x.maker };
+
+    ghost makes = { λ maker talk. F.makes maker talk };
+
     ghost at = { λ x c. states C.Channel A.Attend x c };
 
     ghost waiting = { λ x. x.waiting.items };
@@ -401,7 +427,7 @@ impl<T: Talk + Drop, C: Channel + Drop, A: Attend<C>, F: TalkMaker<T>> ServedCli
     ghost looks = { λ x. x.looks };
 
     ghost learns = { λ x moment c r y. (w : TheWant) × (wanted T.Talk (states C.Channel A.Attend x c) ≡ Some w) × FitsWant w r
-        × Passes T.Talk (states C.Channel A.Attend x c) (learnt w r ∷ []) (states C.Channel A.Attend y c) };
+        × Passes T.Talk (F.makes x.maker) (states C.Channel A.Attend x c) (learnt w r ∷ []) (states C.Channel A.Attend y c) };
 
     ghost has_waited = { λ x c. HasWaited x.limits.wait (get nat_eq x.peers c) };
 

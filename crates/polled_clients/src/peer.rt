@@ -62,7 +62,8 @@ pub struct Peer<T, C> {
 impl<T: Talk, C: Channel> Peer<T, C> {
     /// A client that has just come. `limited` tells whether a limit may end it.
     pub fn new(alloc: Global, talk: T, channel: C, limited: bool, now: Duration) -> Peer<T, C>
-        ensures { (bytes : Option (List ℕ)) → T.starts talk → HasJustCome C.Channel bytes channel → IsNew T.Talk bytes (conversation_of C.Channel result) }
+        ensures { (bytes : Option (List ℕ)) → T.starts talk → HasJustCome C.Channel bytes channel
+            → IsNew T.Talk (λ t. t ≡ talk) bytes (conversation_of C.Channel result) }
     {
         Peer {
             talk,

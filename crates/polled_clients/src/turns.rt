@@ -193,7 +193,8 @@ pub fn prepare<T: Talk, F: TalkMaker<T>>(
     maker: &F,
     count: usize,
 ) -> Result<T, AllocError>
-    ensures { IfOk result (λ talk. T.starts talk) }
+    ensures starts { IfOk result (λ talk. T.starts talk) }
+    ensures made { IfOk result (λ talk. F.makes maker.now talk) }
 {
     turns.make_room(count)?;
     maker.make()

@@ -3,9 +3,9 @@
 
 mod file_id;
 mod files;
+mod guarded_socket;
 mod listening;
 mod new_files;
-mod private_socket;
 mod progress;
 mod real;
 mod real_listener;

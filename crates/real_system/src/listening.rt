@@ -13,7 +13,7 @@ use std::net::{Ipv4Addr, Net, SocketAddr, TcpListener, TcpStream};
 use std::os::unix::net::UnixListener;
 use std::rt::Files;
 use std::time::Duration;
-use systems::ListenPlace;
+use systems::{ListenPlace, SocketAccess};
 use wire::system_listener::Accept;
 
 /// A port of 127.0.0.1, or a socket that has a name among the files of this machine.
@@ -26,12 +26,13 @@ pub enum PlaceListener {
 }
 
 impl PlaceListener {
-    /// Binds a place, and answers which one that is: of port 0 the port that the system chose. An
-    /// error is one of the system.
+    /// Binds a place, and answers which one that is: of port 0 the port that the system chose. The file
+    /// of a socket lets those connect that `access` says. An error is one of the system.
     pub(crate) fn bind<'p, R: Files<File = File> + Net<Listener = TcpListener, Stream = TcpStream>>(
         rt: &R,
         alloc: Global,
         place: ListenPlace<'p>,
+        access: SocketAccess,
     ) -> io::Result<(PlaceListener, ListenPlace<'p>)>
         ensures { IfOk result (λ it. IsOfKind (the_place place.entry) (the_place it.1)) }
     {
@@ -43,11 +44,11 @@ impl PlaceListener {
                 Ok((PlaceListener::Port(listener), ListenPlace::Port(bound)))
             }
             ListenPlace::Socket(path) => {
-                let listener = bind_socket(rt, path)?;
+                let listener = bind_socket(rt, path, access)?;
                 Ok((PlaceListener::Socket(listener), place))
             }
             ListenPlace::PostgresFolder(folder) => {
-                let (listener, path) = bind_in_folder(rt, alloc, folder)?;
+                let (listener, path) = bind_in_folder(rt, alloc, folder, access)?;
                 Ok((PlaceListener::PostgresFolder(listener, path), place))
             }
         }

@@ -17,7 +17,7 @@ use std::net::{Net, TcpListener, TcpStream};
 use std::rt::Files;
 use std::time::{Clock, Duration};
 use std::{fs, io};
-use systems::{Access, ListenPlace, OpenPathFault, System, TextFault};
+use systems::{Access, ListenPlace, OpenPathFault, SocketAccess, System, TextFault};
 use wire::system_listener::SystemListener;
 
 /// The files, the ports and the sockets of a machine. No contract can know what they do, so none
@@ -178,9 +178,10 @@ impl<
     fn bind<'p>(
         &mut self,
         place: ListenPlace<'p>,
+        access: SocketAccess,
         idle: Option<Duration>,
     ) -> Result<(RealListener<'r, R>, ListenPlace<'p>), SystemCause> {
-        match PlaceListener::bind(self.rt, self.alloc, place) {
+        match PlaceListener::bind(self.rt, self.alloc, place, access) {
             Ok((listener, bound)) => {
                 if let ListenPlace::Socket(path) = place {
                     self.made = file_at(self.rt, path);

@@ -4,7 +4,7 @@ ghost use Rattle.std.specs.Prelude.{◌≡◌, IfOk, string_bytes};
 ghost use Rattle.systems.specs.Places.{postgres_socket};
 
 use crate::file_id::{FileId, file_at};
-use crate::private_socket::PrivateSocket;
+use crate::guarded_socket::GuardedSocket;
 use std::alloc::{AllocError, Global};
 use std::fs::{self, File};
 use std::io;
@@ -12,15 +12,17 @@ use std::net::Net;
 use std::os::unix::fs::FileTypeExt;
 use std::os::unix::net::{UnixListener, UnixStream};
 use std::rt::Files;
+use systems::SocketAccess;
 
-/// Binds a new socket, whose file is made at `path`. Its mode is 0600 before the socket listens, so
-/// at no moment can another user of the system connect, whatever the umask lets through. The file
+/// Binds a new socket, whose file is made at `path`. It has the mode that `access` says before the
+/// socket listens, so at no moment can others connect, whatever the umask lets through. The file
 /// of a socket at which nobody listens, as a server leaves it that was killed, is taken away
 /// before. Whatever else has the name already is left as it is, and is an error. So is a path
 /// without a byte: the system would bind a socket that has no file, to which everybody may connect.
 pub(crate) fn bind_socket<R: Files<File = File> + Net>(
     rt: &R,
     path: &str,
+    access: SocketAccess,
 ) -> io::Result<UnixListener> {
     if path.is_empty() {
         return Err(io::Error::from(io::ErrorKind::InvalidInput));
@@ -28,7 +30,7 @@ pub(crate) fn bind_socket<R: Files<File = File> + Net>(
     if is_left_behind(rt, path) {
         fs::remove_file(rt, path)?;
     }
-    UnixListener::bind(&PrivateSocket { rt, path }, path)
+    UnixListener::bind(&GuardedSocket { rt, path, access }, path)
 }
 
 /// Where PostgreSQL's clients look in a folder for the socket of a server at port 5432.
@@ -44,13 +46,14 @@ pub(crate) fn bind_in_folder<R: Files<File = File> + Net>(
     rt: &R,
     alloc: Global,
     folder: &str,
+    access: SocketAccess,
 ) -> io::Result<(UnixListener, String)>
     ensures { IfOk result (λ it. string_bytes it.1 ≡ postgres_socket folder.now) }
 {
     let Ok(path) = postgres_socket(alloc, folder) else {
         return Err(io::Error::from(io::ErrorKind::OutOfMemory));
     };
-    let listener = bind_socket(rt, path.as_str())?;
+    let listener = bind_socket(rt, path.as_str(), access)?;
     Ok((listener, path))
 }
 

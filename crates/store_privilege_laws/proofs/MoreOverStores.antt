@@ -8,7 +8,7 @@ use Rattle.abstract_database.specs.Machine.{Event, executes, Reading, Machine}
 use Rattle.abstract_database.specs.Runs.{ReadingRelation, IsTransition, RanBy, Stops, Happens}
 use Rattle.database_laws.specs.HiddenRuns.{AreSound, answer_to, after, IsException}
 use Rattle.database_laws.specs.Told.{Tenant, happens}
-use Rattle.database_laws.specs.TwoTenants.{note, first, with_her_other, opened_by_ann, ann_asks, her_note, of_ann}
+use Rattle.database_laws.specs.TwoTenants.{note, first, with_her_other, opened_by_ann, ann_asks, reading_of, her_note, of_ann}
 use Rattle.privilege_laws.specs.Related.{Relation, Telling, MachinesRelated, MayPart, IsToldRelated}
 use Rattle.privilege_laws.specs.Related as machines
 use Rattle.privilege_laws.specs.Shown.{shown_to}
@@ -21,7 +21,7 @@ use Rattle.privilege_laws.proofs.ColumnRuns.{columns_are_hidden}
 use Rattle.privilege_laws.proofs.BothHidden.{both_are_hidden}
 use Rattle.privilege_laws.proofs.HiddenPay.{pay_is_hidden, policy_tells_pay}
 use Rattle.store_privilege_laws.specs.RelatedStores.{StoresTellRelated}
-use Rattle.store_privilege_laws.specs.PlansOverStores.{reading_of, ReadsOnly, no_stops, standing_with, ann_sends}
+use Rattle.store_privilege_laws.specs.PlansOverStores.{ReadsOnly, no_stops, standing_with, ann_sends}
 use Rattle.store_privilege_laws.specs.MoreOverStores.{stores_tell_but_hidden_columns, hidden_columns_part_no_stores, IsToldByStores, PartsStores, NotesOverStores, PayOverStores}
 use Rattle.store_privilege_laws.proofs.RelatedStores.{stores_told}
 use Rattle.store_privilege_laws.proofs.StoresApart.{stores_part, stores_part_behind}

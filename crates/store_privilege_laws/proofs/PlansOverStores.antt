@@ -11,7 +11,7 @@ use Rattle.database_laws.specs.Runs.{ReadsOnce}
 use Rattle.database_laws.specs.HiddenRuns.{answer_to, after, not_issued, failed}
 use Rattle.database_laws.specs.Told.{happens}
 use Rattle.database_laws.specs.ToldApart.{NoStoreGives}
-use Rattle.database_laws.specs.TwoTenants.{of_ann, opened_by_ann}
+use Rattle.database_laws.specs.TwoTenants.{reading_of, of_ann, opened_by_ann}
 use Rattle.privilege_laws.specs.Related.{NothingTells, MayPart}
 use Rattle.privilege_laws.specs.Related as machines
 use Rattle.privilege_laws.specs.Reached.{SameReachedRows, reached_by}
@@ -19,7 +19,7 @@ use Rattle.privilege_laws.specs.TwoOwners.{letters, plans, ann_selects, shown, b
 use Rattle.privilege_laws.proofs.ReachedTables.{tables_are_hidden}
 use Rattle.privilege_laws.proofs.TwoOwners.{plans_tell_nothing, plans_tell_staff}
 use Rattle.store_privilege_laws.specs.RelatedStores.{KeepRelated}
-use Rattle.store_privilege_laws.specs.PlansOverStores.{reading_of, ReadsOnly, no_stops, no_counts, standing_with, ann_sends, is_closed, bob_first, ann_first, StoresTellNothing, StoresPartAtPlans}
+use Rattle.store_privilege_laws.specs.PlansOverStores.{ReadsOnly, no_stops, no_counts, standing_with, ann_sends, is_closed, bob_first, ann_first, StoresTellNothing, StoresPartAtPlans}
 use Rattle.store_privilege_laws.proofs.RelatedStores.{stores_told}
 use Rattle.store_privilege_laws.proofs.StoresApart.{stores_part}
 

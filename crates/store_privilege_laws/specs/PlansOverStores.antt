@@ -1,20 +1,15 @@
 -- Two servers over stores whose databases differ in the rows of another tenant's table: they meet the premises, or break the law.
-use Rattle.std.specs.Prelude.{◌≡◌, List, [], ◌∷◌, None, Err}
-use Rattle.sql_types.specs.declared.state.SqlState.TheVariants.{IoError}
+use Rattle.std.specs.Prelude.{◌≡◌, List, [], ◌∷◌, None}
 use Rattle.sql_types.specs.declared.answer.Answer.{Answer}
 use Rattle.sql_types.specs.declared.answer.Answer.TheVariants as answer
 use Rattle.sql_types.specs.declared.tag.Tag.TheVariants as tag
 use Rattle.abstract_database.specs.Machine.{Event, executes, closes, Reading, Machine}
 use Rattle.abstract_database.specs.Runs.{TheText, ReadingRelation, RanBy, Counts, Stops, At, Happens}
-use Rattle.database_laws.specs.TwoTenants.{of_ann, opened_by_ann}
+use Rattle.database_laws.specs.TwoTenants.{reading_of, of_ann, opened_by_ann}
 use Rattle.privilege_laws.specs.Related.{NothingTells}
 use Rattle.privilege_laws.specs.Reached.{reached_by}
 use Rattle.privilege_laws.specs.TwoOwners.{letters, plans, ann_selects, shown, before_bob, behind_bob, with_staff}
 use Rattle.store_privilege_laws.specs.RelatedStores.{KeepRelated, IsToldRelatedBy}
-
-abbrev pub reading_of : Event Reading → Reading
-reading_of (executes number reading) = reading
-reading_of _ = Err IoError
 
 -- each text is read as this event's
 abbrev pub ReadsOnly : Event Reading → ReadingRelation

@@ -15,6 +15,6 @@ pub use entries::{Content, NamedContent};
 pub use fault::{OpenPathFault, TextFault};
 pub use listener::{MemListener, MemReader};
 pub use memory::{MemSystem, memory_is_faithful};
-pub use place::ListenPlace;
+pub use place::{ListenPlace, SocketAccess};
 pub use sector_device::{FileFault, SystemCause};
 pub use system::System;

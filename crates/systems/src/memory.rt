@@ -9,7 +9,7 @@ use crate::entries::{
 };
 use crate::fault::{OpenPathFault, TextFault};
 use crate::listener::MemListener;
-use crate::place::ListenPlace;
+use crate::place::{ListenPlace, SocketAccess};
 use crate::system::System;
 use channels::memory::MemChannel;
 use sector_device::{FileFault, HistoryDevice, SystemCause, Unwatched, WriteProtected};
@@ -209,6 +209,7 @@ impl System for MemSystem<WriteProtected<HistoryDevice>> {
     fn bind<'p>(
         &mut self,
         place: ListenPlace<'p>,
+        _access: SocketAccess,
         _idle: Option<Duration>,
     ) -> Result<(MemListener, ListenPlace<'p>), SystemCause> {
         let is_here = match place {

@@ -7,7 +7,7 @@ ghost use Rattle.systems.specs.Systems.{At, Absent, SystemState, HasDevice, IsHe
 
 use crate::access::Access;
 use crate::fault::{OpenPathFault, TextFault};
-use crate::place::ListenPlace;
+use crate::place::{ListenPlace, SocketAccess};
 use channels::attend::Attend;
 use channels::channel::Channel;
 use journal_store::JournalDevice;
@@ -187,11 +187,13 @@ pub trait System {
         ensures left_there { (state self.old).faithful
             → LeavesAlso to.now device (state self.old) (state self.new) };
 
-    /// Binds a place, and answers who listens there and which place that is. A connection may be
-    /// idle for so long. An error: the system does not bind it.
+    /// Binds a place, and answers who listens there and which place that is. The file of a socket lets
+    /// those connect that `access` says, from the moment that it listens. A connection may be idle for
+    /// so long. An error: the system does not bind it.
     fn bind<'p>(
         &mut self,
         place: ListenPlace<'p>,
+        access: SocketAccess,
         idle: Option<Duration>,
     ) -> Result<(Self::Listener, ListenPlace<'p>), SystemCause>
         ensures counts { (state self.old).failures ≤ (state self.new).failures }

@@ -36,14 +36,14 @@ ended_once : (w : EndCause) (a b : Option EndCause) (xs : List Learnt) → a ≡
 ended_once w None b xs is once = absurd (cc)
 ended_once w (Some v) b xs is once = once.1 ∙ is
 
-left_stays : {T : Type 0} (t : TalkGhosts T) (a b : ClientState T) (xs : List Learnt) → Passes t a xs b → HasLeft a → HasLeft b
-left_stays t (awaited bytes) b xs passes left = absurd left
-left_stays t (there x) (awaited bytes) xs passes left = absurd passes
-left_stays t (there x) (there y) xs passes left = (left.0, ended_once left.0 x.end_cause y.end_cause xs left.1 passes.6)
-left_stays t (there x) (gone told) xs passes left = tt
-left_stays t (gone told) (awaited bytes) xs passes left = absurd passes
-left_stays t (gone told) (there y) xs passes left = absurd passes
-left_stays t (gone told) (gone more) xs passes left = tt
+left_stays : {T : Type 0} (t : TalkGhosts T) (made : T → Type 0) (a b : ClientState T) (xs : List Learnt) → Passes t made a xs b → HasLeft a → HasLeft b
+left_stays t made (awaited bytes) b xs passes left = absurd left
+left_stays t made (there x) (awaited bytes) xs passes left = absurd passes
+left_stays t made (there x) (there y) xs passes left = (left.0, ended_once left.0 x.end_cause y.end_cause xs left.1 passes.6)
+left_stays t made (there x) (gone told) xs passes left = tt
+left_stays t made (gone told) (awaited bytes) xs passes left = absurd passes
+left_stays t made (gone told) (there y) xs passes left = absurd passes
+left_stays t made (gone told) (gone more) xs passes left = tt
 
 none_wanted : (o : Option EndCause) (w : EndCause) (v u : Want) → o ≡ Some w → unless_ended o v ≡ Some u → ⊥
 none_wanted None w v u is wants = absurd (cc)
@@ -86,20 +86,20 @@ module _ {M T C : Type 0} (m : MachineGhosts M) (t : TalkGhosts T) (k : ClientsG
   none_serves : (old : M) (before : C) (turns : List Turn) (new : M) (after : C) → TakesTurns m t k old before turns new after → (c : ℕ) → HasLeft (k.at before c) → NoneIs (IsTurnOf c) turns
   none_serves old before [] new after took c left = tt
   none_serves old before (u ∷ turns) new after took c left =
-      let seen : HasLeft (k.at took.0 c) = left_stays t (k.at before c) (k.at took.0 c) [] (took.3.moved.passed c) left in (
+      let seen : HasLeft (k.at took.0 c) = left_stays t (k.makes (k.maker before)) (k.at before c) (k.at took.0 c) [] (took.3.moved.passed c) left in (
         no_service old took.0 u took.1 took.2 took.4 c seen,
-        none_serves took.1 took.2 turns new after took.6 c (left_stays t (k.at took.0 c) (k.at took.2 c) (learnt_in c u) (took.5.passed c) seen),
+        none_serves took.1 took.2 turns new after took.6 c (left_stays t (k.makes (k.maker took.0)) (k.at took.0 c) (k.at took.2 c) (learnt_in c u) (took.5.passed c) seen),
       )
 
   none_is : (old : M) (before : C) (turns : List Turn) (new : M) (after : C) → TakesTurns m t k old before turns new after → (c : ℕ) → IsGone (k.at before c) → NoneIs (λ u. IsTurnOf c u ⊎ ClosesLeft c u ⊎ LetsGo c u) turns
   none_is old before [] new after took c is = tt
   none_is old before (u ∷ turns) new after took c is =
-      let seen : IsGone (k.at took.0 c) = stays_gone t (k.at before c) (k.at took.0 c) [] (took.3.moved.passed c) is in (
+      let seen : IsGone (k.at took.0 c) = stays_gone t (k.makes (k.maker before)) (k.at before c) (k.at took.0 c) [] (took.3.moved.passed c) is in (
         λ it. elim it [
           | inl serves ↦ no_service old took.0 u took.1 took.2 took.4 c (gone_has_left (k.at took.0 c) seen) serves
           | inr ends_it ↦ no_leaving old took.0 u took.1 took.2 took.4 c seen ends_it
         ],
-        none_is took.1 took.2 turns new after took.6 c (stays_gone t (k.at took.0 c) (k.at took.2 c) (learnt_in c u) (took.5.passed c) seen),
+        none_is took.1 took.2 turns new after took.6 c (stays_gone t (k.makes (k.maker took.0)) (k.at took.0 c) (k.at took.2 c) (learnt_in c u) (took.5.passed c) seen),
       )
 
   left_here : (old : M) (before : C) (turn : Turn) (new : M) (after : C) → TakesTurn m t k old before turn new after → (c : ℕ) → ClosesLeft c turn → HasLeft (k.at after c)

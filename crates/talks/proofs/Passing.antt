@@ -59,32 +59,32 @@ module _ {T : Type 0} (k : Ghosts T)
     ends_on x.end_cause y.end_cause z.end_cause xs ys ends ends2,
   )
 
-  pub passes_stay : (a : ClientState T) → Passes k a [] a
-  passes_stay (awaited bytes) = (refl, refl)
-  passes_stay (there x) = continues_stay x
-  passes_stay (gone sent) = (refl, refl)
+  pub passes_stay : (made : T → Type 0) (a : ClientState T) → Passes k made a [] a
+  passes_stay made (awaited bytes) = (refl, refl)
+  passes_stay made (there x) = continues_stay x
+  passes_stay made (gone sent) = (refl, refl)
 
-  pub passes_on : (a b d : ClientState T) (xs ys : List Learnt) → Passes k a xs b → Passes k b ys d → Passes k a (xs ++ ys) d
-  passes_on (awaited p) (awaited q) (awaited r) xs ys first next = (ap (λ (l : List Learnt). l ++ ys) first.0 ∙ next.0, next.1 ∙ first.1)
-  passes_on (awaited p) (awaited q) (there z) xs ys first next =
-      rw (first.0) (subst (λ (o : Option (List ℕ)). Passes k (awaited o) ys (there z)) first.1 next)
-  passes_on (awaited p) (awaited q) (gone sent) xs ys first next =
-      rw (first.0) (subst (λ (o : Option (List ℕ)). Passes k (awaited o) ys (gone sent)) first.1 next)
-  passes_on (awaited p) (there y) (awaited r) xs ys first next = absurd next
-  passes_on (awaited p) (there y) (there z) xs ys first next = (first.0, first.1, continues_on first.0 y z xs ys first.2 next)
-  passes_on (awaited p) (there y) (gone sent) xs ys first next = (first.0, first.1, (next.0, continues_on first.0 y next.0 xs ys first.2 next.1, next.2, next.3))
-  passes_on (awaited p) (gone said) (awaited r) xs ys first next = absurd next
-  passes_on (awaited p) (gone said) (there z) xs ys first next = absurd next
-  passes_on (awaited p) (gone said) (gone sent) xs ys first next = rw (next.0, next.1, append-nil xs) first
-  passes_on (there x) (awaited q) d xs ys first next = absurd first
-  passes_on (there x) (there y) (awaited r) xs ys first next = absurd next
-  passes_on (there x) (there y) (there z) xs ys first next = continues_on x y z xs ys first next
-  passes_on (there x) (there y) (gone sent) xs ys first next = (next.0, continues_on x y next.0 xs ys first next.1, next.2, next.3)
-  passes_on (there x) (gone said) (awaited r) xs ys first next = absurd next
-  passes_on (there x) (gone said) (there z) xs ys first next = absurd next
-  passes_on (there x) (gone said) (gone sent) xs ys first next = rw (next.0, next.1, append-nil xs) first
-  passes_on (gone p) (awaited q) d xs ys first next = absurd first
-  passes_on (gone p) (there y) d xs ys first next = absurd first
-  passes_on (gone p) (gone said) (awaited r) xs ys first next = absurd next
-  passes_on (gone p) (gone said) (there z) xs ys first next = absurd next
-  passes_on (gone p) (gone said) (gone sent) xs ys first next = (ap (λ (l : List Learnt). l ++ ys) first.0 ∙ next.0, next.1 ∙ first.1)
+  pub passes_on : (made : T → Type 0) (a b d : ClientState T) (xs ys : List Learnt) → Passes k made a xs b → Passes k made b ys d → Passes k made a (xs ++ ys) d
+  passes_on made (awaited p) (awaited q) (awaited r) xs ys first next = (ap (λ (l : List Learnt). l ++ ys) first.0 ∙ next.0, next.1 ∙ first.1)
+  passes_on made (awaited p) (awaited q) (there z) xs ys first next =
+      rw (first.0) (subst (λ (o : Option (List ℕ)). Passes k made (awaited o) ys (there z)) first.1 next)
+  passes_on made (awaited p) (awaited q) (gone sent) xs ys first next =
+      rw (first.0) (subst (λ (o : Option (List ℕ)). Passes k made (awaited o) ys (gone sent)) first.1 next)
+  passes_on made (awaited p) (there y) (awaited r) xs ys first next = absurd next
+  passes_on made (awaited p) (there y) (there z) xs ys first next = (first.0, first.1, continues_on first.0 y z xs ys first.2 next)
+  passes_on made (awaited p) (there y) (gone sent) xs ys first next = (first.0, first.1, (next.0, continues_on first.0 y next.0 xs ys first.2 next.1, next.2, next.3))
+  passes_on made (awaited p) (gone said) (awaited r) xs ys first next = absurd next
+  passes_on made (awaited p) (gone said) (there z) xs ys first next = absurd next
+  passes_on made (awaited p) (gone said) (gone sent) xs ys first next = rw (next.0, next.1, append-nil xs) first
+  passes_on made (there x) (awaited q) d xs ys first next = absurd first
+  passes_on made (there x) (there y) (awaited r) xs ys first next = absurd next
+  passes_on made (there x) (there y) (there z) xs ys first next = continues_on x y z xs ys first next
+  passes_on made (there x) (there y) (gone sent) xs ys first next = (next.0, continues_on x y next.0 xs ys first next.1, next.2, next.3)
+  passes_on made (there x) (gone said) (awaited r) xs ys first next = absurd next
+  passes_on made (there x) (gone said) (there z) xs ys first next = absurd next
+  passes_on made (there x) (gone said) (gone sent) xs ys first next = rw (next.0, next.1, append-nil xs) first
+  passes_on made (gone p) (awaited q) d xs ys first next = absurd first
+  passes_on made (gone p) (there y) d xs ys first next = absurd first
+  passes_on made (gone p) (gone said) (awaited r) xs ys first next = absurd next
+  passes_on made (gone p) (gone said) (there z) xs ys first next = absurd next
+  passes_on made (gone p) (gone said) (gone sent) xs ys first next = (ap (λ (l : List Learnt). l ++ ys) first.0 ∙ next.0, next.1 ∙ first.1)

@@ -10,12 +10,12 @@ use Rattle.talks.specs.Conversations.{ClientState, awaited, there, gone, IsGone,
 use Rattle.talks.specs.Turns.{Turn, Exchange, steps, asks, waits, leaves, ends, LetsGo, WasLetGo, learnt_in, Steps, TakesTurn, TakesTurns, HasNone, OpenedBySteps, OpenedHere, OpenedIn}
 
 -- who has gone stays so, and wants nothing
-pub stays_gone : {T : Type 0} (t : TalkGhosts T) (a b : ClientState T) (xs : List Learnt) → Passes t a xs b → IsGone a → IsGone b
-stays_gone t (awaited bytes) b xs passes is = absurd is
-stays_gone t (there x) b xs passes is = absurd is
-stays_gone t (gone told) (awaited bytes) xs passes is = absurd passes
-stays_gone t (gone told) (there y) xs passes is = absurd passes
-stays_gone t (gone told) (gone more) xs passes is = tt
+pub stays_gone : {T : Type 0} (t : TalkGhosts T) (made : T → Type 0) (a b : ClientState T) (xs : List Learnt) → Passes t made a xs b → IsGone a → IsGone b
+stays_gone t made (awaited bytes) b xs passes is = absurd is
+stays_gone t made (there x) b xs passes is = absurd is
+stays_gone t made (gone told) (awaited bytes) xs passes is = absurd passes
+stays_gone t made (gone told) (there y) xs passes is = absurd passes
+stays_gone t made (gone told) (gone more) xs passes is = tt
 
 gone_wants_none : {T : Type 0} (t : TalkGhosts T) (a : ClientState T) (w : Want) → IsGone a → wanted t a ≡ Some w → ⊥
 gone_wants_none t (awaited bytes) w is wants = is
@@ -91,8 +91,8 @@ module _ {M T C : Type 0} (m : MachineGhosts M) (t : TalkGhosts T) (k : ClientsG
     none_stays : (old : M) (before : C) (turns : List Turn) (new : M) (after : C) → m.IsSound old → TakesTurns m t k old before turns new after → (c : ℕ) → IsGone (k.at before c) → HasNone m t k old c → HasNone m t k new c
     none_stays old before [] new after sound took c is none = subst (λ (s : M). HasNone m t k s c) (sym took.0) none
     none_stays old before (u ∷ turns) new after sound took c is none =
-        let seen : IsGone (k.at took.0 c) = stays_gone t (k.at before c) (k.at took.0 c) [] (took.3.moved.passed c) is in
-        none_stays took.1 took.2 turns new after (sound_after old took.0 u took.1 took.2 took.4 sound) took.6 c (stays_gone t (k.at took.0 c) (k.at took.2 c) (learnt_in c u) (took.5.passed c) seen)
+        let seen : IsGone (k.at took.0 c) = stays_gone t (k.makes (k.maker before)) (k.at before c) (k.at took.0 c) [] (took.3.moved.passed c) is in
+        none_stays took.1 took.2 turns new after (sound_after old took.0 u took.1 took.2 took.4 sound) took.6 c (stays_gone t (k.makes (k.maker took.0)) (k.at took.0 c) (k.at took.2 c) (learnt_in c u) (took.5.passed c) seen)
         (none_here old took.0 u took.1 took.2 sound took.4 c seen none)
 
     -- it was let go in this turn

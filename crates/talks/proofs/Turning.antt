@@ -33,16 +33,19 @@ module _ {M T C : Type 0} (m : MachineGhosts M) (t : TalkGhosts T) (k : ClientsG
     (front_more : (s : T) (bytes more : List ℕ) (n : ℕ) → t.front s bytes ≡ Whole n → (n ≤ length bytes) × (t.front s (bytes ++ more) ≡ Whole n))
     (bad_more : (s : T) (bytes more : List ℕ) → t.front s bytes ≡ Bad → t.front s (bytes ++ more) ≡ Bad) where
   pub goes_none : (clients : C) → Goes m t k clients clients
-  goes_none clients = record { moved = record { passed = λ c. passes_stay t front_more bad_more (k.at clients c); gone = λ c is. is }; waiting = refl; contention = inl refl; expected = refl }
+  goes_none clients = record { moved = record { passed = λ c. passes_stay t front_more bad_more (k.makes (k.maker clients)) (k.at clients c); gone = λ c is. is }; waiting = refl; contention = inl refl; maker = refl; expected = refl }
 
   pub goes_on : (a b d : C) → Goes m t k a b → Goes m t k b d → Goes m t k a d
   goes_on a b d first next = record {
     moved = record {
-      passed = λ c. passes_on t front_more bad_more (k.at a c) (k.at b c) (k.at d c) [] [] (first.moved.passed c) (next.moved.passed c);
+      passed = λ c.
+          passes_on t front_more bad_more (k.makes (k.maker a)) (k.at a c) (k.at b c) (k.at d c) [] [] (first.moved.passed c)
+          (subst (λ (m : k.Maker). Passes t (k.makes m) (k.at b c) [] (k.at d c)) first.maker (next.moved.passed c));
       gone = λ c is. first.moved.gone c (next.moved.gone c is);
     };
     waiting = next.waiting ∙ first.waiting;
     contention = cut_on (k.contention a) (k.contention b) (k.contention d) first.contention next.contention;
+    maker = next.maker ∙ first.maker;
     expected = next.expected ∙ first.expected;
   }
 
@@ -61,19 +64,23 @@ module _ {M T C : Type 0} (m : MachineGhosts M) (t : TalkGhosts T) (k : ClientsG
   -- a turn in which clients do nothing
   pub stays_as_it_is : (machine : M) (client : ℕ) (clients : C) → Moves m t k machine (leaves client) clients clients
   stays_as_it_is machine client clients = record {
-    passed = λ c. passes_stay t front_more bad_more (k.at clients c);
+    passed = λ c. passes_stay t front_more bad_more (k.makes (k.maker clients)) (k.at clients c);
     alone = λ c is. inl is;
     contention = refl;
+    maker = refl;
     expected = refl;
   }
 
   -- ---- what follows of the turns, for each client
 
-  pub talked : (old new : M) (before after : C) (turns : List Turn) → TakesTurns m t k old before turns new after → (c : ℕ) → Passes t (k.at before c) (own_learnt c turns) (k.at after c)
+  pub talked : (old new : M) (before after : C) (turns : List Turn) → TakesTurns m t k old before turns new after → (c : ℕ) → Passes t (k.makes (k.maker before)) (k.at before c) (own_learnt c turns) (k.at after c)
   talked old new before after [] past c = past.1.moved.passed c
   talked old new before after (u ∷ turns) past c =
-      passes_on t front_more bad_more (k.at before c) (k.at past.0 c) (k.at after c) [] (learnt_in c u ++ own_learnt c turns) (past.3.moved.passed c)
-      (passes_on t front_more bad_more (k.at past.0 c) (k.at past.2 c) (k.at after c) (learnt_in c u) (own_learnt c turns) (past.5.passed c) (talked past.1 new past.2 after turns past.6 c))
+      let made = k.makes (k.maker before) in
+      passes_on t front_more bad_more made (k.at before c) (k.at past.0 c) (k.at after c) [] (learnt_in c u ++ own_learnt c turns) (past.3.moved.passed c)
+      (passes_on t front_more bad_more made (k.at past.0 c) (k.at past.2 c) (k.at after c) (learnt_in c u) (own_learnt c turns)
+      (subst (λ (m : k.Maker). Passes t (k.makes m) (k.at past.0 c) (learnt_in c u) (k.at past.2 c)) past.3.maker (past.5.passed c))
+      (subst (λ (m : k.Maker). Passes t (k.makes m) (k.at past.2 c) (own_learnt c turns) (k.at after c)) (past.5.maker ∙ past.3.maker) (talked past.1 new past.2 after turns past.6 c)))
 
   pub went : (old new : M) (before after : C) (turns : List Turn) → TakesTurns m t k old before turns new after → (c : ℕ) → IsGone (k.at after c) → IsGone (k.at before c) ⊎ WasLetGo c turns
   went old new before after [] past c is = inl (past.1.moved.gone c is)

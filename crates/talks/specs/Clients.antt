@@ -104,9 +104,9 @@ module _ {T : Type 0} (k : Ghosts T) where
   IsLeaving (there x) = HasEnded k x
   IsLeaving (gone told) = ⊥
 
-  -- clients came, were heard and were sent to; nothing was learnt, and nobody went
-  pub record Moved (old new : ℕ → ClientState T) : Type 0 where
-    pub passed : (c : ℕ) → Passes k (old c) [] (new c)
+  -- clients came, with conversations of this kind, were heard and were sent to; nothing was learnt, and nobody went
+  pub record Moved (made : T → Type 0) (old new : ℕ → ClientState T) : Type 0 where
+    pub passed : (c : ℕ) → Passes k made (old c) [] (new c)
     pub gone : NoneGoes old new
 
   -- what is to be done next

@@ -97,9 +97,10 @@ module _ {T : Type 0} (k : Ghosts T) where
       × Appends (told x) (told y) said
       × (y.limited ≡ x.limited) × EndsOnce x.end_cause xs y.end_cause
 
-  -- a client that has just come
-  pub record IsNew (bytes : Option (List ℕ)) (x : Conversation T) : Type 0 where
+  -- a client that has just come, with a conversation of this kind
+  pub record IsNew (made : T → Type 0) (bytes : Option (List ℕ)) (x : Conversation T) : Type 0 where
     pub starts : k.starts x.talk
+    pub is_made : made x.talk
     pub held : x.held ≡ []
     pub remaining : x.remaining ≡ bytes
     pub sent : (x.sent ≡ None) ⊎ (x.sent ≡ Some [])
@@ -121,14 +122,14 @@ module _ {T : Type 0} (k : Ghosts T) where
   abbrev pub HasEnded : Conversation T → Type 0
   HasEnded x = (w : EndCause) × (x.end_cause ≡ Some w) × HasCause w x
 
-  -- between these two states a client learnt this: it came, and it went once its connection had ended
-  abbrev pub Passes : ClientState T → List Learnt → ClientState T → Type 0
-  Passes (awaited bytes) xs (awaited left) = (xs ≡ []) × (left ≡ bytes)
-  Passes (awaited bytes) xs (there y) = (x : Conversation T) × IsNew bytes x × Continues x xs y
-  Passes (awaited bytes) xs (gone sent) = (x : Conversation T) × IsNew bytes x × ((y : Conversation T) × Continues x xs y × HasEnded y × (y.sent ≡ sent))
-  Passes (there x) xs (awaited left) = ⊥
-  Passes (there x) xs (there y) = Continues x xs y
-  Passes (there x) xs (gone sent) = (y : Conversation T) × Continues x xs y × HasEnded y × (y.sent ≡ sent)
-  Passes (gone old) xs (awaited left) = ⊥
-  Passes (gone old) xs (there y) = ⊥
-  Passes (gone old) xs (gone sent) = (xs ≡ []) × (sent ≡ old)
+  -- between these two states a client learnt this: it came, with a conversation of this kind, and it went once its connection had ended
+  abbrev pub Passes : (T → Type 0) → ClientState T → List Learnt → ClientState T → Type 0
+  Passes made (awaited bytes) xs (awaited left) = (xs ≡ []) × (left ≡ bytes)
+  Passes made (awaited bytes) xs (there y) = (x : Conversation T) × IsNew made bytes x × Continues x xs y
+  Passes made (awaited bytes) xs (gone sent) = (x : Conversation T) × IsNew made bytes x × ((y : Conversation T) × Continues x xs y × HasEnded y × (y.sent ≡ sent))
+  Passes made (there x) xs (awaited left) = ⊥
+  Passes made (there x) xs (there y) = Continues x xs y
+  Passes made (there x) xs (gone sent) = (y : Conversation T) × Continues x xs y × HasEnded y × (y.sent ≡ sent)
+  Passes made (gone old) xs (awaited left) = ⊥
+  Passes made (gone old) xs (there y) = ⊥
+  Passes made (gone old) xs (gone sent) = (xs ≡ []) × (sent ≡ old)

@@ -19,8 +19,8 @@ module _ {M T C : Type 0} (m : MachineGhosts M) (t : TalkGhosts T) (k : ClientsG
     pub turns : List Turn
     -- one order of all that was done
     pub took : TakesTurns m t k old before turns new after
-    -- each client learnt its own, and was said just what its protocol says to that and to its bytes
-    pub talked : (c : ℕ) → Passes t (k.at before c) (own_learnt c turns) (k.at after c)
+    -- each client learnt its own, and was said just what its protocol says to that and to its bytes; who came had a conversation that is made there
+    pub talked : (c : ℕ) → Passes t (k.makes (k.maker before)) (k.at before c) (own_learnt c turns) (k.at after c)
     -- each was served, and then let go
     pub course : (c : ℕ) → IsCourse c turns
     -- who has gone was let go

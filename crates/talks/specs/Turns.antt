@@ -176,14 +176,16 @@ module _ {M T C : Type 0} (m : MachineGhosts M) (t : TalkGhosts T) (k : ClientsG
 
   -- what clients do between turns: they come, are heard and sent to, and one may be cut off
   pub record Goes (before after : C) : Type 0 where
-    pub moved : Moved t (k.at before) (k.at after)
+    pub moved : Moved t (k.makes (k.maker before)) (k.at before) (k.at after)
+    pub maker : k.maker after ≡ k.maker before
     pub waiting : k.waiting after ≡ k.waiting before
     pub contention : CutsOff (k.contention before) (k.contention after)
     pub expected : k.expected after ≡ k.expected before
 
   -- in a turn each client learnt its own, nobody went who was not let go, and nobody was cut off
   pub record Moves (machine : M) (turn : Turn) (before after : C) : Type 0 where
-    pub passed : (c : ℕ) → Passes t (k.at before c) (learnt_in c turn) (k.at after c)
+    pub passed : (c : ℕ) → Passes t (k.makes (k.maker before)) (k.at before c) (learnt_in c turn) (k.at after c)
+    pub maker : k.maker after ≡ k.maker before
     pub alone : (c : ℕ) → IsGone (k.at after c) → IsGone (k.at before c) ⊎ LetsGo c turn
     pub contention : ContendsIn machine turn (k.contention before) (k.contention after)
     pub expected : k.expected after ≡ k.expected before

@@ -58,6 +58,15 @@ pub enum Next {
 
 /// Clients, which are numbered in the order of their coming.
 pub trait ServedClients<T: Talk> {
+    /// What makes the conversations.
+    ghost Maker: { Type 0 };
+
+    /// By which they are made here.
+    ghost maker: { Self → Maker };
+
+    /// The conversations that it makes.
+    ghost makes: { Maker → T → Type 0 };
+
     /// Where each client is, and the conversation with it.
     ghost at: { Self → ℕ → ClientState T };
 
@@ -85,9 +94,10 @@ pub trait ServedClients<T: Talk> {
     /// Waits until something is to be done, and gives it: clients come, are heard and sent to.
     fn next(&mut self, stopped: bool) -> Next
         ensures next { IsNext T.Talk stopped (at self.new) (waiting self.new) (contention self.new) (expected self.new) (refusals self.new) (looks self.new) result }
-        ensures moved { Moved T.Talk (at self.old) (at self.new) }
+        ensures moved { Moved T.Talk (makes (maker self.old)) (at self.old) (at self.new) }
         ensures waiting { waiting self.new ≡ waiting self.old }
         ensures contention { CutsOff (contention self.old) (contention self.new) }
+        ensures maker { maker self.new ≡ maker self.old }
         ensures expected { expected self.new ≡ expected self.old };
 
     /// What the conversation with a client wants.
@@ -100,20 +110,22 @@ pub trait ServedClients<T: Talk> {
         requires { (w : TheWant) × (wanted T.Talk (at self.old client) ≡ Some w) × FitsWant w reply }
         ensures learnt { learns self.old (M.moment machine.now) client reply self.new }
         ensures passed { (w : TheWant) → wanted T.Talk (at self.old client) ≡ Some w
-            → (c : ℕ) → Passes T.Talk (at self.old c) (own client c (learnt w reply)) (at self.new c) }
+            → (c : ℕ) → Passes T.Talk (makes (maker self.old)) (at self.old c) (own client c (learnt w reply)) (at self.new c) }
         ensures gone { NoneGoes (at self.old) (at self.new) }
         ensures waiting { waiting self.new ≡ without client (waiting self.old) }
         ensures contention { (holder : Option ℕ) × M.IsHeldBy machine.now holder
             × (contention self.new ≡ contended holder client (refuses_lock reply) (contention self.old)) }
+        ensures maker { maker self.new ≡ maker self.old }
         ensures expected { expected self.new ≡ expected self.old };
 
     /// Lets a client wait, behind those that do. Where an allocation fails its conversation gives up.
     fn hold_back<M: Machine>(&mut self, machine: &M, client: u32)
         requires { (w : TheWant) × (wanted T.Talk (at self.old client) ≡ Some w) }
-        ensures moved { Moved T.Talk (at self.old) (at self.new) }
+        ensures moved { Moved T.Talk (makes (maker self.old)) (at self.old) (at self.new) }
         ensures waiting { IsPutLast T.Talk (at self.new) client (waiting self.old) (waiting self.new) }
         ensures contention { (holder : Option ℕ) × M.IsHeldBy machine.now holder
             × (contention self.new ≡ contended holder client true (contention self.old)) }
+        ensures maker { maker self.new ≡ maker self.old }
         ensures expected { expected self.new ≡ expected self.old };
 
     /// Whether another waits before a client.
@@ -127,10 +139,11 @@ pub trait ServedClients<T: Talk> {
     /// Lets a client go whose connection has ended.
     fn close(&mut self, client: u32)
         requires { IsLeaving T.Talk (at self.old client) }
-        ensures passed { (c : ℕ) → Passes T.Talk (at self.old c) [] (at self.new c) }
+        ensures passed { (c : ℕ) → Passes T.Talk (makes (maker self.old)) (at self.old c) [] (at self.new c) }
         ensures gone { IsGone (at self.new client) }
         ensures alone { GoesAlone client (at self.old) (at self.new) }
         ensures waiting { waiting self.new ≡ without client (waiting self.old) }
         ensures contention { contention self.new ≡ forgotten client (contention self.old) }
+        ensures maker { maker self.new ≡ maker self.old }
         ensures expected { expected self.new ≡ expected self.old };
 }

@@ -10,7 +10,7 @@ use Rattle.talks.specs.declared.clients.EndCause.TheVariants as end_cause
 use Rattle.talks.specs.Wants.{Learnt, FitsWant}
 use Rattle.talks.specs.Conversations.{Heard, stays, hears, rejects, learns, loses, breaks, Conversation, Continues, EndsOnce, Passes, HasCause, IsGone, wanted, unless_ended}
 use Rattle.talks.specs.Clients.{IsLeaving}
-use Rattle.talks_tests.specs.Memory.{conversation_of, state_at, state_of, IsOwnCause, HasWish}
+use Rattle.talks_tests.specs.Memory.{any_talk, conversation_of, state_at, state_of, IsOwnCause, HasWish}
 use Rattle.talks_tests.specs.declared.line.MemoryClient.{MemoryClient}
 use Rattle.talks_tests.specs.declared.line.Stage.{Stage}
 use Rattle.talks_tests.specs.declared.line.Stage.TheVariants as stage
@@ -69,31 +69,31 @@ module _ {T : Type 0} (k : Ghosts T) where
 
   -- ---- places
 
-  pub passes_there : (x y : MemoryClient T) (xs : List Learnt) → x.stage ≡ stage.There → y.stage ≡ stage.There → Continues k (conversation_of x) xs (conversation_of y) → Passes k (state_of x) xs (state_of y)
+  pub passes_there : (x y : MemoryClient T) (xs : List Learnt) → x.stage ≡ stage.There → y.stage ≡ stage.There → Continues k (conversation_of x) xs (conversation_of y) → Passes k any_talk (state_of x) xs (state_of y)
   passes_there x y xs a b goes =
-      let P : Stage → Stage → Type 0 = λ s r. Passes k (state_at s x) xs (state_at r y) in
+      let P : Stage → Stage → Type 0 = λ s r. Passes k any_talk (state_at s x) xs (state_at r y) in
       subst (λ (s : Stage). P s y.stage) (sym a) (subst (λ (r : Stage). P stage.There r) (sym b) goes)
 
   pub not_gone : (y : MemoryClient T) → y.stage ≡ stage.There → IsGone (state_of y) → ⊥
   not_gone y is gone = subst (λ (s : Stage). IsGone (state_at s y)) is gone
 
-  pub comes : (x y : MemoryClient T) → x.stage ≡ stage.Awaited → y.stage ≡ stage.There → k.starts y.talk → y.held.items ≡ x.held.items → y.end_cause ≡ None → y.said.items ≡ [] → Passes k (state_of x) [] (state_of y)
+  pub comes : (x y : MemoryClient T) → x.stage ≡ stage.Awaited → y.stage ≡ stage.There → k.starts y.talk → y.held.items ≡ x.held.items → y.end_cause ≡ None → y.said.items ≡ [] → Passes k any_talk (state_of x) [] (state_of y)
   comes x y a b starts held end_cause said =
-      let P : Stage → Stage → Type 0 = λ s r. Passes k (state_at s x) [] (state_at r y) in
+      let P : Stage → Stage → Type 0 = λ s r. Passes k any_talk (state_at s x) [] (state_at r y) in
       let fresh : Conversation T = record { talk = y.talk; held = []; remaining = Some x.held.items; sent = Some []; unsent = []; failures = 0; limited = false; end_cause = None } in
       let it : P stage.Awaited stage.There = (
         fresh,
-        record { starts = starts; held = refl; remaining = refl; sent = inr refl; unsent = refl; failures = refl; end_cause = refl },
+        record { starts = starts; is_made = tt; held = refl; remaining = refl; sent = inr refl; unsent = refl; failures = refl; end_cause = refl },
         (x.held.items, [], sym (append-nil x.held.items), subst (λ (l : List ℕ). Heard k y.talk x.held.items [] [] l y.talk) (sym held) stays, append-nil y.said.items ∙ said, refl, tt),
       ) in
       subst (λ (s : Stage). P s y.stage) (sym a) (subst (λ (r : Stage). P stage.Awaited r) (sym b) it)
 
-  closes_at : (s : Stage) (x : MemoryClient T) → IsLeaving k (state_at s x) → Passes k (state_at s x) [] (state_at stage.Gone x)
+  closes_at : (s : Stage) (x : MemoryClient T) → IsLeaving k (state_at s x) → Passes k any_talk (state_at s x) [] (state_at stage.Gone x)
   closes_at stage.Awaited x leaving = absurd leaving
   closes_at stage.There x leaving = (conversation_of x, stands x.talk x.held.items x.said.items x.end_cause x.end_cause (ends_stay x.end_cause), leaving, refl)
   closes_at stage.Gone x leaving = absurd leaving
 
-  pub closes : (x : MemoryClient T) → IsLeaving k (state_of x) → Passes k (state_of x) [] (state_at stage.Gone x)
+  pub closes : (x : MemoryClient T) → IsLeaving k (state_of x) → Passes k any_talk (state_of x) [] (state_at stage.Gone x)
   closes x leaving = closes_at x.stage x leaving
 
   there_at : (s : Stage) (x : MemoryClient T) (w : Want) → wanted k (state_at s x) ≡ Some w → (s ≡ stage.There) × (unless_ended x.end_cause (k.wants x.talk) ≡ Some w)

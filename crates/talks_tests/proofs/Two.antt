@@ -11,7 +11,7 @@ use Rattle.talks.specs.Wants.{Learnt, own}
 use Rattle.talks.specs.Conversations.{ClientState, awaited, Passes, IsGone, IsAwaited, wanted}
 use Rattle.talks.specs.Clients.{NoneGoes, GoesAlone, AllCame, Moved, IsLeaving, IsNext, IsStillServed}
 use Rattle.talks.proofs.Passing.{passes_stay, passes_on}
-use Rattle.talks_tests.specs.Memory.{state_at, state_of, HasWish}
+use Rattle.talks_tests.specs.Memory.{any_talk, state_at, state_of, HasWish}
 use Rattle.talks_tests.specs.TwoClients.{contention_of, at_two, states, NextOf}
 use Rattle.talks_tests.specs.declared.line.MemoryClient.{MemoryClient}
 use Rattle.talks_tests.specs.declared.line.Stage.{Stage}
@@ -44,12 +44,12 @@ pub own_second : (x : Learnt) (c : ℕ) → (1 ≡ c → ⊥) → own 1 c x ≡ 
 own_second x c another = rw (ne_eqb 1 c another) refl
 
 module _ {T : Type 0} (k : Ghosts T) where
-  pub both_pass : (a b d e : ClientState T) (f : ℕ → List Learnt) → Passes k a (f 0) d → Passes k b (f 1) e → ((c : ℕ) → (0 ≡ c → ⊥) → (1 ≡ c → ⊥) → f c ≡ []) → (c : ℕ) → Passes k (at_two a b c) (f c) (at_two d e c)
+  pub both_pass : (a b d e : ClientState T) (f : ℕ → List Learnt) → Passes k any_talk a (f 0) d → Passes k any_talk b (f 1) e → ((c : ℕ) → (0 ≡ c → ⊥) → (1 ≡ c → ⊥) → f c ≡ []) → (c : ℕ) → Passes k any_talk (at_two a b c) (f c) (at_two d e c)
   both_pass a b d e f first second nothing =
-      let P : ℕ → Type 0 = λ c. Passes k (at_two a b c) (f c) (at_two d e c) in
-      let none : Passes k (awaited (Some [])) [] (awaited (Some [])) = (refl, refl) in
+      let P : ℕ → Type 0 = λ c. Passes k any_talk (at_two a b c) (f c) (at_two d e c) in
+      let none : Passes k any_talk (awaited (Some [])) [] (awaited (Some [])) = (refl, refl) in
       each P first second (λ c other another.
-      let Q : ClientState T → List Learnt → ClientState T → Type 0 = λ p xs q. Passes k p xs q in
+      let Q : ClientState T → List Learnt → ClientState T → Type 0 = λ p xs q. Passes k any_talk p xs q in
       subst (λ (p : ClientState T). Q p (f c) (at_two d e c)) (sym (no_other a b c other another))
       (subst (λ (q : ClientState T). Q (awaited (Some [])) (f c) q) (sym (no_other d e c other another))
       (subst (λ (xs : List Learnt). Q (awaited (Some [])) xs (awaited (Some []))) (sym (nothing c other another)) none)))
@@ -100,26 +100,26 @@ module _ {T : Type 0} (k : Ghosts T) where
 
   module _ (front_more : (t : T) (bytes more : List ℕ) (n : ℕ) → k.front t bytes ≡ Whole n → (n ≤ length bytes) × (k.front t (bytes ++ more) ≡ Whole n))
       (bad_more : (t : T) (bytes more : List ℕ) → k.front t bytes ≡ Bad → k.front t (bytes ++ more) ≡ Bad) where
-    pub stay : (a : ClientState T) → Passes k a [] a
-    stay a = passes_stay k front_more bad_more a
+    pub stay : (a : ClientState T) → Passes k any_talk a [] a
+    stay a = passes_stay k front_more bad_more any_talk a
 
-    pub moved_none : (at : ℕ → ClientState T) → Moved k at at
+    pub moved_none : (at : ℕ → ClientState T) → Moved k any_talk at at
     moved_none at = record { passed = λ c. stay (at c); gone = λ c is. is }
 
-    pub moved_on : (p q r : ℕ → ClientState T) → Moved k p q → Moved k q r → Moved k p r
+    pub moved_on : (p q r : ℕ → ClientState T) → Moved k any_talk p q → Moved k any_talk q r → Moved k any_talk p r
     moved_on p q r first next = record {
-      passed = λ c. passes_on k front_more bad_more (p c) (q c) (r c) [] [] (first.passed c) (next.passed c);
+      passed = λ c. passes_on k front_more bad_more any_talk (p c) (q c) (r c) [] [] (first.passed c) (next.passed c);
       gone = λ c is. first.gone c (next.gone c is);
     }
 
-    pub moved_first : (a b d : ClientState T) → Passes k a [] d → (IsGone d → IsGone a) → Moved k (at_two a b) (at_two d b)
+    pub moved_first : (a b d : ClientState T) → Passes k any_talk a [] d → (IsGone d → IsGone a) → Moved k any_talk (at_two a b) (at_two d b)
     moved_first a b d passed goes = record { passed = both_pass a b d b (λ c. []) passed (stay b) (λ c other another. refl); gone = both_go a b d b goes (λ is. is) }
 
-    pub moved_second : (a b e : ClientState T) → Passes k b [] e → (IsGone e → IsGone b) → Moved k (at_two a b) (at_two a e)
+    pub moved_second : (a b e : ClientState T) → Passes k any_talk b [] e → (IsGone e → IsGone b) → Moved k any_talk (at_two a b) (at_two a e)
     moved_second a b e passed goes = record { passed = both_pass a b a e (λ c. []) (stay a) passed (λ c other another. refl); gone = both_go a b a e (λ is. is) goes }
 
-    pub first_learns : (a b d : ClientState T) (x : Learnt) → Passes k a (x ∷ []) d → (c : ℕ) → Passes k (at_two a b c) (own 0 c x) (at_two d b c)
+    pub first_learns : (a b d : ClientState T) (x : Learnt) → Passes k any_talk a (x ∷ []) d → (c : ℕ) → Passes k any_talk (at_two a b c) (own 0 c x) (at_two d b c)
     first_learns a b d x passed = both_pass a b d b (λ c. own 0 c x) passed (stay b) (λ c other another. own_first x c other)
 
-    pub second_learns : (a b e : ClientState T) (x : Learnt) → Passes k b (x ∷ []) e → (c : ℕ) → Passes k (at_two a b c) (own 1 c x) (at_two a e c)
+    pub second_learns : (a b e : ClientState T) (x : Learnt) → Passes k any_talk b (x ∷ []) e → (c : ℕ) → Passes k any_talk (at_two a b c) (own 1 c x) (at_two a e c)
     second_learns a b e x passed = both_pass a b a e (λ c. own 1 c x) (stay a) passed (λ c other another. own_second x c another)

@@ -13,6 +13,10 @@ use Rattle.talks_tests.specs.declared.line.Stage.TheVariants as stage
 use Rattle.talks_tests.specs.declared.line.Wish.{Wish}
 use Rattle.talks_tests.specs.declared.line.Wish.TheVariants as wish
 
+-- whatever conversation it is
+abbrev pub any_talk : {T : Type 0} → T → Type 0
+any_talk talk = Unit {0}
+
 -- the conversation with a client in memory: all that it sends has come, and all that was said to it has gone out
 abbrev pub conversation_of : {T : Type 0} → MemoryClient T → Conversation T
 conversation_of line = record {

@@ -5,7 +5,7 @@ ghost use Rattle.talks.specs.Wants.{FitsWant, learnt, refuses_lock};
 ghost use Rattle.talks.specs.Conversations.{Passes, IsGone, wanted};
 ghost use Rattle.talks.specs.Clients.{without, put_last, is_behind, is_client, contending, unless_client, IsNext, Moved};
 ghost use Rattle.talks.specs.declared.want.Want.{Want as TheWant};
-ghost use Rattle.talks_tests.specs.Memory.{state_of};
+ghost use Rattle.talks_tests.specs.Memory.{any_talk, state_of};
 ghost use Rattle.talks_tests.specs.TwoClients.{waiting_of, contention_of, states, NextOf};
 
 use crate::line::{BeginsAnew, MemoryClient, Stage, Wish};
@@ -176,7 +176,7 @@ fn next_of(client: u32, wish: Wish) -> Option<Next>
 impl<T: BeginsAnew> TwoClients<T> {
     // Looks at the one that was not looked at last.
     fn look(&mut self, stopped: bool) -> Option<Next>
-        ensures moved { Moved T.Talk (states self.old) (states self.new) }
+        ensures moved { Moved T.Talk any_talk (states self.old) (states self.new) }
         ensures waiting { self.new.queue ≡ self.old.queue }
         ensures contended { self.new.contended ≡ self.old.contended }
         ensures looks { self.new.looks ≡ self.old.looks }
@@ -193,7 +193,7 @@ impl<T: BeginsAnew> TwoClients<T> {
     }
 
     fn look_at_first(&mut self, stopped: bool) -> Option<Next>
-        ensures moved { Moved T.Talk (states self.old) (states self.new) }
+        ensures moved { Moved T.Talk any_talk (states self.old) (states self.new) }
         ensures waiting { self.new.queue ≡ self.old.queue }
         ensures contended { self.new.contended ≡ self.old.contended }
         ensures looks { self.new.looks ≡ self.old.looks }
@@ -204,7 +204,7 @@ impl<T: BeginsAnew> TwoClients<T> {
     }
 
     fn look_at_second(&mut self, stopped: bool) -> Option<Next>
-        ensures moved { Moved T.Talk (states self.old) (states self.new) }
+        ensures moved { Moved T.Talk any_talk (states self.old) (states self.new) }
         ensures waiting { self.new.queue ≡ self.old.queue }
         ensures contended { self.new.contended ≡ self.old.contended }
         ensures looks { self.new.looks ≡ self.old.looks }
@@ -218,6 +218,12 @@ impl<T: BeginsAnew> TwoClients<T> {
 impl<T: BeginsAnew> ServedClients<T> for TwoClients<T> {
     ghost use Rattle.std.specs.Prelude.{◌≡◌, ℕ, [], ◌∷◌, Some};
 
+    ghost Maker = { Unit {0} };
+
+    ghost maker = { λ x. tt };
+
+    ghost makes = { λ maker talk. any_talk talk };
+
     ghost at = { states };
 
     ghost waiting = { λ x. waiting_of x.queue };
@@ -230,7 +236,7 @@ impl<T: BeginsAnew> ServedClients<T> for TwoClients<T> {
 
     ghost looks = { λ x. x.looks };
 
-    ghost learns = { λ x moment c r y. (w : TheWant) × (wanted T.Talk (states x c) ≡ Some w) × FitsWant w r × Passes T.Talk (states x c) (learnt w r ∷ []) (states y c) };
+    ghost learns = { λ x moment c r y. (w : TheWant) × (wanted T.Talk (states x c) ≡ Some w) × FitsWant w r × Passes T.Talk any_talk (states x c) (learnt w r ∷ []) (states y c) };
 
     ghost has_waited = { λ x c. ⊥ };
 

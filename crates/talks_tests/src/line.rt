@@ -5,7 +5,7 @@ ghost use Rattle.talks.specs.Wants.{WantsStep, WantsQuestion, FitsWant, learnt};
 ghost use Rattle.talks.specs.Conversations.{HasCause, Continues, Passes, IsGone, wanted};
 ghost use Rattle.talks.specs.Clients.{IsLeaving};
 ghost use Rattle.talks.specs.declared.want.Want.{Want as TheWant};
-ghost use Rattle.talks_tests.specs.Memory.{conversation_of, state_of, IsOwnCause, HasWish};
+ghost use Rattle.talks_tests.specs.Memory.{any_talk, conversation_of, state_of, IsOwnCause, HasWish};
 
 use sql_types::event::Event;
 use std::alloc::Global;
@@ -59,7 +59,7 @@ pub struct MemoryClient<T> {
 impl<T: BeginsAnew> MemoryClient<T> {
     /// Does one thing for the client, and tells what it has to do with the machine.
     pub fn attend(&mut self) -> Wish
-        ensures passed { Passes T.Talk (state_of self.old) [] (state_of self.new) }
+        ensures passed { Passes T.Talk any_talk (state_of self.old) [] (state_of self.new) }
         ensures gone { IsGone (state_of self.new) → IsGone (state_of self.old) }
         ensures wish { HasWish T.Talk result (state_of self.new) }
     {
@@ -76,7 +76,7 @@ impl<T: BeginsAnew> MemoryClient<T> {
     // It comes, with all that it sends.
     fn come(&mut self)
         requires { self.old.stage ≡ Stage.Awaited }
-        ensures passed { Passes T.Talk (state_of self.old) [] (state_of self.new) }
+        ensures passed { Passes T.Talk any_talk (state_of self.old) [] (state_of self.new) }
         ensures there { self.new.stage ≡ Stage.There }
     {
         self.talk.begin();
@@ -216,7 +216,7 @@ impl<T: BeginsAnew> MemoryClient<T> {
     pub fn learn(&mut self, reply: Reply)
         requires { (w : TheWant) × (wanted T.Talk (state_of self.old) ≡ Some w) × FitsWant w reply }
         ensures passed { (w : TheWant) → wanted T.Talk (state_of self.old) ≡ Some w
-            → Passes T.Talk (state_of self.old) (learnt w reply ∷ []) (state_of self.new) }
+            → Passes T.Talk any_talk (state_of self.old) (learnt w reply ∷ []) (state_of self.new) }
         ensures there { self.new.stage ≡ self.old.stage }
         ensures stays { self.new.stage ≡ Stage.There }
     {
@@ -237,7 +237,7 @@ impl<T: BeginsAnew> MemoryClient<T> {
     /// Goes, once its connection has ended.
     pub fn close(&mut self)
         requires { IsLeaving T.Talk (state_of self.old) }
-        ensures passed { Passes T.Talk (state_of self.old) [] (state_of self.new) }
+        ensures passed { Passes T.Talk any_talk (state_of self.old) [] (state_of self.new) }
         ensures gone { IsGone (state_of self.new) }
     {
         self.stage = Stage::Gone;

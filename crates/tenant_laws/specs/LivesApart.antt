@@ -1,8 +1,8 @@
 -- What the law of lives forbids, and an instance that it forbids.
-use Rattle.std.specs.Prelude.{◌≡◌, ℕ, List, [], ◌∷◌, codes, None, Err}
+use Rattle.std.specs.Prelude.{◌≡◌, ℕ, List, [], ◌∷◌, codes, None}
 use Rattle.std.proofs.Common.{refl, arith}
 use Rattle.sql_types.specs.Row.{Row}
-use Rattle.sql_types.specs.declared.state.SqlState.TheVariants.{ConnectionDoesNotExist, IoError}
+use Rattle.sql_types.specs.declared.state.SqlState.TheVariants.{ConnectionDoesNotExist}
 use Rattle.sql_types.specs.declared.tag.Tag.TheVariants as tag
 use Rattle.sql_types.specs.declared.answer.Answer.{Answer}
 use Rattle.sql_types.specs.declared.answer.Answer.TheVariants as answer
@@ -12,7 +12,7 @@ use Rattle.abstract_database.specs.Runs.{TheText, ReadingRelation, IsTransition,
 use Rattle.database_laws.specs.HiddenRuns.{SameApparentRowsForPairs, answer_to, after}
 use Rattle.database_laws.specs.Told.{Tenant}
 use Rattle.database_laws.specs.ToldStores.{IsToldAlikeBy}
-use Rattle.database_laws.specs.TwoTenants.{note, with_notes, opened_by_ann, ann_asks, of_ann}
+use Rattle.database_laws.specs.TwoTenants.{note, with_notes, opened_by_ann, ann_asks, reading_of, of_ann}
 use Rattle.tenant_laws.specs.TenantLives.{is_committed, LifeOver, LivesOver, no_more, lived, own_left, IsOfFailure, IsToldToTheEnd, LivesTellAlike}
 
 -- ---- after a restart
@@ -37,11 +37,6 @@ next_lives_are_told_alike Reads leave leave_there = (a : Tenant) (d e : Database
 -- ---- an instance: two databases in which ann's own notes differ
 
 -- each text is read as SELECT * FROM notes
-abbrev pub reading_of : Event Reading → Reading
-reading_of (executes number reading) = reading
-reading_of (opens number login) = Err IoError
-reading_of (closes number) = Err IoError
-
 abbrev pub AsSelect : ReadingRelation
 AsSelect text reading = reading ≡ reading_of ann_asks
 

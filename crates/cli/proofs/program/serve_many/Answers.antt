@@ -13,7 +13,7 @@ returns g c =
     let told = c.serve_clients_file-outcome.result.told in
     let ended = outcome_of_clients c.serve_clients_file-outcome.result.outcome in
     let is = c.outcome_of_clients-outcome.ensures in
-    let about : c.subject_of_server-about.result ≡ server_subject (subject.Named c.args.file) c.args.place ended = c.subject_of_server-about.ensures ∙ ap (server_subject (subject.Named c.args.file) c.args.place) is in
+    let about : c.subject_of_server-about.result ≡ server_subject (subject.Named c.args.file) c.args.place.place ended = c.subject_of_server-about.ensures ∙ ap (server_subject (subject.Named c.args.file) c.args.place.place) is in
     let ending : c.end_of_server.result ≡ ending_of_server ended = c.end_of_server.ensures ∙ ap ending_of_server is in
     record {
       end = c.serve_clients_file-outcome.result;

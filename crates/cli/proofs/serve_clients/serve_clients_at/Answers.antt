@@ -1,5 +1,6 @@
 use Rattle.std.proofs.Common.{rules, inl, inr, refl}
 use Rattle.systems.specs.Systems.{Rose}
+use Rattle.cli.specs.CommandLine.{lent_word}
 use Rattle.cli.proofs.Changes.{rose_between}
 use Rattle.cli.proofs.ServedClients.{bound_between, clients_served_at, counts_between}
 use Rattle.cli.proofs.serve_clients.serve_clients_at.Goals as goal
@@ -23,9 +24,9 @@ returns-in-Ok-poll g c =
     let listener = c.in-Ok.bound.0 in
     let bound = c.in-Ok.bound.1 in
     let ended = c.serve_clients_on_place-left.result.2 in
-    clients_served_at g.Y.Device.Device g.Y.Listener.Attend _ _ g.X.EventHandler.Reads c.args.many c.args.server listener c.poll.new.listener c.poll.ensures.coming c.poll.ensures.closed old new c.args.place bound (g.E.Write.contents c.args.err.now)
+    clients_served_at g.Y.Device.Device g.Y.Listener.Attend _ _ g.X.EventHandler.Reads (lent_word c.args.place.role) c.args.many c.args.server listener c.poll.new.listener c.poll.ensures.coming c.poll.ensures.closed old new c.args.place.place bound (g.E.Write.contents c.args.err.now)
     (g.E.Write.contents c.serve_clients_on_place-left.new.err) ended c.serve_clients_on_place-left.result.0
-    (bound_between old mid polled new c.args.place bound listener ended bind.kind bind.place bind.heard bind.bound bind.others c.poll.ensures.same c.unbind.ensures.unbound c.unbind.ensures.others) c.serve_clients_on_place-left.result.1
+    (bound_between old mid polled new c.args.place.place bound listener ended bind.kind bind.place bind.heard bind.bound bind.others c.poll.ensures.same c.unbind.ensures.unbound c.unbind.ensures.others) c.serve_clients_on_place-left.result.1
     c.serve_clients_on_place-left.ensures
 
 pub returns-in-Err-poll : goal.returns-in-Err-poll
@@ -43,7 +44,7 @@ returns-in-Err-poll g c =
         bound = bound;
         listener = listener;
         ended = c.poll.new.listener;
-        between = bound_between old mid polled new c.args.place bound listener c.poll.new.listener bind.kind bind.place bind.heard bind.bound bind.others c.poll.ensures.same c.unbind-in-Err-poll.ensures.unbound c.unbind-in-Err-poll.ensures.others;
+        between = bound_between old mid polled new c.args.place.place bound listener c.poll.new.listener bind.kind bind.place bind.heard bind.bound bind.others c.poll.ensures.same c.unbind-in-Err-poll.ensures.unbound c.unbind-in-Err-poll.ensures.others;
         none = record { left_is = search rules; coming = c.poll.ensures.coming; closed = c.poll.ensures.closed };
       };
       failed = rose_between old.failures mid.failures polled.failures new.failures c.bind.ensures.counts c.poll.ensures.counts c.unbind-in-Err-poll.ensures.counts failed;

@@ -1,8 +1,9 @@
-use Rattle.std.proofs.Common.{rules, ◌≡◌, ◌∙◌, ℕ, true, ap, refl, Option, Some, None, is_some}
+use Rattle.std.proofs.Common.{rules, ◌≡◌, ◌∙◌, ℕ, true, ap, refl, subst, sym, Option, Some, None, is_some}
 use Rattle.std.specs.declared.time.Duration.{Duration}
 use Rattle.std.specs.Io.KnownBytes.{Appends}
 use Rattle.cli.specs.Serving.{listening_text}
-use Rattle.cli.specs.ServingClients.{IsLimitOf, uncontended}
+use Rattle.cli.specs.CommandLine.{lent_word}
+use Rattle.cli.specs.ServingClients.{IsDoorFor, IsLimitOf, uncontended}
 use Rattle.cli.proofs.serve_clients.serve_clients_on_place.Goals as goal
 
 is_limited : (limit : Option Duration) (seconds : ℕ) → IsLimitOf (Some seconds) limit → uncontended (is_some limit) ≡ uncontended true
@@ -22,6 +23,7 @@ returns g c =
         none_contends = c.new-clients.ensures.contention ∙ is_limited (c.limits.result).block c.args.many.block c.limits.ensures.block;
         none_refused = c.new-clients.ensures.refusals;
         none_looked = c.new-clients.ensures.looks;
+        at_door = λ talk made. subst (IsDoorFor (lent_word c.args.role)) (sym (made ∙ ap (λ m. m.door) c.new-clients.ensures.maker ∙ c.new-maker.ensures)) c.in-Ok.ensures;
         serves = c.serve_clients_on-left.ensures;
         closed = c.into_attend.ensures;
       },

@@ -18,5 +18,5 @@ returns g c =
         c.learn.ensures.waiting,
         c.requires.3,
       ),
-      record { passed = c.learn.ensures.passed w c.want.ensures; alone = λ d is. inl (c.learn.ensures.gone d is); contention = c.learn.ensures.contention; expected = c.learn.ensures.expected },
+      record { passed = c.learn.ensures.passed w c.want.ensures; alone = λ d is. inl (c.learn.ensures.gone d is); contention = c.learn.ensures.contention; maker = c.learn.ensures.maker; expected = c.learn.ensures.expected },
     )

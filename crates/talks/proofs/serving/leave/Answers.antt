@@ -13,6 +13,7 @@ returns-then-not-close_next g c =
         passed = c.close.ensures.passed;
         alone = λ e is. elim (eqb_tells client e) [ inl same ↦ inr same.1 | inr other ↦ inl (c.close.ensures.alone e (λ same. other.1 (sym same)) is) ];
         contention = c.close.ensures.contention;
+        maker = c.close.ensures.maker;
         expected = c.close.ensures.expected;
       },
     )

@@ -29,9 +29,10 @@ returns g c =
         (c.requires.4, tt),
       ),
       record {
-        passed = λ e. subst (λ (xs : List Learnt). Passes g.T.Talk (at c.args.clients.now e) xs (at c.learn.new.self e)) (sym (append-nil (learnt_of e d))) (c.learn.ensures.passed w c.want.ensures e);
+        passed = λ e. subst (λ (xs : List Learnt). Passes g.T.Talk (g.C.ServedClients.makes (g.C.ServedClients.maker c.args.clients.now)) (at c.args.clients.now e) xs (at c.learn.new.self e)) (sym (append-nil (learnt_of e d))) (c.learn.ensures.passed w c.want.ensures e);
         alone = λ e is. inl (c.learn.ensures.gone e is);
         contention = (g.C.ServedClients.contention c.learn.new.self, c.learn.ensures.contention, refl);
+        maker = c.learn.ensures.maker;
         expected = c.learn.ensures.expected;
       },
     )

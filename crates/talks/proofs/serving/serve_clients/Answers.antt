@@ -21,7 +21,7 @@ returns-in-Ended g c =
     let new = c.loop.machine in
     let after = c.next-next.new.self in
     let it = c.in-Ended.ensures in
-    let took = turns_goes m t k met.front_more met.bad_more old new before c.loop.clients after turns c.loop.invariant.1 (record { moved = it.moved; waiting = it.waiting; contention = it.contention; expected = it.expected }) in
+    let took = turns_goes m t k met.front_more met.bad_more old new before c.loop.clients after turns c.loop.invariant.1 (record { moved = it.moved; waiting = it.waiting; contention = it.contention; maker = it.maker; expected = it.expected }) in
     record {
       turns = turns;
       took = took;
@@ -68,7 +68,7 @@ loop-preserved g c =
     let before = c.args.clients.now in
     let seen = c.next-next.new.self in
     let it = c.next-next.ensures in
-    let took = turns_goes m t k met.front_more met.bad_more old c.loop.machine before c.loop.clients seen turns c.loop.invariant.1 (record { moved = it.moved; waiting = it.waiting; contention = it.contention; expected = it.expected }) in
+    let took = turns_goes m t k met.front_more met.bad_more old c.loop.machine before c.loop.clients seen turns c.loop.invariant.1 (record { moved = it.moved; waiting = it.waiting; contention = it.contention; maker = it.maker; expected = it.expected }) in
     elim c.match-next.branch [
       | in-Step w ↦ rw (w.machine-is, w.clients-is) (let turn = w.take_step.ensures in
           (turns ++ turn.0 ∷ [], turns_more m t k met.front_more met.bad_more old c.loop.machine w.take_step.new.machine before seen w.take_step.new.clients turns turn.0 took turn.1 turn.2, one_more c.loop.counter turns turn.0 c.loop.invariant.2))

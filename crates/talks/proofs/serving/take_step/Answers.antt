@@ -20,5 +20,5 @@ returns-in-Ok-false g c =
         c.hold_back.ensures.waiting,
         c.requires.3,
       ),
-      record { passed = c.hold_back.ensures.moved.passed; alone = λ e is. inl (c.hold_back.ensures.moved.gone e is); contention = c.hold_back.ensures.contention; expected = c.hold_back.ensures.expected },
+      record { passed = c.hold_back.ensures.moved.passed; alone = λ e is. inl (c.hold_back.ensures.moved.gone e is); contention = c.hold_back.ensures.contention; maker = c.hold_back.ensures.maker; expected = c.hold_back.ensures.expected },
     )

@@ -13,7 +13,7 @@ give_up-requires g c =
 pub returns-clause-moved : goal.returns-clause-moved
 returns-clause-moved g c =
     let self = c.args.self.now in
-    moved_one g.T.Talk g.C.Channel g.met.T.Talk.front_more g.met.T.Talk.bad_more self.came c.args.client (get nat_eq self.peers) (get nat_eq c.give_up.new.peers) (g.A.Attend.closed self.attend) (g.A.Attend.coming self.attend) c.give_up.ensures.here c.give_up.ensures.others
+    moved_one g.T.Talk g.C.Channel g.met.T.Talk.front_more g.met.T.Talk.bad_more (g.F.TalkMaker.makes c.args.self.now.maker) self.came c.args.client (get nat_eq self.peers) (get nat_eq c.give_up.new.peers) (g.A.Attend.closed self.attend) (g.A.Attend.coming self.attend) c.give_up.ensures.here c.give_up.ensures.others
 
 pub returns-clause-wants : goal.returns-clause-wants
 returns-clause-wants g c =

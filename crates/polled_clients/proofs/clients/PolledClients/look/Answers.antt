@@ -5,7 +5,7 @@ use Rattle.polled_clients.proofs.Placing.{moved_none}
 use Rattle.polled_clients.proofs.clients.PolledClients.look.Goals as goal
 
 pub returns-in-Some-clause-moved : goal.returns-in-Some-clause-moved
-returns-in-Some-clause-moved g c = moved_none g.T.Talk g.C.Channel g.met.T.Talk.front_more g.met.T.Talk.bad_more (states g.C.Channel g.A.Attend c.args.self.now)
+returns-in-Some-clause-moved g c = moved_none g.T.Talk g.C.Channel g.met.T.Talk.front_more g.met.T.Talk.bad_more (g.F.TalkMaker.makes c.args.self.now.maker) (states g.C.Channel g.A.Attend c.args.self.now)
 
 pub returns-in-Some-clause-next : goal.returns-in-Some-clause-next
 returns-in-Some-clause-next g c = (c.in-Some.ensures.ends, (λ leaves. c.in-Some.ensures.waiting))

@@ -3,4 +3,4 @@ use Rattle.polled_clients.proofs.Placing.{moved_none}
 use Rattle.polled_clients.proofs.clients.PolledClients.look_at_index.Goals as goal
 
 pub returns-in_default-clause-moved : goal.returns-in_default-clause-moved
-returns-in_default-clause-moved g c = moved_none g.T.Talk g.C.Channel g.met.T.Talk.front_more g.met.T.Talk.bad_more (states g.C.Channel g.A.Attend c.args.self.now)
+returns-in_default-clause-moved g c = moved_none g.T.Talk g.C.Channel g.met.T.Talk.front_more g.met.T.Talk.bad_more (g.F.TalkMaker.makes c.args.self.now.maker) (states g.C.Channel g.A.Attend c.args.self.now)

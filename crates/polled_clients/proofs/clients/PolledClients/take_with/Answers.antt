@@ -16,8 +16,8 @@ returns-in-Came-clause-moved g c =
     let old = self.attend in
     let new = c.take.new.self in
     let at = states g.C.Channel g.A.Attend in
-    moved_on g.T.Talk g.C.Channel g.met.T.Talk.front_more g.met.T.Talk.bad_more (at self) (at (record self { attend = new })) (at c.admit.new.self)
-    (moved_kept g.T.Talk g.C.Channel g.met.T.Talk.front_more g.met.T.Talk.bad_more self.came (get nat_eq self.peers) (g.A.Attend.closed old) (g.A.Attend.coming old) (g.A.Attend.closed new) (g.A.Attend.coming new) c.take.ensures.closed c.take.ensures.coming)
+    moved_on g.T.Talk g.C.Channel g.met.T.Talk.front_more g.met.T.Talk.bad_more (g.F.TalkMaker.makes c.args.self.now.maker) (at self) (at (record self { attend = new })) (at c.admit.new.self)
+    (moved_kept g.T.Talk g.C.Channel g.met.T.Talk.front_more g.met.T.Talk.bad_more (g.F.TalkMaker.makes c.args.self.now.maker) self.came (get nat_eq self.peers) (g.A.Attend.closed old) (g.A.Attend.coming old) (g.A.Attend.closed new) (g.A.Attend.coming new) c.take.ensures.closed c.take.ensures.coming)
     c.admit.ensures.moved
 
 pub returns-in-Nobody-clause-moved : goal.returns-in-Nobody-clause-moved
@@ -25,18 +25,18 @@ returns-in-Nobody-clause-moved g c =
     let self = c.args.self.now in
     let old = self.attend in
     let new = c.take.new.self in
-    moved_kept g.T.Talk g.C.Channel g.met.T.Talk.front_more g.met.T.Talk.bad_more self.came (get nat_eq self.peers) (g.A.Attend.closed old) (g.A.Attend.coming old) (g.A.Attend.closed new) (g.A.Attend.coming new) c.take.ensures.closed c.take.ensures.coming
+    moved_kept g.T.Talk g.C.Channel g.met.T.Talk.front_more g.met.T.Talk.bad_more (g.F.TalkMaker.makes c.args.self.now.maker) self.came (get nat_eq self.peers) (g.A.Attend.closed old) (g.A.Attend.coming old) (g.A.Attend.closed new) (g.A.Attend.coming new) c.take.ensures.closed c.take.ensures.coming
 
 pub returns-in-Later-clause-moved : goal.returns-in-Later-clause-moved
 returns-in-Later-clause-moved g c =
     let self = c.args.self.now in
     let old = self.attend in
     let new = c.take.new.self in
-    moved_kept g.T.Talk g.C.Channel g.met.T.Talk.front_more g.met.T.Talk.bad_more self.came (get nat_eq self.peers) (g.A.Attend.closed old) (g.A.Attend.coming old) (g.A.Attend.closed new) (g.A.Attend.coming new) c.take.ensures.closed c.take.ensures.coming
+    moved_kept g.T.Talk g.C.Channel g.met.T.Talk.front_more g.met.T.Talk.bad_more (g.F.TalkMaker.makes c.args.self.now.maker) self.came (get nat_eq self.peers) (g.A.Attend.closed old) (g.A.Attend.coming old) (g.A.Attend.closed new) (g.A.Attend.coming new) c.take.ensures.closed c.take.ensures.coming
 
 pub returns-in-Failed-clause-moved : goal.returns-in-Failed-clause-moved
 returns-in-Failed-clause-moved g c =
     let self = c.args.self.now in
     let old = self.attend in
     let new = c.take.new.self in
-    moved_kept g.T.Talk g.C.Channel g.met.T.Talk.front_more g.met.T.Talk.bad_more self.came (get nat_eq self.peers) (g.A.Attend.closed old) (g.A.Attend.coming old) (g.A.Attend.closed new) (g.A.Attend.coming new) c.take.ensures.closed c.take.ensures.coming
+    moved_kept g.T.Talk g.C.Channel g.met.T.Talk.front_more g.met.T.Talk.bad_more (g.F.TalkMaker.makes c.args.self.now.maker) self.came (get nat_eq self.peers) (g.A.Attend.closed old) (g.A.Attend.coming old) (g.A.Attend.closed new) (g.A.Attend.coming new) c.take.ensures.closed c.take.ensures.coming

@@ -7,12 +7,12 @@ use Rattle.polled_clients.proofs.Placing.{moved_none, moved_one, need_at}
 use Rattle.polled_clients.proofs.clients.PolledClients.turn.Goals as goal
 
 pub returns-then-pick-self-clause-moved : goal.returns-then-pick-self-clause-moved
-returns-then-pick-self-clause-moved g c = moved_none g.T.Talk g.C.Channel g.met.T.Talk.front_more g.met.T.Talk.bad_more (states g.C.Channel g.A.Attend c.args.self.now)
+returns-then-pick-self-clause-moved g c = moved_none g.T.Talk g.C.Channel g.met.T.Talk.front_more g.met.T.Talk.bad_more (g.F.TalkMaker.makes c.args.self.now.maker) (states g.C.Channel g.A.Attend c.args.self.now)
 
 pub returns-clause-moved : goal.returns-clause-moved
 returns-clause-moved g c =
     let self = c.args.self.now in
-    moved_one g.T.Talk g.C.Channel g.met.T.Talk.front_more g.met.T.Talk.bad_more self.came c.args.pick.client (get nat_eq self.peers) (get nat_eq c.take_turn.new.peers) (g.A.Attend.closed self.attend) (g.A.Attend.coming self.attend)
+    moved_one g.T.Talk g.C.Channel g.met.T.Talk.front_more g.met.T.Talk.bad_more (g.F.TalkMaker.makes c.args.self.now.maker) self.came c.args.pick.client (get nat_eq self.peers) (get nat_eq c.take_turn.new.peers) (g.A.Attend.closed self.attend) (g.A.Attend.coming self.attend)
     c.take_turn.ensures.here c.take_turn.ensures.others
 
 pub returns-clause-need : goal.returns-clause-need

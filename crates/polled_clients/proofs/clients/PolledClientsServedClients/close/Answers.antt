@@ -22,7 +22,7 @@ returns-clause-passed g c =
     let p = get nat_eq self.peers in
     let updates = c.swap_remove.ensures.updates in
     let here = sym c.swap_remove.ensures.value ∙ c.unwrap-peer.ensures in
-    one_went g.T.Talk g.C.Channel g.met.T.Talk.front_more g.met.T.Talk.bad_more self.came client p (get nat_eq c.swap_remove.new.self) (g.A.Attend.closed old) (g.A.Attend.coming old) (g.A.Attend.closed new) (g.A.Attend.coming new) c.unwrap-peer.result here
+    one_went g.T.Talk g.C.Channel g.met.T.Talk.front_more g.met.T.Talk.bad_more (g.F.TalkMaker.makes c.args.self.now.maker) self.came client p (get nat_eq c.swap_remove.new.self) (g.A.Attend.closed old) (g.A.Attend.coming old) (g.A.Attend.closed new) (g.A.Attend.coming new) c.unwrap-peer.result here
     (has_come g.T.Talk g.C.Channel self.came client (p client) (g.A.Attend.closed old client) (g.A.Attend.coming old client) c.requires)
     (has_ended g.T.Talk g.C.Channel self.came client (p client) (g.A.Attend.closed old client) (g.A.Attend.coming old client) c.unwrap-peer.result c.requires here)
     updates.1 (c.close.ensures.closed ∙ ap g.C.Channel.taken c.into_channel.ensures) (λ n other. updates.2 n (ne_eqb client n (λ same. other (sym same)))) c.close.ensures.others c.close.ensures.coming

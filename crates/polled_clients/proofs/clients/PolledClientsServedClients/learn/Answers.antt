@@ -20,19 +20,19 @@ returns-clause-learnt g c =
       c.requires.0,
       c.requires.1,
       c.requires.2,
-      learns_at g.T.Talk g.C.Channel self.came client (get nat_eq self.peers client) (get nat_eq c.teach.new.peers client) (g.A.Attend.closed self.attend client) (g.A.Attend.coming self.attend client) c.requires.0 c.args.reply
+      learns_at g.T.Talk g.C.Channel (g.F.TalkMaker.makes c.args.self.now.maker) self.came client (get nat_eq self.peers client) (get nat_eq c.teach.new.peers client) (g.A.Attend.closed self.attend client) (g.A.Attend.coming self.attend client) c.requires.0 c.args.reply
           c.requires.1 c.teach.ensures.here,
     )
 
 pub returns-clause-passed : goal.returns-clause-passed
 returns-clause-passed g c = λ w is.
     let self = c.args.self.now in
-    taught g.T.Talk g.C.Channel g.met.T.Talk.front_more g.met.T.Talk.bad_more self.came c.args.client (get nat_eq self.peers) (get nat_eq c.teach.new.peers) (g.A.Attend.closed self.attend) (g.A.Attend.coming self.attend) w c.args.reply is c.teach.ensures.here c.teach.ensures.others
+    taught g.T.Talk g.C.Channel g.met.T.Talk.front_more g.met.T.Talk.bad_more (g.F.TalkMaker.makes c.args.self.now.maker) self.came c.args.client (get nat_eq self.peers) (get nat_eq c.teach.new.peers) (g.A.Attend.closed self.attend) (g.A.Attend.coming self.attend) w c.args.reply is c.teach.ensures.here c.teach.ensures.others
 
 pub returns-clause-gone : goal.returns-clause-gone
 returns-clause-gone g c =
     let self = c.args.self.now in
-    none_goes g.T.Talk g.C.Channel g.met.T.Talk.front_more g.met.T.Talk.bad_more self.came c.args.client (get nat_eq self.peers) (get nat_eq c.teach.new.peers) (g.A.Attend.closed self.attend) (g.A.Attend.coming self.attend) c.args.reply c.teach.ensures.here c.teach.ensures.others
+    none_goes g.T.Talk g.C.Channel g.met.T.Talk.front_more g.met.T.Talk.bad_more (g.F.TalkMaker.makes c.args.self.now.maker) self.came c.args.client (get nat_eq self.peers) (get nat_eq c.teach.new.peers) (g.A.Attend.closed self.attend) (g.A.Attend.coming self.attend) c.args.reply c.teach.ensures.here c.teach.ensures.others
 
 pub returns-clause-contention : goal.returns-clause-contention
 returns-clause-contention g c = (

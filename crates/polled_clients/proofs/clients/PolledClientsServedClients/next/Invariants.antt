@@ -5,8 +5,8 @@ use Rattle.polled_clients.specs.LockWatches.{contention_of}
 use Rattle.polled_clients.proofs.clients.PolledClientsServedClients.next.Given as goal
 
 abbrev pub invariant-looking : goal.invariant-looking
-invariant-looking g l = Moved g.T.Talk (states g.C.Channel g.A.Attend l.initial.self) (states g.C.Channel g.A.Attend l.self) × (l.self.waiting.items ≡ l.initial.self.waiting.items) × (l.self.limits ≡ l.initial.self.limits)
-    × CutsOff (contention_of l.initial.self.lock) (contention_of l.self.lock)
+invariant-looking g l = Moved g.T.Talk (g.F.TalkMaker.makes l.initial.self.maker) (states g.C.Channel g.A.Attend l.initial.self) (states g.C.Channel g.A.Attend l.self) × (l.self.waiting.items ≡ l.initial.self.waiting.items) × (l.self.limits ≡ l.initial.self.limits)
+    × CutsOff (contention_of l.initial.self.lock) (contention_of l.self.lock) × (l.self.maker ≡ l.initial.self.maker)
 
 abbrev pub decreases-looking : goal.decreases-looking
 decreases-looking g l = 18446744073709551615 - l.self.looks

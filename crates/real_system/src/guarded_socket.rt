@@ -1,4 +1,4 @@
-//! The files of sockets that only their owner may connect to.
+//! The files of sockets, which say who may connect.
 
 use std::alloc::Allocator;
 use std::fs::{File, Metadata, OpenOptions, Permissions};
@@ -8,37 +8,43 @@ use std::os::fd::{BorrowedFd, OwnedFd};
 use std::os::unix::fs::PermissionsExt;
 use std::os::unix::net;
 use std::rt::Files;
+use systems::SocketAccess;
 
-/// The mode of a socket's file: its owner alone may connect.
-const PRIVATE: u32 = 0o600;
-
-/// The system, where the file of a socket that is bound at `path` is its owner's alone. What binds
-/// a socket first gives it its file and then lets it listen: the file is made private between these
-/// two, so nobody else can connect at any moment, whatever the umask lets through. Where that
-/// fails, the file is taken away and the socket is not bound.
+/// The system, where the file of a socket that is bound at `path` lets those connect that `access`
+/// says. What binds a socket first gives it its file and then lets it listen: the file gets its mode
+/// between these two, so nobody else can connect at any moment, whatever the umask lets through. Where
+/// that fails, the file is taken away and the socket is not bound.
 ///
 /// Everything else is done as the system does it.
 #[derive(Drop)]
-pub(crate) struct PrivateSocket<'a, R> {
+pub(crate) struct GuardedSocket<'a, R> {
     pub(crate) rt: &'a R,
     pub(crate) path: &'a str,
+    pub(crate) access: SocketAccess,
 }
 
-impl<R: Files<File = File>> PrivateSocket<'_, R> {
-    // Makes the file private, or takes it away.
-    fn make_private(&self) -> io::Result<()> {
-        let made_private = self
-            .rt
-            .set_permissions(self.path, Permissions::from_mode(PRIVATE));
-        if made_private.is_err() {
+impl<R: Files<File = File>> GuardedSocket<'_, R> {
+    // Gives the file its mode, or takes it away.
+    fn guard(&self) -> io::Result<()> {
+        let mode = Permissions::from_mode(mode_of(self.access));
+        let guarded = self.rt.set_permissions(self.path, mode);
+        if guarded.is_err() {
             // The fault is that of the mode; a file that stays is seen at the next try.
             let _ = self.rt.remove_file(self.path);
         }
-        made_private
+        guarded
     }
 }
 
-impl<R: Files<File = File>> Files for PrivateSocket<'_, R> {
+// The mode of a socket's file that lets those connect.
+fn mode_of(access: SocketAccess) -> u32 {
+    match access {
+        SocketAccess::Owner => 0o600,
+        SocketAccess::Group => 0o660,
+    }
+}
+
+impl<R: Files<File = File>> Files for GuardedSocket<'_, R> {
     type File = File;
 
     type Dir = R::Dir;
@@ -85,11 +91,11 @@ impl<R: Files<File = File>> Files for PrivateSocket<'_, R> {
 
     fn bind_unix(&self, socket: BorrowedFd<'_>, addr: &net::SocketAddr) -> io::Result<()> {
         self.rt.bind_unix(socket, addr)?;
-        self.make_private()
+        self.guard()
     }
 }
 
-impl<R: Net> Net for PrivateSocket<'_, R> {
+impl<R: Net> Net for GuardedSocket<'_, R> {
     type Stream = R::Stream;
 
     type Listener = R::Listener;

@@ -1,0 +1,36 @@
+//! Laws of conversations at a door.
+
+ghost use Rattle.std.specs.Prelude.{◌≡◌, ℕ, List, true};
+ghost use Rattle.talks.specs.Wants.{Learnt};
+ghost use Rattle.talks.specs.Conversations.{ClientState, Heard, IsAwaited, Passes};
+ghost use Rattle.doors.specs.declared.door.Door.{Door};
+ghost use Rattle.doors.specs.declared.door.Door.TheVariants.{Anyone};
+ghost use Rattle.doors.specs.declared.door_talk.DoorTalk.{DoorTalk as TheTalk};
+ghost use Rattle.doors.specs.Doors.{opens_only};
+ghost use Rattle.doors.specs.DoorTalks.{AreAdmitted};
+
+use crate::door_talk::DoorTalk;
+use talks::talk::Talk;
+
+/// Whatever comes of a client's bytes, and whatever is answered: each session that its conversation ever
+/// wants is for a role as which one may come in at its door.
+pub fn sessions_are_for_whom_the_door_admits<T: Talk>()
+    ensures { (t u : TheTalk T) (bytes said rest : List ℕ) (xs : List Learnt)
+        → Heard ⟦<DoorTalk<T> as Talk>⟧ t bytes xs said rest u
+        → AreAdmitted t.door xs
+        × (opens_only u.door (⟦<DoorTalk<T> as Talk>⟧.wants u) ≡ true) }
+{}
+
+/// At a door for anyone a conversation hears, learns and says what it does without a door.
+pub fn an_open_door_changes_nothing<T: Talk>()
+    ensures { (t u : TheTalk T) (bytes said rest : List ℕ) (xs : List Learnt) → t.door ≡ Anyone → u.door ≡ Anyone
+        → Heard ⟦<DoorTalk<T> as Talk>⟧ t bytes xs said rest u
+        → Heard T.Talk t.talk bytes xs said rest u.talk }
+{}
+
+/// Of a client that comes where each conversation stands at this door: each session that it ever wanted, until it
+/// has gone, is for a role as which one may come in there.
+pub fn who_comes_is_whom_the_door_admits<T: Talk>()
+    ensures { (door : Door) (old new : ClientState (TheTalk T)) (xs : List Learnt) → IsAwaited old
+        → Passes ⟦<DoorTalk<T> as Talk>⟧ (λ talk. talk.door ≡ door) old xs new → AreAdmitted door xs }
+{}

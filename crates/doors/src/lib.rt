@@ -1,0 +1,6 @@
+//! Whom a place lets in, and the conversations there.
+#![tactic(auto)]
+
+pub mod door;
+pub mod door_talk;
+pub mod laws;
