@@ -182,7 +182,7 @@ class Batches(AtServer):
             for messages, code in [((describe(b'S', 'none'),), '26000'), ((describe(b'P'),), '34000'),
                                    ((parse('SELECT 1'), bind([b'1', None])), '08P01'),
                                    ((parse('SELECT 1'), bind(results=[2])), '22023'), ((parse('SELECT 1'), bind(results=[0, 1]), execute()), '08P01'),
-                                   ((parse('SELECT k FROM t'), bind(), execute(most=2), execute()), '34000'), ((parse('SELECT 1; SELECT 2'),), '42601'), ((bind(name='none'),), '26000'),
+                                   ((parse('SELECT k FROM t'), bind(), execute(most=2), execute(), execute()), '34000'), ((parse('SELECT 1; SELECT 2'),), '42601'), ((bind(name='none'),), '26000'),
                                    ((execute('none'),), '34000'), ((parse('SELECT 1', 'b'), parse('SELECT 2', 'b')), '42P05'), ((parse('SELEC'), bind(), execute()), '42601')]:
                 with self.subTest(code, messages=messages):
                     told = client.ask(*messages, parse('SELECT 1'), query('SELECT 1'), SYNC)
@@ -196,13 +196,78 @@ class Batches(AtServer):
             self.assertEqual(kinds(client.ask('SELECT 1')), b'TDCZ')
 
     def test_a_limit_of_rows(self):
-        """Those up to the limit come, and then it is told whether there may be others (55.2.3); the rest is not kept."""
+        """Those up to the limit come, and then it is told whether there may be others (55.2.3)."""
         with self.served('--clients', 1), Client(self.socket, 'root') as client:
             for most, wanted in [(0, b'12DDCZ'), (1, b'12DsZ'), (2, b'12DDsZ'), (3, b'12DDCZ'), (2 ** 32 - 1, b'12DDCZ'), (2 ** 31 - 1, b'12DDCZ')]:
                 with self.subTest(most):
                     self.assertEqual(kinds(client.ask(parse('SELECT k FROM t'), bind(), execute(most=most), SYNC)), wanted)
             self.assertEqual(kinds(client.ask(parse('SHOW timezone'), bind(), execute(most=1), SYNC)), b'12DCZ')
             self.assertEqual(kinds(client.ask(parse('INSERT INTO t VALUES ($1, $2)'), bind([b'3', None]), execute(most=1), SYNC)), b'12CZ')
+
+    def test_the_rest_of_a_portal(self):
+        """It is kept up to the end of the block, beside those of other portals, and counted by itself; past 4 MiB it is 54000."""
+        with self.served('--clients', 1), Client(self.socket, 'root') as client:
+            client.ask('INSERT INTO t VALUES ' + ', '.join(f'({k}, NULL)' for k in range(3, 8)))
+            client.ask('BEGIN')
+            numbers_of = lambda told: [int(body[6:]) for kind, body in told if kind == b'D']
+            told = client.ask(parse('SELECT k FROM t ORDER BY k', 'a'), bind(portal='p', name='a'), bind(portal='q', name='a'), execute('p', 2), SYNC)
+            self.assertEqual((kinds(told), numbers_of(told)), (b'122DDsZ', [1, 2]))
+            told = client.ask(parse('DELETE FROM t'), bind(), execute(), execute('p', 3), SYNC)         # the answer is that of its beginning
+            self.assertEqual((kinds(told), numbers_of(told)), (b'12CDDDsZ', [3, 4, 5]))
+            told = client.ask(execute('q', 1), execute('p', 2), describe(b'P', 'p'), execute('p', 2), SYNC)
+            self.assertEqual((kinds(told), numbers_of(told), [body for kind, body in told if kind == b'C']), (b'CDDsTCZ', [6, 7], [b'SELECT 0\0'] * 2))
+            self.assertEqual(codes(client.ask(execute('p'), SYNC)), ['34000'])
+            self.assertEqual(kinds(client.ask('ROLLBACK')), b'CZ')
+            for end, code in [('COMMIT', '34000'), ('ROLLBACK', '34000'), ('SELECT 1 / 0', '34000')]:
+                with self.subTest(end):
+                    client.ask('BEGIN')
+                    self.assertEqual(kinds(client.ask(bind(portal='p', name='a'), execute('p', 2), SYNC)), b'2DDsZ')
+                    client.ask(end)
+                    self.assertEqual(codes(client.ask(execute('p'), SYNC)), [code])
+                    client.ask('ROLLBACK')
+            self.assertEqual(kinds(client.ask(bind(portal='p', name='a'), execute('p', 2), SYNC)), b'2DDsZ')
+            self.assertEqual(codes(client.ask(execute('p'), SYNC)), ['34000'])
+            client.ask('BEGIN')
+            self.assertEqual(kinds(client.ask(bind(portal='p', name='a'), execute('p', 2), close(b'P', 'p'), bind(portal='p', name='a'), execute('p', 6), SYNC)), b'2DDs32' + b'D' * 6 + b'sZ')
+            client.ask('COMMIT')
+            client.ask('CREATE TABLE wide (k BIGINT PRIMARY KEY, x TEXT)')
+            for first in range(0, 2000, 100):
+                client.ask('INSERT INTO wide VALUES ' + ', '.join(f"({k}, '{'x' * 400}')" for k in range(first, first + 100)))
+            client.ask('BEGIN')
+            wide = 'SELECT w.k, w.x FROM wide w JOIN t ON t.k <= {} ORDER BY w.k'
+            self.assertEqual(kinds(client.ask(parse(wide.format(3)), bind(), execute(most=1), SYNC)), b'12DsZ')
+            self.assertEqual(codes(client.ask(parse(wide.format(5)), bind(), execute(most=1), SYNC)), ['54000'])
+
+    def test_discard_all(self):
+        """What was prepared is forgotten, and the role is that of the login; in a block it is refused, and nothing is forgotten."""
+        with self.served('--clients', 1), Client(self.socket, 'root') as client:
+            client.ask('SET ROLE bob')
+            self.assertEqual(kinds(client.ask(parse('SELECT 1', 'a'), SYNC)), b'1Z')
+            client.ask('BEGIN')
+            self.assertEqual(codes(client.ask('DISCARD ALL')), ['25001'])
+            self.assertEqual(codes(client.ask('DISCARD ALL')), ['25P02'])
+            client.ask('ROLLBACK')
+            self.assertEqual(kinds(client.ask(bind(name='a'), execute(), SYNC)), b'2DCZ')
+            self.assertEqual(client.ask('SELECT current_user')[1], (b'D', b'\0\1\0\0\0\3bob'))
+            self.assertEqual(client.ask('discard all')[0], (b'C', b'DISCARD ALL\0'))
+            self.assertEqual(client.ask('SELECT current_user')[1], (b'D', b'\0\1\0\0\0\4root'))
+            self.assertEqual(codes(client.ask(bind(name='a'), SYNC)), ['26000'])
+            self.assertEqual(kinds(client.ask(parse('DISCARD ALL'), describe(b'S'), bind(), execute(), SYNC)), b'1tn2CZ')
+
+    def test_blocks_that_only_read(self):
+        with self.served('--clients', 1), Client(self.socket, 'root') as client:
+            for begin in 'BEGIN READ ONLY', 'begin transaction read only', 'START TRANSACTION READ ONLY':
+                for text in "INSERT INTO t VALUES (9, NULL)", 'UPDATE t SET x = NULL', 'DELETE FROM t', 'CREATE TABLE u (k BIGINT PRIMARY KEY)', 'GRANT SELECT ON t TO bob':
+                    with self.subTest(begin, text=text):
+                        client.ask(begin)
+                        self.assertEqual(kinds(client.ask('SELECT k FROM t; SHOW timezone; SET ROLE bob; RESET ROLE')), b'TDDCTDCCCZ')
+                        self.assertEqual(codes(client.ask(text)), ['25006'])
+                        self.assertEqual(codes(client.ask('SELECT 1')), ['25P02'])
+                        client.ask('ROLLBACK')
+            client.ask('BEGIN READ ONLY')
+            client.ask('COMMIT')
+            self.assertEqual(kinds(client.ask('DELETE FROM t')), b'CZ')
+            self.assertEqual(kinds(client.ask(parse('BEGIN READ ONLY'), bind(), execute(), parse('DELETE FROM t WHERE k = $1'), bind([b'1']), execute(), SYNC)), b'12C12EZ')
 
     def test_a_batch_is_one_transaction(self):
         with self.served('--clients', 1), Client(self.socket, 'root') as client:

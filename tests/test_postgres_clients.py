@@ -342,6 +342,19 @@ class OtherDrivers(AtServer):
                              ['one', 'None', "it's", 'None', "'; DROP TABLE t; --", '(3, True, True)', '23505', 'DELETE 3'])
 
 
+    def test_cursors_of_asyncpg(self):
+        port = free_port()
+        with self.served('--clients', 3, port=port):
+            self.assertEqual(self.run_there('asyncpg', 'import asyncio, asyncpg, sys', 'async def main():',
+                                            '    connection = await asyncpg.connect(host="127.0.0.1", port=int(sys.argv[1]), user="root", database="root")',
+                                            '    await connection.executemany("INSERT INTO t VALUES ($1, $2)", [(k, None) for k in range(3, 41)])',
+                                            '    async with connection.transaction():',
+                                            '        rows = [row[0] async for row in connection.cursor("SELECT k FROM t WHERE k > $1 ORDER BY k", 0, prefetch=7)]',
+                                            '        print(rows == list(range(1, 41)))', '        cursor = await connection.cursor("SELECT k, x FROM t ORDER BY k")',
+                                            '        print([tuple(row) for row in await cursor.fetch(2)], (await cursor.fetchrow())[0], len(await cursor.fetch(50)), await cursor.fetchrow())',
+                                            '    await connection.close()', 'asyncio.run(main())', port=port),
+                             ['True', "[(1, 'one'), (2, None)] 3 37 None"])
+
     def test_pg8000(self):
         port = free_port()
         with self.served('--clients', 3, port=port):

@@ -75,11 +75,15 @@ GREETING = (b'N' + message(b'R', b'\0\0\0\0') + b''.join(message(b'S', text(name
     ('server_version', '15.0 (Guarddb)'), ('standard_conforming_strings', 'on'), ('TimeZone', 'UTC')))
     + message(b'K', struct.pack('>II', 7, 0)) + IDLE)
 ABORTED = error('25P02', 'current transaction is aborted, commands ignored until end of transaction block')
+INSIDE = error('25001', 'DISCARD ALL cannot run inside a transaction block')
+READS = error('25006', 'cannot execute statement in a read-only transaction')
+ACTIVE = report(b'N', 'WARNING', '25001', 'there is already a transaction in progress')
 CATALOGUE = error('0A000', 'catalogues are not supported')
 NO_BLOCK = report(b'N', 'WARNING', '25P01', 'there is no transaction in progress')
 NONE, NO_DATA = message(b't', b'\0\0'), message(b'n')
 OTHER = error('0A000', 'cached plan must not change result type')
-PARSED, BOUND, CLOSED = message(b'1'), message(b'2'), message(b'3')
+PARSED, BOUND, CLOSED, SUSPENDED = message(b'1'), message(b'2'), message(b'3'), message(b's')
+ROWS = [row(str(number).encode()) for number in range(1, 6)]
 
 # what a client sends behind the start, and what it is told
 PLAYED = [
@@ -124,7 +128,27 @@ PLAYED = [
     (parse('a', 'INSERT $1') + describe(b'S', 'a') + bind_value('', 'a', b'-5') + execute('') + bind_value('', 'a', b"'; --") + execute('') + SYNC
      + parse('', 'SELECT 1') + bind('', '') + execute('', 1) + execute('') + SYNC,
      PARSED + message(b't', struct.pack('>HI', 1, 20)) + NO_DATA + BOUND + complete('INSERT 0 1') + error('22P02', 'invalid input syntax for the type of a parameter') + IDLE
-     + PARSED + BOUND + ONE_ROW[len(FOUR):-len(complete('SELECT 1'))] + message(b's') + error('34000', 'portal does not exist') + IDLE),
+     + PARSED + BOUND + ONE_ROW[len(FOUR):-len(complete('SELECT 1'))] + message(b's') + complete('SELECT 0') + IDLE),
+    (query('BEGIN') + parse('a', 'SELECT 5') + bind('p', 'a') + execute('p', 2) + SYNC + execute('p', 2) + SYNC
+     + bind('q', 'a') + execute('q', 4) + execute('p', 2) + execute('q') + execute('p') + SYNC + query('COMMIT'),
+     complete('BEGIN') + OPEN + PARSED + BOUND + ROWS[0] + ROWS[1] + SUSPENDED + OPEN + ROWS[2] + ROWS[3] + SUSPENDED + OPEN
+     + BOUND + b''.join(ROWS[:4]) + SUSPENDED + ROWS[4] + complete('SELECT 1') + ROWS[4] + complete('SELECT 1')
+     + error('34000', 'portal does not exist') + FAILED + complete('ROLLBACK') + IDLE),
+    (query('BEGIN') + parse('a', 'SELECT 5') + bind('p', 'a') + execute('p', 2) + SYNC + query('ROLLBACK') + query('BEGIN') + execute('p', 2) + SYNC,
+     complete('BEGIN') + OPEN + PARSED + BOUND + ROWS[0] + ROWS[1] + SUSPENDED + OPEN + complete('ROLLBACK') + IDLE + complete('BEGIN') + OPEN
+     + error('34000', 'portal does not exist') + FAILED),
+    (parse('a', 'INSERT') + SYNC + query('Discard  ALL') + bind('', 'a') + SYNC + parse('a', 'DISCARD ALL') + bind('', 'a') + execute('') + bind('', 'a') + SYNC
+     + query('BEGIN') + query('DISCARD ALL') + query('INSERT; DISCARD ALL') + query('ROLLBACK') + query('INSERT; DISCARD ALL'),
+     PARSED + IDLE + complete('DISCARD ALL') + IDLE + error('26000', 'prepared statement does not exist') + IDLE
+     + PARSED + BOUND + complete('DISCARD ALL') + error('26000', 'prepared statement does not exist') + IDLE
+     + complete('BEGIN') + OPEN + INSIDE + FAILED + ABORTED + FAILED + complete('ROLLBACK') + IDLE + complete('INSERT 0 2') + INSIDE + IDLE),
+    (query('begin read only') + query('SELECT 1; show datestyle; BEGIN') + query('INSERT') + query('COMMIT') + query('INSERT')
+     + parse('', 'START TRANSACTION READ ONLY') + bind('', '') + execute('') + parse('', 'SELECT 1') + bind('', '') + execute('') + parse('', 'UPDATE') + bind('', '') + execute('')
+     + SYNC + query('COMMIT') + query('BEGIN') + query('UPDATE'),
+     complete('BEGIN') + OPEN + ONE_ROW + columns(('DateStyle', 25, 0xFFFF)) + row(b'ISO, MDY') + complete('SHOW') + ACTIVE + complete('BEGIN') + OPEN
+     + READS + FAILED + complete('ROLLBACK') + IDLE + complete('INSERT 0 2') + IDLE
+     + PARSED + BOUND + complete('BEGIN') + PARSED + BOUND + ONE_ROW[len(FOUR):] + PARSED + BOUND + READS + FAILED
+     + complete('ROLLBACK') + IDLE + complete('BEGIN') + OPEN + complete('UPDATE 3') + OPEN),
 ]
 
 for sent, told in PLAYED:

@@ -8,6 +8,8 @@ public class Jdbc {
             statements(at);
             blocks(at);
             values(at);
+            pieces(at);
+            reads(at);
         }
     }
 
@@ -37,6 +39,55 @@ public class Jdbc {
             s.executeUpdate("INSERT INTO j VALUES (4, 'four', NULL)");
             at.commit();
         }
+        at.setAutoCommit(true);
+    }
+
+    /** 10,000 rows, 100 at a time, and as many again of which another statement of the block is asked in their middle. */
+    static void pieces(Connection at) throws SQLException {
+        try (Statement s = at.createStatement()) {
+            s.execute("CREATE TABLE many (k BIGINT PRIMARY KEY, x TEXT)");
+            for (int first = 1; first <= 10000; first += 500) {
+                StringBuilder text = new StringBuilder("INSERT INTO many VALUES ");
+                for (int k = first; k < first + 500; k++) text.append(k == first ? "" : ", ").append("(").append(k).append(", 'row ").append(k).append("')");
+                s.executeUpdate(text.toString());
+            }
+        }
+        at.setAutoCommit(false);
+        try (PreparedStatement p = at.prepareStatement("SELECT k, x FROM many WHERE k > ? ORDER BY k"); Statement other = at.createStatement()) {
+            p.setFetchSize(100);
+            for (int turn = 0; turn < 2; turn++) {
+                p.setLong(1, turn);
+                long rows = 0, wrong = 0;
+                try (ResultSet each = p.executeQuery()) {
+                    while (each.next()) {
+                        rows++;
+                        if (each.getLong(1) != rows + turn || !each.getString(2).equals("row " + (rows + turn))) wrong++;
+                        if (rows == 5000) other.executeUpdate("DELETE FROM many WHERE k > 9990");
+                    }
+                }
+                System.out.println(rows + " rows, " + wrong + " wrong");
+                at.rollback();
+            }
+        }
+        at.setAutoCommit(true);
+    }
+
+    static void reads(Connection at) throws SQLException {
+        at.setReadOnly(true);
+        at.setAutoCommit(false);
+        try (Statement s = at.createStatement()) {
+            try (ResultSet rows = s.executeQuery("SELECT count(*) FROM many")) {
+                rows.next();
+                System.out.println(rows.getLong(1) + " read");
+            }
+            try {
+                s.executeUpdate("DELETE FROM many");
+            } catch (SQLException refusal) {
+                System.out.println("refused " + refusal.getSQLState());
+            }
+            at.rollback();
+        }
+        at.setReadOnly(false);
         at.setAutoCommit(true);
     }
 

@@ -63,3 +63,5 @@ text_spares fault.UnknownType = refl
 text_spares fault.InvalidText = refl
 text_spares fault.InvalidBinary = refl
 text_spares fault.OtherTokens = refl
+text_spares fault.InsideBlock = refl
+text_spares fault.OnlyReads = refl

@@ -35,9 +35,10 @@ use Rattle.postgres_talks.specs.declared.requests.Request.{Request}
 use Rattle.postgres_talks.specs.declared.requests.Request.TheVariants as request
 use Rattle.postgres_talks.specs.Fitting.{AreFieldsOf, IsFieldOf, RowsFit, has_type}
 use Rattle.postgres_talks.proofs.Typings.{typing_fits}
-use Rattle.postgres_talks.specs.Moments.{answer_said, head_told, oids_told, parameters_said, ran, said_answered, said_closing, said_described, said_emptying, said_failed, said_judging, said_nothing_told, said_opened, said_own, said_refusing, said_rolled_back, said_row_told, said_run, said_settling, said_standing, said_to_reply, said_told, settled_columns, settled_head, settled_rows, settled_said, spares, table_said, warnings_said}
+use Rattle.postgres_talks.specs.Moments.{answer_said, head_told, oids_told, parameters_said, ran, said_answered, said_closing, said_described, said_discarded, said_emptying, said_failed, said_judging, said_nothing_told, said_opened, said_own, said_refusing, said_resuming, said_rolled_back, said_row_told, said_run, said_settling, said_standing, said_to_reply, said_told, settled_columns, settled_head, settled_rows, settled_said, spares, table_said, warnings_said, within_room}
+use Rattle.postgres_talks.specs.Portals.{rows_in}
 use Rattle.std.specs.Prelude.{◌==◌, ◌||◌, nat_lt, take, zero, suc}
-use Rattle.postgres_talks.specs.Outcomes.{commit_outcome, description_outcome, outcome_of, table_outcome, warning_of}
+use Rattle.postgres_talks.specs.Outcomes.{commit_outcome, description_outcome, discard_outcome, outcome_of, table_outcome, warning_of}
 use Rattle.postgres_talks.specs.Played.{Input, asked, bad, said_to_input, told}
 use Rattle.postgres_talks.specs.Requests.{fault_of, heeded, said_to_done, said_to_request, said_unless}
 use Rattle.postgres_talks.specs.Rows.{are_rows_of, data_type_of, described_column, described_columns, is_row_of, is_value_of, row_said, rows_said, select_tag, value_in, values_in}
@@ -124,8 +125,14 @@ warnings_fit : (h : Option (List TheColumn)) (w : Option Warning) (tag : List �
 warnings_fit h None tag = tt
 warnings_fit h (Some w) tag = tt
 
+-- rows that are told are those of their columns
+table_done : (o : Outcome) (m : TalkMoment) (rows : List (List Value)) → within_room o m rows ≡ outcome.Done → o ≡ outcome.Done
+table_done outcome.Done m rows is = refl
+table_done (outcome.Refused f) m rows is = is
+table_done (outcome.Breaks f) m rows is = is
+
 answer_fits : (m : TalkMoment) (a : Answer) → m.mode ≡ mode.Query → ran m a ≡ outcome.Done → RowsFit None (answer_said m a)
-answer_fits m (answer.Rows rows) is done = table_fits m.mode m.most m.formats m.columns rows is done
+answer_fits m (answer.Rows rows) is done = table_fits m.mode m.most m.formats m.columns rows is (table_done (table_outcome m.mode m.columns rows) m rows done)
 answer_fits m (answer.Done t count w) is done = warnings_fit None (warning_of m.block t w) (done_tag t count)
 answer_fits m (answer.Refused s) is done = tt
 
@@ -149,12 +156,18 @@ rolled_back_fits (answer.Rows rows) = tt
 rolled_back_fits (answer.Done t count w) = tt
 rolled_back_fits (answer.Refused s) = tt
 
+discarded_fits : (o : Outcome) → RowsFit None (said_discarded o)
+discarded_fits outcome.Done = tt
+discarded_fits (outcome.Refused f) = tt
+discarded_fits (outcome.Breaks f) = tt
+
 answered_fits : (s : TalkStage) (m : TalkMoment) (a : Answer) → m.mode ≡ mode.Query → RowsFit None (said_answered s m a)
 answered_fits stage.Opening m a is = opened_fits m.process a
 answered_fits stage.Beginning m a is = own_fits (outcome_of m.block a)
 answered_fits stage.Running m a is = run_fits m a (ran m a) is refl
 answered_fits stage.Committing m a is = own_fits (commit_outcome a)
 answered_fits stage.RollingBack m a is = rolled_back_fits a
+answered_fits stage.Discarding m a is = discarded_fits (discard_outcome a)
 answered_fits (stage.Failing f) m a is = tt
 answered_fits stage.Starting m a is = tt
 answered_fits stage.Ready m a is = tt
@@ -168,6 +181,7 @@ answered_fits (stage.Judging f) m a is = tt
 answered_fits stage.Closing m a is = tt
 answered_fits (stage.Settling x) m a is = tt
 answered_fits stage.Emptying m a is = tt
+answered_fits stage.Resuming m a is = tt
 answered_fits stage.Ended m a is = tt
 
 failed_fits : (b : TalkBlock) (t : Mode) (f : TalkFault) (s : BlockStanding) → RowsFit None (said_failed b t f s)
@@ -236,16 +250,29 @@ nothing_told_fits k oids None = tt
 nothing_told_fits named.Statement oids (Some s) = tt
 nothing_told_fits named.Portal oids (Some s) = tt
 
+rows_run_fits : (m : TalkMoment) (rows : List (List Value)) (o : Outcome) → m.mode ≡ mode.Query → table_outcome m.mode m.columns rows ≡ o → RowsFit None (said_run m (answer.Rows rows) o)
+rows_run_fits m rows outcome.Done is done = table_fits m.mode m.most m.formats m.columns rows is done
+rows_run_fits m rows (outcome.Refused f) is done = tt
+rows_run_fits m rows (outcome.Breaks f) is done = tt
+
+resuming_fits : (m : TalkMoment) (s : Option BlockStanding) → m.mode ≡ mode.Query → RowsFit None (said_resuming m s)
+resuming_fits m None is = tt
+resuming_fits m (Some standing.Outside) is = tt
+resuming_fits m (Some standing.Failed) is = tt
+resuming_fits m (Some standing.Inside) is = rows_run_fits m (rows_in m.portal) (table_outcome m.mode m.columns (rows_in m.portal)) is refl
+
 standing_fits : (t : TalkStage) (m : TalkMoment) (s : Option BlockStanding) → m.mode ≡ mode.Query → RowsFit None (said_standing t m s)
 standing_fits (stage.Refusing f) m s is = refusing_fits m.block m.mode f s
 standing_fits (stage.Judging f) m s is = judging_fits m.block m.mode f s
 standing_fits stage.Closing m s is = closing_fits s
 standing_fits (stage.Settling x) m s is = settling_fits m.block m.mode x s is
 standing_fits stage.Emptying m s is = emptying_fits s
+standing_fits stage.Resuming m s is = resuming_fits m s is
 standing_fits (stage.TellingRow k x) m s is = row_told_fits k (oids_told m) m.block m.mode (next_format m.formats) x s
 standing_fits (stage.TellingNothing k) m s is = nothing_told_fits k (oids_told m) s
 standing_fits (stage.Telling k) m s is = tt
 standing_fits (stage.Typing at c) m s is = tt
+standing_fits stage.Discarding m s is = tt
 standing_fits stage.Starting m s is = tt
 standing_fits stage.Opening m s is = tt
 standing_fits stage.Ready m s is = tt
@@ -289,6 +316,8 @@ described_fits (stage.Judging f) m d = tt
 described_fits stage.Closing m d = tt
 described_fits (stage.Settling x) m d = tt
 described_fits stage.Emptying m d = tt
+described_fits stage.Resuming m d = tt
+described_fits stage.Discarding m d = tt
 described_fits stage.Ended m d = tt
 
 done_fits : (h : Option (List TheColumn)) (r : Request) → RowsFit h (said_to_done r)
@@ -340,7 +369,8 @@ batch_table_fits t most fs o cs rows is known done =
 
 batch_answer_fits : (m : TalkMoment) (cs : List ResultColumn) (a : Answer) → m.mode ≡ mode.Batch → m.columns ≡ Some cs → ran m a ≡ outcome.Done
     → RowsFit (by m.formats cs) (answer_said m a)
-batch_answer_fits m cs (answer.Rows rows) is known done = batch_table_fits m.mode m.most m.formats m.columns cs rows is known done
+batch_answer_fits m cs (answer.Rows rows) is known done =
+    batch_table_fits m.mode m.most m.formats m.columns cs rows is known (table_done (table_outcome m.mode m.columns rows) m rows done)
 batch_answer_fits m cs (answer.Done t count w) is known done = warnings_fit (by m.formats cs) (warning_of m.block t w) (done_tag t count)
 batch_answer_fits m cs (answer.Refused s) is known done = tt
 
@@ -353,3 +383,19 @@ batch_run_fits m cs a (outcome.Breaks f) is known done = tt
 pub fit_in_batches : (m : TalkMoment) (cs : List ResultColumn) (a : Answer) → m.mode ≡ mode.Batch → m.stage ≡ stage.Running → m.columns ≡ Some cs
     → RowsFit (Some (described_columns m.formats cs)) (said_to_reply m (reply.Answer a))
 fit_in_batches m cs a is at known = subst (λ (s : TalkStage). RowsFit (by m.formats cs) (said_answered s m a)) (sym at) (batch_run_fits m cs a (ran m a) is known refl)
+
+batch_rows_fit : (m : TalkMoment) (cs : List ResultColumn) (rows : List (List Value)) (o : Outcome) → m.mode ≡ mode.Batch → m.columns ≡ Some cs → table_outcome m.mode m.columns rows ≡ o
+    → RowsFit (by m.formats cs) (said_run m (answer.Rows rows) o)
+batch_rows_fit m cs rows outcome.Done is known done = batch_table_fits m.mode m.most m.formats m.columns cs rows is known done
+batch_rows_fit m cs rows (outcome.Refused f) is known done = tt
+batch_rows_fit m cs rows (outcome.Breaks f) is known done = tt
+
+resumed_fits : (m : TalkMoment) (cs : List ResultColumn) (s : Option BlockStanding) → m.mode ≡ mode.Batch → m.columns ≡ Some cs → RowsFit (by m.formats cs) (said_resuming m s)
+resumed_fits m cs None is known = tt
+resumed_fits m cs (Some standing.Outside) is known = tt
+resumed_fits m cs (Some standing.Failed) is known = tt
+resumed_fits m cs (Some standing.Inside) is known = batch_rows_fit m cs (rows_in m.portal) (table_outcome m.mode m.columns (rows_in m.portal)) is known refl
+
+pub fit_in_portals : (m : TalkMoment) (cs : List ResultColumn) (s : Option BlockStanding) → m.mode ≡ mode.Batch → m.stage ≡ stage.Resuming → m.columns ≡ Some cs
+    → RowsFit (Some (described_columns m.formats cs)) (said_to_reply m (reply.Standing s))
+fit_in_portals m cs s is at known = subst (λ (t : TalkStage). RowsFit (by m.formats cs) (said_standing t m s)) (sym at) (resumed_fits m cs s is known)

@@ -5,7 +5,10 @@ pub mod Asking
 pub mod Excused
 pub mod Typings
 pub mod Bindings
+pub mod Finding
+pub mod Fetching
 pub mod SeenRows
+pub mod Staying
 pub mod Seeing
 pub mod Units
 pub mod Fits

@@ -3,6 +3,7 @@ use Rattle.std.proofs.Common.{◌≡◌, ◌∙◌, ℕ, Bool, true, false, if�
 use Rattle.sql_ast.specs.declared.description.ResultColumn.{ResultColumn}
 use Rattle.sql_ast.specs.declared.description.StatementDescription.{StatementDescription}
 use Rattle.sql_ast.specs.declared.description.StatementDescription.TheVariants as description
+use Rattle.sql_types.specs.declared.value.Value.{Value}
 use Rattle.sql_types.specs.declared.answer.Answer.{Answer}
 use Rattle.sql_types.specs.declared.answer.Answer.TheVariants as answer
 use Rattle.sql_types.specs.declared.state.SqlState.TheVariants as state
@@ -42,11 +43,13 @@ use Rattle.postgres_talks.proofs.Excused.{text_spares}
 use Rattle.postgres_talks.proofs.SeenRows.{seen_on, table_seen, warnings_seen}
 use Rattle.postgres_talks.specs.Blocks.{Seen, outside, clean, spoilt, seen_all, seen_tag, seen_report, is_excused}
 use Rattle.postgres_talks.specs.Faults.{fault_text}
-use Rattle.postgres_talks.specs.Moments.{first_moment, asks, is_several, finishes, selects, selects_known, describes_found, describes_piece, describes_settled, starts_on, goes_on_with, goes_on, closes, closes_or_listens, spares, spoiled_by, ready_unless_batch, ran, columns_in, runs_described, said_described, after_described, settled_head, settled_columns, settled_rows, settled_said, oids_told, parameters_said, said_row_told, after_row_told, said_nothing_told, said_told, after_told, head_told, tells, describes, listens, said_settling, after_settling, said_emptying, after_emptying, block_after, entered, came_out, warnings_said, answer_said, block_answered, said_run, said_own, said_opened, said_rolled_back, after_outcome, after_opened, after_rolled_back, after_done, said_answered, after_answer, said_failed, after_failed, said_refusing, after_refusing, said_judging, after_judging, said_closing, after_closing, said_standing, after_standing}
-use Rattle.postgres_talks.specs.Outcomes.{commit_outcome, description_outcome, outcome_of, warning_of}
+use Rattle.postgres_talks.specs.Moments.{first_moment, asks, goes_on, closes, spares, spoiled_by, ready_unless_batch, ran, columns_in, runs_described, said_described, after_described, settled_head, settled_columns, settled_rows, settled_said, oids_told, parameters_said, said_row_told, after_row_told, said_nothing_told, said_told, after_told, head_told, tells, listens, said_settling, after_settling, said_emptying, after_emptying, block_after, entered, came_out, keeps_answer, keeps_rows, warnings_said, answer_said, said_run, said_own, said_opened, said_rolled_back, said_discarded, forgets, after_outcome, after_opened, after_rolled_back, after_done, resumed, said_answered, after_answer, said_failed, after_failed, said_refusing, after_refusing, said_judging, after_judging, said_closing, after_closing, said_standing, after_standing}
+use Rattle.postgres_talks.specs.Outcomes.{commit_outcome, description_outcome, discard_outcome, outcome_of, warning_of}
 use Rattle.postgres_talks.specs.Played.{Input, asked, told, bad, said_in, said_to_input, after_input, after_all}
-use Rattle.postgres_talks.specs.Requests.{columns_of, formats_in, heeded, fault_of, mode_for, said_to_done, said_unless, left_of, after_done_request, after_unless, said_to_request, after_request}
-use Rattle.postgres_talks.specs.Named.{find, put, without}
+use Rattle.postgres_talks.specs.Requests.{executes, formats_in, heeded, fault_of, mode_for, said_to_done, said_unless, after_done_request, after_unless, said_to_request, after_request}
+use Rattle.postgres_talks.specs.Named.{find, put}
+use Rattle.postgres_talks.specs.Portals.{held_in, rows_in}
+use Rattle.postgres_talks.proofs.Staying.{carries_block, closes_block, describes_block, finishes_block, goes_on_block, rows_block}
 use Rattle.postgres_talks.specs.Typing.{new_template}
 use Rattle.postgres_talks.proofs.Typings.{begins_block, typing_block, typing_seen}
 use Rattle.postgres_talks.specs.Settled.{settled_tag, settled_row}
@@ -74,71 +77,6 @@ came_out_seen block.Implicit = refl
 came_out_seen block.Open = refl
 came_out_seen block.Failed = refl
 
-finishes_block : (b : TalkBlock) (t : Mode) (m : TalkMoment) → (finishes b t m).block ≡ m.block
-finishes_block block.Outside mode.Query m = refl
-finishes_block block.Outside mode.Batch m = refl
-finishes_block block.Outside mode.Skipping m = refl
-finishes_block block.Implicit mode.Query m = refl
-finishes_block block.Implicit mode.Batch m = refl
-finishes_block block.Implicit mode.Skipping m = refl
-finishes_block block.Open mode.Query m = refl
-finishes_block block.Open mode.Batch m = refl
-finishes_block block.Open mode.Skipping m = refl
-finishes_block block.Failed mode.Query m = refl
-finishes_block block.Failed mode.Batch m = refl
-finishes_block block.Failed mode.Skipping m = refl
-
-closes_block : (t : Mode) (m : TalkMoment) → (closes_or_listens t m).block ≡ m.block
-closes_block mode.Query m = refl
-closes_block mode.Batch m = refl
-closes_block mode.Skipping m = refl
-
-formats_block : (b : Bool) (text : List ℕ) (m : TalkMoment) → (if b then describes stage.Describing text m else asks stage.Running text m).block ≡ m.block
-formats_block true text m = refl
-formats_block false text m = refl
-
-known_block : (columns : Option (List ResultColumn)) (text : List ℕ) (m : TalkMoment) → (selects_known columns text m).block ≡ m.block
-known_block None text m = formats_block (nat_lt 1 (length m.formats)) text m
-known_block (Some columns) text m = refl
-
-selects_block : (t : Mode) (text : List ℕ) (m : TalkMoment) → (selects t text m).block ≡ m.block
-selects_block mode.Query text m = refl
-selects_block mode.Batch text m = known_block m.columns text m
-selects_block mode.Skipping text m = known_block m.columns text m
-
-starts_on_block : (p : StatementPiece) (m : TalkMoment) → (starts_on p m).block ≡ m.block
-starts_on_block (piece.Statement text) m = refl
-starts_on_block (piece.Select text) m = selects_block m.mode text m
-starts_on_block (piece.Settled s) m = refl
-starts_on_block (piece.Faulty f) m = refl
-starts_on_block piece.Empty m = refl
-
-goes_on_with_block : (left : List StatementPiece) (m : TalkMoment) → (goes_on_with left m).block ≡ m.block
-goes_on_with_block [] m = finishes_block m.block m.mode m
-goes_on_with_block (p ∷ ps) m = starts_on_block p (record m { left = ps })
-
-goes_on_if : (b : Bool) (m : TalkMoment) → (if b then asks stage.Beginning (codes "BEGIN") m else goes_on_with m.left m).block ≡ m.block
-goes_on_if true m = refl
-goes_on_if false m = goes_on_with_block m.left m
-
-goes_on_block : (m : TalkMoment) → (goes_on m).block ≡ m.block
-goes_on_block m = goes_on_if (is_several m.block m.mode (length m.left)) m
-
-describes_settled_block : (k : DescribedKind) (x : Settled) (r : Option (List ℕ × List ℕ)) (m : TalkMoment) → (describes_settled k x r m).block ≡ m.block
-describes_settled_block k x None m = refl
-describes_settled_block k x (Some r) m = refl
-
-describes_piece_block : (k : DescribedKind) (p : StatementPiece) (m : TalkMoment) → (describes_piece k p m).block ≡ m.block
-describes_piece_block k (piece.Statement text) m = refl
-describes_piece_block k (piece.Select text) m = refl
-describes_piece_block k (piece.Settled x) m = describes_settled_block k x (settled_row x) m
-describes_piece_block k (piece.Faulty f) m = refl
-describes_piece_block k piece.Empty m = refl
-
-describes_block : (k : DescribedKind) (o : Option NamedPiece) (m : TalkMoment) → (describes_found k o m).block ≡ m.block
-describes_block k None m = refl
-describes_block k (Some n) m = describes_piece_block k n.piece m
-
 -- that a step keeps what a client sees
 abbrev Keeps : TalkBlock → List Saying → TalkBlock → Type 0
 Keeps b said c = seen_all (seen_as b) said ≡ Some (seen_as c)
@@ -153,12 +91,12 @@ request_done_keeps (request.Statements pieces) m = ap (λ (b : TalkBlock). Some 
 request_done_keeps (request.Prepare name p) m = refl
 request_done_keeps (request.PrepareTemplate name t) m = ap (λ (b : TalkBlock). Some (seen_as b)) (sym (begins_block t (record m { name = name; statements = put (new_template name piece.Empty t) m.statements })))
 request_done_keeps (request.Bind name prepared bound fs) m = refl
-request_done_keeps (request.Execute name n) m = ap (λ (b : TalkBlock). Some (seen_as b)) (sym (goes_on_block (record m { left = left_of (find name m.portals); columns = columns_of (find name m.portals); formats = formats_in (find name m.portals); most = n; portals = without name m.portals })))
+request_done_keeps (request.Execute name n) m = ap (λ (b : TalkBlock). Some (seen_as b)) (sym (carries_block (find name m.portals) (executes (find name m.portals) name n m)))
 request_done_keeps (request.DescribeStatement name) m = ap (λ (b : TalkBlock). Some (seen_as b)) (sym (describes_block named.Statement (find name m.statements) (record m { name = name; formats = [] })))
 request_done_keeps (request.DescribePortal name) m = ap (λ (b : TalkBlock). Some (seen_as b)) (sym (describes_block named.Portal (find name m.portals) (record m { name = name; formats = formats_in (find name m.portals) })))
 request_done_keeps (request.CloseStatement name) m = refl
 request_done_keeps (request.ClosePortal name) m = refl
-request_done_keeps request.Sync m = ap (λ (b : TalkBlock). Some (seen_as b)) (sym (finishes_block m.block m.mode (record m { portals = [] })))
+request_done_keeps request.Sync m = ap (λ (b : TalkBlock). Some (seen_as b)) (sym (finishes_block m.block m.mode (record m { portals = held_in m.block m.portals })))
 request_done_keeps request.Nothing m = refl
 request_done_keeps request.Leave m = refl
 request_done_keeps (request.Fails t f) m = refl
@@ -236,16 +174,24 @@ done_keeps b t count w is =
     same_outcome block.Failed tag.Update count w = refl
     same_outcome block.Failed tag.Delete count w = refl
 
-answer_keeps : (m : TalkMoment) (a : Answer) → ran m a ≡ outcome.Done → Keeps m.block (answer_said m a) (block_answered m.block a)
-answer_keeps m (answer.Rows rows) is = table_seen m.mode m.most m.formats m.columns (seen_as m.block) rows
+answer_keeps : (m : TalkMoment) (a : Answer) → ran m a ≡ outcome.Done → Keeps m.block (answer_said m a) (keeps_answer a m).block
+answer_keeps m (answer.Rows rows) is =
+    table_seen m.mode m.most m.formats m.columns (seen_as m.block) rows ∙ as_before m (keeps_rows rows m) (rows_block rows m)
 answer_keeps m (answer.Done t count w) is = done_keeps m.block t count w is
 answer_keeps m (answer.Refused s) is = refl
 
 run_keeps : (m : TalkMoment) (a : Answer) (o : Outcome) → ran m a ≡ o
     → Keeps m.block (said_run m a o) (after_outcome o m (after_done stage.Running a m)).block
-run_keeps m a outcome.Done is = answer_keeps m a is ∙ ap (λ (b : TalkBlock). Some (seen_as b)) (sym (goes_on_block (record m { block = block_answered m.block a })))
+run_keeps m a outcome.Done is = answer_keeps m a is ∙ ap (λ (b : TalkBlock). Some (seen_as b)) (sym (goes_on_block (keeps_answer a m)))
 run_keeps m a (outcome.Refused f) is = refl
 run_keeps m a (outcome.Breaks f) is = refl
+
+resumed_keeps : (m : TalkMoment) (rows : List (List Value)) (o : Outcome)
+    → Keeps m.block (said_run m (answer.Rows rows) o) (after_outcome o m (goes_on (keeps_rows rows m))).block
+resumed_keeps m rows outcome.Done =
+    table_seen m.mode m.most m.formats m.columns (seen_as m.block) rows ∙ as_before m (goes_on (keeps_rows rows m)) (goes_on_block (keeps_rows rows m) ∙ rows_block rows m)
+resumed_keeps m rows (outcome.Refused f) = refl
+resumed_keeps m rows (outcome.Breaks f) = refl
 
 own_keeps : (m next : TalkMoment) (o : Outcome) → seen_as next.block ≡ seen_as m.block → Keeps m.block (said_own o) (after_outcome o m next).block
 own_keeps m next outcome.Done same = ap Some (sym same)
@@ -258,9 +204,14 @@ opened_keeps m (answer.Done t count w) = refl
 opened_keeps m (answer.Refused s) = refl
 
 rolled_back_keeps : (m : TalkMoment) (a : Answer) → Keeps m.block (said_rolled_back a) (after_rolled_back a m).block
-rolled_back_keeps m (answer.Rows rows) = ap Some (sym (ap seen_as (closes_block m.mode (record m { block = came_out m.block })) ∙ came_out_seen m.block))
-rolled_back_keeps m (answer.Done t count w) = ap Some (sym (ap seen_as (closes_block m.mode (record m { block = came_out m.block })) ∙ came_out_seen m.block))
+rolled_back_keeps m (answer.Rows rows) = ap Some (sym (ap seen_as (closes_block m.mode (record m { block = came_out m.block; portals = []; read_only = false })) ∙ came_out_seen m.block))
+rolled_back_keeps m (answer.Done t count w) = ap Some (sym (ap seen_as (closes_block m.mode (record m { block = came_out m.block; portals = []; read_only = false })) ∙ came_out_seen m.block))
 rolled_back_keeps m (answer.Refused s) = refl
+
+discarded_keeps : (m : TalkMoment) (o : Outcome) → Keeps m.block (said_discarded o) (after_outcome o m (goes_on (forgets m))).block
+discarded_keeps m outcome.Done = as_before m (goes_on (forgets m)) (goes_on_block (forgets m))
+discarded_keeps m (outcome.Refused f) = refl
+discarded_keeps m (outcome.Breaks f) = refl
 
 answered_keeps : (s : TalkStage) (m : TalkMoment) (a : Answer) → Keeps m.block (said_answered s m a) (after_answer s m a).block
 answered_keeps stage.Opening m a = opened_keeps m a
@@ -268,6 +219,7 @@ answered_keeps stage.Beginning m a = own_keeps m (after_done stage.Beginning a m
 answered_keeps stage.Running m a = run_keeps m a (ran m a) refl
 answered_keeps stage.Committing m a = own_keeps m (closes m) (commit_outcome a) (came_out_seen m.block)
 answered_keeps stage.RollingBack m a = rolled_back_keeps m a
+answered_keeps stage.Discarding m a = discarded_keeps m (discard_outcome a)
 answered_keeps (stage.Failing f) m a = refl
 answered_keeps stage.Starting m a = refl
 answered_keeps stage.Ready m a = refl
@@ -281,6 +233,7 @@ answered_keeps (stage.Judging f) m a = refl
 answered_keeps stage.Closing m a = refl
 answered_keeps (stage.Settling x) m a = refl
 answered_keeps stage.Emptying m a = refl
+answered_keeps stage.Resuming m a = refl
 answered_keeps stage.Ended m a = refl
 
 report_seen : (b : TalkBlock) (x : Bool) → seen_report Error x (seen_as b) ≡ seen_as (spoiled_by x b)
@@ -399,6 +352,8 @@ standing_keeps (stage.Judging f) m s = judging_keeps f m s
 standing_keeps stage.Closing m s = closing_keeps m s
 standing_keeps (stage.Settling x) m s = settling_keeps m x s
 standing_keeps stage.Emptying m s = emptying_keeps m s
+standing_keeps stage.Resuming m s = resumed_keeps m (rows_in m.portal) (resumed m s)
+standing_keeps stage.Discarding m s = refl
 standing_keeps stage.Starting m s = refl
 standing_keeps stage.Opening m s = refl
 standing_keeps (stage.TellingRow k x) m s = row_told_keeps k m x s
@@ -456,6 +411,8 @@ described_keeps (stage.Judging f) m d = refl
 described_keeps (stage.Settling x) m d = refl
 described_keeps stage.Closing m d = refl
 described_keeps stage.Emptying m d = refl
+described_keeps stage.Resuming m d = refl
+described_keeps stage.Discarding m d = refl
 described_keeps stage.Starting m d = refl
 described_keeps stage.Opening m d = refl
 described_keeps stage.Ready m d = refl

@@ -34,8 +34,9 @@ use Rattle.postgres_talks.specs.declared.outcome.Outcome.{Outcome}
 use Rattle.postgres_talks.specs.declared.outcome.Outcome.TheVariants as outcome
 use Rattle.postgres_talks.specs.declared.requests.Request.{Request}
 use Rattle.postgres_talks.specs.declared.requests.Request.TheVariants as request
-use Rattle.postgres_talks.specs.Moments.{after_answer, after_failed, after_judging, after_outcome, after_refusing, after_reply, after_rolled_back, after_row_told, after_settling, after_standing, answer_said, asks, came_out, closes, closes_or_listens, head_told, headed_said, oids_told, parameters_said, ran, said_answered, said_closing, said_described, said_emptying, said_failed, said_judging, said_opened, said_nothing_told, said_own, said_refusing, said_rolled_back, said_row_told, said_run, said_settling, said_standing, said_told, settled_columns, settled_head, settled_rows, settled_said, spares, table_said, warnings_said}
-use Rattle.postgres_talks.specs.Outcomes.{commit_outcome, description_outcome, outcome_of, refusal, warning_of}
+use Rattle.postgres_talks.specs.Moments.{after_answer, after_failed, after_judging, after_outcome, after_refusing, after_reply, after_rolled_back, after_row_told, after_settling, after_standing, answer_said, asks, came_out, closes, closes_or_listens, head_told, headed_said, oids_told, parameters_said, ran, resumed, said_answered, said_closing, said_described, said_discarded, said_emptying, said_failed, said_judging, said_opened, said_nothing_told, said_own, said_refusing, said_resuming, said_rolled_back, said_row_told, said_run, said_settling, said_standing, said_told, settled_columns, settled_head, settled_rows, settled_said, spares, table_said, warnings_said}
+use Rattle.postgres_talks.specs.Outcomes.{commit_outcome, description_outcome, discard_outcome, outcome_of, refusal, warning_of}
+use Rattle.postgres_talks.specs.Portals.{rows_in}
 use Rattle.postgres_talks.specs.Played.{Input, after_input, asked, bad, said_to_input, told}
 use Rattle.postgres_talks.specs.Requests.{fault_of, heeded, said_to_done, said_to_request, said_unless}
 use Rattle.postgres_talks.specs.Rows.{row_said, rows_said, select_tag}
@@ -117,12 +118,18 @@ quiet_rolled_back (answer.Rows rows) = refl
 quiet_rolled_back (answer.Done t count w) = refl
 quiet_rolled_back (answer.Refused s) = refl
 
+quiet_discarded : (o : Outcome) → IsQuiet (said_discarded o)
+quiet_discarded outcome.Done = refl
+quiet_discarded (outcome.Refused f) = refl
+quiet_discarded (outcome.Breaks f) = refl
+
 quiet_answered : (s : TalkStage) (m : TalkMoment) (a : Answer) → IsQuiet (said_answered s m a)
 quiet_answered stage.Opening m a = quiet_opened m.process a
 quiet_answered stage.Beginning m a = quiet_own (outcome_of m.block a)
 quiet_answered stage.Running m a = quiet_run m a (ran m a)
 quiet_answered stage.Committing m a = quiet_own (commit_outcome a)
 quiet_answered stage.RollingBack m a = quiet_rolled_back a
+quiet_answered stage.Discarding m a = quiet_discarded (discard_outcome a)
 quiet_answered (stage.Failing f) m a = refl
 quiet_answered stage.Starting m a = refl
 quiet_answered stage.Ready m a = refl
@@ -136,6 +143,7 @@ quiet_answered (stage.Judging f) m a = refl
 quiet_answered stage.Closing m a = refl
 quiet_answered (stage.Settling x) m a = refl
 quiet_answered stage.Emptying m a = refl
+quiet_answered stage.Resuming m a = refl
 quiet_answered stage.Ended m a = refl
 
 quiet_head_told : (k : DescribedKind) (oids : List ℕ) (fs : List ValueFormat) (d : StatementDescription) → IsQuiet (head_told k oids fs d)
@@ -170,6 +178,8 @@ quiet_described (stage.Judging f) m d = refl
 quiet_described stage.Closing m d = refl
 quiet_described (stage.Settling x) m d = refl
 quiet_described stage.Emptying m d = refl
+quiet_described stage.Resuming m d = refl
+quiet_described stage.Discarding m d = refl
 quiet_described stage.Ended m d = refl
 
 quiet_done : (r : Request) → IsQuiet (said_to_done r)
@@ -279,6 +289,8 @@ standing_rolls (stage.Judging f) m s is says = judging_rolls f m s is says
 standing_rolls (stage.Settling x) m s is says = settling_rolls x m s is says
 standing_rolls stage.Closing m s is says = absurd (no_error (said_closing s) (quiet_closing s) says)
 standing_rolls stage.Emptying m s is says = absurd (no_error (said_emptying s) (quiet_emptying s) says)
+standing_rolls stage.Resuming m s is says = absurd (no_error (said_resuming m s) (quiet_run m (answer.Rows (rows_in m.portal)) (resumed m s)) says)
+standing_rolls stage.Discarding m s is says = absurd (no_error [] refl says)
 standing_rolls stage.Starting m s is says = absurd (no_error [] refl says)
 standing_rolls stage.Opening m s is says = absurd (no_error [] refl says)
 standing_rolls (stage.TellingRow k x) m s is says = row_told_rolls k (next_format m.formats) x m s is says
@@ -311,8 +323,8 @@ comes_out mode.Skipping m is = is
 ended_by : (m : TalkMoment) (a : Answer) → m.block ≡ block.Implicit
     → ((after_rolled_back a m).block ≡ block.Outside) ⊎ ((after_rolled_back a m).want ≡ want.End false)
 ended_by m (answer.Refused s) is = inr refl
-ended_by m (answer.Rows rows) is = inl (comes_out m.mode (record m { block = came_out m.block }) (ap came_out is))
-ended_by m (answer.Done t count w) is = inl (comes_out m.mode (record m { block = came_out m.block }) (ap came_out is))
+ended_by m (answer.Rows rows) is = inl (comes_out m.mode (record m { block = came_out m.block; portals = []; read_only = false }) (ap came_out is))
+ended_by m (answer.Done t count w) is = inl (comes_out m.mode (record m { block = came_out m.block; portals = []; read_only = false }) (ap came_out is))
 
 pub rolled_back_ends : (m : TalkMoment) (a : Answer) → m.stage ≡ stage.RollingBack → m.block ≡ block.Implicit
     → ((after_reply m (reply.Answer a)).block ≡ block.Outside) ⊎ ((after_reply m (reply.Answer a)).want ≡ want.End false)

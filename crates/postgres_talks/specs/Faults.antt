@@ -3,7 +3,7 @@ use Rattle.std.specs.Prelude.{ℕ, List, codes}
 use Rattle.sql_types.specs.State.{state_code}
 use Rattle.postgres_texts.specs.Sentences.{refusal_text}
 use Rattle.postgres_talks.specs.declared.fault.TalkFault.{TalkFault}
-use Rattle.postgres_talks.specs.declared.fault.TalkFault.TheVariants.{Refused, NotText, OtherVersion, Unsupported, Internal, ReservedWord, Catalogue, SeveralStatements, UnknownStatement, UnknownPortal, StatementExists, PortalExists, OtherCount, OtherColumns, UnknownFormat, OtherFormats, UnknownParameter, UnknownType, InvalidText, InvalidBinary, OtherTokens}
+use Rattle.postgres_talks.specs.declared.fault.TalkFault.TheVariants.{Refused, NotText, OtherVersion, Unsupported, Internal, ReservedWord, Catalogue, SeveralStatements, UnknownStatement, UnknownPortal, StatementExists, PortalExists, OtherCount, OtherColumns, UnknownFormat, OtherFormats, UnknownParameter, UnknownType, InvalidText, InvalidBinary, OtherTokens, InsideBlock, OnlyReads}
 
 abbrev pub fault_code : TalkFault → List ℕ
 fault_code (Refused state) = state_code state
@@ -27,6 +27,8 @@ fault_code UnknownType = codes "0A000"
 fault_code InvalidText = codes "22P02"
 fault_code InvalidBinary = codes "22P03"
 fault_code OtherTokens = codes "XX000"
+fault_code InsideBlock = codes "25001"
+fault_code OnlyReads = codes "25006"
 
 abbrev pub fault_text : TalkFault → List ℕ
 fault_text (Refused state) = refusal_text state
@@ -50,3 +52,5 @@ fault_text UnknownType = codes "type of a parameter is not supported"
 fault_text InvalidText = codes "invalid input syntax for the type of a parameter"
 fault_text InvalidBinary = codes "incorrect binary data format in a parameter"
 fault_text OtherTokens = codes "statement with its values has other tokens"
+fault_text InsideBlock = codes "DISCARD ALL cannot run inside a transaction block"
+fault_text OnlyReads = codes "cannot execute statement in a read-only transaction"

@@ -6,6 +6,7 @@ pub mod Tags
 pub mod Settled
 pub mod Pieces
 pub mod Named
+pub mod Portals
 pub mod Outcomes
 pub mod Parameters
 pub mod ParameterViews
@@ -16,6 +17,7 @@ pub mod Requests
 pub mod Talks
 pub mod TalkLaws
 pub mod Played
+pub mod Fetches
 pub mod Blocks
 pub mod Units
 pub mod Fitting

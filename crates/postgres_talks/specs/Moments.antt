@@ -1,5 +1,5 @@
 -- How a connection stands, and what it says to what it learns.
-use Rattle.std.specs.Prelude.{ℕ, nat_lt, Bool, true, false, if◌then◌else◌, List, [], ◌∷◌, ◌++◌, length, map, codes, Option, Some, None}
+use Rattle.std.specs.Prelude.{ℕ, nat_lt, Bool, true, false, if◌then◌else◌, List, [], ◌∷◌, ◌++◌, length, drop, map, codes, Option, Some, None}
 use Rattle.sql_ast.specs.declared.description.ResultColumn.{ResultColumn}
 use Rattle.sql_ast.specs.declared.description.StatementDescription.{StatementDescription}
 use Rattle.sql_ast.specs.declared.description.StatementDescription.TheVariants as description
@@ -43,9 +43,11 @@ use Rattle.postgres_talks.specs.declared.piece.StatementPiece.TheVariants as pie
 use Rattle.postgres_talks.specs.declared.settled.Settled.{Settled}
 use Rattle.postgres_talks.specs.declared.outcome.Outcome.{Outcome}
 use Rattle.postgres_talks.specs.declared.outcome.Outcome.TheVariants as outcome
-use Rattle.postgres_talks.specs.Outcomes.{commit_outcome, description_outcome, outcome_of, run_outcome, warning_of}
+use Rattle.postgres_talks.specs.Outcomes.{commit_outcome, description_outcome, discard_outcome, outcome_of, table_outcome, warning_of}
+use Rattle.postgres_talks.specs.Portals.{held_behind, held_in, is_kept, kept_outcome, rows_in, suspend}
 use Rattle.postgres_talks.specs.Sayings.{Saying, message, error_said, fatal_said, warning_said, ready_said, complete_said}
-use Rattle.postgres_talks.specs.Rows.{columns_said, limited_said, rows_said}
+use Rattle.postgres_talks.specs.Rows.{columns_said}
+pub use Rattle.postgres_talks.specs.Rows.{headed_said, table_said}
 use Rattle.postgres_talks.specs.Named.{find, tell}
 use Rattle.postgres_talks.specs.Settled.{settled_tag, settled_row}
 use Rattle.postgres_talks.specs.Tags.{done_tag}
@@ -54,7 +56,7 @@ use Rattle.postgres_talks.specs.Typing.{after_typing, said_typing, template_in}
 
 -- nothing was heard
 abbrev pub first_moment : ℕ → TalkMoment
-first_moment process = record { process = process; stage = stage.Starting; block = block.Outside; mode = mode.Query; left = []; columns = None; formats = []; most = 0; name = []; statements = []; portals = []; want = want.Message }
+first_moment process = record { process = process; stage = stage.Starting; block = block.Outside; mode = mode.Query; left = []; columns = None; formats = []; most = 0; name = []; statements = []; portal = None; portals = []; read_only = false; want = want.Message }
 
 -- ---- where it goes
 
@@ -83,9 +85,23 @@ abbrev pub selects : Mode → List ℕ → TalkMoment → TalkMoment
 selects mode.Query text m = describes stage.Describing text (record m { columns = None; formats = [] })
 selects t text m = selects_known m.columns text m
 
+-- in a block that only reads nothing is written
+abbrev pub writes_unless : Bool → List ℕ → TalkMoment → TalkMoment
+writes_unless true text m = looks (stage.Refusing fault.OnlyReads) m
+writes_unless false text m = asks stage.Running text (record m { columns = None })
+
+-- what was prepared is forgotten in no block
+abbrev pub discards : TalkBlock → TalkMoment → TalkMoment
+discards block.Outside m = asks stage.Discarding (codes "RESET ROLE") m
+discards block.Failed m = looks (stage.Refusing (fault.Refused InFailedTransaction)) m
+discards b m = looks (stage.Refusing fault.InsideBlock) m
+
 -- a text that needs no machine is answered once it is known how the block stands
 abbrev pub starts_on : StatementPiece → TalkMoment → TalkMoment
-starts_on (piece.Statement text) m = asks stage.Running text (record m { columns = None })
+starts_on (piece.Statement text) m = writes_unless m.read_only text m
+starts_on (piece.Control text) m = asks stage.Running text (record m { columns = None })
+starts_on piece.BeginReadOnly m = asks stage.Running (codes "BEGIN") (record m { columns = None; read_only = true })
+starts_on piece.DiscardAll m = discards m.block m
 starts_on (piece.Select text) m = selects m.mode text m
 starts_on (piece.Settled s) m = looks (stage.Settling s) m
 starts_on (piece.Faulty f) m = looks (stage.Refusing f) m
@@ -143,30 +159,22 @@ abbrev pub spoiled_by : Bool → TalkBlock → TalkBlock
 spoiled_by false block.Open = block.Failed
 spoiled_by spared b = b
 
+-- that nothing is written holds up to the end of a block
+abbrev pub still_reads : TalkBlock → Bool → Bool
+still_reads block.Outside reads = false
+still_reads b reads = reads
+
 -- ---- answers
 
 abbrev pub warnings_said : Option Warning → List Saying
 warnings_said None = []
 warnings_said (Some w) = warning_said w ∷ []
 
--- rows follow their columns, but in a batch
-abbrev pub headed_said : Option (List ResultColumn) → List (List Value) → List Saying
-headed_said None rows = []
-headed_said (Some columns) rows = columns_said [] columns ∷ rows_said [] rows
-
-abbrev pub table_said : Mode → ℕ → List ValueFormat → Option (List ResultColumn) → List (List Value) → List Saying
-table_said mode.Query most fs columns rows = headed_said columns rows
-table_said t most fs columns rows = limited_said most fs rows
-
 -- what is said of an answer that is no refusal
 abbrev pub answer_said : TalkMoment → Answer → List Saying
 answer_said m (answer.Rows rows) = table_said m.mode m.most m.formats m.columns rows
 answer_said m (answer.Done t count w) = warnings_said (warning_of m.block t w) ++ complete_said (done_tag t count) ∷ []
 answer_said m (answer.Refused s) = []
-
-abbrev pub block_answered : TalkBlock → Answer → TalkBlock
-block_answered b (answer.Done t count w) = block_after b t
-block_answered b a = b
 
 -- the settings that are told at the start
 abbrev pub setting_said : SessionSetting → Saying
@@ -185,14 +193,25 @@ said_run m a outcome.Done = answer_said m a
 said_run m a (outcome.Refused f) = []
 said_run m a (outcome.Breaks f) = fatal_said f ∷ []
 
--- what it comes to
+-- what it comes to: what is left of its rows has its place
+abbrev pub within_room : Outcome → TalkMoment → List (List Value) → Outcome
+within_room outcome.Done m rows = kept_outcome (is_kept m.block m.mode m.most (length rows)) m.portals (drop m.most rows)
+within_room o m rows = o
+
 abbrev pub ran : TalkMoment → Answer → Outcome
-ran m a = run_outcome m.mode m.block m.columns a
+ran m (answer.Rows rows) = within_room (table_outcome m.mode m.columns rows) m rows
+ran m a = outcome_of m.block a
 
 -- to a step of the connection's own
 abbrev pub said_own : Outcome → List Saying
 said_own (outcome.Breaks f) = fatal_said f ∷ []
 said_own o = []
+
+-- the role of the login is set, and all that was prepared is forgotten
+abbrev pub said_discarded : Outcome → List Saying
+said_discarded outcome.Done = complete_said (codes "DISCARD ALL") ∷ []
+said_discarded (outcome.Refused f) = []
+said_discarded (outcome.Breaks f) = fatal_said f ∷ []
 
 -- a block that cannot be rolled back ends the connection
 abbrev pub said_rolled_back : Answer → List Saying
@@ -209,6 +228,7 @@ said_answered stage.Beginning m a = said_own (outcome_of m.block a)
 said_answered stage.Running m a = said_run m a (ran m a)
 said_answered stage.Committing m a = said_own (commit_outcome a)
 said_answered stage.RollingBack m a = said_rolled_back a
+said_answered stage.Discarding m a = said_discarded (discard_outcome a)
 said_answered s m a = []
 
 -- a refusal is told once the block has failed
@@ -227,16 +247,33 @@ closes_or_listens t m = listens m
 
 abbrev pub after_rolled_back : Answer → TalkMoment → TalkMoment
 after_rolled_back (answer.Refused s) m = ends m
-after_rolled_back a m = closes_or_listens m.mode (record m { block = came_out m.block })
+after_rolled_back a m = closes_or_listens m.mode (record m { block = came_out m.block; portals = []; read_only = false })
+
+-- the rows behind those that were told stay with their portal
+abbrev pub keeps_if : Bool → List (List Value) → TalkMoment → TalkMoment
+keeps_if false rows m = record m { portal = None }
+keeps_if true rows m = record m { portal = None; portals = suspend m.portal (drop m.most rows) m.portals }
+
+abbrev pub keeps_rows : List (List Value) → TalkMoment → TalkMoment
+keeps_rows rows m = keeps_if (is_kept m.block m.mode m.most (length rows)) rows m
+
+abbrev pub keeps_answer : Answer → TalkMoment → TalkMoment
+keeps_answer (answer.Rows rows) m = keeps_rows rows m
+keeps_answer (answer.Done t count w) m =
+    record m { block = block_after m.block t; portals = held_behind t m.portals; read_only = still_reads (block_after m.block t) m.read_only }
+keeps_answer (answer.Refused s) m = m
 
 -- where nothing stands against it
 abbrev pub after_done : TalkStage → Answer → TalkMoment → TalkMoment
 after_done stage.Beginning a m = goes_on (record m { block = entered m.block })
-after_done s a m = goes_on (record m { block = block_answered m.block a })
+after_done s a m = goes_on (keeps_answer a m)
 
 -- its block has ended, and it is to be said how the session stands
 abbrev pub closes : TalkMoment → TalkMoment
-closes m = looks stage.Closing (record m { block = came_out m.block })
+closes m = looks stage.Closing (record m { block = came_out m.block; portals = []; read_only = false })
+
+abbrev pub forgets : TalkMoment → TalkMoment
+forgets m = record m { statements = []; portal = None; portals = [] }
 
 abbrev pub after_answer : TalkStage → TalkMoment → Answer → TalkMoment
 after_answer stage.Opening m a = after_opened a m
@@ -244,6 +281,7 @@ after_answer stage.Beginning m a = after_outcome (outcome_of m.block a) m (after
 after_answer stage.Running m a = after_outcome (ran m a) m (after_done stage.Running a m)
 after_answer stage.Committing m a = after_outcome (commit_outcome a) m (closes m)
 after_answer stage.RollingBack m a = after_rolled_back a m
+after_answer stage.Discarding m a = after_outcome (discard_outcome a) m (goes_on (forgets m))
 after_answer (stage.Failing f) m a = looks (stage.Judging f) m
 after_answer s m a = ends m
 
@@ -323,8 +361,9 @@ skipping mode.Query = mode.Query
 skipping t = mode.Skipping
 
 abbrev pub after_failed : TalkBlock → TalkFault → TalkMoment → TalkMoment
-after_failed block.Implicit f m = asks stage.RollingBack (codes "ROLLBACK") (record m { left = []; mode = skipping m.mode })
-after_failed b f m = listens (record m { left = []; mode = skipping m.mode; block = spoiled_by (spares f) b })
+after_failed block.Implicit f m = asks stage.RollingBack (codes "ROLLBACK") (record m { left = []; mode = skipping m.mode; portal = None; portals = []; read_only = false })
+after_failed b f m =
+    listens (record m { left = []; mode = skipping m.mode; block = spoiled_by (spares f) b; portal = None; portals = held_in (spoiled_by (spares f) b) m.portals; read_only = still_reads (spoiled_by (spares f) b) m.read_only })
 
 -- a block that an error leaves open is failed by a text that is no statement
 abbrev pub said_refusing : TalkBlock → Mode → TalkFault → Option BlockStanding → List Saying
@@ -409,12 +448,26 @@ abbrev pub after_emptying : TalkMoment → Option BlockStanding → TalkMoment
 after_emptying m None = ends m
 after_emptying m (Some s) = goes_on m
 
+-- What is left of the answer to a portal is told where its block is open.
+abbrev pub resumed : TalkMoment → Option BlockStanding → Outcome
+resumed m None = outcome.Breaks (fault.Refused ConnectionDoesNotExist)
+resumed m (Some standing.Outside) = outcome.Refused fault.UnknownPortal
+resumed m (Some standing.Failed) = outcome.Refused (fault.Refused InFailedTransaction)
+resumed m (Some standing.Inside) = table_outcome m.mode m.columns (rows_in m.portal)
+
+abbrev pub said_resuming : TalkMoment → Option BlockStanding → List Saying
+said_resuming m s = said_run m (answer.Rows (rows_in m.portal)) (resumed m s)
+
+abbrev pub after_resuming : TalkMoment → Option BlockStanding → TalkMoment
+after_resuming m s = after_outcome (resumed m s) m (goes_on (keeps_rows (rows_in m.portal) m))
+
 abbrev pub said_standing : TalkStage → TalkMoment → Option BlockStanding → List Saying
 said_standing (stage.Refusing f) m s = said_refusing m.block m.mode f s
 said_standing (stage.Judging f) m s = said_judging m.block m.mode f s
 said_standing stage.Closing m s = said_closing s
 said_standing (stage.Settling x) m s = said_settling m.block m.mode x s
 said_standing stage.Emptying m s = said_emptying s
+said_standing stage.Resuming m s = said_resuming m s
 said_standing (stage.TellingRow k x) m s = said_row_told k (oids_told m) m.block m.mode (next_format m.formats) x s
 said_standing (stage.TellingNothing k) m s = said_nothing_told k (oids_told m) s
 said_standing t m s = []
@@ -425,6 +478,7 @@ after_standing (stage.Judging f) m s = after_judging f m s
 after_standing stage.Closing m s = after_closing m s
 after_standing (stage.Settling x) m s = after_settling m s
 after_standing stage.Emptying m s = after_emptying m s
+after_standing stage.Resuming m s = after_resuming m s
 after_standing (stage.TellingRow k x) m s = after_row_told m s
 after_standing (stage.TellingNothing k) m s = after_closing m s
 after_standing t m s = ends m

@@ -1,5 +1,5 @@
 -- Statements under names.
-use Rattle.std.specs.Prelude.{ℕ, not, if◌then◌else◌, List, [], ◌∷◌, ◌++◌, filter, bytes_eq, Option, Some, None, Result, Ok}
+use Rattle.std.specs.Prelude.{ℕ, suc, not, if◌then◌else◌, List, [], ◌∷◌, ◌++◌, filter, bytes_eq, Option, Some, None, Result, Ok}
 use Rattle.postgres_messages.specs.declared.backend.ValueFormat.{ValueFormat}
 use Rattle.sql_ast.specs.declared.description.ResultColumn.{ResultColumn}
 use Rattle.postgres_talks.specs.declared.fault.TalkFault.{TalkFault}
@@ -10,6 +10,11 @@ use Rattle.postgres_talks.specs.declared.piece.StatementPiece.{StatementPiece}
 abbrev pub find : List ℕ → List NamedPiece → Option NamedPiece
 find name [] = None
 find name (n ∷ ns) = if bytes_eq n.name name then Some n else find name ns
+
+-- its index, or how many there are
+abbrev pub place_of : List ℕ → List NamedPiece → ℕ
+place_of name [] = 0
+place_of name (n ∷ ns) = if bytes_eq n.name name then 0 else suc (place_of name ns)
 
 abbrev pub without : List ℕ → List NamedPiece → List NamedPiece
 without name ns = filter (λ n. not (bytes_eq n.name name)) ns
@@ -27,5 +32,5 @@ tell name columns ns = tell_found (find name ns) columns ns
 
 -- what values make of it, under another name, with these formats
 abbrev pub put_bound : List ℕ → List ValueFormat → Result StatementPiece TalkFault → Option NamedPiece → List NamedPiece → List NamedPiece
-put_bound name fs (Ok p) (Some n) ns = put (record n { name = name; piece = p; formats = fs; parameters = None }) ns
+put_bound name fs (Ok p) (Some n) ns = put (record n { name = name; piece = p; formats = fs; parameters = None; rest = None }) ns
 put_bound name fs r found ns = ns

@@ -40,11 +40,6 @@ table_outcome t (Some columns) rows = if are_rows_of columns rows then outcome.D
 table_outcome mode.Query None rows = outcome.Refused fault.OtherColumns
 table_outcome t None rows = outcome.Done
 
--- what the answer to a statement of a client comes to
-abbrev pub run_outcome : Mode → TalkBlock → Option (List ResultColumn) → Answer → Outcome
-run_outcome t b columns (answer.Rows rows) = table_outcome t columns rows
-run_outcome t b columns a = outcome_of b a
-
 -- what a description comes to, where its client was told these columns, if any: its statement is run if it has them still and there are formats for them, or refused as it would be
 abbrev pub are_known : Option (List ResultColumn) → List ResultColumn → Bool
 are_known None columns = true
@@ -62,6 +57,12 @@ abbrev pub commit_outcome : Answer → Outcome
 commit_outcome (answer.Refused s) = refusal s
 commit_outcome (answer.Done tag.Commit count w) = outcome.Done
 commit_outcome a = outcome.Breaks fault.Internal
+
+-- and what that to the RESET ROLE of DISCARD ALL does
+abbrev pub discard_outcome : Answer → Outcome
+discard_outcome (answer.Refused s) = refusal s
+discard_outcome (answer.Done tag.Reset count w) = outcome.Done
+discard_outcome a = outcome.Breaks fault.Internal
 
 -- what a client is warned of: it has not begun the block that stands around its statements, so that BEGIN makes it the client's, and at its end none
 -- of the client's is there

@@ -15,6 +15,8 @@ use Rattle.postgres_talks.specs.declared.fault.TalkFault.TheVariants as fault
 use Rattle.postgres_talks.specs.declared.piece.StatementPiece.{StatementPiece}
 use Rattle.postgres_talks.specs.declared.piece.StatementPiece.TheVariants as piece
 use Rattle.postgres_talks.specs.declared.settled.Settled.{Settled}
+use Rattle.postgres_talks.specs.declared.settled.Substitute.{Substitute}
+use Rattle.postgres_talks.specs.declared.settled.Substitute.TheVariants as substitute
 use Rattle.postgres_talks.specs.Settled.{lines, settled_in, substitutes, substitute_in}
 
 abbrev pub is_semicolon : TokenKind → Bool
@@ -77,11 +79,29 @@ abbrev pub begins_select : List Lexeme → Bool
 begins_select [] = false
 begins_select (t ∷ ts) = is_select t.kind
 
-abbrev pub plain : List ℕ → List Lexeme → StatementPiece
-plain slice ts = if names_catalogue ts then piece.Faulty fault.Catalogue else (if has_reserved ts then piece.Faulty fault.ReservedWord else (if begins_select ts then piece.Select slice else piece.Statement slice))
+-- and so is what writes no row: a block's beginning and its end, and what sets a role
+abbrev pub is_control : List ℕ → Bool
+is_control word = list_any (λ w. str_eq_ignore_ascii_case w word) (codes "begin" ∷ codes "start" ∷ codes "commit" ∷ codes "rollback" ∷ codes "set" ∷ codes "reset" ∷ [])
 
-abbrev pub by_substitute : Option (List ℕ) → List ℕ → List Lexeme → StatementPiece
-by_substitute (Some text) slice ts = piece.Statement text
+abbrev pub begins_control : List Lexeme → Bool
+begins_control [] = false
+begins_control (t ∷ ts) = is_control t.bytes
+
+abbrev pub asked : List ℕ → List Lexeme → StatementPiece
+asked slice ts = if begins_select ts then piece.Select slice else (if begins_control ts then piece.Control slice else piece.Statement slice)
+
+abbrev pub plain : List ℕ → List Lexeme → StatementPiece
+plain slice ts = if names_catalogue ts then piece.Faulty fault.Catalogue else (if has_reserved ts then piece.Faulty fault.ReservedWord else asked slice ts)
+
+abbrev pub substituted : Substitute → StatementPiece
+substituted substitute.Begin = piece.Control (codes "BEGIN")
+substituted substitute.BeginReadOnly = piece.BeginReadOnly
+substituted substitute.Commit = piece.Control (codes "COMMIT")
+substituted substitute.Rollback = piece.Control (codes "ROLLBACK")
+substituted substitute.DiscardAll = piece.DiscardAll
+
+abbrev pub by_substitute : Option Substitute → List ℕ → List Lexeme → StatementPiece
+by_substitute (Some s) slice ts = substituted s
 by_substitute None slice ts = plain slice ts
 
 abbrev pub by_settled : Option Settled → List ℕ → List Lexeme → StatementPiece

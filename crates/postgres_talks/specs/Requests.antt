@@ -3,6 +3,7 @@ use Rattle.std.specs.Prelude.{◌≡◌, ◌&&◌, ◌==◌, ℕ, Bool, true, fa
 use Rattle.std.specs.Str.{is_utf8}
 use Rattle.sql_ast.specs.declared.description.ResultColumn.{ResultColumn}
 use Rattle.sql_types.specs.declared.state.SqlState.TheVariants.{InvalidAuthorization, ProgramLimitExceeded, ProtocolViolation}
+use Rattle.sql_types.specs.declared.value.Value.{Value}
 use Rattle.postgres_messages.specs.Backend.{bind_complete, close_complete, parse_complete}
 use Rattle.postgres_messages.specs.Frontend.{TheMessage, statement, portal, TheBinding, bind, close, copy_data, copy_done, copy_fail, describe, execute, flush, parse, password, query, sync, terminate, SpellsMessage, is_text}
 use Rattle.postgres_messages.specs.Start.{TheParameter, TheStart, cancel_request, gss_request, ssl_request, startup, other_version, SpellsStart}
@@ -31,13 +32,14 @@ use Rattle.postgres_talks.specs.declared.piece.StatementPiece.TheVariants as pie
 use Rattle.postgres_talks.specs.declared.requests.Request.{Request}
 use Rattle.postgres_talks.specs.declared.requests.Request.TheVariants as request
 use Rattle.postgres_talks.specs.Sayings.{Saying, no_encryption, message, fatal_said}
-use Rattle.postgres_talks.specs.Moments.{describes_found, looks, ends, finishes, goes_on}
+use Rattle.postgres_talks.specs.Moments.{describes_found, discards, looks, ends, finishes, goes_on}
 use Rattle.postgres_messages.specs.declared.backend.ValueFormat.{ValueFormat}
 use Rattle.postgres_talks.specs.Formats.{are_format_codes, are_formats_for, format_of}
 use Rattle.postgres_talks.specs.Settled.{settled_row}
 use Rattle.postgres_talks.specs.Named.{find, put, put_bound, without}
 use Rattle.postgres_talks.specs.Parameters.{IsBoundPiece, declared_types, takes_values, type_count}
 use Rattle.postgres_talks.specs.Pieces.{ArePiecesOf}
+use Rattle.postgres_talks.specs.Portals.{held_in, left_by}
 use Rattle.postgres_talks.specs.Typing.{begins_typing, new_template}
 
 -- bytes that are no message
@@ -293,7 +295,7 @@ said_unless None r = said_to_done r
 
 abbrev pub left_of : Option NamedPiece → List StatementPiece
 left_of None = []
-left_of (Some n) = n.piece ∷ []
+left_of (Some n) = left_by n.rest n.piece
 
 -- the columns that its client was told
 abbrev pub columns_of : Option NamedPiece → Option (List ResultColumn)
@@ -306,7 +308,25 @@ formats_in None = []
 formats_in (Some n) = n.formats
 
 abbrev pub new_statement : List ℕ → StatementPiece → NamedPiece
-new_statement name p = record { name = name; piece = p; columns = None; formats = []; parameters = None }
+new_statement name p = record { name = name; piece = p; columns = None; formats = []; parameters = None; rest = None }
+
+-- with what was found under a name, which is no portal until it is known what is left of its answer
+abbrev pub executes : Option NamedPiece → List ℕ → ℕ → TalkMoment → TalkMoment
+executes found name n m = record m { left = left_of found; columns = columns_of found; formats = formats_in found; most = n; portal = found; portals = without name m.portals }
+
+-- DISCARD ALL begins no block
+abbrev pub carries_out : StatementPiece → TalkMoment → TalkMoment
+carries_out piece.DiscardAll m = discards m.block (record m { left = [] })
+carries_out p m = goes_on m
+
+-- what is left of an answer is told without the machine
+abbrev pub carries_by : Option (List (List Value)) → StatementPiece → TalkMoment → TalkMoment
+carries_by None p m = carries_out p m
+carries_by (Some rows) p m = looks stage.Resuming m
+
+abbrev pub carries_on : Option NamedPiece → TalkMoment → TalkMoment
+carries_on None m = goes_on m
+carries_on (Some n) m = carries_by n.rest n.piece m
 
 abbrev pub after_done_request : Request → TalkMoment → TalkMoment
 after_done_request (request.Login role) m = record m { stage = stage.Opening; want = want.Open 1 role anyone }
@@ -314,12 +334,12 @@ after_done_request (request.Statements pieces) m = goes_on (record m { left = pi
 after_done_request (request.Prepare name p) m = record m { statements = put (new_statement name p) m.statements }
 after_done_request (request.PrepareTemplate name t) m = begins_typing t (record m { name = name; statements = put (new_template name piece.Empty t) m.statements })
 after_done_request (request.Bind name prepared bound fs) m = record m { portals = put_bound name fs bound (find prepared m.statements) m.portals }
-after_done_request (request.Execute name n) m = goes_on (record m { left = left_of (find name m.portals); columns = columns_of (find name m.portals); formats = formats_in (find name m.portals); most = n; portals = without name m.portals })
+after_done_request (request.Execute name n) m = carries_on (find name m.portals) (executes (find name m.portals) name n m)
 after_done_request (request.DescribeStatement name) m = describes_found named.Statement (find name m.statements) (record m { name = name; formats = [] })
 after_done_request (request.DescribePortal name) m = describes_found named.Portal (find name m.portals) (record m { name = name; formats = formats_in (find name m.portals) })
 after_done_request (request.CloseStatement name) m = record m { statements = without name m.statements }
 after_done_request (request.ClosePortal name) m = record m { portals = without name m.portals }
-after_done_request request.Sync m = finishes m.block m.mode (record m { portals = [] })
+after_done_request request.Sync m = finishes m.block m.mode (record m { portals = held_in m.block m.portals })
 after_done_request request.Leave m = ends m
 after_done_request (request.Breaks f) m = ends m
 after_done_request r m = m

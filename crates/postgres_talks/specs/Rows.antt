@@ -14,6 +14,8 @@ use Rattle.postgres_messages.specs.declared.backend.DataType.TheVariants.{Int8, 
 use Rattle.postgres_messages.specs.declared.backend.ValueFormat.{ValueFormat}
 use Rattle.postgres_messages.specs.declared.backend.ValueFormat.TheVariants as format
 use Rattle.postgres_talks.specs.Formats.{next_format, other_formats}
+use Rattle.postgres_talks.specs.declared.moment.Mode.{Mode}
+use Rattle.postgres_talks.specs.declared.moment.Mode.TheVariants as mode
 use Rattle.postgres_talks.specs.Sayings.{Saying, message, complete_said}
 
 -- a value as text: a number in decimal, a truth value as t or f; null is none
@@ -99,7 +101,16 @@ select_tag n = codes "SELECT " ++ decimal n
 abbrev pub rows_said : List ValueFormat → List (List Value) → List Saying
 rows_said fs rows = map (row_said fs) rows ++ complete_said (select_tag (length rows)) ∷ []
 
--- where there are as many as are asked for at most, or more, those; the rest is not kept. 0 asks for all
+-- where there are as many as are asked for at most, or more, those. 0 asks for all
 abbrev pub limited_said : ℕ → List ValueFormat → List (List Value) → List Saying
 limited_said most fs rows =
     if most == 0 || nat_lt (length rows) most then rows_said fs rows else map (row_said fs) (take most rows) ++ message portal_suspended ∷ []
+
+-- rows follow their columns, but in a batch
+abbrev pub headed_said : Option (List ResultColumn) → List (List Value) → List Saying
+headed_said None rows = []
+headed_said (Some columns) rows = columns_said [] columns ∷ rows_said [] rows
+
+abbrev pub table_said : Mode → ℕ → List ValueFormat → Option (List ResultColumn) → List (List Value) → List Saying
+table_said mode.Query most fs columns rows = headed_said columns rows
+table_said t most fs columns rows = limited_said most fs rows

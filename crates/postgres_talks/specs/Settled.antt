@@ -4,6 +4,8 @@ use Rattle.std.specs.Str.{str_eq_ignore_ascii_case}
 use Rattle.postgres_texts.specs.declared.settings.SessionSetting.TheVariants as setting
 use Rattle.postgres_texts.specs.Settings.{name_of, initial_value}
 use Rattle.postgres_talks.specs.declared.settled.Settled.{Settled}
+use Rattle.postgres_talks.specs.declared.settled.Substitute.{Substitute}
+use Rattle.postgres_talks.specs.declared.settled.Substitute.TheVariants as substitute
 use Rattle.postgres_talks.specs.declared.settled.Settled.TheVariants.{Set, Reset, CloseAll, DeallocateAll, UnlistenAll, AdvisoryUnlockAll, CurrentSchema, Version, Show}
 
 -- lines, and what each is
@@ -45,19 +47,26 @@ abbrev pub settled_in : List (List ℕ × Settled) → List ℕ → Option Settl
 settled_in [] line = None
 settled_in (l ∷ ls) line = if str_eq_ignore_ascii_case l.0 line then Some l.1 else settled_in ls line
 
--- lines, and the statement of the language that each is
-abbrev pub substitutes : List (List ℕ × List ℕ)
+-- lines, and what each stands for
+abbrev pub substitutes : List (List ℕ × Substitute)
 substitutes =
-    (codes "end", codes "COMMIT")
-    ∷ (codes "end transaction", codes "COMMIT")
-    ∷ (codes "abort", codes "ROLLBACK")
-    ∷ (codes "abort transaction", codes "ROLLBACK")
-    ∷ (codes "begin isolation level read committed", codes "BEGIN")
-    ∷ (codes "begin transaction isolation level read committed", codes "BEGIN")
-    ∷ (codes "begin read write", codes "BEGIN")
+    (codes "end", substitute.Commit)
+    ∷ (codes "end transaction", substitute.Commit)
+    ∷ (codes "abort", substitute.Rollback)
+    ∷ (codes "abort transaction", substitute.Rollback)
+    ∷ (codes "begin isolation level read committed", substitute.Begin)
+    ∷ (codes "begin transaction isolation level read committed", substitute.Begin)
+    ∷ (codes "begin read write", substitute.Begin)
+    ∷ (codes "begin read only", substitute.BeginReadOnly)
+    ∷ (codes "begin transaction read only", substitute.BeginReadOnly)
+    ∷ (codes "start transaction read only", substitute.BeginReadOnly)
+    ∷ (codes "begin isolation level read committed read only", substitute.BeginReadOnly)
+    ∷ (codes "begin transaction isolation level read committed , read only", substitute.BeginReadOnly)
+    ∷ (codes "start transaction isolation level read committed , read only", substitute.BeginReadOnly)
+    ∷ (codes "discard all", substitute.DiscardAll)
     ∷ []
 
-abbrev pub substitute_in : List (List ℕ × List ℕ) → List ℕ → Option (List ℕ)
+abbrev pub substitute_in : List (List ℕ × Substitute) → List ℕ → Option Substitute
 substitute_in [] line = None
 substitute_in (l ∷ ls) line = if str_eq_ignore_ascii_case l.0 line then Some l.1 else substitute_in ls line
 

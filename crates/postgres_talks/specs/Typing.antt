@@ -76,7 +76,7 @@ abbrev pub typed : ℕ → ParameterKind → TypedTemplate → TypedTemplate
 typed at c t = record t { types = set t.types at (type_of_kind c) }
 
 abbrev pub new_template : List ℕ → StatementPiece → TypedTemplate → NamedPiece
-new_template name p t = record { name = name; piece = p; columns = None; formats = []; parameters = Some t }
+new_template name p t = record { name = name; piece = p; columns = None; formats = []; parameters = Some t; rest = None }
 
 abbrev pub keeps : StatementPiece → TypedTemplate → TalkMoment → TalkMoment
 keeps p t m = record m { statements = put (new_template m.name p t) m.statements }

@@ -1,11 +1,10 @@
 //! Blocks, and by which rules messages are answered.
 
 ghost use Rattle.std.specs.Prelude.{◌≡◌};
-ghost use Rattle.postgres_talks.specs.Moments.{block_after, block_answered, came_out, entered, is_several, is_several_in, skipping, spares, spoiled_by};
+ghost use Rattle.postgres_talks.specs.Moments.{block_after, came_out, entered, is_several, is_several_in, skipping, spares, spoiled_by, still_reads};
 
 use crate::fault::TalkFault;
 use crate::moment::{Mode, TalkBlock};
-use sql_types::answer::Answer;
 use sql_types::tag::Tag;
 
 // Whether statements outside a block are one block.
@@ -44,21 +43,8 @@ pub(crate) fn spares(fault: TalkFault) -> bool
     matches!(fault, TalkFault::Catalogue)
 }
 
-// The block that a statement leaves, by its answer.
-pub(crate) fn block_answered(block: TalkBlock, answer: &Answer) -> TalkBlock
-    ensures { result ≡ block_answered block answer.now }
-{
-    match answer {
-        Answer::Done {
-            tag,
-            count: _,
-            warning: _,
-        } => block_after(block, *tag),
-        _ => block,
-    }
-}
-
-fn block_after(block: TalkBlock, tag: Tag) -> TalkBlock
+// The block that a statement leaves, by what it has done.
+pub(crate) fn block_after(block: TalkBlock, tag: Tag) -> TalkBlock
     ensures { result ≡ block_after block tag }
 {
     match tag {
@@ -88,6 +74,16 @@ pub(crate) fn came_out(block: TalkBlock) -> TalkBlock
     match block {
         TalkBlock::Implicit => TalkBlock::Outside,
         _ => block,
+    }
+}
+
+// That nothing is written holds up to the end of a block.
+pub(crate) fn still_reads(block: TalkBlock, reads: bool) -> bool
+    ensures { result ≡ still_reads block reads }
+{
+    match block {
+        TalkBlock::Outside => false,
+        _ => reads,
     }
 }
 

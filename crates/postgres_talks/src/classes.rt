@@ -2,13 +2,12 @@
 
 ghost use Rattle.std.specs.Prelude.{◌≡◌, ◌++◌, ◌∷◌, IfOk, OnOk, string_bytes};
 ghost use Rattle.std.specs.List.{flat_map};
-ghost use Rattle.std.specs.Option.{option_map};
 ghost use Rattle.sql_lexer.specs.Lexeme.{lexeme, lexemes};
-ghost use Rattle.postgres_talks.specs.Pieces.{by_settled, begins_select, by_substitute, has_reserved, is_catalogue, is_dot, is_joining, is_reserved_as, is_select, joins_catalogue, line_of, mentions, mentions_catalogue, names_catalogue, piece_of, plain};
+ghost use Rattle.postgres_talks.specs.Pieces.{asked, by_settled, begins_control, begins_select, by_substitute, has_reserved, is_catalogue, is_control, is_dot, is_joining, is_reserved_as, is_select, joins_catalogue, line_of, mentions, mentions_catalogue, names_catalogue, piece_of, plain, substituted};
 
 use crate::fault::TalkFault;
 use crate::piece::StatementPiece;
-use crate::settled::{Settled, substitute_of};
+use crate::settled::{Settled, Substitute, substitute_of};
 use crate::words::is_same_word;
 use postgres_texts::reserved::is_reserved;
 use sql_lexer::token::{Punctuation, Reserved, Token, TokenKind};
@@ -32,15 +31,27 @@ pub(crate) fn piece_of(
 
 fn by_substitute(
     alloc: Global,
-    substitute: Option<&str>,
+    substitute: Option<Substitute>,
     slice: &str,
     tokens: &[Token],
 ) -> Result<StatementPiece, AllocError>
-    ensures { IfOk result (λ piece. piece ≡ by_substitute (option_map (λ text. text.now) substitute.entry) slice.now (lexemes tokens.now)) }
+    ensures { IfOk result (λ piece. piece ≡ by_substitute substitute slice.now (lexemes tokens.now)) }
 {
     match substitute {
-        Some(text) => Ok(StatementPiece::Statement(Text::from_str(alloc, text)?)),
+        Some(substitute) => substituted(alloc, substitute),
         None => plain(alloc, slice, tokens),
+    }
+}
+
+fn substituted(alloc: Global, substitute: Substitute) -> Result<StatementPiece, AllocError>
+    ensures { IfOk result (λ piece. piece ≡ substituted substitute) }
+{
+    match substitute {
+        Substitute::Begin => Ok(StatementPiece::Control(Text::from_str(alloc, "BEGIN")?)),
+        Substitute::BeginReadOnly => Ok(StatementPiece::BeginReadOnly),
+        Substitute::Commit => Ok(StatementPiece::Control(Text::from_str(alloc, "COMMIT")?)),
+        Substitute::Rollback => Ok(StatementPiece::Control(Text::from_str(alloc, "ROLLBACK")?)),
+        Substitute::DiscardAll => Ok(StatementPiece::DiscardAll),
     }
 }
 
@@ -54,10 +65,41 @@ fn plain(alloc: Global, slice: &str, tokens: &[Token]) -> Result<StatementPiece,
         return Ok(StatementPiece::Faulty(TalkFault::ReservedWord));
     }
     let text = Text::from_str(alloc, slice)?;
+    Ok(asked(text, tokens))
+}
+
+// A statement that the machine is asked.
+fn asked(text: Text, tokens: &[Token]) -> StatementPiece
+    ensures { result ≡ asked text (lexemes tokens.now) }
+{
     if begins_select(tokens) {
-        return Ok(StatementPiece::Select(text));
+        return StatementPiece::Select(text);
     }
-    Ok(StatementPiece::Statement(text))
+    if begins_control(tokens) {
+        return StatementPiece::Control(text);
+    }
+    StatementPiece::Statement(text)
+}
+
+// Whether a statement writes no row, by its first token.
+fn begins_control(tokens: &[Token]) -> bool
+    ensures { result ≡ begins_control (lexemes tokens.now) }
+{
+    match tokens {
+        [] => false,
+        [first, ..] => is_control(first.text.as_bytes()),
+    }
+}
+
+fn is_control(word: &[u8]) -> bool
+    ensures { result ≡ is_control word.now }
+{
+    is_same_word(b"begin", word)
+        || is_same_word(b"start", word)
+        || is_same_word(b"commit", word)
+        || is_same_word(b"rollback", word)
+        || is_same_word(b"set", word)
+        || is_same_word(b"reset", word)
 }
 
 // Whether a statement is a SELECT, by its first token.

@@ -51,6 +51,10 @@ pub enum TalkFault {
     InvalidBinary,
     /// `XX000`: a statement with its values has other tokens than it is to have.
     OtherTokens,
+    /// `25001`: a statement that stands in no block.
+    InsideBlock,
+    /// `25006`: a statement that may write, in a block that only reads.
+    OnlyReads,
 }
 
 impl TalkFault {
@@ -79,6 +83,8 @@ impl TalkFault {
             TalkFault::InvalidText => "22P02",
             TalkFault::InvalidBinary => "22P03",
             TalkFault::OtherTokens => "XX000",
+            TalkFault::InsideBlock => "25001",
+            TalkFault::OnlyReads => "25006",
         }
     }
 
@@ -109,6 +115,8 @@ impl TalkFault {
             TalkFault::InvalidText => "invalid input syntax for the type of a parameter",
             TalkFault::InvalidBinary => "incorrect binary data format in a parameter",
             TalkFault::OtherTokens => "statement with its values has other tokens",
+            TalkFault::InsideBlock => "DISCARD ALL cannot run inside a transaction block",
+            TalkFault::OnlyReads => "cannot execute statement in a read-only transaction",
         }
     }
 }

@@ -1,24 +1,33 @@
 //! What a conversation makes of a client's bytes.
 
-ghost use Rattle.std.specs.Prelude.{◌≡◌, ◌⊎◌, ℕ, false, List, [], All, IsSome, None, Some};
+ghost use Rattle.std.specs.Prelude.{◌≡◌, ◌⊎◌, ℕ, false, true, List, [], ◌∷◌, ◌++◌, filter, map, All, IsSome, Option, None, Some};
 ghost use Rattle.sql_ast.specs.declared.description.ResultColumn.{ResultColumn as TheResultColumn};
 ghost use Rattle.sql_types.specs.declared.answer.Answer.{Answer as TheAnswer};
+ghost use Rattle.sql_types.specs.declared.value.Value.{Value as TheValue};
 ghost use Rattle.talks.specs.Wants.{Learnt};
 ghost use Rattle.talks.specs.Conversations.{Heard};
+ghost use Rattle.talks.specs.declared.want.BlockStanding.{BlockStanding as TheStanding};
 ghost use Rattle.talks.specs.declared.want.Reply.{Reply as TheReply};
 ghost use Rattle.talks.specs.declared.want.Want.{Want as TheWant};
 ghost use Rattle.postgres_talks.specs.declared.moment.Mode.{Mode as TheMode};
 ghost use Rattle.postgres_talks.specs.declared.moment.TalkBlock.{TalkBlock as TheBlock};
 ghost use Rattle.postgres_talks.specs.declared.moment.TalkMoment.{TalkMoment as TheMoment};
 ghost use Rattle.postgres_talks.specs.declared.moment.TalkStage.{TalkStage as TheStage};
+ghost use Rattle.postgres_messages.specs.declared.backend.ValueFormat.{ValueFormat as TheFormat};
+ghost use Rattle.postgres_talks.specs.declared.named_pieces.NamedPiece.{NamedPiece as ThePortal};
+ghost use Rattle.postgres_talks.specs.declared.outcome.Outcome.{Outcome as TheOutcome};
 ghost use Rattle.postgres_talks.specs.declared.postgres_talk.PostgresTalk.{PostgresTalk as TheTalk};
 ghost use Rattle.postgres_talks.specs.declared.requests.Request.{Request as TheRequest};
 ghost use Rattle.postgres_talks.specs.Blocks.{IsOfAnswer, IsPassedOver, outside, seen_all};
 ghost use Rattle.postgres_talks.specs.Fitting.{RowsFit};
+ghost use Rattle.postgres_talks.specs.Fetches.{ArePieces, fetches, is_row, left_behind, pieces_said};
+ghost use Rattle.postgres_talks.specs.Named.{find};
+ghost use Rattle.postgres_talks.specs.Outcomes.{table_outcome};
+ghost use Rattle.postgres_talks.specs.Portals.{holds};
 ghost use Rattle.postgres_talks.specs.Units.{IsCommitAnswer, RollsBack, SaysError};
-ghost use Rattle.postgres_talks.specs.Moments.{after_reply, ends, first_moment, said_to_reply};
-ghost use Rattle.postgres_talks.specs.Played.{Input, PlayedOrGaveUp, TakesIn, after_input, said_in, said_to_input};
-ghost use Rattle.postgres_talks.specs.Rows.{described_columns};
+ghost use Rattle.postgres_talks.specs.Moments.{after_reply, ends, first_moment, ran, said_to_reply};
+ghost use Rattle.postgres_talks.specs.Played.{Input, PlayedOrGaveUp, TakesIn, after_input, said_in, said_to_input, told};
+ghost use Rattle.postgres_talks.specs.Rows.{described_columns, row_said};
 ghost use Rattle.postgres_talks.specs.Requests.{after_request, said_to_request};
 
 use crate::postgres_talk::PostgresTalk;
@@ -71,4 +80,20 @@ pub fn rows_fit_their_columns()
     ensures queries { (m : TheMoment) (i : Input) → m.mode ≡ TheMode.Query → RowsFit None (said_to_input m i) }
     ensures batches { (m : TheMoment) (columns : List TheResultColumn) (a : TheAnswer) → m.mode ≡ TheMode.Batch → m.stage ≡ TheStage.Running
         → m.columns ≡ Some columns → RowsFit (Some (described_columns m.formats columns)) (said_to_reply m (TheReply.Answer a)) }
+    ensures portals { (m : TheMoment) (columns : List TheResultColumn) (s : Option TheStanding) → m.mode ≡ TheMode.Batch → m.stage ≡ TheStage.Resuming
+        → m.columns ≡ Some columns → RowsFit (Some (described_columns m.formats columns)) (said_to_reply m (TheReply.Standing s)) }
+{}
+
+/// A portal whose rows are asked for in pieces, in a block that is open, tells each row of its answer once, in order. Each piece has as
+/// many rows as were asked for, and behind them stands that others may follow; the last has those that are left, and a tag that counts
+/// them. It is run once: an Execute of what is left wants no event, but how the block stands.
+pub fn portals_tell_each_row_once()
+    ensures pieces { (m : TheMoment) (n : ThePortal) (rows : List (List TheValue)) (limits : List ℕ) → m.stage ≡ TheStage.Running → m.mode ≡ TheMode.Batch
+        → m.left ≡ [] → m.portal ≡ Some n → n.formats ≡ m.formats → holds m.block ≡ true → ran m (TheAnswer.Rows rows) ≡ TheOutcome.Done
+        → table_outcome TheMode.Batch n.columns rows ≡ TheOutcome.Done → ArePieces rows (m.most ∷ limits)
+        → said_in m (told (TheReply.Answer (TheAnswer.Rows rows)) ∷ fetches n.name limits) ≡ pieces_said m.formats rows (m.most ∷ limits) }
+    ensures joined { (formats : List TheFormat) (rows : List (List TheValue)) (limits : List ℕ) → ArePieces rows limits
+        → filter is_row (pieces_said formats rows limits) ++ map (row_said formats) (left_behind rows limits) ≡ map (row_said formats) rows }
+    ensures runs_once { (m : TheMoment) (n : ThePortal) (name : List ℕ) (rows : List (List TheValue)) (limit : ℕ) → find name m.portals ≡ Some n
+        → n.rest ≡ Some rows → (m.mode ≡ TheMode.Skipping) ⊎ ((after_request (TheRequest.Execute name limit) m).want ≡ TheWant.Standing 1) }
 {}

@@ -15,6 +15,7 @@ pub mod parameters;
 mod parsing;
 pub mod piece;
 mod pieces;
+mod portals;
 pub mod postgres_talk;
 pub mod requests;
 mod rows;

@@ -1,20 +1,22 @@
 //! How a connection stands.
 
 ghost use Rattle.std.specs.Prelude.{◌≡◌, OnOk};
-ghost use Rattle.postgres_talks.specs.Outcomes.{commit_outcome};
-ghost use Rattle.postgres_talks.specs.Moments.{after_answer, after_done, after_opened, after_outcome, after_reply, after_rolled_back, asks, closes, closes_or_listens, describes, ends, finishes, first_moment, goes_on, listens, looks, selects, selects_known, starts_on};
+ghost use Rattle.postgres_talks.specs.Outcomes.{commit_outcome, discard_outcome};
+ghost use Rattle.postgres_talks.specs.Moments.{after_answer, after_done, after_opened, after_outcome, after_reply, after_rolled_back, asks, closes, closes_or_listens, describes, discards, ends, finishes, first_moment, forgets, goes_on, listens, looks, selects, selects_known, starts_on, writes_unless};
 
-use crate::blocks::{block_answered, came_out, entered, is_several};
+use crate::blocks::{came_out, entered, is_several};
 use crate::fault::TalkFault;
 use crate::formats::ResultFormats;
-use crate::named_pieces::NamedPieces;
-use crate::outcome::{Outcome, commit_outcome, outcome_of, run_outcome};
+use crate::named_pieces::{NamedPiece, NamedPieces};
+use crate::outcome::{Outcome, commit_outcome, discard_outcome, outcome_of};
 use crate::piece::{PieceQueue, StatementPiece};
+use crate::portals::ran;
 use crate::settled::Settled;
 use sql_ast::description::ResultColumn;
 use sql_types::answer::Answer;
 use sql_types::event::Event;
 use sql_types::items::Items;
+use sql_types::state::SqlState;
 use sql_types::text::Text;
 use statement_parameters::types::ParameterKind;
 use std::alloc::{AllocError, Global};
@@ -70,6 +72,10 @@ pub enum TalkStage {
     Describing,
     /// The answer to a statement.
     Running,
+    /// The answer to the RESET ROLE of DISCARD ALL.
+    Discarding,
+    /// How the block stands, where the rows are to be told that are left of the answer to a portal.
+    Resuming,
     /// That the block around several statements is committed.
     Committing,
     /// That it is rolled back.
@@ -118,8 +124,12 @@ pub struct TalkMoment {
     pub name: Text,
     /// What was prepared.
     pub statements: NamedPieces,
+    /// The portal that is carried out, until it is known what is left of its answer.
+    pub portal: Option<NamedPiece>,
     /// What was bound.
     pub portals: NamedPieces,
+    /// Whether nothing is written up to the end of its block.
+    pub read_only: bool,
     /// What it wants.
     pub want: Want,
 }
@@ -140,7 +150,9 @@ impl TalkMoment {
             most: 0,
             name: Text::from_string(String::new(alloc)),
             statements: NamedPieces::new(alloc),
+            portal: None,
             portals: NamedPieces::new(alloc),
+            read_only: false,
             want: Want::Message,
         }
     }
@@ -212,27 +224,65 @@ impl TalkMoment {
             return self.ask(alloc, TalkStage::Beginning, "BEGIN");
         }
         match self.left.pop() {
-            Some(piece) => {
-                self.start_on(piece);
-                Ok(())
-            }
+            Some(piece) => self.start_on(alloc, piece),
             None => self.finish(alloc),
         }
     }
 
-    fn start_on(&mut self, piece: StatementPiece)
-        ensures { self.new ≡ starts_on piece self.old }
+    fn start_on(&mut self, alloc: Global, piece: StatementPiece) -> Result<(), AllocError>
+        ensures { OnOk result (self.new ≡ starts_on piece self.old) }
     {
         match piece {
-            StatementPiece::Statement(text) => {
-                self.columns = None;
-                self.run(TalkStage::Running, text);
-            }
+            StatementPiece::Statement(text) => self.write(text),
+            StatementPiece::Control(text) => self.control(text),
+            StatementPiece::BeginReadOnly => return self.begin_read_only(alloc),
+            StatementPiece::DiscardAll => return self.discard(alloc),
             StatementPiece::Select(text) => self.select(text),
             StatementPiece::Settled(settled) => self.look(TalkStage::Settling(settled)),
             StatementPiece::Faulty(fault) => self.look(TalkStage::Refusing(fault)),
             StatementPiece::Empty => self.look(TalkStage::Emptying),
         }
+        Ok(())
+    }
+
+    // In a block that only reads nothing is written.
+    fn write(&mut self, text: Text)
+        ensures { self.new ≡ writes_unless self.old.read_only text self.old }
+    {
+        if self.read_only {
+            self.look(TalkStage::Refusing(TalkFault::OnlyReads));
+        } else {
+            self.control(text);
+        }
+    }
+
+    fn control(&mut self, text: Text)
+        ensures { self.new ≡ asks TalkStage.Running text (record self.old { columns = None }) }
+    {
+        self.columns = None;
+        self.run(TalkStage::Running, text);
+    }
+
+    fn begin_read_only(&mut self, alloc: Global) -> Result<(), AllocError>
+        ensures { OnOk result (self.new ≡ starts_on StatementPiece.BeginReadOnly self.old) }
+    {
+        self.columns = None;
+        self.read_only = true;
+        self.ask(alloc, TalkStage::Running, "BEGIN")
+    }
+
+    // What was prepared is forgotten in no block.
+    pub(crate) fn discard(&mut self, alloc: Global) -> Result<(), AllocError>
+        ensures { OnOk result (self.new ≡ discards self.old.block self.old) }
+    {
+        match self.block {
+            TalkBlock::Outside => return self.ask(alloc, TalkStage::Discarding, "RESET ROLE"),
+            TalkBlock::Failed => self.look(TalkStage::Refusing(TalkFault::Refused(
+                SqlState::InFailedTransaction,
+            ))),
+            _ => self.look(TalkStage::Refusing(TalkFault::InsideBlock)),
+        }
+        Ok(())
     }
 
     // Before a SELECT is run its columns are asked for, but in a batch where its client was told none.
@@ -299,7 +349,7 @@ impl TalkMoment {
                 self.take_outcome(alloc, outcome_of(self.block, answer), answer)
             }
             TalkStage::Running => {
-                let outcome = run_outcome(self.mode, self.block, &self.columns, answer);
+                let outcome = ran(self, answer);
                 self.take_outcome(alloc, outcome, answer)
             }
             TalkStage::Committing => {
@@ -310,6 +360,7 @@ impl TalkMoment {
                 self.take_rolled_back(answer);
                 Ok(())
             }
+            TalkStage::Discarding => self.take_discarded(alloc, answer),
             TalkStage::Failing(fault) => {
                 self.look(TalkStage::Judging(fault));
                 Ok(())
@@ -361,7 +412,7 @@ impl TalkMoment {
                 self.go_on(alloc)
             }
             _ => {
-                self.block = block_answered(self.block, answer);
+                self.keep_answer(alloc, answer)?;
                 self.go_on(alloc)
             }
         }
@@ -374,11 +425,29 @@ impl TalkMoment {
         match commit_outcome(answer) {
             Outcome::Done => {
                 self.block = came_out(self.block);
+                self.portals.clear();
+                self.read_only = false;
                 self.look(TalkStage::Closing);
             }
             Outcome::Refused(fault) => self.look(TalkStage::Refusing(fault)),
             Outcome::Breaks(_) => self.end(),
         }
+    }
+
+    fn take_discarded(&mut self, alloc: Global, answer: &Answer) -> Result<(), AllocError>
+        ensures { OnOk result (self.new ≡ after_outcome (discard_outcome answer.now) self.old (goes_on (forgets self.old))) }
+    {
+        match discard_outcome(answer) {
+            Outcome::Done => {
+                self.statements.clear();
+                self.portal = None;
+                self.portals.clear();
+                return self.go_on(alloc);
+            }
+            Outcome::Refused(fault) => self.look(TalkStage::Refusing(fault)),
+            Outcome::Breaks(_) => self.end(),
+        }
+        Ok(())
     }
 
     fn take_rolled_back(&mut self, answer: &Answer)
@@ -388,6 +457,8 @@ impl TalkMoment {
             Answer::Refused(_) => self.end(),
             _ => {
                 self.block = came_out(self.block);
+                self.portals.clear();
+                self.read_only = false;
                 self.close_or_listen();
             }
         }

@@ -1,7 +1,7 @@
 //! What an answer to a step comes to.
 
 ghost use Rattle.std.specs.Prelude.{◌≡◌};
-ghost use Rattle.postgres_talks.specs.Outcomes.{are_known, commit_outcome, description_outcome, outcome_of, refusal, run_outcome, table_outcome, warning_of};
+ghost use Rattle.postgres_talks.specs.Outcomes.{are_known, commit_outcome, description_outcome, discard_outcome, outcome_of, refusal, table_outcome, warning_of};
 
 use crate::fault::TalkFault;
 use crate::formats::are_formats_for;
@@ -46,23 +46,8 @@ pub(crate) fn outcome_of(block: TalkBlock, answer: &Answer) -> Outcome
     }
 }
 
-// What the answer to a statement of a client comes to, of which these columns are known, if some are.
-pub(crate) fn run_outcome(
-    mode: Mode,
-    block: TalkBlock,
-    columns: &Option<Items<ResultColumn>>,
-    answer: &Answer,
-) -> Outcome
-    ensures { result ≡ run_outcome mode block columns.now answer.now }
-{
-    match answer {
-        Answer::Rows(rows) => table_outcome(mode, columns, rows.as_slice()),
-        _ => outcome_of(block, answer),
-    }
-}
-
 // Rows are told where they are those of the columns that their client knows; in a batch it may know none.
-fn table_outcome(
+pub(crate) fn table_outcome(
     mode: Mode,
     columns: &Option<Items<ResultColumn>>,
     rows: &[Items<Value>],
@@ -122,6 +107,21 @@ pub(crate) fn commit_outcome(answer: &Answer) -> Outcome
     match answer {
         Answer::Done {
             tag: Tag::Commit,
+            count: _,
+            warning: _,
+        } => Outcome::Done,
+        Answer::Refused(state) => refusal(*state),
+        _ => Outcome::Breaks(TalkFault::Internal),
+    }
+}
+
+// What the answer to the RESET ROLE of DISCARD ALL comes to.
+pub(crate) fn discard_outcome(answer: &Answer) -> Outcome
+    ensures { result ≡ discard_outcome answer.now }
+{
+    match answer {
+        Answer::Done {
+            tag: Tag::Reset,
             count: _,
             warning: _,
         } => Outcome::Done,

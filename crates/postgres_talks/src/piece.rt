@@ -15,6 +15,12 @@ use std::marker::Model;
 pub enum StatementPiece {
     /// The machine is asked.
     Statement(Text),
+    /// The machine is asked, and no row is written: blocks begin and end, and roles are set.
+    Control(Text),
+    /// The machine is asked for a block, in which nothing is written.
+    BeginReadOnly,
+    /// The machine is asked for the role of the login, and what was prepared is forgotten.
+    DiscardAll,
     /// The machine is asked, and answers rows.
     Select(Text),
     /// It is answered without the machine.
@@ -29,6 +35,9 @@ impl TryCopy for StatementPiece {
     fn try_copy(&self, alloc: Global) -> Result<StatementPiece, AllocError> {
         match self {
             StatementPiece::Statement(text) => Ok(StatementPiece::Statement(text.try_copy(alloc)?)),
+            StatementPiece::Control(text) => Ok(StatementPiece::Control(text.try_copy(alloc)?)),
+            StatementPiece::BeginReadOnly => Ok(StatementPiece::BeginReadOnly),
+            StatementPiece::DiscardAll => Ok(StatementPiece::DiscardAll),
             StatementPiece::Select(text) => Ok(StatementPiece::Select(text.try_copy(alloc)?)),
             StatementPiece::Settled(settled) => Ok(StatementPiece::Settled(*settled)),
             StatementPiece::Faulty(fault) => Ok(StatementPiece::Faulty(*fault)),

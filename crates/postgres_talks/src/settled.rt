@@ -82,15 +82,44 @@ const LINES: [(&str, Settled); 29] = [
     ("show timezone", Settled::Show(SessionSetting::TimeZone)),
 ];
 
-/// Lines, and the statement of the language that each is.
-const SUBSTITUTES: [(&str, &str); 7] = [
-    ("end", "COMMIT"),
-    ("end transaction", "COMMIT"),
-    ("abort", "ROLLBACK"),
-    ("abort transaction", "ROLLBACK"),
-    ("begin isolation level read committed", "BEGIN"),
-    ("begin transaction isolation level read committed", "BEGIN"),
-    ("begin read write", "BEGIN"),
+/// What a line stands for that is no statement of the language.
+#[derive(Clone, Copy, PartialEq, Eq)]
+pub enum Substitute {
+    Begin,
+    BeginReadOnly,
+    Commit,
+    Rollback,
+    DiscardAll,
+}
+
+/// Lines, and what each stands for.
+const SUBSTITUTES: [(&str, Substitute); 14] = [
+    ("end", Substitute::Commit),
+    ("end transaction", Substitute::Commit),
+    ("abort", Substitute::Rollback),
+    ("abort transaction", Substitute::Rollback),
+    ("begin isolation level read committed", Substitute::Begin),
+    (
+        "begin transaction isolation level read committed",
+        Substitute::Begin,
+    ),
+    ("begin read write", Substitute::Begin),
+    ("begin read only", Substitute::BeginReadOnly),
+    ("begin transaction read only", Substitute::BeginReadOnly),
+    ("start transaction read only", Substitute::BeginReadOnly),
+    (
+        "begin isolation level read committed read only",
+        Substitute::BeginReadOnly,
+    ),
+    (
+        "begin transaction isolation level read committed , read only",
+        Substitute::BeginReadOnly,
+    ),
+    (
+        "start transaction isolation level read committed , read only",
+        Substitute::BeginReadOnly,
+    ),
+    ("discard all", Substitute::DiscardAll),
 ];
 
 impl Settled {
@@ -145,18 +174,15 @@ fn settled_in(mut lines: &[(&str, Settled)], line: &str) -> Option<Settled>
     None
 }
 
-/// The statement of the language that a line is, in any case, if it is one of these.
-pub fn substitute_of(line: &str) -> Option<&'static str>
-    ensures { option_map (λ text. text.now) result ≡ substitute_in substitutes line.now }
+/// What a line stands for, in any case, if it is one of these.
+pub fn substitute_of(line: &str) -> Option<Substitute>
+    ensures { result ≡ substitute_in substitutes line.now }
 {
     substitute_in(&SUBSTITUTES, line)
 }
 
-fn substitute_in(
-    mut lines: &'static [(&'static str, &'static str)],
-    line: &str,
-) -> Option<&'static str>
-    ensures { option_map (λ text. text.now) result ≡ substitute_in (map (λ l. (l.0.now, l.1.now)) lines.entry.now) line.now }
+fn substitute_in(mut lines: &[(&str, Substitute)], line: &str) -> Option<Substitute>
+    ensures { result ≡ substitute_in (map (λ l. (l.0.now, l.1)) lines.entry.now) line.now }
 {
     while let [first, rest @ ..] = lines {
         if is_same_word(first.0.as_bytes(), line.as_bytes()) {

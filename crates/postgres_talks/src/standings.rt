@@ -2,10 +2,12 @@
 
 ghost use Rattle.std.specs.Prelude.{◌≡◌, OnOk};
 ghost use Rattle.postgres_talks.specs.Moments.{after_closing, after_emptying, after_failed, after_judging, after_refusing, after_row_told, after_settling, after_standing};
+ghost use Rattle.postgres_talks.specs.Portals.{held_in};
 
-use crate::blocks::{skipping, spares, spoiled_by};
+use crate::blocks::{skipping, spares, spoiled_by, still_reads};
 use crate::fault::TalkFault;
 use crate::moment::{TalkBlock, TalkMoment, TalkStage};
+use crate::portals::holds;
 use sql_types::state::SqlState;
 use std::alloc::{AllocError, Global};
 use talks::want::BlockStanding;
@@ -24,6 +26,7 @@ impl TalkMoment {
             TalkStage::Judging(fault) => self.take_judging(alloc, fault, standing),
             TalkStage::Settling(_) => self.take_settling(alloc, standing),
             TalkStage::Emptying => self.take_emptying(alloc, standing),
+            TalkStage::Resuming => self.take_resuming(alloc, standing),
             TalkStage::TellingRow(_, _) => self.take_row_told(alloc, standing),
             TalkStage::TellingNothing(_) => {
                 self.take_closing(standing);
@@ -145,12 +148,26 @@ impl TalkMoment {
     {
         self.left.clear();
         self.mode = skipping(self.mode);
+        self.portal = None;
         if matches!(self.block, TalkBlock::Implicit) {
+            self.portals.clear();
+            self.read_only = false;
             return self.ask(alloc, TalkStage::RollingBack, "ROLLBACK");
         }
         self.block = spoiled_by(spares(fault), self.block);
+        self.read_only = still_reads(self.block, self.read_only);
+        self.hold_portals();
         self.listen();
         Ok(())
+    }
+
+    // Keeps the portals of a block that is open, and no others.
+    pub(crate) fn hold_portals(&mut self)
+        ensures { self.new ≡ record self.old { portals = held_in self.old.block self.old.portals } }
+    {
+        if !holds(self.block) {
+            self.portals.clear();
+        }
     }
 
     fn take_closing(&mut self, standing: Option<BlockStanding>)

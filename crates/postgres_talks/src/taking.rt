@@ -2,8 +2,9 @@
 
 ghost use Rattle.std.specs.Prelude.{◌≡◌, IfOk, OnOk};
 ghost use Rattle.std.specs.Option.{option_copied, option_map};
-ghost use Rattle.postgres_talks.specs.Requests.{after_done_request, after_unless, bind_fault, bound_fault, columns_of, fault_of, formats_fault, formats_in, heeded, heeded_skipping, if_found, is_taken, known_width, left_of, mode_for, or_else, piece_width, prepare_fault, row_width, said_to_done, said_unless, width_fault};
+ghost use Rattle.postgres_talks.specs.Requests.{after_done_request, after_unless, bind_fault, bound_fault, carries_on, columns_of, executes, fault_of, formats_fault, formats_in, heeded, heeded_skipping, if_found, is_taken, known_width, left_of, mode_for, or_else, piece_width, prepare_fault, row_width, said_to_done, said_unless, width_fault};
 ghost use Rattle.postgres_talks.specs.Named.{find, put_bound};
+ghost use Rattle.postgres_talks.specs.Portals.{held_in, left_by, rest_of};
 ghost use Rattle.postgres_talks.specs.Sayings.{Puts};
 
 use crate::fault::TalkFault;
@@ -12,6 +13,7 @@ use crate::moment::{DescribedKind, Mode, SESSION, TalkMoment, TalkStage};
 use crate::named_pieces::{NamedPiece, NamedPieces};
 use crate::parameters::TypedTemplate;
 use crate::piece::{PieceQueue, StatementPiece};
+use crate::portals::{is_discard, is_resumed};
 use crate::requests::Request;
 use crate::rows::copied;
 use crate::said::Said;
@@ -291,6 +293,7 @@ fn take_done(alloc: Global, moment: &mut TalkMoment, asked: Request) -> Result<(
                 columns: None,
                 formats: ResultFormats::new(alloc),
                 parameters: None,
+                rest: None,
             });
         }
         Request::PrepareTemplate(name, template) => {
@@ -305,7 +308,7 @@ fn take_done(alloc: Global, moment: &mut TalkMoment, asked: Request) -> Result<(
         Request::CloseStatement(name) => moment.statements.remove(name.as_str()),
         Request::ClosePortal(name) => moment.portals.remove(name.as_str()),
         Request::Sync => {
-            moment.portals.clear();
+            moment.hold_portals();
             return moment.finish(alloc);
         }
         Request::Leave | Request::Breaks(_) => moment.end(),
@@ -369,12 +372,27 @@ fn bind(
 fn execute(alloc: Global, moment: &mut TalkMoment, name: &Text, most: u32) -> Result<(), AllocError>
     ensures { OnOk result (moment.new ≡ after_done_request (Request.Execute name.now most) moment.old) }
 {
-    let found = moment.portals.find(name.as_str());
-    moment.left = left_of(alloc, found)?;
-    moment.columns = columns_of(alloc, found)?;
-    moment.formats = formats_in(alloc, found)?;
+    let found = moment.portals.take(name.as_str());
+    moment.left = left_of(alloc, found.as_ref())?;
+    moment.columns = columns_of(alloc, found.as_ref())?;
+    moment.formats = formats_in(alloc, found.as_ref())?;
     moment.most = most;
-    moment.portals.remove(name.as_str());
+    moment.portal = found;
+    carry_on(alloc, moment)
+}
+
+// What is left of an answer is told without the machine, and DISCARD ALL begins no block.
+fn carry_on(alloc: Global, moment: &mut TalkMoment) -> Result<(), AllocError>
+    ensures { OnOk result (moment.new ≡ carries_on moment.old.portal moment.old) }
+{
+    if is_resumed(&moment.portal) {
+        moment.look(TalkStage::Resuming);
+        return Ok(());
+    }
+    if is_discard(&moment.portal) {
+        moment.left.clear();
+        return moment.discard(alloc);
+    }
     moment.go_on(alloc)
 }
 
@@ -407,13 +425,15 @@ fn describe_portal(alloc: Global, moment: &mut TalkMoment, name: Text) -> Result
     Ok(())
 }
 
-// The one statement that is left, if there is one.
+// The one statement that is to be carried out, if there is one.
 fn left_of(alloc: Global, found: Option<&NamedPiece>) -> Result<PieceQueue, AllocError>
     ensures { IfOk result (λ left. left ≡ left_of (option_copied found.entry)) }
 {
     let mut left = PieceQueue::new(alloc);
     if let Some(entry) = found {
-        left.push(entry.piece.try_copy(alloc)?)?;
+        if entry.rest.is_none() {
+            left.push(entry.piece.try_copy(alloc)?)?;
+        }
     }
     Ok(left)
 }

@@ -1,8 +1,8 @@
 //! What is said to what a connection learns.
 
 ghost use Rattle.std.specs.Prelude.{◌∷◌, [], OnOk, map};
-ghost use Rattle.postgres_talks.specs.Moments.{answer_said, greeting, headed_said, ran, said_answered, ready_behind, ready_unless_batch, said_closing, said_emptying, said_failed, said_judging, said_opened, said_own, said_refusing, said_rolled_back, said_run, said_standing, said_to_reply, setting_said, table_said, warnings_said};
-ghost use Rattle.postgres_talks.specs.Outcomes.{commit_outcome, outcome_of};
+ghost use Rattle.postgres_talks.specs.Moments.{answer_said, greeting, headed_said, ran, said_answered, ready_behind, ready_unless_batch, said_closing, said_discarded, said_emptying, said_failed, said_judging, said_opened, said_own, said_refusing, said_resuming, said_rolled_back, said_run, said_standing, said_to_reply, setting_said, table_said, warnings_said};
+ghost use Rattle.postgres_talks.specs.Outcomes.{commit_outcome, discard_outcome, outcome_of};
 ghost use Rattle.postgres_talks.specs.Rows.{columns_said, rows_said};
 ghost use Rattle.postgres_talks.specs.Sayings.{Puts, complete_said};
 ghost use Rattle.postgres_talks.specs.Tags.{done_tag};
@@ -10,7 +10,8 @@ ghost use Rattle.postgres_talks.specs.Tags.{done_tag};
 use crate::blocks::spares;
 use crate::fault::TalkFault;
 use crate::moment::{Mode, TalkBlock, TalkMoment, TalkStage};
-use crate::outcome::{Outcome, commit_outcome, outcome_of, run_outcome, warning_of};
+use crate::outcome::{Outcome, commit_outcome, discard_outcome, outcome_of, warning_of};
+use crate::portals::{ran, resumed, rows_in};
 use crate::rows::{say_columns, say_limited, say_rows};
 use crate::said::Said;
 use crate::tags::done_tag;
@@ -68,6 +69,7 @@ fn say_answered(
         TalkStage::Running => say_run(alloc, moment, answer, said),
         TalkStage::Committing => say_own(commit_outcome(answer), said),
         TalkStage::RollingBack => say_rolled_back(answer, said),
+        TalkStage::Discarding => say_discarded(discard_outcome(answer), said),
         _ => Ok(()),
     }
 }
@@ -79,6 +81,17 @@ pub(crate) fn say_own(outcome: Outcome, said: &mut Said) -> Result<(), AllocErro
     match outcome {
         Outcome::Breaks(fault) => said.put_fatal(fault),
         Outcome::Done | Outcome::Refused(_) => Ok(()),
+    }
+}
+
+// That all that was prepared is forgotten.
+fn say_discarded(outcome: Outcome, said: &mut Said) -> Result<(), AllocError>
+    ensures { OnOk result (Puts (said_discarded outcome) said.old said.new) }
+{
+    match outcome {
+        Outcome::Done => said.put(&BackendMessage::CommandComplete("DISCARD ALL")),
+        Outcome::Refused(_) => Ok(()),
+        Outcome::Breaks(fault) => said.put_fatal(fault),
     }
 }
 
@@ -129,7 +142,7 @@ fn say_run(
 ) -> Result<(), AllocError>
     ensures { OnOk result (Puts (said_run moment.now answer.now (ran moment.now answer.now)) said.old said.new) }
 {
-    match run_outcome(moment.mode, moment.block, &moment.columns, answer) {
+    match ran(moment, answer) {
         Outcome::Done => say_answer(alloc, moment, answer, said),
         Outcome::Refused(_) => Ok(()),
         Outcome::Breaks(fault) => said.put_fatal(fault),
@@ -230,6 +243,7 @@ fn say_standing(
         TalkStage::Judging(fault) => say_judging(moment, fault, standing, said),
         TalkStage::Settling(settled) => say_settling(moment, settled, standing, said),
         TalkStage::Emptying => say_emptying(standing, said),
+        TalkStage::Resuming => say_resuming(alloc, moment, standing, said),
         TalkStage::TellingRow(kind, settled) => {
             say_row_told(alloc, moment, kind, settled, standing, said)
         }
@@ -306,6 +320,22 @@ fn ready_unless_batch(
     match mode {
         Mode::Query => said.put_ready(standing),
         _ => Ok(()),
+    }
+}
+
+// What is left of the answer to a portal.
+fn say_resuming(
+    alloc: Global,
+    moment: &TalkMoment,
+    standing: Option<BlockStanding>,
+    said: &mut Said,
+) -> Result<(), AllocError>
+    ensures { OnOk result (Puts (said_resuming moment.now standing) said.old said.new) }
+{
+    match resumed(moment, standing) {
+        Outcome::Done => say_table(alloc, moment, rows_in(&moment.portal), said),
+        Outcome::Refused(_) => Ok(()),
+        Outcome::Breaks(fault) => said.put_fatal(fault),
     }
 }
 

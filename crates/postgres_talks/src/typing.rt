@@ -198,6 +198,7 @@ impl TalkMoment {
             columns: None,
             formats: ResultFormats::new(alloc),
             parameters: Some(template),
+            rest: None,
         })
     }
 

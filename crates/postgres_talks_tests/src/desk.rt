@@ -68,9 +68,11 @@ impl PostgresDesk {
             "BEGIN" => Ok(self.begin()),
             "SELECT 0" => Ok(Answer::Rows(Items::new(self.alloc))),
             "SELECT 1" | "SELECT 2" => Ok(Answer::Rows(one_row(self.alloc)?)),
+            "SELECT 5" => Ok(Answer::Rows(five_rows(self.alloc)?)),
             "INSERT" => Ok(done(Tag::Insert, Some(2), None)),
             "UPDATE" => Ok(done(Tag::Update, Some(3), None)),
             "INSERT   (-5)" => Ok(done(Tag::Insert, Some(1), None)),
+            "RESET ROLE" => Ok(done(Tag::Reset, None, None)),
             "CREATE TABLE" => Ok(done(Tag::CreateTable, None, None)),
             "MEMORY" => Ok(Answer::Refused(SqlState::OutOfMemory)),
             "DEVICE" => Ok(Answer::Refused(SqlState::IoError)),
@@ -85,7 +87,7 @@ impl PostgresDesk {
         }
         match text {
             "SELECT 0" | "SELECT 1" => Ok(StatementDescription::Rows(four_columns(self.alloc)?)),
-            "SELECT 2" => Ok(StatementDescription::Rows(one_column(self.alloc)?)),
+            "SELECT 2" | "SELECT 5" => Ok(StatementDescription::Rows(one_column(self.alloc)?)),
             "INSERT   '' " => Ok(StatementDescription::Refused(SqlState::DatatypeMismatch)),
             "INSERT   0 " => Ok(StatementDescription::NoRows),
             _ => Ok(StatementDescription::Refused(SqlState::SyntaxError)),
@@ -149,6 +151,17 @@ fn one_row(alloc: Global) -> Result<Items<Items<Value>>, AllocError> {
     row.push(Value::Null)?;
     let mut rows = Items::new(alloc);
     rows.push(row)?;
+    Ok(rows)
+}
+
+// The numbers from 1 to 5.
+fn five_rows(alloc: Global) -> Result<Items<Items<Value>>, AllocError> {
+    let mut rows = Items::new(alloc);
+    for number in 1..6 {
+        let mut row = Items::new(alloc);
+        row.push(Value::Int(number))?;
+        rows.push(row)?;
+    }
     Ok(rows)
 }
 

@@ -4,6 +4,7 @@ use Rattle.sql_lexer.specs.Lexeme.{Lexeme, lexemes}
 use Rattle.postgres_talks.specs.declared.piece.StatementPiece.{StatementPiece}
 use Rattle.postgres_talks.specs.declared.piece.StatementPiece.TheVariants as piece
 use Rattle.postgres_talks.specs.declared.settled.Settled.{Settled}
+use Rattle.postgres_talks.specs.declared.settled.Substitute.{Substitute}
 use Rattle.postgres_talks.specs.Pieces.{by_settled, by_substitute, line_of}
 use Rattle.postgres_talks.specs.Settled.{lines, settled_in, substitute_in, substitutes}
 use Rattle.postgres_talks.proofs.classes.piece_of.Goals as goal
@@ -12,10 +13,10 @@ settled_so : (f : List ℕ → Option Settled) (line bytes slice : List ℕ) (ts
     → piece.Settled s ≡ by_settled (f line) slice ts
 settled_so f line bytes slice ts o s same is found = sym (ap (λ (p : Option Settled). by_settled p slice ts) (ap f (sym same) ∙ sym is ∙ found))
 
-other_so : (f : List ℕ → Option Settled) (bytes again slice : List ℕ) (ts : List Lexeme) (o : Option Settled) (q : Option (List ℕ)) (r : StatementPiece)
+other_so : (f : List ℕ → Option Settled) (bytes again slice : List ℕ) (ts : List Lexeme) (o : Option Settled) (q : Option Substitute) (r : StatementPiece)
     → bytes ≡ line_of ts → again ≡ line_of ts → o ≡ f bytes → o ≡ None → q ≡ substitute_in substitutes again → r ≡ by_substitute q slice ts → r ≡ by_settled (f (line_of ts)) slice ts
 other_so f bytes again slice ts o q r same twice is missing found made =
-    made ∙ ap (λ (p : Option (List ℕ)). by_substitute p slice ts) (found ∙ ap (substitute_in substitutes) twice)
+    made ∙ ap (λ (p : Option Substitute). by_substitute p slice ts) (found ∙ ap (substitute_in substitutes) twice)
     ∙ sym (ap (λ (p : Option Settled). by_settled p slice ts) (ap f (sym same) ∙ sym is ∙ missing))
 
 pub returns-in-Some : goal.returns-in-Some
