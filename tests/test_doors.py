@@ -94,7 +94,6 @@ class Doors(AtServer):
     @unittest.skipIf(os.geteuid() != 0, 'only root can be another user')
     def test_who_may_connect(self):
         """In a folder with the set-group-ID bit the file has the folder's group."""
-        os.chmod(self.folder, 0o755)
         folder = os.path.join(self.folder, 'app')
         os.mkdir(folder)
         os.chown(folder, 0, GROUP)
@@ -107,16 +106,17 @@ class Doors(AtServer):
             os.unlink(path)
 
     def connects(self, path, group):
-        """Whether a user of this group can connect."""
+        """Whether a user of this group can connect, who is in the folder already: the ones above it may let nobody through."""
         child = os.fork()
         if child == 0:
             status = 1
             with contextlib.suppress(BaseException):
+                os.chdir(os.path.dirname(path))
                 os.setgroups([])
                 os.setgid(group)
                 os.setuid(USER)
                 with socket.socket(socket.AF_UNIX) as stream:
-                    stream.connect(path)
+                    stream.connect(os.path.basename(path))
                     status = 0
             os._exit(status)
         return os.waitstatus_to_exitcode(os.waitpid(child, 0)[1]) == 0
