@@ -1,5 +1,5 @@
 //! Vectors of two protocols, one request in a line of standard input, one answer in a line of standard output: SCRAM-SHA-256, and
-//! the messages of PostgreSQL's protocol. Bytes and texts are in hexadecimal digits where nothing else is said; `vectors.py` writes
+//! the messages of PostgreSQL's protocol, with the labels that its clients write. Bytes and texts are in hexadecimal digits where nothing else is said; `vectors.py` writes
 //! both files.
 //!
 //! Of SCRAM-SHA-256:
@@ -20,9 +20,15 @@
 //! - `row VALUES`: the bytes of DataRow, where a value is `null` or `=` and its bytes; `types NUMBERS`: of ParameterDescription.
 //! - `column NAME TYPE FORMAT`: of RowDescription with one column; `report KIND SEVERITY CODE MESSAGE POSITION`: of an error or a
 //!   notice; `put NAME ARGUMENTS`: of another message. `unfit` where it cannot be written.
+//!
+//! Of labels:
+//!
+//! - `labels TEXT`: `made`, the label of each item, `-` for none, and the text without them; `stays` where the text is as it was, or
+//!   `plain` where that is seen by its tokens.
 #![tactic(auto)]
 
 mod exchanges;
+mod labels;
 mod messages;
 mod printing;
 mod written;
@@ -55,6 +61,7 @@ fn answer<R: Print>(rt: &R, alloc: Global, verb: &str, words: &str) -> io::Resul
         "verifier" => exchanges::verifier(rt, alloc, words),
         "read" => exchanges::read(rt, alloc, words),
         "show" => exchanges::show(rt, alloc, words),
+        "labels" => labels::labels(rt, alloc, words),
         _ => answer_message(rt, alloc, verb, words),
     }
 }
