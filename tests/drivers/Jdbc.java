@@ -46,9 +46,9 @@ public class Jdbc {
     static void pieces(Connection at) throws SQLException {
         try (Statement s = at.createStatement()) {
             s.execute("CREATE TABLE many (k BIGINT PRIMARY KEY, x TEXT)");
-            for (int first = 1; first <= 10000; first += 500) {
+            for (int first = 1; first <= 10000; first += 250) {
                 StringBuilder text = new StringBuilder("INSERT INTO many VALUES ");
-                for (int k = first; k < first + 500; k++) text.append(k == first ? "" : ", ").append("(").append(k).append(", 'row ").append(k).append("')");
+                for (int k = first; k < first + 250; k++) text.append(k == first ? "" : ", ").append("(").append(k).append(", 'row ").append(k).append("')");
                 s.executeUpdate(text.toString());
             }
         }
