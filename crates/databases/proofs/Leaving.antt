@@ -154,7 +154,7 @@ no_session : {S X : Type 0} (state : S → StoreState) (server : Server S X) (w 
     → ((c n : ℕ) (login : TheName) → HasOwnSession state server c n login → ⊥) → w.standing.machine ≡ machine_over w.standing.machine.committed
 no_session state server w here works none =
     let m = w.standing.machine in
-    let sessions = none_of_all m.sessions (λ c n login small has. none c n login (w, here, small, has)) in
+    let sessions = none_of_all m.sessions (λ c n login small has. none c n login (w, here, small, has, λ stopped. absurd (let wrong : false ≡ true = sym works ∙ stopped in let no : ⊥ = cc in no))) in
     over_committed m (holder_none m.holder server.sessions.entries (sym here.sessions ∙ sessions) (here.works works).1.in_block) sessions (here.stopped ∙ works)
 
 -- ---- what is left of the server

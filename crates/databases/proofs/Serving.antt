@@ -17,7 +17,7 @@ use Rattle.talks.specs.declared.clients.ServedClients.{Ghosts as ClientsGhosts}
 use Rattle.talks.specs.Turns.{Exchange, Turn, steps, asks, waits, leaves, ends, Steps, TakesTurn, TakesTurns}
 use Rattle.served_machine.specs.declared.machine.ServedMachine.{ServedMachine}
 use Rattle.served_machine.specs.Served.{OpensFor, has_stopped, turns_away, lacks_memory, takes, TakesStep}
-use Rattle.served_machine.specs.ServedLaws.{told_same}
+use Rattle.served_machine.specs.ServedLaws.{tells_nothing}
 use Rattle.served_machine.specs.Machines.{machine_of}
 use Rattle.served_clients.specs.Taken.{Taken, TakesEach}
 use Rattle.databases.specs.Clients.{of_taken}
@@ -58,9 +58,13 @@ module _ {S X : Type 0} (Reads : ReadingRelation) (state : S → StoreState) whe
   step_stays c (want.Event (event.Statement n text)) (reply.Description x) old new made stopped = absurd made
   step_stays c (want.Event (event.Close n)) (reply.Description x) old new made stopped = absurd made
   step_stays c (want.Open n login entry) (reply.Description x) old new made stopped = absurd made
+  step_stays c (want.Event (event.Statement n text)) (reply.Verifier v) old new made stopped = absurd made
+  step_stays c (want.Event (event.Close n)) (reply.Verifier v) old new made stopped = absurd made
+  step_stays c (want.Open n login entry) (reply.Verifier v) old new made stopped = absurd made
   step_stays c want.Message r old new made stopped = absurd made
   step_stays c (want.Standing n) r old new made stopped = absurd made
   step_stays c (want.Description n text) r old new made stopped = absurd made
+  step_stays c (want.Verifier table role) r old new made stopped = absurd made
   step_stays c (want.End late) r old new made stopped = absurd made
   step_stays c want.OutOfMemory r old new made stopped = absurd made
 
@@ -75,7 +79,7 @@ module _ {S X : Type 0} (Reads : ReadingRelation) (state : S → StoreState) whe
     turn_stays : (old : ServedMachine S X) (before : C) (u : Turn) (new : ServedMachine S X) (after : C) → TakesTurn (machine_of Reads state) t k old before u new after → old.server.stopped ≡ true
         → new.server ≡ old.server
     turn_stays old before (steps d ds) new after took stopped = steps_stay before old (d ∷ ds) new took.0 stopped
-    turn_stays old before (asks d) new after took stopped = told_same Reads state old.server new.server d.client d.want d.reply took.2
+    turn_stays old before (asks d) new after took stopped = tells_nothing Reads state old.server new.server d.client d.want d.reply took.2 stopped
     turn_stays old before (waits c w) new after took stopped = ap (λ (s : ServedMachine S X). s.server) took.2
     turn_stays old before (leaves c) new after took stopped = let wrong : false ≡ true = sym took.1.closes.running ∙ stopped in absurd (let no : ⊥ = cc in no)
     turn_stays old before (ends c why) new after took stopped = ap (λ (s : ServedMachine S X). s.server) took.4

@@ -22,7 +22,7 @@ of_taken (t ∷ taken) =
     let more = of_taken taken in
     record { events = of_client t.client t.event ∷ more.events; answers = t.answer ∷ more.answers; moments = t.moment ∷ more.moments }
 
--- all that was answered in these turns: the events that clients wanted, and those that close what they have left open
+-- all that was answered in these turns: the events that clients wanted, those that close what they have left open, and those that look-ups are
 abbrev pub IsOfTurns : {S X T C : Type 0} (Reads : ReadingRelation) (state : S → StoreState) (t : TalkGhosts T) (k : ClientsGhosts C T)
     (old : ServedMachine S X) (before : C) (turns : List Turn) (new : ServedMachine S X) (after : C) → TakesTurns (machine_of Reads state) t k old before turns new after → Answered → Type 0
 IsOfTurns Reads state t k old before turns new after took it = it ≡ of_taken (of_turns Reads state t k old before turns new after took)

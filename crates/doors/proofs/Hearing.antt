@@ -28,6 +28,7 @@ anyone_opens (want.Event e) = refl
 anyone_opens (want.Open n login entry) = refl
 anyone_opens (want.Standing n) = refl
 anyone_opens (want.Description n text) = refl
+anyone_opens (want.Verifier table role) = refl
 anyone_opens (want.End late) = refl
 anyone_opens want.OutOfMemory = refl
 

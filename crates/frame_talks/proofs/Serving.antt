@@ -75,6 +75,9 @@ is_answer (event.Close n) (reply.Standing b) fits = absurd fits
 is_answer (event.Open n login) (reply.Description d) fits = absurd fits
 is_answer (event.Statement n text) (reply.Description d) fits = absurd fits
 is_answer (event.Close n) (reply.Description d) fits = absurd fits
+is_answer (event.Open n login) (reply.Verifier v) fits = absurd fits
+is_answer (event.Statement n text) (reply.Verifier v) fits = absurd fits
+is_answer (event.Close n) (reply.Verifier v) fits = absurd fits
 
 whole_of : (f : NextFrame) (n : ℕ) → front_of f ≡ Whole n → (e : Event) × (f ≡ whole e n)
 whole_of incomplete n h = cc

@@ -64,3 +64,4 @@ said_to None r = []
 said_to (Some session) (reply.Answer a) = answer_frames session (answer_text a)
 said_to (Some session) (reply.Standing b) = []
 said_to (Some session) (reply.Description d) = []
+said_to (Some session) (reply.Verifier v) = []

@@ -167,7 +167,7 @@ fn say_reply(alloc: Global, want: &Want, reply: &Reply, out: &mut Vec<u8>) -> Re
     };
     match reply {
         Reply::Answer(answer) => say_answer(alloc, session, answer, out),
-        Reply::Standing(_) | Reply::Description(_) => Ok(()),
+        Reply::Standing(_) | Reply::Description(_) | Reply::Verifier(_) => Ok(()),
     }
 }
 

@@ -112,9 +112,13 @@ module _ {S X : Type 0} (Reads : ReadingRelation) (state : S → StoreState) whe
   alone c (want.Event (event.Statement n text)) (reply.Description x) old new made one = absurd made
   alone c (want.Event (event.Close n)) (reply.Description x) old new made one = absurd made
   alone c (want.Open n login entry) (reply.Description x) old new made one = absurd made
+  alone c (want.Event (event.Statement n text)) (reply.Verifier v) old new made one = absurd made
+  alone c (want.Event (event.Close n)) (reply.Verifier v) old new made one = absurd made
+  alone c (want.Open n login entry) (reply.Verifier v) old new made one = absurd made
   alone c want.Message r old new made one = absurd made
   alone c (want.Standing n) r old new made one = absurd made
   alone c (want.Description n text) r old new made one = absurd made
+  alone c (want.Verifier table role) r old new made one = absurd made
   alone c (want.End late) r old new made one = absurd made
   alone c want.OutOfMemory r old new made one = absurd made
 

@@ -1,13 +1,16 @@
 -- Turns as steps of the server.
 use Rattle.std.proofs.Common.{ℕ, List, [], ◌∷◌, ◌++◌, refl, ap, subst}
 use Rattle.sql_types.specs.declared.answer.Answer.{Answer}
+use Rattle.sql_types.specs.declared.answer.Answer.TheVariants.{Refused}
 use Rattle.sql_types.specs.declared.event.Event.{Event}
 use Rattle.sql_types.specs.declared.event.Event.TheVariants as event
+use Rattle.sql_types.specs.declared.state.SqlState.TheVariants.{IoError}
 use Rattle.store.specs.Store.{StoreState, KeepsHistory}
 use Rattle.abstract_database.specs.Lists.{TheName}
 use Rattle.abstract_database.specs.Runs.{ReadingRelation}
 use Rattle.server.specs.declared.server.Server.{Server}
 use Rattle.server.specs.Runs.{Steps as ServerSteps}
+use Rattle.server.specs.LookUps.{Found, look_up_client, TakesOwn, LooksVerifierUp, had_stopped, lacked_memory, was_refused, did_not_open, read, failed}
 use Rattle.talks.specs.declared.want.Want.{Want}
 use Rattle.talks.specs.declared.want.Want.TheVariants as want
 use Rattle.talks.specs.declared.want.Reply.{Reply}
@@ -17,11 +20,10 @@ use Rattle.talks.specs.declared.talk.Talk.{Ghosts as TalkGhosts}
 use Rattle.talks.specs.declared.clients.ServedClients.{Ghosts as ClientsGhosts}
 use Rattle.talks.specs.Turns.{Exchange, Turn, steps, asks, waits, leaves, ends, Steps, TakesTurn, TakesTurns}
 use Rattle.served_machine.specs.declared.machine.ServedMachine.{ServedMachine}
-use Rattle.served_machine.specs.Served.{TakesEvent, OpensFor, has_stopped, turns_away, lacks_memory, takes, TakesStep}
-use Rattle.served_machine.specs.ServedLaws.{told_same}
+use Rattle.served_machine.specs.Served.{TakesEvent, OpensFor, has_stopped, turns_away, lacks_memory, takes, TakesStep, TellsClient}
 use Rattle.served_machine.specs.Machines.{machine_of}
 use Rattle.served_clients.specs.Taken.{Taken, TakesEach}
-use Rattle.served_clients.specs.Spelled.{just_taken, of_opening, of_step, of_steps, of_turn, of_turns}
+use Rattle.served_clients.specs.Spelled.{just_taken, of_opening, of_look_up, of_question, of_step, of_steps, of_turn, of_turns}
 
 module _ {S X : Type 0} (Reads : ReadingRelation) (state : S → StoreState) where
   -- these, and then more
@@ -55,11 +57,51 @@ module _ {S X : Type 0} (Reads : ReadingRelation) (state : S → StoreState) whe
   step c (want.Event (event.Statement n text)) (reply.Description x) old new made = absurd made
   step c (want.Event (event.Close n)) (reply.Description x) old new made = absurd made
   step c (want.Open n login entry) (reply.Description x) old new made = absurd made
+  step c (want.Event (event.Statement n text)) (reply.Verifier v) old new made = absurd made
+  step c (want.Event (event.Close n)) (reply.Verifier v) old new made = absurd made
+  step c (want.Open n login entry) (reply.Verifier v) old new made = absurd made
   step c want.Message r old new made = absurd made
   step c (want.Standing n) r old new made = absurd made
   step c (want.Description n text) r old new made = absurd made
+  step c (want.Verifier table role) r old new made = absurd made
   step c (want.End late) r old new made = absurd made
   step c want.OutOfMemory r old new made = absurd made
+
+  -- ---- questions
+
+  own : (e : Event) (a : Answer) (old new : Server S X) → TakesOwn Reads state e a old new → TakesEach Reads state old (just_taken Reads state look_up_client e a new ∷ []) new
+  own e a old new made = one look_up_client e a old new made.history made.steps
+
+  looked_up : (role : TheName) (r : Found) (old new : Server S X) (looks : LooksVerifierUp Reads state role r old new) → TakesEach Reads state old (of_look_up Reads state role r old new looks) new
+  looked_up role r old new (had_stopped was told is) = is
+  looked_up role r old new (lacked_memory runs told is) = is
+  looked_up role r old new (was_refused code runs told made) = own (event.Open 0 role) (Refused code) old new made
+  looked_up role r old new (did_not_open a runs told made accepted none) = own (event.Open 0 role) a old new made
+  looked_up role r old new (read a b mid runs told made accepted closed) =
+      each_joined old mid new (just_taken Reads state look_up_client (event.Open 0 role) a mid ∷ []) (just_taken Reads state look_up_client (event.Close 0) b new ∷ [])
+      (own (event.Open 0 role) a old mid made) (own (event.Close 0) b mid new closed)
+  looked_up role r old new (failed a text mid runs told made accepted stops fails) =
+      each_joined old mid new (just_taken Reads state look_up_client (event.Open 0 role) a mid ∷ []) (just_taken Reads state look_up_client (event.Statement 0 text) (Refused IoError) new ∷ [])
+      (own (event.Open 0 role) a old mid made) (own (event.Statement 0 text) (Refused IoError) mid new fails)
+
+  pub question : (c : ℕ) (w : Want) (r : Reply) (old new : Server S X) (tells : TellsClient Reads state c w r old new) → TakesEach Reads state old (of_question Reads state c w r old new tells) new
+  question c (want.Standing n) (reply.Standing b) old new tells = tells.1
+  question c (want.Description n text) (reply.Description x) old new tells = tells.1
+  question c (want.Verifier table role) (reply.Verifier r) old new tells = looked_up role r old new tells.looks
+  question c (want.Standing n) (reply.Answer a) old new tells = absurd tells
+  question c (want.Standing n) (reply.Description x) old new tells = absurd tells
+  question c (want.Standing n) (reply.Verifier v) old new tells = absurd tells
+  question c (want.Description n text) (reply.Answer a) old new tells = absurd tells
+  question c (want.Description n text) (reply.Standing b) old new tells = absurd tells
+  question c (want.Description n text) (reply.Verifier v) old new tells = absurd tells
+  question c (want.Verifier table role) (reply.Answer a) old new tells = absurd tells
+  question c (want.Verifier table role) (reply.Standing b) old new tells = absurd tells
+  question c (want.Verifier table role) (reply.Description x) old new tells = absurd tells
+  question c (want.Event e) r old new tells = absurd tells
+  question c (want.Open n login entry) r old new tells = absurd tells
+  question c want.Message r old new tells = absurd tells
+  question c (want.End late) r old new tells = absurd tells
+  question c want.OutOfMemory r old new tells = absurd tells
 
   module _ {T C : Type 0} (t : TalkGhosts T) (k : ClientsGhosts C T) where
     pub all_steps : (clients : C) (old : ServedMachine S X) (ds : List Exchange) (new : ServedMachine S X) (made : Steps (machine_of Reads state) t k clients old ds new)
@@ -72,7 +114,7 @@ module _ {S X : Type 0} (Reads : ReadingRelation) (state : S → StoreState) whe
     pub turn : (old : ServedMachine S X) (before : C) (u : Turn) (new : ServedMachine S X) (after : C) (took : TakesTurn (machine_of Reads state) t k old before u new after)
         → TakesEach Reads state old.server (of_turn Reads state t k old before u new after took) new.server
     turn old before (steps d ds) new after took = all_steps before old (d ∷ ds) new took.0
-    turn old before (asks d) new after took = told_same Reads state old.server new.server d.client d.want d.reply took.2
+    turn old before (asks d) new after took = question d.client d.want d.reply old.server new.server took.2
     turn old before (waits c w) new after took = ap (λ (m : ServedMachine S X). m.server) took.2
     turn old before (leaves c) new after took = one c (event.Close took.1.closes.session) took.1.closes.answer old.server new.server took.1.history took.1.closes.steps
     turn old before (ends c why) new after took = ap (λ (m : ServedMachine S X). m.server) took.4

@@ -18,7 +18,8 @@ use talks::talk::Talk;
 
 /// Turns that were taken for clients are steps of the server, one after the other: each step that a
 /// client wanted is one event of it, unless the opening of a session was refused before the server was
-/// asked, and so is each end of a session that a client has left open. Nothing else was done to it.
+/// asked, and so is each end of a session that a client has left open. A look-up is events of the
+/// client of look-ups. Nothing else was done to it.
 pub fn turns_are_steps<S: Store, X: EventHandler, T: Talk, C: ServedClients<T>>()
     ensures { (old : ServedMachine S X) (before : C) (turns : List Turn) (new : ServedMachine S X) (after : C)
         (took : TakesTurns (machine_of X.Reads S.state) T.Talk C.ServedClients old before turns new after)

@@ -17,7 +17,7 @@ use Rattle.talks.specs.Turns.{Exchange, Turn, steps, asks, waits, leaves, ends, 
 use Rattle.served_machine.specs.declared.machine.ServedMachine.{ServedMachine}
 use Rattle.served_machine.specs.Sessions.{HasOwnSession, IsSoundServer}
 use Rattle.served_machine.specs.Served.{IsLetIn, OpensFor, has_stopped, turns_away, lacks_memory, takes, TakesStep}
-use Rattle.served_machine.specs.ServedLaws.{statement_open, close_open, same_own, opens_open, steps_sound, tells_sound, closes_sound, tells_open, closes_open}
+use Rattle.served_machine.specs.ServedLaws.{event_stays, statement_open, close_open, same_own, opens_open, steps_sound, tells_sound, closes_sound, tells_open, closes_open}
 use Rattle.served_machine.specs.Machines.{machine_of}
 use Rattle.served_machine.specs.Admitted.{WantsAdmitted, AdmittedBySteps, AdmittedHere, AdmittedIn}
 
@@ -35,8 +35,8 @@ module _ {S X : Type 0} (Reads : ReadingRelation) (state : S → StoreState) (ol
   -- one more session is one that was admitted
   steps_admit : (c : ℕ) (w : Want) (r : Reply) (d n : ℕ) (login : TheName) → IsSoundServer state old → TakesStep Reads state c w r old new → HasOwnSession state new d n login
       → HasOwnSession state old d n login ⊎ ((c ≡ d) × WantsAdmitted state old w n login)
-  steps_admit c (want.Event (event.Statement k text)) (reply.Answer a) d n login sound made has = inl (statement_open Reads state old new c k text a made.steps d n login sound has)
-  steps_admit c (want.Event (event.Close k)) (reply.Answer a) d n login sound made has = inl (close_open Reads state old new c k a made.steps d n login sound has)
+  steps_admit c (want.Event (event.Statement k text)) (reply.Answer a) d n login sound made has = inl (statement_open Reads state old new c k text a (event_stays Reads state old new c (event.Statement k text) a made) made.steps d n login sound has)
+  steps_admit c (want.Event (event.Close k)) (reply.Answer a) d n login sound made has = inl (close_open Reads state old new c k a (event_stays Reads state old new c (event.Close k) a made) made.steps d n login sound has)
   steps_admit c (want.Open k role entry) (reply.Answer a) d n login sound made has = opens_admit c k role entry a made d n login sound has
   steps_admit c (want.Event (event.Open k role)) r d n login sound made has = absurd made
   steps_admit c (want.Event (event.Statement k text)) (reply.Standing b) d n login sound made has = absurd made
@@ -45,9 +45,13 @@ module _ {S X : Type 0} (Reads : ReadingRelation) (state : S → StoreState) (ol
   steps_admit c (want.Event (event.Statement k text)) (reply.Description x) d n login sound made has = absurd made
   steps_admit c (want.Event (event.Close k)) (reply.Description x) d n login sound made has = absurd made
   steps_admit c (want.Open k role entry) (reply.Description x) d n login sound made has = absurd made
+  steps_admit c (want.Event (event.Statement k text)) (reply.Verifier v) d n login sound made has = absurd made
+  steps_admit c (want.Event (event.Close k)) (reply.Verifier v) d n login sound made has = absurd made
+  steps_admit c (want.Open k role entry) (reply.Verifier v) d n login sound made has = absurd made
   steps_admit c want.Message r d n login sound made has = absurd made
   steps_admit c (want.Standing k) r d n login sound made has = absurd made
   steps_admit c (want.Description k text) r d n login sound made has = absurd made
+  steps_admit c (want.Verifier table role) r d n login sound made has = absurd made
   steps_admit c (want.End late) r d n login sound made has = absurd made
   steps_admit c want.OutOfMemory r d n login sound made has = absurd made
 
@@ -81,7 +85,7 @@ module _ {S X T C : Type 0} (Reads : ReadingRelation) (state : S → StoreState)
   here : (old : ServedMachine S X) (before : C) (turn : Turn) (new : ServedMachine S X) (after : C) → Sound old → (took : TakesTurn (machine_of Reads state) t k old before turn new after) (c n : ℕ) (login : TheName) → Has new c n login
       → Has old c n login ⊎ AdmittedHere Reads state t k old before turn new after took c n login
   here old before (steps d ds) new after sound took c n login has = by_steps before old (d ∷ ds) new sound took.0 c n login has
-  here old before (asks d) new after sound took c n login has = inl (tells_open Reads state old.server new.server d.client d.want d.reply c n login took.2 has)
+  here old before (asks d) new after sound took c n login has = inl (tells_open Reads state old.server new.server d.client d.want d.reply c n login sound took.2 has)
   here old before (waits client w) new after sound took c n login has = inl (subst (λ (m : ServedMachine S X). Has m c n login) took.2 has)
   here old before (leaves client) new after sound took c n login has = inl (closes_open Reads state old.server new.server client c n login sound took.1 has)
   here old before (ends client w) new after sound took c n login has = inl (subst (λ (m : ServedMachine S X). Has m c n login) took.4 has)

@@ -74,6 +74,7 @@ module _ {S X : Type 0} (Reads : ReadingRelation) (state : S → StoreState) (se
   refuses want.Message step may = absurd step
   refuses (want.Standing n) step may = absurd step
   refuses (want.Description n text) step may = absurd step
+  refuses (want.Verifier table role) step may = absurd step
   refuses (want.End late) step may = absurd step
   refuses want.OutOfMemory step may = absurd step
 
@@ -84,5 +85,6 @@ answer_fits (want.Open n login entry) a step = tt
 answer_fits want.Message a step = absurd step
 answer_fits (want.Standing n) a step = absurd step
 answer_fits (want.Description n text) a step = absurd step
+answer_fits (want.Verifier table role) a step = absurd step
 answer_fits (want.End late) a step = absurd step
 answer_fits want.OutOfMemory a step = absurd step

@@ -3,6 +3,7 @@ pub mod Sessions
 pub mod Served
 pub mod Locks
 pub mod SessionLaws
+pub mod LookUpLaws
 pub mod ServedLaws
 pub mod Machines
 pub mod Admitted

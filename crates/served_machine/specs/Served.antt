@@ -1,5 +1,5 @@
 -- What a server does for clients: steps, questions, and ends of sessions.
-use Rattle.std.specs.Prelude.{◌≡◌, ◌<◌, ◌^◌, ℕ, true, false, Option}
+use Rattle.std.specs.Prelude.{◌≡◌, ◌<◌, ◌^◌, ℕ, true, false, Option, Err}
 use Rattle.std.specs.Option.{option_map}
 use Rattle.sql_types.specs.declared.answer.Answer.{Answer}
 use Rattle.sql_types.specs.declared.answer.Answer.TheVariants.{Refused}
@@ -17,6 +17,7 @@ use Rattle.server.specs.declared.server.Server.{Server}
 use Rattle.server.specs.Standing.{Represents}
 use Rattle.server.specs.Runs.{Steps}
 use Rattle.server.specs.Clients.{ClosesNext}
+use Rattle.server.specs.LookUps.{Found, LooksVerifierUp, LeavesMachine, FindsKept}
 use Rattle.talks.specs.declared.want.Want.{Want}
 use Rattle.talks.specs.declared.want.Want.TheVariants as want
 use Rattle.talks.specs.declared.want.Reply.{Reply}
@@ -73,10 +74,20 @@ abbrev pub IsDescribedTo : {S X : Type 0} → ReadingRelation → (S → StoreSt
 IsDescribedTo Reads state c n text d server = (server.stopped ≡ true → d ≡ describes.Refused IoError)
     × ((w : At) → Represents state server w → IsDescription Reads w.standing.machine (number_in c n) text d)
 
--- a question of a client, which changes nothing
+-- what the table of this name keeps for a role was looked up; the server then stands as it stood, or has stopped
+pub record LooksUpKept {S X : Type 0} (Reads : ReadingRelation) (state : S → StoreState) (table role : TheName) (r : Found) (old new : Server S X) : Type 0 where
+  pub history : KeepsHistory (state old.store) (state new.store)
+  pub stopped : old.stopped ≡ true → (r ≡ Err IoError) × (new ≡ old)
+  pub running : new.stopped ≡ true → r ≡ Err IoError
+  pub looks : LooksVerifierUp Reads state role r old new
+  pub leaves : LeavesMachine state role r old new
+  pub finds : FindsKept state table role r old
+
+-- a question of a client
 abbrev pub TellsClient : {S X : Type 0} → ReadingRelation → (S → StoreState) → ℕ → Want → Reply → Server S X → Server S X → Type 0
 TellsClient Reads state c (want.Standing n) (reply.Standing b) old new = IsStandingOf state c n b old × (new ≡ old)
 TellsClient Reads state c (want.Description n text) (reply.Description d) old new = IsDescribedTo Reads state c n text d old × (new ≡ old)
+TellsClient Reads state c (want.Verifier table role) (reply.Verifier r) old new = LooksUpKept Reads state table role r old new
 TellsClient Reads state c _ _ old new = ⊥
 
 -- ---- ends of sessions

@@ -32,7 +32,7 @@ with_at false number e es s n l is later (inl here) = inl (inl here)
 with_at false number e es s n l is later (inr rest) = elim (later rest) [ inl old ↦ inl (inr old) | inr new ↦ inr new ]
 
 -- with a session in place of another, or at the end
-with_one : (es : List (ℕ × Session)) (number : ℕ) (s : Session) (n : ℕ) (l : TheName) → HasSession (with_session es number s) n l → HasSession es n l ⊎ ((number ≡ n) × (s.login ≡ l))
+pub with_one : (es : List (ℕ × Session)) (number : ℕ) (s : Session) (n : ℕ) (l : TheName) → HasSession (with_session es number s) n l → HasSession es n l ⊎ ((number ≡ n) × (s.login ≡ l))
 with_one [] number s n l (inl here) = inr here
 with_one [] number s n l (inr never) = absurd never
 with_one (e ∷ es) number s n l has = with_at (nat_eq number e.0) number e es s n l refl (with_one es number s n l) has

@@ -140,7 +140,7 @@ impl<S: Store, X: EventHandler> Machine for ServedMachine<S, X> {
 
     ghost steps_open = { λ old new c w r d n login sound made has. steps_open X.Reads S.state old.server new.server c w r d n login sound made has };
 
-    ghost tells_open = { λ old new c w r d n login sound told has. tells_open X.Reads S.state old.server new.server c w r d n login told has };
+    ghost tells_open = { λ old new c w r d n login sound told has. tells_open X.Reads S.state old.server new.server c w r d n login sound told has };
 
     ghost closes_open = { λ old new c d n login sound made has. closes_open X.Reads S.state old.server new.server c d n login sound made has };
 
@@ -172,6 +172,7 @@ impl<S: Store, X: EventHandler> Machine for ServedMachine<S, X> {
             Want::Description { session, text } => {
                 Reply::Description(self.server.describe(client, *session, text.as_str()))
             }
+            Want::Verifier { table, role } => Reply::Verifier(self.server.verifier_of(table, role)),
             _ => unreachable!(),
         }
     }

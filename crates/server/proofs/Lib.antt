@@ -5,3 +5,7 @@ pub mod Stepping
 pub mod Running
 pub mod Blocks
 pub mod Describing
+pub mod Opening
+pub mod Staying
+pub mod Leaving
+pub mod LookingUp

@@ -8,3 +8,4 @@ pub mod LockedOut
 pub mod Clients
 pub mod Attempts
 pub mod Exchanged
+pub mod LookUps

@@ -11,6 +11,7 @@ ghost use Rattle.abstract_database.specs.Runs.{TheText, ReadingRelation};
 ghost use Rattle.server.specs.Standing.{HolderShows, HoldsInBlock, event_of};
 ghost use Rattle.server.specs.Decisions.{DecidesAt, machine_at};
 ghost use Rattle.server.specs.LockedOut.{TellsLockedOut, TellsAsking};
+ghost use Rattle.server.specs.LookUps.{RefusesAText};
 
 use crate::decision::Decision;
 use crate::session::Session;
@@ -36,6 +37,9 @@ pub struct Context<'a> {
 pub trait EventHandler {
     /// What a text is read as.
     ghost Reads: { ReadingRelation };
+
+    /// Not every text is a statement.
+    ghost refuses_a_text: { RefusesAText Reads };
 
     /// What an event of a client asks of a server whose store is this map, which is only read. Device: the
     /// device of the map failed. Damaged: a record is one that no database has, which never comes

@@ -6,6 +6,7 @@ mod changing;
 pub mod decide;
 pub mod decision;
 pub mod execute;
+pub mod look_ups;
 pub mod numbers;
 mod questions;
 mod reads;

@@ -232,7 +232,7 @@ impl<S: Store, X: EventHandler> Server<S, X> {
     }
 
     // Decides an event and does what was decided.
-    fn attempt(&mut self, client: u32, event: &Event) -> Result<Answer, StoreFault>
+    pub(crate) fn attempt(&mut self, client: u32, event: &Event) -> Result<Answer, StoreFault>
         ensures history { KeepsHistory (S.state self.old.store) (S.state self.new.store) }
         ensures running { self.new.stopped ≡ self.old.stopped }
         ensures attempts { Attempts X.Reads S.state self.old self.new (event_of client event.now) result }

@@ -10,3 +10,4 @@ pub mod Serving
 pub mod LockedOut
 pub mod TwoServers
 pub mod Described
+pub mod RefusedText

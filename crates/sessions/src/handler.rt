@@ -33,8 +33,11 @@ impl<X> SessionHandler<X> {
 
 impl<X: Execute> EventHandler for SessionHandler<X> {
     ghost use Rattle.sessions.specs.Readings.{ReadsText};
+    ghost use Rattle.sessions.specs.RefusedText.{refused_text};
 
     ghost Reads = { ReadsText };
+
+    ghost refuses_a_text = { refused_text };
 
     fn decide<M: Map>(
         &self,

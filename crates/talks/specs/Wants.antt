@@ -17,10 +17,11 @@ WantsStep (want.Event (event.Close session)) = Unit {0}
 WantsStep (want.Open session login entry) = Unit {0}
 WantsStep _ = ⊥
 
--- it wants to be told something, which changes nothing
+-- it wants to be told something: the machine then stands as before, or has stopped
 abbrev pub WantsQuestion : Want → Type 0
 WantsQuestion (want.Standing session) = Unit {0}
 WantsQuestion (want.Description session text) = Unit {0}
+WantsQuestion (want.Verifier table role) = Unit {0}
 WantsQuestion _ = ⊥
 
 -- it wants no more than the end of its connection
@@ -34,6 +35,7 @@ FitsWant (want.Event e) (reply.Answer a) = Unit {0}
 FitsWant (want.Open session login entry) (reply.Answer a) = Unit {0}
 FitsWant (want.Standing session) (reply.Standing b) = Unit {0}
 FitsWant (want.Description session text) (reply.Description d) = Unit {0}
+FitsWant (want.Verifier table role) (reply.Verifier v) = Unit {0}
 FitsWant _ _ = ⊥
 
 -- what a conversation wanted, and what it was told of that

@@ -4,6 +4,7 @@ use sql_ast::description::StatementDescription;
 use sql_types::answer::Answer;
 use sql_types::event::Event;
 use sql_types::name::Name;
+use sql_types::state::SqlState;
 use sql_types::text::Text;
 
 /// Who may open a session at a place that clients come to.
@@ -49,6 +50,11 @@ pub enum Want {
         session: u32,
         text: Text,
     },
+    /// The verifier that the table of this name keeps for a role, which is named letter for letter.
+    Verifier {
+        table: Name,
+        role: Text,
+    },
     /// The end of its connection, once all that was said has gone out; `late`: a second after that
     /// was said.
     End {
@@ -78,4 +84,6 @@ pub enum Reply {
     Standing(Option<BlockStanding>),
     /// What a statement would answer.
     Description(StatementDescription),
+    /// The text of a verifier, or `None` where none is kept; or why it could not be looked up.
+    Verifier(Result<Option<Text>, SqlState>),
 }

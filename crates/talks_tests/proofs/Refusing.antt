@@ -19,6 +19,7 @@ refuses c (want.Open n login entry) desk step = ((refl, refl), refl)
 refuses c want.Message desk step = absurd step
 refuses c (want.Standing n) desk step = absurd step
 refuses c (want.Description n text) desk step = absurd step
+refuses c (want.Verifier table role) desk step = absurd step
 refuses c (want.End late) desk step = absurd step
 refuses c want.OutOfMemory desk step = absurd step
 
@@ -29,5 +30,6 @@ answer_fits (want.Open n login entry) a step = tt
 answer_fits want.Message a step = absurd step
 answer_fits (want.Standing n) a step = absurd step
 answer_fits (want.Description n text) a step = absurd step
+answer_fits (want.Verifier table role) a step = absurd step
 answer_fits (want.End late) a step = absurd step
 answer_fits want.OutOfMemory a step = absurd step

@@ -54,6 +54,7 @@ letter_of (reply.Answer (answer.Refused state)) = 33
 letter_of (reply.Standing None) = 45
 letter_of (reply.Standing (Some b)) = 43
 letter_of (reply.Description d) = description_letter d
+letter_of (reply.Verifier v) = 118
 
 abbrev pub count_digit : Option ℕ → ℕ
 count_digit None = 46

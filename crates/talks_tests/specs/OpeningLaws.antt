@@ -74,11 +74,14 @@ pub steps_open : (old new : Desk) (c : ℕ) (w : Want) (r : Reply) (d n : ℕ) (
 steps_open old new c (want.Open k role entry) (reply.Answer a) d n login made has = opens_open old new c k role a d n login made has
 steps_open old new c (want.Open k role entry) (reply.Standing b) d n login made has = absurd made
 steps_open old new c (want.Open k role entry) (reply.Description x) d n login made has = absurd made
+steps_open old new c (want.Open k role entry) (reply.Verifier v) d n login made has = absurd made
 steps_open old new c (want.Event e) (reply.Answer a) d n login made has = inl (carries_open old new c e a d n login made has)
 steps_open old new c (want.Event e) (reply.Standing b) d n login made has = absurd made
 steps_open old new c (want.Event e) (reply.Description x) d n login made has = absurd made
+steps_open old new c (want.Event e) (reply.Verifier v) d n login made has = absurd made
 steps_open old new c want.Message r d n login made has = absurd made
 steps_open old new c (want.Standing k) r d n login made has = absurd made
 steps_open old new c (want.Description k text) r d n login made has = absurd made
+steps_open old new c (want.Verifier table role) r d n login made has = absurd made
 steps_open old new c (want.End late) r d n login made has = absurd made
 steps_open old new c want.OutOfMemory r d n login made has = absurd made

@@ -233,6 +233,7 @@ impl Machine for Desk {
                 session: _,
                 text: _,
             } => Reply::Description(StatementDescription::NoRows),
+            Want::Verifier { table: _, role: _ } => Reply::Verifier(Ok(None)),
             _ => Reply::Standing(self.standing(client)),
         }
     }

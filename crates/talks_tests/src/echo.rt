@@ -206,6 +206,7 @@ fn letter(reply: &Reply) -> u8
         Reply::Standing(None) => b'-',
         Reply::Standing(Some(_)) => b'+',
         Reply::Description(description) => letter_of_description(description),
+        Reply::Verifier(_) => b'v',
     }
 }
 

@@ -309,6 +309,7 @@ fn is_question(want: &Want) -> bool
                 session: _,
                 text: _
             }
+            | Want::Verifier { table: _, role: _ }
     )
 }
 

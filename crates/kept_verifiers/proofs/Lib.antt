@@ -1,0 +1,3 @@
+pub mod TableRows
+pub mod Finding
+pub mod Keeping
