@@ -1,5 +1,5 @@
 -- What stands in for a role that has no verifier, so that a stranger cannot tell it from one that has.
-use Rattle.std.specs.Prelude.{◌≡◌, ◌++◌, ℕ, List, take, codes, Option, Some, None, IfSome}
+use Rattle.std.specs.Prelude.{◌≡◌, ◌++◌, ℕ, Bool, true, false, List, take, codes, Option, Some, None, IfSome}
 use Rattle.scram_hashes.specs.Hmac.{hmac_sha256}
 use Rattle.scram_hashes.specs.Keys.{TheVerifier}
 use Rattle.scram_hashes.specs.VerifierText.{SpellsVerifier, SpellsNone}
@@ -26,3 +26,8 @@ StoresNone stored = IfSome stored SpellsNone
 abbrev pub GoesBy : TheMock → List ℕ → Option (List ℕ) → TheVerifier → Option (List ℕ) → Type 0
 GoesBy mock role stored verifier None = StoresNone stored × (verifier ≡ mock_verifier mock role)
 GoesBy mock role stored verifier (Some text) = (stored ≡ Some text) × SpellsVerifier text verifier
+
+-- the text of a verifier, where that is one which is stored
+abbrev pub stored_text : Bool → List ℕ → Option (List ℕ)
+stored_text true text = Some text
+stored_text false text = None

@@ -5,7 +5,7 @@ ghost use Rattle.std.specs.Option.{option_copied};
 ghost use Rattle.scram_hashes.specs.Keys.{ShowsPassword};
 ghost use Rattle.scram.specs.Exchanges.{BeginsExchange, HasProof, IsNoFirst, IsRefusedLogin, IsShownLogin, challenge, messages};
 ghost use Rattle.scram.specs.Messages.{server_final};
-ghost use Rattle.scram.specs.Mocks.{GoesBy};
+ghost use Rattle.scram.specs.Mocks.{GoesBy, stored_text};
 
 use crate::first_message::read_first;
 use crate::last_message::proof_in;
@@ -20,8 +20,7 @@ use std::marker::Model;
 /// An exchange that has begun: it waits for the client's last message.
 #[derive(Drop)]
 pub struct Exchange {
-    verifier: Verifier,
-    text: Option<Text>,
+    basis: Basis,
     binding: Binding,
     bare: Vec<u8>,
     nonce: Vec<u8>,
@@ -29,12 +28,13 @@ pub struct Exchange {
 
 impl Model for Exchange {
     ghost use Rattle.scram.specs.Exchanges.{TheExchange};
+    ghost use Rattle.scram.specs.Mocks.{stored_text};
 
     ghost Value = { TheExchange };
 
     ghost view = { λ x. record {
-      verifier = x.verifier;
-      text = x.text;
+      verifier = x.basis.verifier;
+      text = stored_text x.basis.is_stored x.basis.spelled;
       binding = x.binding;
       bare = x.bare.items;
       nonce = x.nonce.items;
@@ -51,7 +51,7 @@ pub struct Shown {
 }
 
 impl Exchange {
-    /// BeginsExchange an exchange by a client's first message, or `None` where it is none.
+    /// Begins an exchange by a client's first message, or `None` where it is none.
     ///
     /// `stored` is the text that is stored for the role, `None` where there is none; `drawn` are bytes that nobody can
     /// foretell, drawn for this exchange. A role without a verifier gets an exchange as any other, by the mock. The only
@@ -72,10 +72,9 @@ impl Exchange {
         };
         let bare = Vec::from_slice(alloc, read.bare)?;
         let nonce = whole_nonce(alloc, read.nonce, drawn)?;
-        let Basis { verifier, text } = basis_of(alloc, mock, role, stored)?;
+        let basis = basis_of(alloc, mock, role, stored)?;
         Ok(Some(Exchange {
-            verifier,
-            text,
+            basis,
             binding: read.binding,
             bare,
             nonce,
@@ -86,7 +85,7 @@ impl Exchange {
     pub fn challenge(&self, alloc: Global) -> Result<Vec<u8>, AllocError>
         ensures { IfOk result (λ it. it.items ≡ challenge self.now) }
     {
-        server_first(alloc, &self.verifier, &self.nonce)
+        server_first(alloc, &self.basis.verifier, &self.nonce)
     }
 
     /// What the client's last message shows, or `None` where it shows nothing: its proof is wrong or is none, it repeats
@@ -137,7 +136,7 @@ impl Exchange {
             ↔ ShowsPassword self.now.verifier (messages self.now) proof.now) }
     {
         let messages = self.messages(alloc)?;
-        Ok(self.verifier.is_shown_by(&messages, proof))
+        Ok(self.basis.verifier.is_shown_by(&messages, proof))
     }
 
     // The server's last message, where the client has shown the password.
@@ -146,14 +145,14 @@ impl Exchange {
             it.items ≡ server_final self.now.verifier (messages self.now)) }
     {
         let messages = self.messages(alloc)?;
-        server_final(alloc, &self.verifier, &messages)
+        server_final(alloc, &self.basis.verifier, &messages)
     }
 
     // What both sides sign.
     fn messages(&self, alloc: Global) -> Result<Vec<u8>, AllocError>
         ensures { IfOk result (λ it. it.items ≡ messages self.now) }
     {
-        let challenge = server_first(alloc, &self.verifier, &self.nonce)?;
+        let challenge = server_first(alloc, &self.basis.verifier, &self.nonce)?;
         let expected = final_bare(alloc, self.binding, &self.nonce)?;
         let mut messages = Vec::from_slice(alloc, &self.bare)?;
         messages.extend_from_slice(b",")?;
@@ -163,48 +162,55 @@ impl Exchange {
         Ok(messages)
     }
 
-    // The text of the exchange's verifier, where the same text is stored now.
+    // The text of the exchange's verifier, where the same text is stored now. As much is compared where none was stored.
     fn still_stored(&self, stored: Option<&Text>) -> Option<&Text>
         ensures { MatchOption result
             ((text : List ℕ) → self.now.text ≡ Some text → option_copied stored.entry ≡ Some text → ⊥)
             (λ text. (self.now.text ≡ Some text.now) × (option_copied stored.entry ≡ Some text.now)) }
     {
-        match (&self.text, stored) {
-            (Some(text), Some(now)) if text == now => Some(text),
+        let spelled = &self.basis.spelled;
+        let is_same = stored.unwrap_or(spelled) == spelled;
+        match stored {
+            Some(_) if is_same && self.basis.is_stored => Some(spelled),
             _ => None,
         }
     }
 }
 
-// The verifier that an exchange goes by, and the text that spells it, where one is stored.
+// The verifier that an exchange goes by, the text that spells it, and whether that is stored.
 #[derive(Drop)]
 struct Basis {
     verifier: Verifier,
-    text: Option<Text>,
+    spelled: Text,
+    is_stored: bool,
 }
 
-// What an exchange with a role goes by. The mock's verifier is made in either case.
+// What an exchange with a role goes by. The mock's verifier is made and spelled in either case, and one text is read and
+// copied, so that a role without a verifier takes as much as one with.
 fn basis_of(
     alloc: Global,
     mock: &Mock,
     role: &[u8],
     stored: Option<&Text>,
 ) -> Result<Basis, AllocError>
-    ensures { IfOk result (λ basis.
-        GoesBy mock.now role.now (option_copied stored.entry) basis.verifier basis.text) }
+    ensures { IfOk result (λ basis. GoesBy mock.now role.now (option_copied stored.entry)
+        basis.verifier (stored_text basis.is_stored basis.spelled)) }
 {
     let substitute = mock.verifier_of(alloc, role)?;
-    if let Some(text) = stored {
-        if let Some(verifier) = Verifier::from_text(alloc, text.as_str())? {
-            let text = text.try_copy(alloc)?;
-            return Ok(Basis {
-                verifier,
-                text: Some(text),
-            });
-        }
+    let substitute_text = Text::from_string(substitute.to_text(alloc)?);
+    let text = stored.unwrap_or(&substitute_text);
+    let found = Verifier::from_text(alloc, text.as_str())?;
+    let spelled = text.try_copy(alloc)?;
+    match (stored, found) {
+        (Some(_), Some(verifier)) => Ok(Basis {
+            verifier,
+            spelled,
+            is_stored: true,
+        }),
+        _ => Ok(Basis {
+            verifier: substitute,
+            spelled,
+            is_stored: false,
+        }),
     }
-    Ok(Basis {
-        verifier: substitute,
-        text: None,
-    })
 }
