@@ -1,0 +1,9 @@
+pub mod EarlyFrames
+pub mod Views
+pub mod Logins
+pub mod LookUps
+pub mod PasswordTalks
+pub mod Courses
+pub mod FrontLaws
+pub mod LettingIn
+pub mod Insides

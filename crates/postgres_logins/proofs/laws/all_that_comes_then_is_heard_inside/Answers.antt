@@ -1,0 +1,7 @@
+use Rattle.std.proofs.Common.{refl}
+use Rattle.postgres_logins.proofs.Insides.{heard_inside}
+use Rattle.postgres_logins.proofs.laws.all_that_comes_then_is_heard_inside.Goals as goal
+
+pub returns : goal.returns
+returns g c t u n text bytes said rest xs it heard kept =
+    heard_inside g.T.Talk _ (λ t. refl) (λ t bytes. refl) (λ t u message said h. h) (λ t u said h. h) (λ t u r said h. h) n text it heard kept
