@@ -1,5 +1,5 @@
 -- Where each client is.
-use Rattle.std.specs.Prelude.{◌≡◌, ℕ, true, false, List, [], ◌∷◌, Option, Some, None, nat_eq, nat_lt, if◌then◌else◌}
+use Rattle.std.specs.Prelude.{◌≡◌, ◌≢◌, ℕ, Bool, IfSome, true, false, List, [], ◌∷◌, Option, Some, None, nat_eq, nat_lt, if◌then◌else◌}
 use Rattle.channels.specs.declared.channel.Channel.{Ghosts as ChannelGhosts}
 use Rattle.channels.specs.declared.attend.Attend.{Ghosts as AttendGhosts}
 use Rattle.channels.specs.Channels.{NamedBytes}
@@ -55,6 +55,16 @@ module _ {T : Type 0} (t : Ghosts T) where
   HasNeedAt order need.Step p = (w : Want) × (wanted t p ≡ Some w) × WantsStep w × (order.cut_off ≡ false)
   HasNeedAt order need.Question p = (w : Want) × (wanted t p ≡ Some w) × WantsQuestion w × (order.cut_off ≡ false)
   HasNeedAt order (need.Left w) p = (ending p ≡ Some w) × IsLeaving t p × (w ≡ end_cause.Stopped → order.stopped ≡ true) × (w ≡ end_cause.HeldTheLock → order.cut_off ≡ true)
+
+-- a session was opened for a client that is there
+abbrev pub has_session : {T C : Type 0} → Option (Peer T C) → Bool
+has_session None = false
+has_session (Some p) = p.has_session
+
+-- this client is told to end, if it is there, and nobody else
+abbrev pub IsTurnedOut : {T C : Type 0} → Option ℕ → (ℕ → Option (Peer T C)) → (ℕ → Option (Peer T C)) → Type 0
+IsTurnedOut None old new = (c : ℕ) → new c ≡ old c
+IsTurnedOut (Some client) old new = IfSome (new client) (λ p. p.is_turned_out ≡ true) × ((c : ℕ) → c ≢ client → new c ≡ old c)
 
 -- the step of a client has waited until its time was over
 abbrev pub IsSomeWaited : {T C : Type 0} → Option (Peer T C) → Type 0

@@ -1,3 +1,4 @@
 pub mod LockWatches
+pub mod Strangers
 pub mod Peers
 pub mod ClientStates

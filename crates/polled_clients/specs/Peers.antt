@@ -1,5 +1,5 @@
 -- A client that is there.
-use Rattle.std.specs.Prelude.{◌≡◌, true, false, List, drop, Some}
+use Rattle.std.specs.Prelude.{◌≡◌, ◌&&◌, ◌||◌, not, Bool, true, false, List, drop, Some}
 use Rattle.channels.specs.declared.channel.Channel.{Ghosts as ChannelGhosts}
 use Rattle.channels.specs.Channels.{left}
 use Rattle.talks.specs.declared.talk.Talk.{Ghosts}
@@ -12,6 +12,10 @@ use Rattle.polled_clients.specs.declared.peer.Peer.{Peer}
 use Rattle.polled_clients.specs.declared.need.EndOrder.{EndOrder}
 use Rattle.polled_clients.specs.declared.need.Need.{Need}
 use Rattle.polled_clients.specs.declared.need.Need.TheVariants as need
+
+-- it has passed a limit: it was silent for as long as it may; or it was turned out, and no session was opened for it
+abbrev pub has_passed_limit : {T C : Type 0} → Peer T C → Bool
+has_passed_limit x = x.is_over || (x.is_turned_out && not x.has_session)
 
 module _ {T C : Type 0} (k : ChannelGhosts C) where
   -- the conversation with a client
@@ -35,6 +39,7 @@ module _ {T C : Type 0} (t : Ghosts T) (k : ChannelGhosts C) where
   -- its connection is to end for this
   abbrev pub MayEnd : EndOrder → Peer T C → EndCause → Type 0
   MayEnd order x w = HasCause t w (conversation_of k x) × (w ≡ end_cause.Stopped → order.stopped ≡ true) × (w ≡ end_cause.HeldTheLock → order.cut_off ≡ true)
+      × (w ≡ end_cause.Limit → has_passed_limit x ≡ true)
 
   -- what a client has to do with the machine is so
   abbrev pub HasNeed : EndOrder → Need → Peer T C → Type 0

@@ -1,20 +1,24 @@
 //! Those who come, and are taken or turned away.
 
-ghost use Rattle.std.specs.Prelude.{◌≡◌};
+ghost use Rattle.std.specs.Prelude.{◌≡◌, ◌≢◌, ℕ, IfSome, length, nat_eq, nat_lt, true};
 ghost use Rattle.channels.specs.Comings.{HasJustCome};
 ghost use Rattle.talks.specs.Clients.{Moved};
-ghost use Rattle.polled_clients.specs.ClientStates.{states};
+ghost use Rattle.indexmap.specs.IndexMap.{get};
+ghost use Rattle.polled_clients.specs.ClientStates.{states, IsTurnedOut};
+ghost use Rattle.polled_clients.specs.Strangers.{who_ends};
 
 use crate::clients::{PolledClients, TalkMaker};
 use crate::limits::note_look;
 use crate::peer::Peer;
+use crate::peers::turn_out;
+use crate::strangers::note_stranger_look;
 use crate::turns::prepare;
 use channels::attend::{Attend, Taken};
 use channels::channel::Channel;
 use talks::talk::Talk;
 
 impl<T: Talk + Drop, C: Channel + Drop, A: Attend<C>, F: TalkMaker<T>> PolledClients<T, C, A, F> {
-    /// Takes one that comes, or turns it away where as many are there as may be.
+    /// Takes one that comes, or turns it away where as many are there as may be and none is a stranger.
     pub(crate) fn greet(&mut self)
         ensures moved { Moved T.Talk (F.makes self.old.maker) (states C.Channel A.Attend self.old) (states C.Channel A.Attend self.new) }
         ensures maker { self.new.maker ≡ self.old.maker }
@@ -25,11 +29,16 @@ impl<T: Talk + Drop, C: Channel + Drop, A: Attend<C>, F: TalkMaker<T>> PolledCli
     {
         if self.came >= self.limits.connections || self.refusals > 0 {
             self.turns.note_nobody();
-        } else if self.peers.len() >= self.limits.at_once {
+        } else if self.is_full() {
             self.turn_away();
         } else {
             self.take();
         }
+    }
+
+    // Whether as many are there as may be, and each has a session, or that is not limited.
+    fn is_full(&self) -> bool {
+        self.peers.len() >= self.limits.at_once && !self.strangers.is_any()
     }
 
     // Tells one that comes that as many are there as may be.
@@ -99,12 +108,77 @@ impl<T: Talk + Drop, C: Channel + Drop, A: Attend<C>, F: TalkMaker<T>> PolledCli
         let Some(next) = client.checked_add(1) else {
             return;
         };
-        let idle = self.limits.idle;
-        let peer = Peer::new(self.alloc, talk, channel, idle.is_some(), self.time);
+        if self.strangers.come(client, self.time).is_err() {
+            return;
+        }
+        let is_limited = self.limits.idle.is_some() || self.limits.login.is_some();
+        let peer = Peer::new(self.alloc, talk, channel, is_limited, self.time);
         if self.peers.insert(client, peer).is_ok() {
             self.came = next;
-            self.turns.list(client);
-            note_look(&mut self.turns, &self.peers, client, self.time, idle);
+            self.welcome(client);
+        } else {
+            self.strangers.take_out(client);
         }
+    }
+
+    // A client that has come is listed. Where more are there now than may be, a stranger ends for it,
+    // and the others have a turn before one more is taken.
+    fn welcome(&mut self, client: u32)
+        ensures moved { Moved T.Talk (F.makes self.old.maker) (states C.Channel A.Attend self.old) (states C.Channel A.Attend self.new) }
+        ensures maker { self.new.maker ≡ self.old.maker }
+        ensures waiting { self.new.waiting.items ≡ self.old.waiting.items }
+        ensures limits { self.new.limits ≡ self.old.limits }
+        ensures looks { self.new.looks ≡ self.old.looks }
+        ensures lock { self.new.lock ≡ self.old.lock }
+    {
+        self.turns.list(client);
+        note_look(
+            &mut self.turns,
+            &self.peers,
+            client,
+            self.time,
+            self.limits.idle,
+        );
+        note_stranger_look(&mut self.turns, &self.strangers, self.time);
+        if self.end_stranger() {
+            self.turns.end_arrivals();
+        }
+    }
+
+    /// Has the stranger end that came first, where it is to end, and tells whether.
+    pub(crate) fn end_stranger(&mut self) -> bool
+        ensures moved { Moved T.Talk (F.makes self.old.maker) (states C.Channel A.Attend self.old) (states C.Channel A.Attend self.new) }
+        ensures maker { self.new.maker ≡ self.old.maker }
+        ensures waiting { self.new.waiting.items ≡ self.old.waiting.items }
+        ensures limits { self.new.limits ≡ self.old.limits }
+        ensures looks { self.new.looks ≡ self.old.looks }
+        ensures lock { self.new.lock ≡ self.old.lock }
+        ensures told { IsTurnedOut (who_ends (nat_lt self.old.limits.at_once (length self.old.peers.entries)) self.old.strangers) (get nat_eq self.old.peers) (get nat_eq self.new.peers) }
+    {
+        let is_crowded = self.peers.len() > self.limits.at_once;
+        match self.strangers.who_ends(is_crowded) {
+            Some(client) => {
+                self.turn_out(client);
+                true
+            }
+            None => false,
+        }
+    }
+
+    // A stranger is to end, before anything else is done.
+    fn turn_out(&mut self, client: u32)
+        ensures moved { Moved T.Talk (F.makes self.old.maker) (states C.Channel A.Attend self.old) (states C.Channel A.Attend self.new) }
+        ensures maker { self.new.maker ≡ self.old.maker }
+        ensures waiting { self.new.waiting.items ≡ self.old.waiting.items }
+        ensures limits { self.new.limits ≡ self.old.limits }
+        ensures looks { self.new.looks ≡ self.old.looks }
+        ensures lock { self.new.lock ≡ self.old.lock }
+        ensures others { (c : ℕ) → c ≢ client → get nat_eq self.new.peers c ≡ get nat_eq self.old.peers c }
+        ensures ends { IfSome (get nat_eq self.new.peers client) (λ p. p.is_turned_out ≡ true) }
+    {
+        self.strangers.take_out(client);
+        note_stranger_look(&mut self.turns, &self.strangers, self.time);
+        turn_out(&mut self.peers, client);
+        self.turns.note_leaving(client);
     }
 }

@@ -10,11 +10,11 @@ ghost use Rattle.indexmap.specs.IndexMap.{get};
 ghost use Rattle.polled_clients.specs.ClientStates.{states, HasNeedAt, HasWaited};
 ghost use Rattle.polled_clients.specs.LockWatches.{contention_of};
 
-use crate::limits::{client_at, look_after, note_look};
 use crate::lock_watch::{LockWatch, is_lock_refusal, note_holder_look};
 use crate::need::{EndOrder, Need, Pick};
 use crate::peer::Peer;
 use crate::peers::{any, give_up, has_waited, hold, is_nobody, list_owed, rouse, take_turn, teach};
+use crate::strangers::{Strangers, note_session};
 use crate::turns::Turns;
 use crate::waiting::{first, is_behind, put_last, take_out};
 use channels::attend::Attend;
@@ -52,6 +52,8 @@ pub struct ClientLimits {
     /// How long one may hold the writer lock once a step of another was held back or refused for it, a
     /// second at least. Without it for ever.
     pub block: Option<Duration>,
+    /// How long one may be there before a session was opened for it. Without it for ever.
+    pub login: Option<Duration>,
 }
 
 /// Clients over connections of which no call waits.
@@ -70,7 +72,8 @@ pub struct PolledClients<T, C, A, F> {
     pub(crate) peers: IndexMap<u32, Peer<T, C>>,
     pub(crate) came: u32,
     waiting: Vec<u32>,
-    lock: LockWatch,
+    pub(crate) lock: LockWatch,
+    pub(crate) strangers: Strangers,
     pub(crate) turns: Turns,
     pub(crate) time: Duration,
     pub(crate) refusals: u64,
@@ -91,6 +94,7 @@ impl<T: Talk + Drop, C: Channel + Drop, A: Attend<C>, F: TalkMaker<T>> PolledCli
         ensures waiting { result.waiting.items ≡ [] }
         ensures contention { contention_of result.lock ≡ record { holder = None; cut_off = None; is_limited = is_some limits.block } }
         ensures expected { result.limits.connections ≡ limits.connections }
+        ensures strangers { (result.strangers.queue.items ≡ []) × (result.strangers.limit ≡ limits.login) }
         ensures refusals { result.refusals ≡ 0 }
         ensures looks { result.looks ≡ 0 }
     {
@@ -104,6 +108,7 @@ impl<T: Talk + Drop, C: Channel + Drop, A: Attend<C>, F: TalkMaker<T>> PolledCli
             came: 0,
             waiting: Vec::new(alloc),
             lock: LockWatch::new(limits.block),
+            strangers: Strangers::new(alloc, limits.login),
             turns: Turns::new(alloc),
             time: Duration::ZERO,
             refusals: 0,
@@ -236,42 +241,8 @@ impl<T: Talk + Drop, C: Channel + Drop, A: Attend<C>, F: TalkMaker<T>> PolledCli
         }
     }
 
-    // At the end of a round: looks at the limits of one client, where it is time for that, or asks
-    // who may have something to do.
-    fn end_round(&mut self)
-        ensures moved { Moved T.Talk (F.makes self.old.maker) (states C.Channel A.Attend self.old) (states C.Channel A.Attend self.new) }
-        ensures maker { self.new.maker ≡ self.old.maker }
-        ensures waiting { self.new.waiting.items ≡ self.old.waiting.items }
-        ensures limits { self.new.limits ≡ self.old.limits }
-        ensures looks { self.new.looks ≡ self.old.looks }
-        ensures contention { CutsOff (contention_of self.old.lock) (contention_of self.new.lock) }
-    {
-        if self.turns.looks.begin() {
-            self.note_time();
-            self.look_at_holder();
-            return;
-        }
-        match self.turns.looks.next(self.peers.len()) {
-            Some(index) => self.look_at_index(index),
-            None => self.poll(),
-        }
-    }
-
-    // Looks for how long the lock is held that others want, and lists who was cut off.
-    fn look_at_holder(&mut self)
-        ensures moved { Moved T.Talk (F.makes self.old.maker) (states C.Channel A.Attend self.old) (states C.Channel A.Attend self.new) }
-        ensures maker { self.new.maker ≡ self.old.maker }
-        ensures waiting { self.new.waiting.items ≡ self.old.waiting.items }
-        ensures limits { self.new.limits ≡ self.old.limits }
-        ensures looks { self.new.looks ≡ self.old.looks }
-        ensures contention { CutsOff (contention_of self.old.lock) (contention_of self.new.lock) }
-    {
-        self.lock.look(self.turns.looks.asked(), self.time);
-        note_holder_look(&mut self.turns, &self.lock, self.time);
-    }
-
-    // Looks at the clock.
-    fn note_time(&mut self)
+    /// Looks at the clock.
+    pub(crate) fn note_time(&mut self)
         ensures moved { Moved T.Talk (F.makes self.old.maker) (states C.Channel A.Attend self.old) (states C.Channel A.Attend self.new) }
         ensures maker { self.new.maker ≡ self.old.maker }
         ensures waiting { self.new.waiting.items ≡ self.old.waiting.items }
@@ -280,36 +251,6 @@ impl<T: Talk + Drop, C: Channel + Drop, A: Attend<C>, F: TalkMaker<T>> PolledCli
         ensures lock { self.new.lock ≡ self.old.lock }
     {
         self.time = self.attend.now();
-    }
-
-    // Looks at the limits of the client of an index.
-    fn look_at_index(&mut self, index: usize)
-        ensures moved { Moved T.Talk (F.makes self.old.maker) (states C.Channel A.Attend self.old) (states C.Channel A.Attend self.new) }
-        ensures maker { self.new.maker ≡ self.old.maker }
-        ensures waiting { self.new.waiting.items ≡ self.old.waiting.items }
-        ensures limits { self.new.limits ≡ self.old.limits }
-        ensures looks { self.new.looks ≡ self.old.looks }
-        ensures lock { self.new.lock ≡ self.old.lock }
-    {
-        if let Some(client) = client_at(&self.peers, index) {
-            self.look_after(client);
-        }
-    }
-
-    // Looks at the limits of a client.
-    fn look_after(&mut self, client: u32)
-        ensures moved { Moved T.Talk (F.makes self.old.maker) (states C.Channel A.Attend self.old) (states C.Channel A.Attend self.new) }
-        ensures maker { self.new.maker ≡ self.old.maker }
-        ensures waiting { self.new.waiting.items ≡ self.old.waiting.items }
-        ensures limits { self.new.limits ≡ self.old.limits }
-        ensures looks { self.new.looks ≡ self.old.looks }
-        ensures lock { self.new.lock ≡ self.old.lock }
-    {
-        let idle = self.limits.idle;
-        let asked = self.turns.looks.asked();
-        look_after(&mut self.peers, client, asked, self.time, idle);
-        note_look(&mut self.turns, &self.peers, client, self.time, idle);
-        list_owed(&mut self.turns, &self.peers, client);
     }
 
     // Something may have come to a client.
@@ -325,8 +266,8 @@ impl<T: Talk + Drop, C: Channel + Drop, A: Attend<C>, F: TalkMaker<T>> PolledCli
         list_owed(&mut self.turns, &self.peers, client);
     }
 
-    // Asks who may have something to do, and begins a round.
-    fn poll(&mut self)
+    /// Asks who may have something to do, and begins a round.
+    pub(crate) fn poll(&mut self)
         ensures moved { Moved T.Talk (F.makes self.old.maker) (states C.Channel A.Attend self.old) (states C.Channel A.Attend self.new) }
         ensures maker { self.new.maker ≡ self.old.maker }
         ensures waiting { self.new.waiting.items ≡ self.old.waiting.items }
@@ -452,6 +393,7 @@ impl<T: Talk + Drop, C: Channel + Drop, A: Attend<C>, F: TalkMaker<T>> ServedCli
             .note(machine.holder(), client, is_lock_refusal(&reply));
         note_holder_look(&mut self.turns, &self.lock, self.time);
         teach(&mut self.peers, client, reply);
+        note_session(&mut self.strangers, &self.peers, client);
         list_owed(&mut self.turns, &self.peers, client);
     }
 
@@ -478,6 +420,7 @@ impl<T: Talk + Drop, C: Channel + Drop, A: Attend<C>, F: TalkMaker<T>> ServedCli
     fn close(&mut self, client: u32) {
         take_out(&mut self.waiting, client);
         self.lock.forget(client);
+        self.strangers.take_out(client);
         self.turns.note_change();
         let peer = self.peers.swap_remove(&client).unwrap();
         self.attend.close(client, peer.into_channel());

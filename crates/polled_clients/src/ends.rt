@@ -1,7 +1,7 @@
 //! Why the connection of a client ends.
 
 ghost use Rattle.std.specs.Prelude.{◌≡◌, true, IfSome};
-ghost use Rattle.polled_clients.specs.Peers.{MayEnd};
+ghost use Rattle.polled_clients.specs.Peers.{MayEnd, has_passed_limit};
 
 use crate::need::{EndOrder, is_end, is_message, is_out_of_memory, is_question, is_step};
 use crate::peer::Peer;
@@ -51,11 +51,18 @@ impl<T: Talk, C: Channel> Peer<T, C> {
             }
             EndCause::Finished => is_end(self.talk.want()) && self.queue.is_empty(),
             EndCause::Failed => self.channel.has_failed(),
-            EndCause::Limit => self.limited && self.is_over,
+            EndCause::Limit => self.limited && self.has_passed_limit(),
             EndCause::Memory => is_out_of_memory(self.talk.want()),
             EndCause::Stopped => order.stopped,
             EndCause::HeldTheLock => order.cut_off,
         }
+    }
+
+    // Whether it has passed a limit: it was silent for too long, or was turned out and has no session.
+    fn has_passed_limit(&self) -> bool
+        ensures { result ≡ has_passed_limit self.now }
+    {
+        self.is_over || (self.is_turned_out && !self.has_session)
     }
 
     // Whether bytes are to go out, which its connection may take.

@@ -11,6 +11,8 @@ pub mod looks;
 pub mod need;
 pub mod peer;
 pub mod peers;
+mod rounds;
+pub mod strangers;
 pub mod times;
 pub mod turns;
 pub mod waiting;

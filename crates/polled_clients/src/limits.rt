@@ -2,7 +2,7 @@
 
 ghost use Rattle.std.specs.Prelude.{◌≡◌, ◌≢◌, ℕ, [], nat_eq};
 ghost use Rattle.indexmap.specs.IndexMap.{get};
-ghost use Rattle.polled_clients.specs.ClientStates.{GoesOn};
+ghost use Rattle.polled_clients.specs.ClientStates.{GoesOn, has_session};
 
 use crate::peer::Peer;
 use crate::turns::Turns;
@@ -23,6 +23,7 @@ pub fn look_after<T: Talk, C: Channel>(
     idle: Option<Duration>,
 )
     ensures here { GoesOn T.Talk C.Channel (get nat_eq peers.old client) [] (get nat_eq peers.new client) }
+    ensures session { has_session (get nat_eq peers.new client) ≡ has_session (get nat_eq peers.old client) }
     ensures others { (c : ℕ) → c ≢ client → get nat_eq peers.new c ≡ get nat_eq peers.old c }
 {
     if let Some(peer) = peers.get_mut(&client) {

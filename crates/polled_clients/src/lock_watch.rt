@@ -162,8 +162,8 @@ fn time_after(asked: Duration, now: Duration, limit: Option<Duration>, time: Hol
     }
 }
 
-// Whether the limit was reached by this moment.
-fn is_over(asked: Duration, limit: Option<Duration>, since: Duration) -> bool
+/// Whether the limit was reached by this moment, where there is one.
+pub fn is_over(asked: Duration, limit: Option<Duration>, since: Duration) -> bool
     ensures { result ≡ is_over asked limit since }
 {
     match limit {

@@ -96,6 +96,7 @@ pub fn is_question(want: &Want) -> bool
                 session: _,
                 text: _
             }
+            | Want::Verifier { table: _, role: _ }
     )
 }
 

@@ -1,15 +1,17 @@
 //! A client that is there: the conversation with it, and its connection.
 
-ghost use Rattle.std.specs.Prelude.{◌≡◌, ◌≤◌, ◌+◌, ◌++◌, ℕ, Bool, List, [], ◌∷◌, length, drop, vec_len, vec_capacity, true, false, Option, Some, None};
+ghost use Rattle.std.specs.Prelude.{◌≡◌, ◌≤◌, ◌+◌, ◌++◌, ◌||◌, ℕ, Bool, List, [], ◌∷◌, length, drop, vec_len, vec_capacity, true, false, Option, Some, None};
 ghost use Rattle.channels.specs.Comings.{HasJustCome};
 ghost use Rattle.talks.specs.Wants.{FitsWant, learnt};
 ghost use Rattle.talks.specs.Conversations.{IsNew, unless_ended};
 ghost use Rattle.talks.specs.declared.want.Want.{Want as TheWant};
 ghost use Rattle.polled_clients.specs.Peers.{conversation_of, Goes, HasNeed};
+ghost use Rattle.polled_clients.specs.Strangers.{opens_session as is_opened};
 ghost use Rattle.polled_clients.specs.declared.need.EndOrder.{EndOrder as TheOrder};
 
 use crate::held::{drop_front, keep};
 use crate::need::{EndOrder, Need, is_late_end, is_message, is_question, is_step};
+use crate::strangers::opens_session;
 use crate::times::{after, earlier, is_past};
 use channels::behind::behind;
 use channels::channel::{Channel, Received};
@@ -44,8 +46,11 @@ pub struct Peer<T, C> {
     pub(crate) is_quiet: bool,
     // Whether the last write found that nothing is taken.
     pub(crate) is_blocked: bool,
-    // Whether it has passed a limit.
+    // Whether it was silent for as long as it may.
     pub(crate) is_over: bool,
+    // Whether a session was opened for it, and whether it is to end since none was.
+    pub(crate) has_session: bool,
+    pub(crate) is_turned_out: bool,
     // When it last had a turn, or its limits were looked at.
     time: Duration,
     // Whether bytes have come of it or gone out to it since its limits were looked at, and when they
@@ -62,8 +67,10 @@ pub struct Peer<T, C> {
 impl<T: Talk, C: Channel> Peer<T, C> {
     /// A client that has just come. `limited` tells whether a limit may end it.
     pub fn new(alloc: Global, talk: T, channel: C, limited: bool, now: Duration) -> Peer<T, C>
-        ensures { (bytes : Option (List ℕ)) → T.starts talk → HasJustCome C.Channel bytes channel
+        ensures fresh { (bytes : Option (List ℕ)) → T.starts talk → HasJustCome C.Channel bytes channel
             → IsNew T.Talk (λ t. t ≡ talk) bytes (conversation_of C.Channel result) }
+        ensures session { result.has_session ≡ false }
+        ensures stays { result.is_turned_out ≡ false }
     {
         Peer {
             talk,
@@ -76,6 +83,8 @@ impl<T: Talk, C: Channel> Peer<T, C> {
             is_quiet: false,
             is_blocked: false,
             is_over: false,
+            has_session: false,
+            is_turned_out: false,
             time: now,
             has_moved: true,
             active: now,
@@ -88,6 +97,7 @@ impl<T: Talk, C: Channel> Peer<T, C> {
     /// Takes its turn: does what there is to do for it, or gives out its step that has waited.
     pub fn take_turn(&mut self, offered: Option<Duration>, order: EndOrder, now: Duration) -> Need
         ensures goes { Goes T.Talk C.Channel self.old [] self.new }
+        ensures session { self.new.has_session ≡ self.old.has_session }
         ensures need { HasNeed T.Talk C.Channel order result self.new }
     {
         self.time = now;
@@ -100,6 +110,7 @@ impl<T: Talk, C: Channel> Peer<T, C> {
     // Does what there is to do for the client, and tells what it has to do with the machine.
     fn attend(&mut self, order: EndOrder) -> Need
         ensures goes { Goes T.Talk C.Channel self.old [] self.new }
+        ensures session { self.new.has_session ≡ self.old.has_session }
         ensures need { HasNeed T.Talk C.Channel order result self.new }
     {
         match self.end_cause {
@@ -117,6 +128,7 @@ impl<T: Talk, C: Channel> Peer<T, C> {
     fn proceed(&mut self, order: EndOrder) -> Need
         requires { self.old.end_cause ≡ None }
         ensures goes { Goes T.Talk C.Channel self.old [] self.new }
+        ensures session { self.new.has_session ≡ self.old.has_session }
         ensures need { HasNeed T.Talk C.Channel order result self.new }
     {
         self.send_if_due();
@@ -133,6 +145,7 @@ impl<T: Talk, C: Channel> Peer<T, C> {
     fn advance(&mut self, order: EndOrder) -> Need
         requires { self.old.end_cause ≡ None }
         ensures goes { Goes T.Talk C.Channel self.old [] self.new }
+        ensures session { self.new.has_session ≡ self.old.has_session }
         ensures need { HasNeed T.Talk C.Channel order result self.new }
     {
         if self.is_held_up(order) {
@@ -150,6 +163,7 @@ impl<T: Talk, C: Channel> Peer<T, C> {
         requires served { order.cut_off ≡ false }
         requires running { self.old.end_cause ≡ None }
         ensures goes { Goes T.Talk C.Channel self.old [] self.new }
+        ensures session { self.new.has_session ≡ self.old.has_session }
         ensures need { HasNeed T.Talk C.Channel order result self.new }
     {
         self.hear_next();
@@ -170,6 +184,7 @@ impl<T: Talk, C: Channel> Peer<T, C> {
     // sent something, since what others sent before that is answered.
     fn offer(&mut self, asked: Duration, order: EndOrder) -> Need
         ensures goes { Goes T.Talk C.Channel self.old [] self.new }
+        ensures session { self.new.has_session ≡ self.old.has_session }
         ensures need { HasNeed T.Talk C.Channel order result self.new }
     {
         self.has_waited = is_past(self.waits_until, asked);
@@ -181,7 +196,8 @@ impl<T: Talk, C: Channel> Peer<T, C> {
 
     /// Its step waits until then.
     pub fn hold(&mut self, until: Duration)
-        ensures { conversation_of C.Channel self.new ≡ conversation_of C.Channel self.old }
+        ensures conversation { conversation_of C.Channel self.new ≡ conversation_of C.Channel self.old }
+        ensures session { self.new.has_session ≡ self.old.has_session }
     {
         if self.waits_until.is_none() {
             self.waits_until = Some(until);
@@ -217,6 +233,7 @@ impl<T: Talk, C: Channel> Peer<T, C> {
     // Lets go out what its connection takes now, unless that is to go out later.
     fn send_if_due(&mut self)
         ensures goes { Goes T.Talk C.Channel self.old [] self.new }
+        ensures session { self.new.has_session ≡ self.old.has_session }
         ensures end_cause { self.new.end_cause ≡ self.old.end_cause }
     {
         self.note_late_end();
@@ -228,6 +245,7 @@ impl<T: Talk, C: Channel> Peer<T, C> {
     // Where it wants a late end, what was said goes out a second after that was seen.
     fn note_late_end(&mut self)
         ensures conversation { conversation_of C.Channel self.new ≡ conversation_of C.Channel self.old }
+        ensures session { self.new.has_session ≡ self.old.has_session }
         ensures end_cause { self.new.end_cause ≡ self.old.end_cause }
     {
         if self.late_until.is_none() && is_late_end(self.talk.want()) {
@@ -243,6 +261,7 @@ impl<T: Talk, C: Channel> Peer<T, C> {
     // Lets go out what its connection takes now.
     fn send(&mut self)
         ensures goes { Goes T.Talk C.Channel self.old [] self.new }
+        ensures session { self.new.has_session ≡ self.old.has_session }
         ensures end_cause { self.new.end_cause ≡ self.old.end_cause }
     {
         match self.queue.send(&mut self.channel) {
@@ -257,6 +276,7 @@ impl<T: Talk, C: Channel> Peer<T, C> {
         requires wants { T.wants self.old.talk ≡ TheWant.Message }
         requires running { self.old.end_cause ≡ None }
         ensures goes { Goes T.Talk C.Channel self.old [] self.new }
+        ensures session { self.new.has_session ≡ self.old.has_session }
         ensures end_cause { self.new.end_cause ≡ None }
     {
         if self.has_no_front() && !self.is_quiet {
@@ -270,6 +290,7 @@ impl<T: Talk, C: Channel> Peer<T, C> {
     fn receive_and_hear(&mut self)
         requires { self.old.end_cause ≡ None }
         ensures goes { Goes T.Talk C.Channel self.old [] self.new }
+        ensures session { self.new.has_session ≡ self.old.has_session }
         ensures end_cause { self.new.end_cause ≡ None }
     {
         self.receive();
@@ -292,6 +313,7 @@ impl<T: Talk, C: Channel> Peer<T, C> {
     fn receive(&mut self)
         requires { self.old.end_cause ≡ None }
         ensures goes { Goes T.Talk C.Channel self.old [] self.new }
+        ensures session { self.new.has_session ≡ self.old.has_session }
         ensures end_cause { self.new.end_cause ≡ None }
     {
         drop_front(&mut self.held, self.heard);
@@ -308,6 +330,7 @@ impl<T: Talk, C: Channel> Peer<T, C> {
         requires heard { self.old.heard ≡ 0 }
         requires running { self.old.end_cause ≡ None }
         ensures goes { Goes T.Talk C.Channel self.old [] self.new }
+        ensures session { self.new.has_session ≡ self.old.has_session }
         ensures end_cause { self.new.end_cause ≡ None }
     {
         let mut buffer = [0; READ_SIZE];
@@ -325,6 +348,7 @@ impl<T: Talk, C: Channel> Peer<T, C> {
         requires wants { T.wants self.old.talk ≡ TheWant.Message }
         requires running { self.old.end_cause ≡ None }
         ensures goes { Goes T.Talk C.Channel self.old [] self.new }
+        ensures session { self.new.has_session ≡ self.old.has_session }
         ensures end_cause { self.new.end_cause ≡ None }
     {
         match self.talk.front(behind(&self.held, self.heard)) {
@@ -340,6 +364,7 @@ impl<T: Talk, C: Channel> Peer<T, C> {
         requires whole { T.front self.old.talk (drop self.old.heard self.old.held.items) ≡ MessageFront.Whole size }
         requires running { self.old.end_cause ≡ None }
         ensures goes { Goes T.Talk C.Channel self.old [] self.new }
+        ensures session { self.new.has_session ≡ self.old.has_session }
         ensures end_cause { self.new.end_cause ≡ None }
     {
         let message = &behind(&self.held, self.heard)[..size];
@@ -355,6 +380,7 @@ impl<T: Talk, C: Channel> Peer<T, C> {
         requires bad { T.front self.old.talk (drop self.old.heard self.old.held.items) ≡ MessageFront.Bad }
         requires running { self.old.end_cause ≡ None }
         ensures goes { Goes T.Talk C.Channel self.old [] self.new }
+        ensures session { self.new.has_session ≡ self.old.has_session }
         ensures end_cause { self.new.end_cause ≡ None }
     {
         match self.talk.reject(&mut self.queue.said) {
@@ -367,10 +393,12 @@ impl<T: Talk, C: Channel> Peer<T, C> {
     pub fn learn(&mut self, reply: Reply)
         requires running { self.old.end_cause ≡ None }
         requires fits { FitsWant (T.wants self.old.talk) reply }
-        ensures { Goes T.Talk C.Channel self.old (learnt (T.wants self.old.talk) reply ∷ []) self.new }
+        ensures goes { Goes T.Talk C.Channel self.old (learnt (T.wants self.old.talk) reply ∷ []) self.new }
+        ensures session { self.new.has_session ≡ (self.old.has_session || is_opened (T.wants self.old.talk) reply) }
     {
         self.waits_until = None;
         self.has_waited = false;
+        self.has_session = self.has_session || opens_session(self.talk.want(), &reply);
         match self.talk.learn(reply, &mut self.queue.said) {
             Ok(()) => {}
             Err(_) => {}
@@ -388,6 +416,7 @@ impl<T: Talk, C: Channel> Peer<T, C> {
     pub fn give_up(&mut self)
         requires { self.old.end_cause ≡ None }
         ensures goes { Goes T.Talk C.Channel self.old [] self.new }
+        ensures session { self.new.has_session ≡ self.old.has_session }
         ensures wants { unless_ended self.new.end_cause (T.wants self.new.talk) ≡ Some TheWant.OutOfMemory }
     {
         self.talk.give_up();
@@ -396,7 +425,8 @@ impl<T: Talk, C: Channel> Peer<T, C> {
     /// Looks at its limits. It was read since it was `asked` who had sent something: so it is over
     /// for who was silent so long before that, while it was waited for.
     pub fn look_after(&mut self, asked: Duration, now: Duration, idle: Option<Duration>)
-        ensures { conversation_of C.Channel self.new ≡ conversation_of C.Channel self.old }
+        ensures conversation { conversation_of C.Channel self.new ≡ conversation_of C.Channel self.old }
+        ensures session { self.new.has_session ≡ self.old.has_session }
     {
         if self.end_cause.is_some() {
             return;
@@ -407,6 +437,22 @@ impl<T: Talk, C: Channel> Peer<T, C> {
             self.active = now;
         }
         self.is_over = is_past(after(self.active, idle), asked);
+    }
+
+    /// Whether a session was opened for it.
+    pub fn has_session(&self) -> bool
+        ensures { result ≡ self.now.has_session }
+    {
+        self.has_session
+    }
+
+    /// It is to end, unless a session was opened for it.
+    pub fn turn_out(&mut self)
+        ensures conversation { conversation_of C.Channel self.new ≡ conversation_of C.Channel self.old }
+        ensures session { self.new.has_session ≡ self.old.has_session }
+        ensures ends { self.new.is_turned_out ≡ true }
+    {
+        self.is_turned_out = true;
     }
 
     /// When its limits are to be looked at, if they are.
@@ -425,7 +471,8 @@ impl<T: Talk, C: Channel> Peer<T, C> {
 
     /// Something may have come of it, or may go out to it.
     pub fn rouse(&mut self)
-        ensures { conversation_of C.Channel self.new ≡ conversation_of C.Channel self.old }
+        ensures conversation { conversation_of C.Channel self.new ≡ conversation_of C.Channel self.old }
+        ensures session { self.new.has_session ≡ self.old.has_session }
     {
         self.is_quiet = false;
         self.is_blocked = false;

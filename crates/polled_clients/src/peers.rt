@@ -1,11 +1,12 @@
 //! The clients that are there, by their numbers.
 
-ghost use Rattle.std.specs.Prelude.{◌≡◌, ◌≢◌, ℕ, [], Some, None, IfSome, nat_eq, true};
+ghost use Rattle.std.specs.Prelude.{◌≡◌, ◌≢◌, ◌||◌, ℕ, [], Some, None, IfSome, nat_eq, true};
 ghost use Rattle.indexmap.specs.IndexMap.{get};
 ghost use Rattle.talks.specs.Wants.{FitsWant};
 ghost use Rattle.talks.specs.Conversations.{unless_ended};
 ghost use Rattle.talks.specs.declared.want.Want.{Want as TheWant};
-ghost use Rattle.polled_clients.specs.ClientStates.{GoesOn, Learns, HasNeedHere, IsSomeWaited};
+ghost use Rattle.polled_clients.specs.Strangers.{opens_session};
+ghost use Rattle.polled_clients.specs.ClientStates.{GoesOn, Learns, HasNeedHere, IsSomeWaited, has_session};
 
 use crate::need::{EndOrder, Need, Pick};
 use crate::peer::Peer;
@@ -24,6 +25,7 @@ pub fn take_turn<T: Talk, C: Channel>(
     now: Duration,
 ) -> Need
     ensures here { GoesOn T.Talk C.Channel (get nat_eq peers.old pick.client) [] (get nat_eq peers.new pick.client) }
+    ensures session { has_session (get nat_eq peers.new pick.client) ≡ has_session (get nat_eq peers.old pick.client) }
     ensures others { (c : ℕ) → c ≢ pick.client → get nat_eq peers.new c ≡ get nat_eq peers.old c }
     ensures need { HasNeedHere T.Talk C.Channel order result (get nat_eq peers.new pick.client) }
 {
@@ -36,6 +38,7 @@ pub fn take_turn<T: Talk, C: Channel>(
 /// Something may have come of a client, or may go out to it.
 pub fn rouse<T: Talk, C: Channel>(peers: &mut IndexMap<u32, Peer<T, C>>, client: u32)
     ensures here { GoesOn T.Talk C.Channel (get nat_eq peers.old client) [] (get nat_eq peers.new client) }
+    ensures session { has_session (get nat_eq peers.new client) ≡ has_session (get nat_eq peers.old client) }
     ensures others { (c : ℕ) → c ≢ client → get nat_eq peers.new c ≡ get nat_eq peers.old c }
 {
     if let Some(peer) = peers.get_mut(&client) {
@@ -50,6 +53,7 @@ pub fn hold<T: Talk, C: Channel>(
     until: Duration,
 )
     ensures here { GoesOn T.Talk C.Channel (get nat_eq peers.old client) [] (get nat_eq peers.new client) }
+    ensures session { has_session (get nat_eq peers.new client) ≡ has_session (get nat_eq peers.old client) }
     ensures others { (c : ℕ) → c ≢ client → get nat_eq peers.new c ≡ get nat_eq peers.old c }
 {
     if let Some(peer) = peers.get_mut(&client) {
@@ -61,6 +65,7 @@ pub fn hold<T: Talk, C: Channel>(
 pub fn give_up<T: Talk, C: Channel>(peers: &mut IndexMap<u32, Peer<T, C>>, client: u32)
     requires { IfSome (get nat_eq peers.old client) (λ p. p.end_cause ≡ None) }
     ensures here { GoesOn T.Talk C.Channel (get nat_eq peers.old client) [] (get nat_eq peers.new client) }
+    ensures session { has_session (get nat_eq peers.new client) ≡ has_session (get nat_eq peers.old client) }
     ensures others { (c : ℕ) → c ≢ client → get nat_eq peers.new c ≡ get nat_eq peers.old c }
     ensures wants { IfSome (get nat_eq peers.new client) (λ p. unless_ended p.end_cause (T.wants p.talk) ≡ Some TheWant.OutOfMemory) }
 {
@@ -73,10 +78,33 @@ pub fn give_up<T: Talk, C: Channel>(peers: &mut IndexMap<u32, Peer<T, C>>, clien
 pub fn teach<T: Talk, C: Channel>(peers: &mut IndexMap<u32, Peer<T, C>>, client: u32, reply: Reply)
     requires { IfSome (get nat_eq peers.old client) (λ p. (p.end_cause ≡ None) × FitsWant (T.wants p.talk) reply) }
     ensures here { Learns T.Talk C.Channel (get nat_eq peers.old client) reply (get nat_eq peers.new client) }
+    ensures session { IfSome (get nat_eq peers.old client) (λ p. has_session (get nat_eq peers.new client) ≡ (p.has_session || opens_session (T.wants p.talk) reply)) }
     ensures others { (c : ℕ) → c ≢ client → get nat_eq peers.new c ≡ get nat_eq peers.old c }
 {
     if let Some(peer) = peers.get_mut(&client) {
         peer.learn(reply);
+    }
+}
+
+/// A client is to end, unless a session was opened for it.
+pub fn turn_out<T: Talk, C: Channel>(peers: &mut IndexMap<u32, Peer<T, C>>, client: u32)
+    ensures here { GoesOn T.Talk C.Channel (get nat_eq peers.old client) [] (get nat_eq peers.new client) }
+    ensures session { has_session (get nat_eq peers.new client) ≡ has_session (get nat_eq peers.old client) }
+    ensures others { (c : ℕ) → c ≢ client → get nat_eq peers.new c ≡ get nat_eq peers.old c }
+    ensures ends { IfSome (get nat_eq peers.new client) (λ p. p.is_turned_out ≡ true) }
+{
+    if let Some(peer) = peers.get_mut(&client) {
+        peer.turn_out();
+    }
+}
+
+/// Whether a session was opened for a client.
+pub fn has_session<T: Talk, C: Channel>(peers: &IndexMap<u32, Peer<T, C>>, client: u32) -> bool
+    ensures { result ≡ has_session (get nat_eq peers.now client) }
+{
+    match peers.get(&client) {
+        Some(peer) => peer.has_session(),
+        None => false,
     }
 }
 

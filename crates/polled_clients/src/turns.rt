@@ -95,6 +95,11 @@ impl Turns {
         self.listens = false;
     }
 
+    /// No more are taken in this round.
+    pub fn end_arrivals(&mut self) {
+        self.arrivals = 0;
+    }
+
     /// One that could not be taken is tried again later.
     pub fn note_later(&mut self, time: Duration) {
         self.listens = false;

@@ -5,5 +5,5 @@ use Rattle.polled_clients.proofs.limits.look_after.Goals as goal
 
 pub returns-in-Some-clause-here : goal.returns-in-Some-clause-here
 returns-in-Some-clause-here g c =
-    let goes : Goes g.T.Talk g.C.Channel c.in-Some.peer.now [] c.look_after.new.self = goes_same g.T.Talk g.C.Channel g.met.T.Talk.front_more g.met.T.Talk.bad_more c.in-Some.peer.now c.look_after.new.self c.look_after.ensures in
+    let goes : Goes g.T.Talk g.C.Channel c.in-Some.peer.now [] c.look_after.new.self = goes_same g.T.Talk g.C.Channel g.met.T.Talk.front_more g.met.T.Talk.bad_more c.in-Some.peer.now c.look_after.new.self c.look_after.ensures.conversation in
     search rules

@@ -23,4 +23,4 @@ returns-in-Nothing g c =
     let keeps = none_came (g.C.Channel.remaining self.channel) (g.C.Channel.remaining new.channel) c.receive.result c.receive.new.buffer c.in-Nothing.is c.receive.ensures.bytes in
     let unsent = left self.queue.going.items self.queue.sent self.queue.said.items in
     let told = keeps_same (append_known (g.C.Channel.taken self.channel) unsent) (append_known (g.C.Channel.taken new.channel) unsent) (ap (λ o. append_known o unsent) c.receive.ensures.taken) in
-    record { goes = quiet g.T.Talk (of self) (of new) refl refl keeps told refl (ends_none self.end_cause self.end_cause [] c.requires.running); end_cause = c.requires.running }
+    record { session = refl; goes = quiet g.T.Talk (of self) (of new) refl refl keeps told refl (ends_none self.end_cause self.end_cause [] c.requires.running); end_cause = c.requires.running }
