@@ -83,6 +83,8 @@ NO_BLOCK = report(b'N', 'WARNING', '25P01', 'there is no transaction in progress
 NONE, NO_DATA = message(b't', b'\0\0'), message(b'n')
 OTHER = error('0A000', 'cached plan must not change result type')
 PARSED, BOUND, CLOSED, SUSPENDED = message(b'1'), message(b'2'), message(b'3'), message(b's')
+LABELLED = 'SELECT a AS "N", b, c AS user, d FROM t'
+LABELS = columns(('N', 20, 8), HEADS[1], ('user', 16, 1), HEADS[3])
 ROWS = [row(str(number).encode()) for number in range(1, 6)]
 
 # what a client sends behind the start, and what it is told
@@ -149,6 +151,12 @@ PLAYED = [
      + READS + FAILED + complete('ROLLBACK') + IDLE + complete('INSERT 0 2') + IDLE
      + PARSED + BOUND + complete('BEGIN') + PARSED + BOUND + ONE_ROW[len(FOUR):] + PARSED + BOUND + READS + FAILED
      + complete('ROLLBACK') + IDLE + complete('BEGIN') + OPEN + complete('UPDATE 3') + OPEN),
+    (query(LABELLED) + query(f'SELECT 1 AS x; {LABELLED}') + query('SELECT 1') + query('SELECT -k AS k FROM t ORDER BY k'),
+     LABELS + ONE_ROW[len(FOUR):] + IDLE + columns(('x', 20, 8), *HEADS[1:]) + ONE_ROW[len(FOUR):] + LABELS + ONE_ROW[len(FOUR):] + IDLE
+     + ONE_ROW + IDLE + error('42601', 'syntax error') + IDLE),
+    (parse('a', LABELLED) + describe(b'S', 'a') + bind('p', 'a') + describe(b'P', 'p') + execute('p') + bind('', 'a') + execute('') + SYNC
+     + parse('', 'SELECT 1') + describe(b'S', '') + SYNC,
+     PARSED + NONE + LABELS + BOUND + LABELS + ONE_ROW[len(FOUR):] + BOUND + ONE_ROW[len(FOUR):] + IDLE + PARSED + NONE + FOUR + IDLE),
 ]
 
 for sent, told in PLAYED:

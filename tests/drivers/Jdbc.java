@@ -6,6 +6,7 @@ public class Jdbc {
         String parameters = words.length > 1 ? "&" + words[1] : "";
         try (Connection at = DriverManager.getConnection("jdbc:postgresql://127.0.0.1:" + words[0] + "/root?user=root" + parameters)) {
             statements(at);
+            labels(at);
             blocks(at);
             values(at);
             pieces(at);
@@ -22,6 +23,23 @@ public class Jdbc {
                     System.out.println(rows.getLong("k") + " " + rows.getString("x") + " " + rows.getBoolean("b"));
                 }
             }
+        }
+    }
+
+    /** Labels of columns, in a statement that is described and carried out seven times. */
+    static void labels(Connection at) throws SQLException {
+        try (PreparedStatement p = at.prepareStatement("SELECT k AS \"Key\", x AS user, b FROM j AS t ORDER BY k")) {
+            for (int turn = 0; turn < 7; turn++) {
+                try (ResultSet rows = p.executeQuery()) {
+                    ResultSetMetaData told = rows.getMetaData();
+                    rows.next();
+                    System.out.println(told.getColumnLabel(1) + " " + told.getColumnLabel(2) + " " + told.getColumnLabel(3) + " " + rows.getLong("Key") + " " + rows.getString("user"));
+                }
+            }
+        }
+        try (Statement s = at.createStatement(); ResultSet rows = s.executeQuery("SELECT count(*) AS n FROM j")) {
+            rows.next();
+            System.out.println(rows.getLong("n"));
         }
     }
 

@@ -36,6 +36,7 @@ use Rattle.postgres_talks.specs.declared.requests.Request.TheVariants as request
 use Rattle.postgres_talks.specs.Fitting.{AreFieldsOf, IsFieldOf, RowsFit, has_type}
 use Rattle.postgres_talks.proofs.Typings.{typing_fits}
 use Rattle.postgres_talks.specs.Moments.{answer_said, head_told, oids_told, parameters_said, ran, said_answered, said_closing, said_described, said_discarded, said_emptying, said_failed, said_judging, said_nothing_told, said_opened, said_own, said_refusing, said_resuming, said_rolled_back, said_row_told, said_run, said_settling, said_standing, said_to_reply, said_told, settled_columns, settled_head, settled_rows, settled_said, spares, table_said, warnings_said, within_room}
+use Rattle.postgres_talks.specs.Labels.{labelled_description}
 use Rattle.postgres_talks.specs.Portals.{rows_in}
 use Rattle.std.specs.Prelude.{◌==◌, ◌||◌, nat_lt, take, zero, suc}
 use Rattle.postgres_talks.specs.Outcomes.{commit_outcome, description_outcome, discard_outcome, outcome_of, table_outcome, warning_of}
@@ -349,7 +350,8 @@ pub fit_in_queries : (m : TalkMoment) (i : Input) → m.mode ≡ mode.Query → 
 fit_in_queries m (asked r) is = request_fits None r m
 fit_in_queries m (told (reply.Answer a)) is = answered_fits m.stage m a is
 fit_in_queries m (told (reply.Standing s)) is = standing_fits m.stage m s is
-fit_in_queries m (told (reply.Description d)) is = described_fits m.stage m d
+fit_in_queries m (told (reply.Description d)) is = described_fits m.stage m (labelled_description m.labels d)
+fit_in_queries m (told (reply.Verifier v)) is = tt
 fit_in_queries m bad is = tt
 
 -- ---- batches

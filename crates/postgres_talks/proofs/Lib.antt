@@ -2,6 +2,8 @@ pub mod Putting
 pub mod Hearing
 pub mod Playing
 pub mod Asking
+pub mod Slicing
+pub mod Labelling
 pub mod Excused
 pub mod Typings
 pub mod Bindings

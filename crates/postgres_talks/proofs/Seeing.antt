@@ -1,5 +1,5 @@
 -- What a client sees of its blocks, and what is said behind a bad message.
-use Rattle.std.proofs.Common.{◌≡◌, ◌∙◌, ℕ, Bool, true, false, if◌then◌else◌, List, [], ◌∷◌, ◌++◌, length, nat_lt, codes, Option, Some, None, option_and_then, IsSome, refl, ap, sym, subst}
+use Rattle.std.proofs.Common.{◌≡◌, ◌∙◌, ℕ, Bool, true, false, if◌then◌else◌, List, [], ◌∷◌, ◌++◌, Option, Some, None, option_and_then, IsSome, refl, ap, sym, subst}
 use Rattle.sql_ast.specs.declared.description.ResultColumn.{ResultColumn}
 use Rattle.sql_ast.specs.declared.description.StatementDescription.{StatementDescription}
 use Rattle.sql_ast.specs.declared.description.StatementDescription.TheVariants as description
@@ -30,8 +30,6 @@ use Rattle.postgres_talks.specs.declared.moment.Mode.TheVariants as mode
 use Rattle.postgres_talks.specs.declared.moment.TalkStage.{TalkStage}
 use Rattle.postgres_talks.specs.declared.moment.TalkStage.TheVariants as stage
 use Rattle.postgres_talks.specs.declared.moment.TalkMoment.{TalkMoment}
-use Rattle.postgres_talks.specs.declared.named_pieces.NamedPiece.{NamedPiece}
-use Rattle.postgres_talks.specs.declared.piece.StatementPiece.{StatementPiece}
 use Rattle.postgres_talks.specs.declared.piece.StatementPiece.TheVariants as piece
 use Rattle.postgres_talks.specs.declared.settled.Settled.{Settled}
 use Rattle.postgres_talks.specs.declared.settled.Settled.TheVariants as settled
@@ -48,6 +46,7 @@ use Rattle.postgres_talks.specs.Outcomes.{commit_outcome, description_outcome, d
 use Rattle.postgres_talks.specs.Played.{Input, asked, told, bad, said_in, said_to_input, after_input, after_all}
 use Rattle.postgres_talks.specs.Requests.{executes, formats_in, heeded, fault_of, mode_for, said_to_done, said_unless, after_done_request, after_unless, said_to_request, after_request}
 use Rattle.postgres_talks.specs.Named.{find, put}
+use Rattle.postgres_talks.specs.Labels.{labelled_description}
 use Rattle.postgres_talks.specs.Portals.{held_in, rows_in}
 use Rattle.postgres_talks.proofs.Staying.{carries_block, closes_block, describes_block, finishes_block, goes_on_block, rows_block}
 use Rattle.postgres_talks.specs.Typing.{new_template}
@@ -375,6 +374,7 @@ runs_block (want.Event e) m = refl
 runs_block (want.Open session login entry) m = refl
 runs_block (want.Standing session) m = refl
 runs_block (want.Description session text) m = refl
+runs_block (want.Verifier table role) m = refl
 runs_block (want.End late) m = refl
 runs_block want.OutOfMemory m = refl
 
@@ -427,7 +427,8 @@ input_keeps : (m : TalkMoment) (i : Input) → Keeps m.block (said_to_input m i)
 input_keeps m (asked r) = request_keeps r m
 input_keeps m (told (reply.Answer a)) = answered_keeps m.stage m a
 input_keeps m (told (reply.Standing s)) = standing_keeps m.stage m s
-input_keeps m (told (reply.Description d)) = described_keeps m.stage m d
+input_keeps m (told (reply.Description d)) = described_keeps m.stage m (labelled_description m.labels d)
+input_keeps m (told (reply.Verifier v)) = refl
 input_keeps m bad = refl
 
 all_kept : (m : TalkMoment) (inputs : List Input) → seen_all (seen_as m.block) (said_in m inputs) ≡ Some (seen_as (after_all m inputs).block)

@@ -1,5 +1,5 @@
 -- Steps that leave a block as it is.
-use Rattle.std.proofs.Common.{◌≡◌, ◌∙◌, ℕ, Bool, true, false, if◌then◌else◌, List, [], ◌∷◌, length, nat_lt, codes, Option, Some, None, refl}
+use Rattle.std.proofs.Common.{◌≡◌, ℕ, Bool, true, false, if◌then◌else◌, List, [], ◌∷◌, length, nat_lt, codes, Option, Some, None, refl}
 use Rattle.sql_ast.specs.declared.description.ResultColumn.{ResultColumn}
 use Rattle.sql_types.specs.declared.value.Value.{Value}
 use Rattle.postgres_talks.specs.declared.moment.TalkBlock.{TalkBlock}
@@ -10,6 +10,7 @@ use Rattle.postgres_talks.specs.declared.moment.Mode.TheVariants as mode
 use Rattle.postgres_talks.specs.declared.moment.TalkStage.TheVariants as stage
 use Rattle.postgres_talks.specs.declared.moment.TalkMoment.{TalkMoment}
 use Rattle.postgres_talks.specs.declared.named_pieces.NamedPiece.{NamedPiece}
+use Rattle.postgres_talks.specs.declared.piece.LabelledText.{LabelledText}
 use Rattle.postgres_talks.specs.declared.piece.StatementPiece.{StatementPiece}
 use Rattle.postgres_talks.specs.declared.piece.StatementPiece.TheVariants as piece
 use Rattle.postgres_talks.specs.declared.settled.Settled.{Settled}
@@ -37,18 +38,18 @@ closes_block mode.Query m = refl
 closes_block mode.Batch m = refl
 closes_block mode.Skipping m = refl
 
-formats_block : (b : Bool) (text : List ℕ) (m : TalkMoment) → (if b then describes stage.Describing text m else asks stage.Running text m).block ≡ m.block
-formats_block true text m = refl
-formats_block false text m = refl
+formats_block : (b : Bool) (t : LabelledText) (m : TalkMoment) → (if b then describes stage.Describing t m else asks stage.Running t.text m).block ≡ m.block
+formats_block true t m = refl
+formats_block false t m = refl
 
-known_block : (columns : Option (List ResultColumn)) (text : List ℕ) (m : TalkMoment) → (selects_known columns text m).block ≡ m.block
-known_block None text m = formats_block (nat_lt 1 (length m.formats)) text m
-known_block (Some columns) text m = refl
+known_block : (columns : Option (List ResultColumn)) (t : LabelledText) (m : TalkMoment) → (selects_known columns t m).block ≡ m.block
+known_block None t m = formats_block (nat_lt 1 (length m.formats)) t m
+known_block (Some columns) t m = refl
 
-selects_block : (t : Mode) (text : List ℕ) (m : TalkMoment) → (selects t text m).block ≡ m.block
-selects_block mode.Query text m = refl
-selects_block mode.Batch text m = known_block m.columns text m
-selects_block mode.Skipping text m = known_block m.columns text m
+selects_block : (s : Mode) (t : LabelledText) (m : TalkMoment) → (selects s t m).block ≡ m.block
+selects_block mode.Query t m = refl
+selects_block mode.Batch t m = known_block m.columns t m
+selects_block mode.Skipping t m = known_block m.columns t m
 
 writes_block : (b : Bool) (text : List ℕ) (m : TalkMoment) → (writes_unless b text m).block ≡ m.block
 writes_block true text m = refl
@@ -65,7 +66,7 @@ starts_on_block (piece.Statement text) m = writes_block m.read_only text m
 starts_on_block (piece.Control text) m = refl
 starts_on_block piece.BeginReadOnly m = refl
 starts_on_block piece.DiscardAll m = discards_block m.block m
-starts_on_block (piece.Select text) m = selects_block m.mode text m
+starts_on_block (piece.Select t) m = selects_block m.mode t m
 starts_on_block (piece.Settled s) m = refl
 starts_on_block (piece.Faulty f) m = refl
 starts_on_block piece.Empty m = refl
@@ -90,7 +91,7 @@ describes_piece_block k (piece.Statement text) m = refl
 describes_piece_block k (piece.Control text) m = refl
 describes_piece_block k piece.BeginReadOnly m = refl
 describes_piece_block k piece.DiscardAll m = refl
-describes_piece_block k (piece.Select text) m = refl
+describes_piece_block k (piece.Select t) m = refl
 describes_piece_block k (piece.Settled x) m = describes_settled_block k x (settled_row x) m
 describes_piece_block k (piece.Faulty f) m = refl
 describes_piece_block k piece.Empty m = refl
@@ -104,7 +105,7 @@ carried_block (piece.Statement text) m = goes_on_block m
 carried_block (piece.Control text) m = goes_on_block m
 carried_block piece.BeginReadOnly m = goes_on_block m
 carried_block piece.DiscardAll m = discards_block m.block (record m { left = [] })
-carried_block (piece.Select text) m = goes_on_block m
+carried_block (piece.Select t) m = goes_on_block m
 carried_block (piece.Settled s) m = goes_on_block m
 carried_block (piece.Faulty f) m = goes_on_block m
 carried_block piece.Empty m = goes_on_block m

@@ -36,6 +36,7 @@ use Rattle.postgres_talks.specs.declared.requests.Request.{Request}
 use Rattle.postgres_talks.specs.declared.requests.Request.TheVariants as request
 use Rattle.postgres_talks.specs.Moments.{after_answer, after_failed, after_judging, after_outcome, after_refusing, after_reply, after_rolled_back, after_row_told, after_settling, after_standing, answer_said, asks, came_out, closes, closes_or_listens, head_told, headed_said, oids_told, parameters_said, ran, resumed, said_answered, said_closing, said_described, said_discarded, said_emptying, said_failed, said_judging, said_opened, said_nothing_told, said_own, said_refusing, said_resuming, said_rolled_back, said_row_told, said_run, said_settling, said_standing, said_told, settled_columns, settled_head, settled_rows, settled_said, spares, table_said, warnings_said}
 use Rattle.postgres_talks.specs.Outcomes.{commit_outcome, description_outcome, discard_outcome, outcome_of, refusal, warning_of}
+use Rattle.postgres_talks.specs.Labels.{labelled_description}
 use Rattle.postgres_talks.specs.Portals.{rows_in}
 use Rattle.postgres_talks.specs.Played.{Input, after_input, asked, bad, said_to_input, told}
 use Rattle.postgres_talks.specs.Requests.{fault_of, heeded, said_to_done, said_to_request, said_unless}
@@ -310,7 +311,9 @@ pub error_rolls_back : (m : TalkMoment) (i : Input) → m.block ≡ block.Implic
 error_rolls_back m (asked r) is says = absurd (no_error (said_to_request r m) (quiet_request r m) says)
 error_rolls_back m (told (reply.Answer a)) is says = absurd (no_error (said_answered m.stage m a) (quiet_answered m.stage m a) says)
 error_rolls_back m (told (reply.Standing s)) is says = standing_rolls m.stage m s is says
-error_rolls_back m (told (reply.Description d)) is says = absurd (no_error (said_described m.stage m d) (quiet_described m.stage m d) says)
+error_rolls_back m (told (reply.Description d)) is says =
+    absurd (no_error (said_described m.stage m (labelled_description m.labels d)) (quiet_described m.stage m (labelled_description m.labels d)) says)
+error_rolls_back m (told (reply.Verifier v)) is says = absurd (no_error [] refl says)
 error_rolls_back m bad is says = absurd (no_error (said_to_input m bad) refl says)
 
 -- ---- the end of a block

@@ -1,5 +1,5 @@
 -- What is told of a portal that is carried out in pieces.
-use Rattle.std.specs.Prelude.{◌≡◌, ℕ, Bool, true, false, List, [], ◌∷◌, ◌++◌, length, drop, filter, Option, Some, None}
+use Rattle.std.specs.Prelude.{◌≡◌, ℕ, Bool, true, false, List, [], ◌∷◌, ◌++◌, length, drop, Some}
 use Rattle.sql_types.specs.declared.value.Value.{Value}
 use Rattle.talks.specs.declared.want.BlockStanding.TheVariants as standing
 use Rattle.talks.specs.declared.want.Reply.TheVariants as reply

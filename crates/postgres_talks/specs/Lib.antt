@@ -2,6 +2,7 @@ pub mod Faults
 pub mod Sayings
 pub mod Formats
 pub mod Rows
+pub mod Labels
 pub mod Tags
 pub mod Settled
 pub mod Pieces

@@ -38,6 +38,7 @@ use Rattle.postgres_talks.specs.declared.moment.TalkStage.TheVariants as stage
 use Rattle.postgres_talks.specs.declared.moment.TalkMoment.{TalkMoment}
 use Rattle.postgres_talks.specs.declared.named_pieces.NamedPiece.{NamedPiece}
 use Rattle.postgres_talks.specs.declared.parameters.TypedTemplate.{TypedTemplate}
+use Rattle.postgres_talks.specs.declared.piece.LabelledText.{LabelledText}
 use Rattle.postgres_talks.specs.declared.piece.StatementPiece.{StatementPiece}
 use Rattle.postgres_talks.specs.declared.piece.StatementPiece.TheVariants as piece
 use Rattle.postgres_talks.specs.declared.settled.Settled.{Settled}
@@ -48,6 +49,7 @@ use Rattle.postgres_talks.specs.Portals.{held_behind, held_in, is_kept, kept_out
 use Rattle.postgres_talks.specs.Sayings.{Saying, message, error_said, fatal_said, warning_said, ready_said, complete_said}
 use Rattle.postgres_talks.specs.Rows.{columns_said}
 pub use Rattle.postgres_talks.specs.Rows.{headed_said, table_said}
+use Rattle.postgres_talks.specs.Labels.{labelled_description}
 use Rattle.postgres_talks.specs.Named.{find, tell}
 use Rattle.postgres_talks.specs.Settled.{settled_tag, settled_row}
 use Rattle.postgres_talks.specs.Tags.{done_tag}
@@ -56,7 +58,7 @@ use Rattle.postgres_talks.specs.Typing.{after_typing, said_typing, template_in}
 
 -- nothing was heard
 abbrev pub first_moment : ℕ → TalkMoment
-first_moment process = record { process = process; stage = stage.Starting; block = block.Outside; mode = mode.Query; left = []; columns = None; formats = []; most = 0; name = []; statements = []; portal = None; portals = []; read_only = false; want = want.Message }
+first_moment process = record { process = process; stage = stage.Starting; block = block.Outside; mode = mode.Query; left = []; columns = None; labels = []; formats = []; most = 0; name = []; statements = []; portal = None; portals = []; read_only = false; want = want.Message }
 
 -- ---- where it goes
 
@@ -77,13 +79,13 @@ finishes b mode.Query m = looks stage.Closing m
 finishes b t m = listens m
 
 -- before a SELECT is run its columns are asked for, but in a batch where its client was told none and has not told one format for each
-abbrev pub selects_known : Option (List ResultColumn) → List ℕ → TalkMoment → TalkMoment
-selects_known None text m = if nat_lt 1 (length m.formats) then describes stage.Describing text m else asks stage.Running text m
-selects_known (Some columns) text m = describes stage.Describing text m
+abbrev pub selects_known : Option (List ResultColumn) → LabelledText → TalkMoment → TalkMoment
+selects_known None t m = if nat_lt 1 (length m.formats) then describes stage.Describing t m else asks stage.Running t.text m
+selects_known (Some columns) t m = describes stage.Describing t m
 
-abbrev pub selects : Mode → List ℕ → TalkMoment → TalkMoment
-selects mode.Query text m = describes stage.Describing text (record m { columns = None; formats = [] })
-selects t text m = selects_known m.columns text m
+abbrev pub selects : Mode → LabelledText → TalkMoment → TalkMoment
+selects mode.Query t m = describes stage.Describing t (record m { columns = None; formats = [] })
+selects s t m = selects_known m.columns t m
 
 -- in a block that only reads nothing is written
 abbrev pub writes_unless : Bool → List ℕ → TalkMoment → TalkMoment
@@ -102,7 +104,7 @@ starts_on (piece.Statement text) m = writes_unless m.read_only text m
 starts_on (piece.Control text) m = asks stage.Running text (record m { columns = None })
 starts_on piece.BeginReadOnly m = asks stage.Running (codes "BEGIN") (record m { columns = None; read_only = true })
 starts_on piece.DiscardAll m = discards m.block m
-starts_on (piece.Select text) m = selects m.mode text m
+starts_on (piece.Select t) m = selects m.mode t m
 starts_on (piece.Settled s) m = looks (stage.Settling s) m
 starts_on (piece.Faulty f) m = looks (stage.Refusing f) m
 starts_on piece.Empty m = looks stage.Emptying m
@@ -113,7 +115,7 @@ describes_settled k x None m = looks (stage.TellingNothing k) m
 describes_settled k x (Some r) m = looks (stage.TellingRow k x) m
 
 abbrev pub describes_piece : DescribedKind → StatementPiece → TalkMoment → TalkMoment
-describes_piece k (piece.Select text) m = describes (stage.Telling k) text m
+describes_piece k (piece.Select t) m = describes (stage.Telling k) t m
 describes_piece k (piece.Settled x) m = describes_settled k x (settled_row x) m
 describes_piece k (piece.Faulty f) m = looks (stage.Refusing f) m
 describes_piece k p m = looks (stage.TellingNothing k) m
@@ -483,14 +485,16 @@ after_standing (stage.TellingRow k x) m s = after_row_told m s
 after_standing (stage.TellingNothing k) m s = after_closing m s
 after_standing t m s = ends m
 
--- ---- what it learns
+-- ---- what it learns: the labels of a text are the names of the columns that it would answer
 
 abbrev pub said_to_reply : TalkMoment → Reply → List Saying
 said_to_reply m (reply.Answer a) = said_answered m.stage m a
 said_to_reply m (reply.Standing s) = said_standing m.stage m s
-said_to_reply m (reply.Description d) = said_described m.stage m d
+said_to_reply m (reply.Description d) = said_described m.stage m (labelled_description m.labels d)
+said_to_reply m (reply.Verifier v) = []
 
 abbrev pub after_reply : TalkMoment → Reply → TalkMoment
 after_reply m (reply.Answer a) = after_answer m.stage m a
 after_reply m (reply.Standing s) = after_standing m.stage m s
-after_reply m (reply.Description d) = after_described m.stage m d
+after_reply m (reply.Description d) = after_described m.stage m (labelled_description m.labels d)
+after_reply m (reply.Verifier v) = ends m

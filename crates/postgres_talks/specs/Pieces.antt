@@ -11,12 +11,15 @@ use Rattle.sql_lexer.specs.Lexeme.{Lexeme}
 use Rattle.sql_lexer.specs.Lexing.{Lexes}
 use Rattle.sql_lexer.specs.Slices.{text_between}
 use Rattle.postgres_texts.specs.Reserved.{is_reserved}
+use Rattle.select_labels.specs.declared.unlabelled.Unlabelled.{Unlabelled}
+use Rattle.select_labels.specs.Unlabelled.{IsWithoutLabels, may_have_labels}
 use Rattle.postgres_talks.specs.declared.fault.TalkFault.TheVariants as fault
 use Rattle.postgres_talks.specs.declared.piece.StatementPiece.{StatementPiece}
 use Rattle.postgres_talks.specs.declared.piece.StatementPiece.TheVariants as piece
 use Rattle.postgres_talks.specs.declared.settled.Settled.{Settled}
 use Rattle.postgres_talks.specs.declared.settled.Substitute.{Substitute}
 use Rattle.postgres_talks.specs.declared.settled.Substitute.TheVariants as substitute
+use Rattle.postgres_talks.specs.Labels.{bare}
 use Rattle.postgres_talks.specs.Settled.{lines, settled_in, substitutes, substitute_in}
 
 abbrev pub is_semicolon : TokenKind → Bool
@@ -88,7 +91,7 @@ begins_control [] = false
 begins_control (t ∷ ts) = is_control t.bytes
 
 abbrev pub asked : List ℕ → List Lexeme → StatementPiece
-asked slice ts = if begins_select ts then piece.Select slice else (if begins_control ts then piece.Control slice else piece.Statement slice)
+asked slice ts = if begins_select ts then piece.Select (bare slice) else (if begins_control ts then piece.Control slice else piece.Statement slice)
 
 abbrev pub plain : List ℕ → List Lexeme → StatementPiece
 plain slice ts = if names_catalogue ts then piece.Faulty fault.Catalogue else (if has_reserved ts then piece.Faulty fault.ReservedWord else asked slice ts)
@@ -112,29 +115,84 @@ by_settled None slice ts = by_substitute (substitute_in substitutes (line_of ts)
 abbrev pub piece_of : List ℕ → List Lexeme → StatementPiece
 piece_of slice ts = by_settled (settled_in lines (line_of ts)) slice ts
 
--- from one token up to another, if there is one
-abbrev pub piece_between : List ℕ → List Lexeme → ℕ → ℕ → List StatementPiece
-piece_between text ts first at = if nat_lt first at then piece_of (text_between text ts first (at - 1)) (slice_range ts first at) ∷ [] else []
+-- A text that has a fault is one statement, which the machine refuses.
+abbrev pub faulty : List ℕ → StatementPiece
+faulty text = if mentions_catalogue text then piece.Faulty fault.Catalogue else piece.Statement text
 
--- the statements from `first` on, where the tokens from `at` on are these
-abbrev pub pieces_from : List ℕ → List Lexeme → ℕ → ℕ → List Lexeme → List StatementPiece
-pieces_from text ts first at [] = piece_between text ts first at
-pieces_from text ts first at (t ∷ rest) =
-    if is_semicolon t.kind then piece_between text ts first at ++ pieces_from text ts (suc at) (suc at) rest
-    else pieces_from text ts first (suc at) rest
+abbrev pub piece_by : List ℕ → Result (List Lexeme) SqlState → StatementPiece
+piece_by text (Ok ts) = piece_of text ts
+piece_by text (Err state) = faulty text
+
+-- ---- labels of its columns
+
+-- a SELECT has these
+abbrev pub labelled : List (Option (List ℕ)) → StatementPiece → StatementPiece
+labelled ls (piece.Select t) = piece.Select (record t { labels = ls })
+labelled ls p = p
+
+-- what a text is as a whole
+pub record IsWholePiece (text : List ℕ) (p : StatementPiece) : Type 0 where
+  pub tokens : Result (List Lexeme) SqlState
+  pub lexes : Lexes text tokens
+  pub piece_is : p ≡ piece_by text tokens
+
+-- and one of which these labels were taken out
+abbrev pub IsLabelledPiece : Unlabelled → StatementPiece → Type 0
+IsLabelledPiece u p = (q : StatementPiece) × IsWholePiece u.text q × (p ≡ labelled u.labels q)
+
+-- where there were none it stays as it is
+abbrev pub IsPieceWithout : Option Unlabelled → List ℕ → List Lexeme → StatementPiece → Type 0
+IsPieceWithout None slice ts p = p ≡ piece_of slice ts
+IsPieceWithout (Some u) slice ts p = IsLabelledPiece u p
+
+abbrev pub IsPieceIf : Bool → List ℕ → List Lexeme → StatementPiece → Type 0
+IsPieceIf false slice ts p = p ≡ piece_of slice ts
+IsPieceIf true slice ts p = (u : Option Unlabelled) × IsWithoutLabels slice u × IsPieceWithout u slice ts p
+
+-- what a slice of a text is that has these tokens: by the slice without the labels of its columns
+abbrev pub IsPiece : List ℕ → List Lexeme → StatementPiece → Type 0
+IsPiece slice ts p = IsPieceIf (may_have_labels ts) slice ts p
+
+-- ---- the statements of a text
+
+-- a slice of a text, and its tokens
+pub record TheSlice : Type 0 where
+  pub text : List ℕ
+  pub tokens : List Lexeme
+
+-- from one token up to another, if there is one
+abbrev pub slice_between : List ℕ → List Lexeme → ℕ → ℕ → List TheSlice
+slice_between text ts first at =
+    if nat_lt first at then record { text = text_between text ts first (at - 1); tokens = slice_range ts first at } ∷ [] else []
+
+-- what stands between semicolons from `first` on, where the tokens from `at` on are these
+abbrev pub slices_from : List ℕ → List Lexeme → ℕ → ℕ → List Lexeme → List TheSlice
+slices_from text ts first at [] = slice_between text ts first at
+slices_from text ts first at (t ∷ rest) =
+    if is_semicolon t.kind then slice_between text ts first at ++ slices_from text ts (suc at) (suc at) rest
+    else slices_from text ts first (suc at) rest
+
+-- one for each slice
+abbrev pub ArePieces : List TheSlice → List StatementPiece → Type 0
+ArePieces [] [] = Unit {0}
+ArePieces (s ∷ ss) (p ∷ ps) = IsPiece s.text s.tokens p × ArePieces ss ps
+ArePieces ss ps = ⊥
+
+-- those of these slices were put behind others
+abbrev pub PutsPieces : List TheSlice → List StatementPiece → List StatementPiece → Type 0
+PutsPieces ss old new = (ps : List StatementPiece) × ArePieces ss ps × (new ≡ old ++ ps)
 
 -- a text without statements is one that is empty
-abbrev pub or_empty : List StatementPiece → List StatementPiece
-or_empty [] = piece.Empty ∷ []
-or_empty ps = ps
+abbrev pub ArePiecesOrEmpty : List TheSlice → List StatementPiece → Type 0
+ArePiecesOrEmpty [] ps = ps ≡ piece.Empty ∷ []
+ArePiecesOrEmpty ss ps = ArePieces ss ps
 
--- A text that has a fault is one statement, which the machine refuses.
-abbrev pub pieces_of : List ℕ → Result (List Lexeme) SqlState → List StatementPiece
-pieces_of text (Ok ts) = or_empty (pieces_from text ts 0 0 ts)
-pieces_of text (Err state) = (if mentions_catalogue text then piece.Faulty fault.Catalogue else piece.Statement text) ∷ []
+abbrev pub ArePiecesBy : List ℕ → Result (List Lexeme) SqlState → List StatementPiece → Type 0
+ArePiecesBy text (Ok ts) ps = ArePiecesOrEmpty (slices_from text ts 0 0 ts) ps
+ArePiecesBy text (Err state) ps = ps ≡ faulty text ∷ []
 
 -- these are the statements of a text
 pub record ArePiecesOf (text : List ℕ) (pieces : List StatementPiece) : Type 0 where
   pub tokens : Result (List Lexeme) SqlState
   pub lexes : Lexes text tokens
-  pub pieces_are : pieces ≡ pieces_of text tokens
+  pub pieces_are : ArePiecesBy text tokens pieces

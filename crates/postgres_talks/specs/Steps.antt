@@ -5,14 +5,15 @@ use Rattle.talks.specs.declared.want.Want.TheVariants as want
 use Rattle.postgres_talks.specs.declared.moment.TalkStage.{TalkStage}
 use Rattle.postgres_talks.specs.declared.moment.TalkStage.TheVariants as stage
 use Rattle.postgres_talks.specs.declared.moment.TalkMoment.{TalkMoment}
+use Rattle.postgres_talks.specs.declared.piece.LabelledText.{LabelledText}
 
 -- the event of this text is wanted; the session of a connection has the number 1
 abbrev pub asks : TalkStage → List ℕ → TalkMoment → TalkMoment
 asks s text m = record m { stage = s; want = want.Event (event.Statement 1 text) }
 
--- it is wanted what the statement of this text would answer
-abbrev pub describes : TalkStage → List ℕ → TalkMoment → TalkMoment
-describes s text m = record m { stage = s; want = want.Description 1 text }
+-- it is wanted what the statement of this text would answer, whose columns have these labels
+abbrev pub describes : TalkStage → LabelledText → TalkMoment → TalkMoment
+describes s t m = record m { stage = s; labels = t.labels; want = want.Description 1 t.text }
 
 -- it is wanted how the block stands
 abbrev pub looks : TalkStage → TalkMoment → TalkMoment

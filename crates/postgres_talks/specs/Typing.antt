@@ -21,6 +21,7 @@ use Rattle.postgres_talks.specs.declared.outcome.Outcome.TheVariants as outcome
 use Rattle.postgres_talks.specs.declared.parameters.TypedTemplate.{TypedTemplate}
 use Rattle.postgres_talks.specs.declared.piece.StatementPiece.{StatementPiece}
 use Rattle.postgres_talks.specs.declared.piece.StatementPiece.TheVariants as piece
+use Rattle.postgres_talks.specs.Labels.{bare}
 use Rattle.postgres_talks.specs.Named.{find, put, without}
 use Rattle.postgres_talks.specs.Outcomes.{description_outcome}
 use Rattle.postgres_talks.specs.Sayings.{Saying, message, fatal_said}
@@ -55,7 +56,7 @@ refuses f m = looks (stage.Refusing f) (record m { statements = without m.name m
 
 abbrev pub asks_of : ℕ → ParameterKind → Option (List ℕ) → TalkMoment → TalkMoment
 asks_of at c None m = refuses (fault.Refused ProgramLimitExceeded) m
-asks_of at c (Some text) m = describes (stage.Typing at c) text m
+asks_of at c (Some text) m = describes (stage.Typing at c) (bare text) m
 
 -- whether the candidate is the type of the parameter at an index; behind the last index, whether the statement is one
 abbrev pub asks_sample : ℕ → ParameterKind → TypedTemplate → TalkMoment → TalkMoment
@@ -83,7 +84,7 @@ keeps p t m = record m { statements = put (new_template m.name p t) m.statements
 
 -- the text with samples, by which it is described
 abbrev pub sampled_piece : Want → StatementDescription → StatementPiece
-sampled_piece (want.Description session text) (description.Rows columns) = piece.Select text
+sampled_piece (want.Description session text) (description.Rows columns) = piece.Select (bare text)
 sampled_piece (want.Description session text) d = piece.Statement text
 sampled_piece w d = piece.Empty
 

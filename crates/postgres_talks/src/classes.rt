@@ -6,7 +6,7 @@ ghost use Rattle.sql_lexer.specs.Lexeme.{lexeme, lexemes};
 ghost use Rattle.postgres_talks.specs.Pieces.{asked, by_settled, begins_control, begins_select, by_substitute, has_reserved, is_catalogue, is_control, is_dot, is_joining, is_reserved_as, is_select, joins_catalogue, line_of, mentions, mentions_catalogue, names_catalogue, piece_of, plain, substituted};
 
 use crate::fault::TalkFault;
-use crate::piece::StatementPiece;
+use crate::piece::{LabelledText, StatementPiece};
 use crate::settled::{Settled, Substitute, substitute_of};
 use crate::words::is_same_word;
 use postgres_texts::reserved::is_reserved;
@@ -65,15 +65,15 @@ fn plain(alloc: Global, slice: &str, tokens: &[Token]) -> Result<StatementPiece,
         return Ok(StatementPiece::Faulty(TalkFault::ReservedWord));
     }
     let text = Text::from_str(alloc, slice)?;
-    Ok(asked(text, tokens))
+    Ok(asked(alloc, text, tokens))
 }
 
 // A statement that the machine is asked.
-fn asked(text: Text, tokens: &[Token]) -> StatementPiece
+fn asked(alloc: Global, text: Text, tokens: &[Token]) -> StatementPiece
     ensures { result ≡ asked text (lexemes tokens.now) }
 {
     if begins_select(tokens) {
-        return StatementPiece::Select(text);
+        return StatementPiece::Select(LabelledText::bare(alloc, text));
     }
     if begins_control(tokens) {
         return StatementPiece::Control(text);

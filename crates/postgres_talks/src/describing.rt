@@ -2,8 +2,10 @@
 
 ghost use Rattle.std.specs.Prelude.{◌≡◌, OnOk};
 ghost use Rattle.postgres_talks.specs.Moments.{after_described, after_described_run, after_told, describes_piece, describes_settled, runs_described, tells};
+ghost use Rattle.postgres_talks.specs.Labels.{labelled_description};
 ghost use Rattle.postgres_talks.specs.Settled.{settled_row};
 
+use crate::labels::labelled_description;
 use crate::moment::{DescribedKind, TalkMoment, TalkStage};
 use crate::outcome::{Outcome, description_outcome};
 use crate::piece::StatementPiece;
@@ -37,8 +39,19 @@ impl TalkMoment {
         }
     }
 
-    // Takes in what a statement would answer.
-    pub(crate) fn take_described(
+    // Takes in what a statement would answer, whose columns have these labels.
+    pub(crate) fn take_labelled(
+        &mut self,
+        alloc: Global,
+        description: &StatementDescription,
+    ) -> Result<(), AllocError>
+        ensures { OnOk result (self.new ≡ after_described self.old.stage self.old (labelled_description self.old.labels description.now)) }
+    {
+        let labelled = labelled_description(alloc, self.labels.as_slice(), description)?;
+        self.take_described(alloc, &labelled)
+    }
+
+    fn take_described(
         &mut self,
         alloc: Global,
         description: &StatementDescription,

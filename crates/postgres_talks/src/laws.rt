@@ -1,6 +1,6 @@
 //! What a conversation makes of a client's bytes.
 
-ghost use Rattle.std.specs.Prelude.{◌≡◌, ◌⊎◌, ℕ, false, true, List, [], ◌∷◌, ◌++◌, filter, map, All, IsSome, Option, None, Some};
+ghost use Rattle.std.specs.Prelude.{◌≡◌, ◌⊎◌, ℕ, false, true, List, [], ◌∷◌, ◌++◌, filter, length, map, All, IsSome, Option, None, Some};
 ghost use Rattle.sql_ast.specs.declared.description.ResultColumn.{ResultColumn as TheResultColumn};
 ghost use Rattle.sql_types.specs.declared.answer.Answer.{Answer as TheAnswer};
 ghost use Rattle.sql_types.specs.declared.value.Value.{Value as TheValue};
@@ -21,13 +21,14 @@ ghost use Rattle.postgres_talks.specs.declared.requests.Request.{Request as TheR
 ghost use Rattle.postgres_talks.specs.Blocks.{IsOfAnswer, IsPassedOver, outside, seen_all};
 ghost use Rattle.postgres_talks.specs.Fitting.{RowsFit};
 ghost use Rattle.postgres_talks.specs.Fetches.{ArePieces, fetches, is_row, left_behind, pieces_said};
+ghost use Rattle.postgres_talks.specs.Labels.{with_labels};
 ghost use Rattle.postgres_talks.specs.Named.{find};
 ghost use Rattle.postgres_talks.specs.Outcomes.{table_outcome};
 ghost use Rattle.postgres_talks.specs.Portals.{holds};
 ghost use Rattle.postgres_talks.specs.Units.{IsCommitAnswer, RollsBack, SaysError};
 ghost use Rattle.postgres_talks.specs.Moments.{after_reply, ends, first_moment, ran, said_to_reply};
 ghost use Rattle.postgres_talks.specs.Played.{Input, PlayedOrGaveUp, TakesIn, after_input, said_in, said_to_input, told};
-ghost use Rattle.postgres_talks.specs.Rows.{described_columns, row_said};
+ghost use Rattle.postgres_talks.specs.Rows.{described_columns, is_row_of, row_said};
 ghost use Rattle.postgres_talks.specs.Requests.{after_request, said_to_request};
 
 use crate::postgres_talk::PostgresTalk;
@@ -82,6 +83,15 @@ pub fn rows_fit_their_columns()
         → m.columns ≡ Some columns → RowsFit (Some (described_columns m.formats columns)) (said_to_reply m (TheReply.Answer a)) }
     ensures portals { (m : TheMoment) (columns : List TheResultColumn) (s : Option TheStanding) → m.mode ≡ TheMode.Batch → m.stage ≡ TheStage.Resuming
         → m.columns ≡ Some columns → RowsFit (Some (described_columns m.formats columns)) (said_to_reply m (TheReply.Standing s)) }
+{}
+
+/// Labels rename columns and do nothing else: they neither add nor drop one, and the rows that fit are those that fitted before. Without
+/// labels nothing changes.
+pub fn labels_rename_columns()
+    ensures as_many { (labels : List (Option (List ℕ))) (columns : List TheResultColumn) → length (with_labels labels columns) ≡ length columns }
+    ensures same_rows { (labels : List (Option (List ℕ))) (columns : List TheResultColumn) (row : List TheValue)
+        → is_row_of (with_labels labels columns) row ≡ is_row_of columns row }
+    ensures none { (columns : List TheResultColumn) → with_labels [] columns ≡ columns }
 {}
 
 /// A portal whose rows are asked for in pieces, in a block that is open, tells each row of its answer once, in order. Each piece has as

@@ -7,6 +7,7 @@ mod classes;
 mod describing;
 pub mod fault;
 pub mod formats;
+mod labels;
 pub mod laws;
 pub mod moment;
 pub mod named_pieces;

@@ -9,13 +9,14 @@ use crate::fault::TalkFault;
 use crate::formats::ResultFormats;
 use crate::named_pieces::{NamedPiece, NamedPieces};
 use crate::outcome::{Outcome, commit_outcome, discard_outcome, outcome_of};
-use crate::piece::{PieceQueue, StatementPiece};
+use crate::piece::{LabelledText, PieceQueue, StatementPiece};
 use crate::portals::ran;
 use crate::settled::Settled;
 use sql_ast::description::ResultColumn;
 use sql_types::answer::Answer;
 use sql_types::event::Event;
 use sql_types::items::Items;
+use sql_types::name::Name;
 use sql_types::state::SqlState;
 use sql_types::text::Text;
 use statement_parameters::types::ParameterKind;
@@ -116,6 +117,8 @@ pub struct TalkMoment {
     pub left: PieceQueue,
     /// The columns of the statement that is run, where its client knows them.
     pub columns: Option<Items<ResultColumn>>,
+    /// The labels of the columns of the text of which it is wanted what it would answer.
+    pub labels: Items<Option<Name>>,
     /// The formats in which its rows are wanted.
     pub formats: ResultFormats,
     /// How many of its rows are asked for at most, or 0 for all.
@@ -146,6 +149,7 @@ impl TalkMoment {
             mode: Mode::Query,
             left: PieceQueue::new(alloc),
             columns: None,
+            labels: Items::new(alloc),
             formats: ResultFormats::new(alloc),
             most: 0,
             name: Text::from_string(String::new(alloc)),
@@ -182,10 +186,12 @@ impl TalkMoment {
     }
 
     // It is wanted what the statement of this text would answer.
-    pub(crate) fn describe(&mut self, stage: TalkStage, text: Text)
+    pub(crate) fn describe(&mut self, stage: TalkStage, text: LabelledText)
         ensures { self.new ≡ describes stage text self.old }
     {
+        let LabelledText { text, labels } = text;
         self.stage = stage;
+        self.labels = labels;
         self.want = Want::Description {
             session: SESSION,
             text,
@@ -286,7 +292,7 @@ impl TalkMoment {
     }
 
     // Before a SELECT is run its columns are asked for, but in a batch where its client was told none.
-    fn select(&mut self, text: Text)
+    fn select(&mut self, text: LabelledText)
         ensures { self.new ≡ selects self.old.mode text self.old }
     {
         match self.mode {
@@ -299,10 +305,11 @@ impl TalkMoment {
         }
     }
 
-    fn select_known(&mut self, text: Text)
+    fn select_known(&mut self, text: LabelledText)
         ensures { self.new ≡ selects_known self.old.columns text self.old }
     {
         if self.columns.is_none() && self.formats.as_slice().len() <= 1 {
+            let LabelledText { text, labels: _ } = text;
             self.run(TalkStage::Running, text);
         } else {
             self.describe(TalkStage::Describing, text);
@@ -333,7 +340,11 @@ impl TalkMoment {
         match reply {
             Reply::Answer(answer) => self.take_answer(alloc, answer),
             Reply::Standing(standing) => self.take_standing(alloc, *standing),
-            Reply::Description(description) => self.take_described(alloc, description),
+            Reply::Description(description) => self.take_labelled(alloc, description),
+            Reply::Verifier(_) => {
+                self.end();
+                Ok(())
+            }
         }
     }
 

@@ -1,14 +1,45 @@
 //! One of the statements of a text.
 
 ghost use Rattle.std.specs.Prelude.{◌≡◌, [], ◌∷◌, ◌++◌, length, MatchOption, OnOk};
+ghost use Rattle.postgres_talks.specs.Labels.{bare};
 
 use crate::fault::TalkFault;
 use crate::settled::Settled;
+use sql_types::items::Items;
+use sql_types::name::Name;
 use sql_types::text::Text;
 use sql_types::try_copy::TryCopy;
 use std::alloc::{AllocError, Global};
 use std::collections::VecDeque;
 use std::marker::Model;
+
+/// The text of a SELECT without the labels of its columns, and those labels.
+#[derive(Drop)]
+pub struct LabelledText {
+    pub text: Text,
+    /// For each column its label, if it has one; those behind the last have none.
+    pub labels: Items<Option<Name>>,
+}
+
+impl LabelledText {
+    // A text without labels.
+    pub(crate) fn bare(alloc: Global, text: Text) -> LabelledText
+        ensures { result ≡ bare text }
+    {
+        LabelledText {
+            text,
+            labels: Items::new(alloc),
+        }
+    }
+}
+
+impl TryCopy for LabelledText {
+    fn try_copy(&self, alloc: Global) -> Result<LabelledText, AllocError> {
+        let text = self.text.try_copy(alloc)?;
+        let labels = self.labels.try_copy(alloc)?;
+        Ok(LabelledText { text, labels })
+    }
+}
 
 /// One of the statements of a text.
 #[derive(Drop)]
@@ -22,7 +53,7 @@ pub enum StatementPiece {
     /// The machine is asked for the role of the login, and what was prepared is forgotten.
     DiscardAll,
     /// The machine is asked, and answers rows.
-    Select(Text),
+    Select(LabelledText),
     /// It is answered without the machine.
     Settled(Settled),
     /// It has a fault.

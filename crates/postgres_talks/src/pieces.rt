@@ -1,15 +1,18 @@
 //! The statements of a text.
 
-ghost use Rattle.std.specs.Prelude.{◌≡◌, ◌∷◌, [], ◌++◌, ◌≤◌, IfOk, OnOk, length, if◌then◌else◌};
+ghost use Rattle.std.specs.Prelude.{◌≡◌, ◌∷◌, [], ◌≤◌, IfOk, OnOk, Some, length};
 ghost use Rattle.sql_lexer.specs.Lexeme.{ArePlaced, lexemes};
-ghost use Rattle.postgres_talks.specs.Pieces.{ArePiecesOf, is_semicolon, mentions_catalogue, or_empty, piece_between, pieces_from};
+ghost use Rattle.postgres_talks.specs.Pieces.{ArePieces, ArePiecesOf, ArePiecesOrEmpty, IsLabelledPiece, IsPiece, IsWholePiece, PutsPieces, faulty, is_semicolon, labelled, slice_between, slices_from};
 
 use crate::classes::{mentions_catalogue, piece_of};
 use crate::fault::TalkFault;
-use crate::piece::{PieceQueue, StatementPiece};
+use crate::piece::{LabelledText, PieceQueue, StatementPiece};
+use select_labels::unlabelled::{Unlabelled, may_have_labels, without_labels};
 use sql_lexer::lexer;
 use sql_lexer::slice::text_between;
 use sql_lexer::token::{Punctuation, Token, TokenKind};
+use sql_types::items::Items;
+use sql_types::name::Name;
 use sql_types::state::{Refusal, SqlState};
 use sql_types::text::Text;
 use std::alloc::{AllocError, Global};
@@ -21,26 +24,32 @@ pub(crate) fn pieces_of(alloc: Global, text: &str) -> Result<PieceQueue, AllocEr
     match lexer::tokens(alloc, text) {
         Ok(tokens) => pieces_or_empty(alloc, text, &tokens),
         Err(Refusal(SqlState::OutOfMemory)) => Err(AllocError),
-        Err(Refusal(_)) => faulty_piece(alloc, text),
+        Err(Refusal(_)) => one_faulty(alloc, text),
     }
 }
 
-// The one statement of a text that has a fault: the machine refuses it.
-fn faulty_piece(alloc: Global, text: &str) -> Result<PieceQueue, AllocError>
-    ensures { IfOk result (λ pieces. pieces ≡ (if mentions_catalogue text.now then StatementPiece.Faulty TalkFault.Catalogue else StatementPiece.Statement text.now) ∷ []) }
+fn one_faulty(alloc: Global, text: &str) -> Result<PieceQueue, AllocError>
+    ensures { IfOk result (λ pieces. pieces ≡ faulty text.now ∷ []) }
 {
     let mut pieces = PieceQueue::new(alloc);
-    if mentions_catalogue(text) {
-        pieces.push(StatementPiece::Faulty(TalkFault::Catalogue))?;
-    } else {
-        pieces.push(StatementPiece::Statement(Text::from_str(alloc, text)?))?;
-    }
+    pieces.push(faulty(alloc, text)?)?;
     Ok(pieces)
+}
+
+// The one statement of a text that has a fault: the machine refuses it.
+fn faulty(alloc: Global, text: &str) -> Result<StatementPiece, AllocError>
+    ensures { IfOk result (λ piece. piece ≡ faulty text.now) }
+{
+    if mentions_catalogue(text) {
+        Ok(StatementPiece::Faulty(TalkFault::Catalogue))
+    } else {
+        Ok(StatementPiece::Statement(Text::from_str(alloc, text)?))
+    }
 }
 
 fn pieces_or_empty(alloc: Global, text: &str, tokens: &[Token]) -> Result<PieceQueue, AllocError>
     requires { ArePlaced text.now (lexemes tokens.now) }
-    ensures { IfOk result (λ pieces. pieces ≡ or_empty (pieces_from text.now (lexemes tokens.now) 0 0 (lexemes tokens.now))) }
+    ensures { IfOk result (λ pieces. ArePiecesOrEmpty (slices_from text.now (lexemes tokens.now) 0 0 (lexemes tokens.now)) pieces) }
 {
     let mut pieces = pieces_between(alloc, text, tokens)?;
     if pieces.len() == 0 {
@@ -51,7 +60,7 @@ fn pieces_or_empty(alloc: Global, text: &str, tokens: &[Token]) -> Result<PieceQ
 
 fn pieces_between(alloc: Global, text: &str, tokens: &[Token]) -> Result<PieceQueue, AllocError>
     requires { ArePlaced text.now (lexemes tokens.now) }
-    ensures { IfOk result (λ pieces. pieces ≡ pieces_from text.now (lexemes tokens.now) 0 0 (lexemes tokens.now)) }
+    ensures { IfOk result (λ pieces. ArePieces (slices_from text.now (lexemes tokens.now) 0 0 (lexemes tokens.now)) pieces) }
 {
     let mut pieces = PieceQueue::new(alloc);
     let mut first = 0;
@@ -80,13 +89,62 @@ fn put_piece(
 ) -> Result<(), AllocError>
     requires placed { ArePlaced text.now (lexemes tokens.now) }
     requires within { at ≤ length tokens.now }
-    ensures { OnOk result (pieces.new ≡ pieces.old ++ piece_between text.now (lexemes tokens.now) first at) }
+    ensures { OnOk result (PutsPieces (slice_between text.now (lexemes tokens.now) first at) pieces.old pieces.new) }
 {
     if first < at {
         let slice = text_between(text, tokens, first, at - 1);
-        pieces.push(piece_of(alloc, slice, &tokens[first..at])?)?;
+        pieces.push(labelled_piece(alloc, slice, &tokens[first..at])?)?;
     }
     Ok(())
+}
+
+// What a slice of a text is that has these tokens: labels of its columns are taken out.
+fn labelled_piece(
+    alloc: Global,
+    slice: &str,
+    tokens: &[Token],
+) -> Result<StatementPiece, AllocError>
+    ensures { IfOk result (λ piece. IsPiece slice.now (lexemes tokens.now) piece) }
+{
+    if !may_have_labels(tokens) {
+        return piece_of(alloc, slice, tokens);
+    }
+    match without_labels(alloc, slice)? {
+        None => piece_of(alloc, slice, tokens),
+        Some(unlabelled) => piece_without(alloc, unlabelled),
+    }
+}
+
+// What a text is of which these labels were taken out.
+fn piece_without(alloc: Global, unlabelled: Unlabelled) -> Result<StatementPiece, AllocError>
+    ensures { IfOk result (λ piece. IsLabelledPiece unlabelled piece) }
+{
+    let Unlabelled { text, labels } = unlabelled;
+    let piece = whole_piece(alloc, text.as_str())?;
+    Ok(labelled(labels, piece))
+}
+
+// What a text is as a whole.
+fn whole_piece(alloc: Global, text: &str) -> Result<StatementPiece, AllocError>
+    ensures { IfOk result (λ piece. IsWholePiece text.now piece) }
+{
+    match lexer::tokens(alloc, text) {
+        Ok(tokens) => piece_of(alloc, text, &tokens),
+        Err(Refusal(SqlState::OutOfMemory)) => Err(AllocError),
+        Err(Refusal(_)) => faulty(alloc, text),
+    }
+}
+
+// A SELECT has these labels.
+fn labelled(labels: Items<Option<Name>>, piece: StatementPiece) -> StatementPiece
+    ensures { result ≡ labelled labels piece }
+{
+    match piece {
+        StatementPiece::Select(LabelledText { text, labels: _ }) => {
+            StatementPiece::Select(LabelledText { text, labels })
+        }
+        other => other,
+    }
 }
 
 fn is_semicolon(kind: TokenKind) -> bool

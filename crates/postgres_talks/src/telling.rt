@@ -15,7 +15,7 @@ use crate::portals::{ran, resumed, rows_in};
 use crate::rows::{say_columns, say_limited, say_rows};
 use crate::said::Said;
 use crate::tags::done_tag;
-use crate::told::{say_described, say_nothing_told, say_row_told, say_settling};
+use crate::told::{say_labelled, say_nothing_told, say_row_told, say_settling};
 use postgres_messages::backend::BackendMessage;
 use postgres_texts::settings::SessionSetting;
 use sql_ast::description::ResultColumn;
@@ -51,7 +51,8 @@ pub(crate) fn say_reply(
     match reply {
         Reply::Answer(answer) => say_answered(alloc, moment, answer, said),
         Reply::Standing(standing) => say_standing(alloc, moment, *standing, said),
-        Reply::Description(description) => say_described(alloc, moment, description, said),
+        Reply::Description(description) => say_labelled(alloc, moment, description, said),
+        Reply::Verifier(_) => Ok(()),
     }
 }
 

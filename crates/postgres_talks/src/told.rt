@@ -6,6 +6,7 @@ ghost use Rattle.statement_parameters.specs.Types.{oid_of};
 ghost use Rattle.postgres_messages.specs.Backend.{no_data};
 ghost use Rattle.postgres_talks.specs.Moments.{head_told, oids_of, oids_told, parameters_said, said_described, said_nothing_told, said_row_told, said_settling, said_told, settled_columns, settled_head, settled_rows, settled_said};
 ghost use Rattle.postgres_talks.specs.Formats.{next_format};
+ghost use Rattle.postgres_talks.specs.Labels.{labelled_description};
 ghost use Rattle.postgres_talks.specs.Outcomes.{description_outcome};
 ghost use Rattle.postgres_talks.specs.Rows.{columns_said};
 ghost use Rattle.postgres_talks.specs.Sayings.{Puts, message};
@@ -13,6 +14,7 @@ ghost use Rattle.postgres_talks.specs.Settled.{settled_row};
 
 use crate::fault::TalkFault;
 use crate::formats::next_format;
+use crate::labels::labelled_description;
 use crate::moment::{DescribedKind, Mode, TalkMoment, TalkStage};
 use crate::outcome::{Outcome, description_outcome};
 use crate::parameters::TypedTemplate;
@@ -29,8 +31,20 @@ use statement_parameters::types::ParameterType;
 use std::alloc::{AllocError, Global};
 use talks::want::BlockStanding;
 
-// Says what is to be said to what a statement would answer.
-pub(crate) fn say_described(
+// Says what is to be said to what a statement would answer, whose columns have these labels.
+pub(crate) fn say_labelled(
+    alloc: Global,
+    moment: &TalkMoment,
+    description: &StatementDescription,
+    said: &mut Said,
+) -> Result<(), AllocError>
+    ensures { OnOk result (Puts (said_described moment.now.stage moment.now (labelled_description moment.now.labels description.now)) said.old said.new) }
+{
+    let labelled = labelled_description(alloc, moment.labels.as_slice(), description)?;
+    say_described(alloc, moment, &labelled, said)
+}
+
+fn say_described(
     alloc: Global,
     moment: &TalkMoment,
     description: &StatementDescription,

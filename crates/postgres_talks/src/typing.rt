@@ -12,7 +12,7 @@ use crate::moment::{TalkMoment, TalkStage};
 use crate::named_pieces::NamedPiece;
 use crate::outcome::{Outcome, description_outcome};
 use crate::parameters::TypedTemplate;
-use crate::piece::StatementPiece;
+use crate::piece::{LabelledText, StatementPiece};
 use crate::said::Said;
 use postgres_messages::backend::BackendMessage;
 use sql_ast::description::StatementDescription;
@@ -125,7 +125,8 @@ fn sampled_piece(
 {
     match (want, description) {
         (Want::Description { session: _, text }, StatementDescription::Rows(_)) => {
-            Ok(StatementPiece::Select(text.try_copy(alloc)?))
+            let text = text.try_copy(alloc)?;
+            Ok(StatementPiece::Select(LabelledText::bare(alloc, text)))
         }
         (Want::Description { session: _, text }, _) => {
             Ok(StatementPiece::Statement(text.try_copy(alloc)?))
@@ -143,12 +144,15 @@ impl TalkMoment {
         self.look(TalkStage::Refusing(fault));
     }
 
-    fn ask_of(&mut self, at: usize, candidate: ParameterKind, text: Option<Text>)
+    fn ask_of(&mut self, alloc: Global, at: usize, candidate: ParameterKind, text: Option<Text>)
         ensures { self.new ≡ asks_of at candidate text self.old }
     {
         match text {
             None => self.refuse_statement(TalkFault::Refused(SqlState::ProgramLimitExceeded)),
-            Some(text) => self.describe(TalkStage::Typing(at, candidate), text),
+            Some(text) => self.describe(
+                TalkStage::Typing(at, candidate),
+                LabelledText::bare(alloc, text),
+            ),
         }
     }
 
@@ -164,7 +168,7 @@ impl TalkMoment {
     {
         let types = template.types.as_slice();
         let text = sample_text(alloc, &template.template, types, at, candidate)?;
-        self.ask_of(at, candidate, text);
+        self.ask_of(alloc, at, candidate, text);
         Ok(())
     }
 

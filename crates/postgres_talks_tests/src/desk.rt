@@ -68,6 +68,9 @@ impl PostgresDesk {
             "BEGIN" => Ok(self.begin()),
             "SELECT 0" => Ok(Answer::Rows(Items::new(self.alloc))),
             "SELECT 1" | "SELECT 2" => Ok(Answer::Rows(one_row(self.alloc)?)),
+            "SELECT 1     " | "SELECT a       , b, c        , d FROM t" => {
+                Ok(Answer::Rows(one_row(self.alloc)?))
+            }
             "SELECT 5" => Ok(Answer::Rows(five_rows(self.alloc)?)),
             "INSERT" => Ok(done(Tag::Insert, Some(2), None)),
             "UPDATE" => Ok(done(Tag::Update, Some(3), None)),
@@ -87,6 +90,9 @@ impl PostgresDesk {
         }
         match text {
             "SELECT 0" | "SELECT 1" => Ok(StatementDescription::Rows(four_columns(self.alloc)?)),
+            "SELECT 1     " | "SELECT a       , b, c        , d FROM t" => {
+                Ok(StatementDescription::Rows(four_columns(self.alloc)?))
+            }
             "SELECT 2" | "SELECT 5" => Ok(StatementDescription::Rows(one_column(self.alloc)?)),
             "INSERT   '' " => Ok(StatementDescription::Refused(SqlState::DatatypeMismatch)),
             "INSERT   0 " => Ok(StatementDescription::NoRows),
