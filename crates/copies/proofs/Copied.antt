@@ -29,7 +29,7 @@ ordered_put_in [] cs o = o
 ordered_put_in (x ∷ xs) cs o = ordered_put_in xs _ (ordered_changed x.0 (Some (Some x.1)) cs o)
 
 -- records in order that are put into changes come behind what these make
-puts_append : (xs more : Records) (cs : Changes) (es : Records) → IsOrdered cs → IsOrdered es → IsOrdered (applied cs es ++ (xs ++ more)) → applied (put_in xs cs) es ≡ applied cs es ++ xs
+pub puts_append : (xs more : Records) (cs : Changes) (es : Records) → IsOrdered cs → IsOrdered es → IsOrdered (applied cs es ++ (xs ++ more)) → applied (put_in xs cs) es ≡ applied cs es ++ xs
 puts_append [] more cs es oc oe o = none (applied cs es)
   where
     none : (ys : Records) → ys ≡ ys ++ []

@@ -11,10 +11,7 @@ use sector_device::Device;
 use std::alloc::Global;
 
 /// Makes a store of the mark alone on a device, and opens it. A refusal hands the device back.
-pub(crate) fn marked_store<D: Device>(
-    alloc: Global,
-    target: D,
-) -> Result<PageStore<D>, (D, CopyFault)>
+pub fn marked_store<D: Device>(alloc: Global, target: D) -> Result<PageStore<D>, (D, CopyFault)>
     ensures { Begins D.Device target result }
 {
     let mut target = target;

@@ -18,8 +18,8 @@ use store::{Batch, Fault, Map, Store};
 // The commits of a copy, at most: more than any device has room for, and fewer than there are numbers.
 const MOST_COMMITS: u64 = 1 << 62;
 
-// The place before the first record of a map.
-fn first_place<M: Map>(source: &mut M) -> Result<M::Place, Fault>
+/// The place before the first record of a map behind the mark. Damaged never comes.
+pub fn first_place<M: Map>(source: &mut M) -> Result<M::Place, Fault>
     ensures preserved { M.preserved source.old source.new }
     ensures read { HasRead result (M.state source.old) (M.state source.new) }
     ensures ahead { (M.state source.old).sound

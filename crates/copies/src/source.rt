@@ -16,7 +16,7 @@ use store::{Batch, Fault, Store};
 /// and all rows are read and checked. The store is only read.
 ///
 /// Device: the store answered it. Damaged: the contents stand for no database.
-pub(crate) fn read_source<S: Store>(alloc: Global, store: &mut S) -> Result<Items<Batch>, Fault>
+pub fn read_source<S: Store>(alloc: Global, store: &mut S) -> Result<Items<Batch>, Fault>
     ensures preserved { S.preserved store.old store.new }
     ensures read { HasRead result (S.state store.old) (S.state store.new) }
     ensures found { (S.state store.old).sound

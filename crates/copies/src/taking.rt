@@ -60,7 +60,7 @@ fn take_record<M: Map>(
 
 /// Takes records ahead of a place into a batch, up to those of one commit, and adds their bytes to those that were taken. False:
 /// none is left ahead.
-pub(crate) fn take_records<M: Map>(
+pub fn take_records<M: Map>(
     source: &mut M,
     place: &mut M::Place,
     batch: &mut Batch,

@@ -1,0 +1,4 @@
+pub mod Roles
+pub mod Dumping
+pub mod Restoring
+pub mod Counting

@@ -1,0 +1,13 @@
+pub mod Joined
+pub mod Sectors
+pub mod PageReads
+pub mod PageWrites
+pub mod Blocks
+pub mod Following
+pub mod HeadBytes
+pub mod WholeDumps
+pub mod Heads
+pub mod Moved
+pub mod ListsRead
+pub mod Marked
+pub mod WholeReads
