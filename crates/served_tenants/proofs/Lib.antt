@@ -1,0 +1,9 @@
+pub mod HeardAlike
+pub mod Making
+pub mod Renumbering
+pub mod Parting
+pub mod Telling
+pub mod SaidAlike
+pub mod RunsApart
+pub mod SpokenOnce
+pub mod AskingAlike
