@@ -73,6 +73,8 @@ module _ (words : TheWords) (name : TheWord) (rows : List Row) (fits : fault_of 
   pub order_asks : (o : Invocation) → IsOrdered (GivesAs name rows) o → Asks words o
   order_asks (order.Format file pages admin journal) has = (has.0, gives_of _ has.1, has.2, has.3)
   order_asks (order.Copy file new pages journal) has = (has.0, gives_of _ has.1, has.2)
+  order_asks (order.Dump file out) has = gives_of _ has
+  order_asks (order.Restore dump new pages journal) has = (has.0, gives_of _ has.1, has.2)
   order_asks (order.Journal file on) has = gives_of _ has
   order_asks (order.Run file script on) has = (has.0, has.1, gives_of _ has.2, has.3)
   order_asks (order.RunMemory admin script on) has = (has.0, has.1, gives_of _ has.2, has.3, has.4)
@@ -111,6 +113,8 @@ asks_by words e (Ok order.Help) kinds read = subst (λ k. EndsReading k words) r
 asks_by words e (Ok order.Version) kinds read = subst (λ k. EndsReading k words) read (among words e kinds (λ m. let bad : kind.OutOfMemory ≡ kind.DisplayVersion = sym m ∙ read in cc))
 asks_by words e (Ok (order.Format file pages admin journal)) kinds read = absurd read
 asks_by words e (Ok (order.Copy file new pages journal)) kinds read = absurd read
+asks_by words e (Ok (order.Dump file out)) kinds read = absurd read
+asks_by words e (Ok (order.Restore dump new pages journal)) kinds read = absurd read
 asks_by words e (Ok (order.Journal file on)) kinds read = absurd read
 asks_by words e (Ok (order.Run file script on)) kinds read = absurd read
 asks_by words e (Ok (order.RunMemory admin script on)) kinds read = absurd read

@@ -15,7 +15,7 @@ use Rattle.cli.specs.declared.copy_fault.CopyRefusal.{CopyRefusal}
 use Rattle.cli.specs.declared.copy_fault.CopyRefusal.TheVariants.{File, New}
 use Rattle.cli.specs.declared.fault.CommandFault.TheVariants as command
 use Rattle.cli.specs.CopyFaults.{of_partial}
-use Rattle.cli.specs.Copying.{CopiesBeside, CopiesFile, IsCopied, IsFileCopied, IsFileUncopied, IsSameButThree, IsTakenBack, IsTried, IsUncopied, KeepsFile, Renames, StandsAgainstCopy, partial_path}
+use Rattle.cli.specs.Copying.{CopiesBeside, CopiesFile, IsCopied, IsFileCopied, IsFileUncopied, IsSameButThree, WasTakenAway, IsTried, IsUncopied, KeepsFile, Renames, StandsAgainstCopy, partial_path}
 use Rattle.cli.specs.Formatting.{StandsAgainst}
 use Rattle.cli.proofs.Changes.{but_joined, rose_between, same_joined, same_then_but}
 
@@ -63,6 +63,10 @@ module _ {D L : Type 0} (old mid new : SystemState D L) (partial target : List �
   copy_against_since (New command.Output) stands = absurd stands
   copy_against_since (New command.Partial) stands = sym (same.names partial) ∙ stands
   copy_against_since (New (command.NoRoom wanted least)) stands = absurd stands
+  copy_against_since (New command.NotADump) stands = absurd stands
+  copy_against_since (New (command.OtherDump version)) stands = absurd stands
+  copy_against_since (New command.DamagedDump) stands = absurd stands
+  copy_against_since (New (command.NoDumpRoom wanted)) stands = absurd stands
   copy_against_since (New (command.ScriptUnread cause)) stands = absurd stands
   copy_against_since (New (command.ScriptNotUtf8 line byte)) stands = absurd stands
   copy_against_since (New command.NoRole) stands = absurd stands
@@ -125,7 +129,7 @@ module _ {D L : Type 0} (g : Ghosts D) (old mid new : SystemState D L) (partial 
     content = tried.content;
   }
 
-  taken_since : IsTakenBack g mid partial target pages device new → IsTakenBack g old partial target pages device new
+  taken_since : WasTakenAway g mid partial target pages device new → WasTakenAway g old partial target pages device new
   taken_since taken = record {
     removed = λ is. elim (taken.removed ((same is).faithful is)) [
       | inl gone ↦ inl gone
@@ -183,7 +187,7 @@ module _ {D L : Type 0} (g : Ghosts D) (old mid new : SystemState D L) (partial 
 
 -- ---- from file to file
 
-reading_is_there : {D : Type 0} {at : At D} → at ≡ Reading → at ≡ Absent → ⊥
+pub reading_is_there : {D : Type 0} {at : At D} → at ≡ Reading → at ≡ Absent → ⊥
 reading_is_there is none = let bad : Reading ≡ Absent = sym is ∙ none in cc
 
 -- `no_device` is the law of a system that a path of which there is nothing names no device

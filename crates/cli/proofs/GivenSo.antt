@@ -16,6 +16,8 @@ module _ (G : Given → Type 0) (words : Given) (gives : G words) where
   pub ordered_so : (o : Invocation) → IsOrdered (λ given. given ≡ words) o → IsOrdered G o
   ordered_so (order.Format file pages admin journal) has = (has.0, so _ has.1, has.2, has.3)
   ordered_so (order.Copy file new pages journal) has = (has.0, so _ has.1, has.2)
+  ordered_so (order.Dump file out) has = so _ has
+  ordered_so (order.Restore dump new pages journal) has = (has.0, so _ has.1, has.2)
   ordered_so (order.Journal file on) has = so _ has
   ordered_so (order.Run file script on) has = (has.0, has.1, so _ has.2, has.3)
   ordered_so (order.RunMemory admin script on) has = (has.0, has.1, so _ has.2, has.3, has.4)

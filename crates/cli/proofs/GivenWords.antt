@@ -8,7 +8,7 @@ use Rattle.clap.specs.declared.parser.matches.Found.{Found}
 use Rattle.sql_types.specs.Name.{IsName}
 use Rattle.std.specs.Option.{unwrap_or}
 use Rattle.cli.specs.PlaceWords.{NoPlaceWord, place_word, with_options}
-use Rattle.cli.specs.CommandLine.{TheWord, Given, Format, Copy, Journal, Run, RunMemory, Serve, ServeSocket, ServeClients, GivenPlace, AtPort, AtSocket, At, GivenCounts, Check, Describe, Explain, HasPlaceWord, HasWords, GivesAs, IsFlag, IsRoleName, lent_word}
+use Rattle.cli.specs.CommandLine.{TheWord, Given, Format, Copy, Dump, Restore, Journal, Run, RunMemory, Serve, ServeSocket, ServeClients, GivenPlace, AtPort, AtSocket, At, GivenCounts, Check, Describe, Explain, HasPlaceWord, HasWords, GivesAs, IsFlag, IsRoleName, lent_word}
 
 module _ (f : Found) (id : List ℕ) (r : Option (Bor (List ℕ))) (got : option_map (λ s. s.now) r ≡ first_value f id) where
   -- what a getter gives is the word that the rows have
@@ -119,6 +119,8 @@ other_second a b same differ = differ (ap (λ (t : TheWord). slice_index t 1) sa
 pub no_format : (rows : List Row) → ((file pages admin : TheWord) (journal : Bool) → HasWords rows (Format file pages admin journal) → ⊥) → (given : Given) → GivesAs (codes "format") rows given → ⊥
 no_format rows lacks (Format file pages admin journal) gives = lacks file pages admin journal gives.words
 no_format rows lacks (Copy file new pages journal) gives = other_name _ _ gives.named (λ e. omega (arith, e))
+no_format rows lacks (Dump file out) gives = other_name _ _ gives.named (λ e. omega (arith, e))
+no_format rows lacks (Restore dump new pages journal) gives = other_name _ _ gives.named (λ e. omega (arith, e))
 no_format rows lacks (Journal file state) gives = other_name _ _ gives.named (λ e. omega (arith, e))
 no_format rows lacks (Run file script stop explain) gives = other_name _ _ gives.named (λ e. omega (arith, e))
 no_format rows lacks (RunMemory admin script stop explain) gives = other_name _ _ gives.named (λ e. omega (arith, e))
@@ -132,6 +134,8 @@ no_format rows lacks (Explain file role statement session json) gives = other_na
 pub no_run : (rows : List Row) → ((file script : TheWord) (stop explain : Bool) → HasWords rows (Run file script stop explain) → ⊥) → ((admin script : TheWord) (stop explain : Bool) → HasWords rows (RunMemory admin script stop explain) → ⊥) → (given : Given) → GivesAs (codes "run") rows given → ⊥
 no_run rows fewer lacks (Format file pages admin journal) gives = other_name _ _ gives.named (λ e. omega (arith, e))
 no_run rows fewer lacks (Copy file new pages journal) gives = other_name _ _ gives.named (λ e. omega (arith, e))
+no_run rows fewer lacks (Dump file out) gives = other_name _ _ gives.named (λ e. omega (arith, e))
+no_run rows fewer lacks (Restore dump new pages journal) gives = other_second _ _ gives.named (λ e. omega (arith, e))
 no_run rows fewer lacks (Journal file state) gives = other_name _ _ gives.named (λ e. omega (arith, e))
 no_run rows fewer lacks (Run file script stop explain) gives = fewer file script stop explain gives.words
 no_run rows fewer lacks (RunMemory admin script stop explain) gives = lacks admin script stop explain gives.words
@@ -145,6 +149,8 @@ no_run rows fewer lacks (Explain file role statement session json) gives = other
 pub no_serve : (rows : List Row) → ((file port connections : TheWord) (idle : Option TheWord) → HasWords rows (Serve file port connections idle) → ⊥) → ((file socket connections : TheWord) (idle : Option TheWord) → HasWords rows (ServeSocket file socket connections idle) → ⊥) → ((file : TheWord) (place : GivenPlace) (counts : GivenCounts) → HasWords rows (ServeClients file place counts) → ⊥) → (given : Given) → GivesAs (codes "serve") rows given → ⊥
 no_serve rows port socket many (Format file pages admin journal) gives = other_name _ _ gives.named (λ e. omega (arith, e))
 no_serve rows port socket many (Copy file new pages journal) gives = other_name _ _ gives.named (λ e. omega (arith, e))
+no_serve rows port socket many (Dump file out) gives = other_name _ _ gives.named (λ e. omega (arith, e))
+no_serve rows port socket many (Restore dump new pages journal) gives = other_name _ _ gives.named (λ e. omega (arith, e))
 no_serve rows port socket many (Journal file state) gives = other_name _ _ gives.named (λ e. omega (arith, e))
 no_serve rows port socket many (Run file script stop explain) gives = other_name _ _ gives.named (λ e. omega (arith, e))
 no_serve rows port socket many (RunMemory admin script stop explain) gives = other_name _ _ gives.named (λ e. omega (arith, e))
@@ -158,6 +164,8 @@ no_serve rows port socket many (Explain file role statement session json) gives 
 pub no_check : (rows : List Row) → ((file : TheWord) → HasWords rows (Check file) → ⊥) → (given : Given) → GivesAs (codes "check") rows given → ⊥
 no_check rows lacks (Format file pages admin journal) gives = other_name _ _ gives.named (λ e. omega (arith, e))
 no_check rows lacks (Copy file new pages journal) gives = other_second _ _ gives.named (λ e. omega (arith, e))
+no_check rows lacks (Dump file out) gives = other_name _ _ gives.named (λ e. omega (arith, e))
+no_check rows lacks (Restore dump new pages journal) gives = other_name _ _ gives.named (λ e. omega (arith, e))
 no_check rows lacks (Journal file state) gives = other_name _ _ gives.named (λ e. omega (arith, e))
 no_check rows lacks (Run file script stop explain) gives = other_name _ _ gives.named (λ e. omega (arith, e))
 no_check rows lacks (RunMemory admin script stop explain) gives = other_name _ _ gives.named (λ e. omega (arith, e))
@@ -171,6 +179,8 @@ no_check rows lacks (Explain file role statement session json) gives = other_nam
 pub no_describe : (rows : List Row) → ((file : TheWord) (role : Option TheWord) (json : Bool) → HasWords rows (Describe file role json) → ⊥) → (given : Given) → GivesAs (codes "describe") rows given → ⊥
 no_describe rows lacks (Format file pages admin journal) gives = other_name _ _ gives.named (λ e. omega (arith, e))
 no_describe rows lacks (Copy file new pages journal) gives = other_name _ _ gives.named (λ e. omega (arith, e))
+no_describe rows lacks (Dump file out) gives = other_second _ _ gives.named (λ e. omega (arith, e))
+no_describe rows lacks (Restore dump new pages journal) gives = other_name _ _ gives.named (λ e. omega (arith, e))
 no_describe rows lacks (Journal file state) gives = other_name _ _ gives.named (λ e. omega (arith, e))
 no_describe rows lacks (Run file script stop explain) gives = other_name _ _ gives.named (λ e. omega (arith, e))
 no_describe rows lacks (RunMemory admin script stop explain) gives = other_name _ _ gives.named (λ e. omega (arith, e))
@@ -184,6 +194,8 @@ no_describe rows lacks (Explain file role statement session json) gives = other_
 pub no_copy : (rows : List Row) → ((file new pages : TheWord) (journal : Bool) → HasWords rows (Copy file new pages journal) → ⊥) → (given : Given) → GivesAs (codes "copy") rows given → ⊥
 no_copy rows lacks (Format file pages admin journal) gives = other_name _ _ gives.named (λ e. omega (arith, e))
 no_copy rows lacks (Copy file new pages journal) gives = lacks file new pages journal gives.words
+no_copy rows lacks (Dump file out) gives = other_name _ _ gives.named (λ e. omega (arith, e))
+no_copy rows lacks (Restore dump new pages journal) gives = other_name _ _ gives.named (λ e. omega (arith, e))
 no_copy rows lacks (Journal file state) gives = other_name _ _ gives.named (λ e. omega (arith, e))
 no_copy rows lacks (Run file script stop explain) gives = other_name _ _ gives.named (λ e. omega (arith, e))
 no_copy rows lacks (RunMemory admin script stop explain) gives = other_name _ _ gives.named (λ e. omega (arith, e))
@@ -197,6 +209,8 @@ no_copy rows lacks (Explain file role statement session json) gives = other_name
 pub no_journal : (rows : List Row) → ((file state : TheWord) → HasWords rows (Journal file state) → ⊥) → (given : Given) → GivesAs (codes "journal") rows given → ⊥
 no_journal rows lacks (Format file pages admin journal) gives = other_name _ _ gives.named (λ e. omega (arith, e))
 no_journal rows lacks (Copy file new pages journal) gives = other_name _ _ gives.named (λ e. omega (arith, e))
+no_journal rows lacks (Dump file out) gives = other_name _ _ gives.named (λ e. omega (arith, e))
+no_journal rows lacks (Restore dump new pages journal) gives = other_name _ _ gives.named (λ e. omega (arith, e))
 no_journal rows lacks (Journal file state) gives = lacks file state gives.words
 no_journal rows lacks (Run file script stop explain) gives = other_name _ _ gives.named (λ e. omega (arith, e))
 no_journal rows lacks (RunMemory admin script stop explain) gives = other_name _ _ gives.named (λ e. omega (arith, e))
@@ -210,6 +224,8 @@ no_journal rows lacks (Explain file role statement session json) gives = other_n
 pub no_explain : (rows : List Row) → ((file role statement : TheWord) (session : Option TheWord) (json : Bool) → HasWords rows (Explain file role statement session json) → ⊥) → (given : Given) → GivesAs (codes "explain") rows given → ⊥
 no_explain rows lacks (Format file pages admin journal) gives = other_name _ _ gives.named (λ e. omega (arith, e))
 no_explain rows lacks (Copy file new pages journal) gives = other_name _ _ gives.named (λ e. omega (arith, e))
+no_explain rows lacks (Dump file out) gives = other_name _ _ gives.named (λ e. omega (arith, e))
+no_explain rows lacks (Restore dump new pages journal) gives = other_name _ _ gives.named (λ e. omega (arith, e))
 no_explain rows lacks (Journal file state) gives = other_name _ _ gives.named (λ e. omega (arith, e))
 no_explain rows lacks (Run file script stop explain) gives = other_name _ _ gives.named (λ e. omega (arith, e))
 no_explain rows lacks (RunMemory admin script stop explain) gives = other_name _ _ gives.named (λ e. omega (arith, e))
@@ -219,3 +235,33 @@ no_explain rows lacks (ServeClients file place counts) gives = other_name _ _ gi
 no_explain rows lacks (Check file) gives = other_name _ _ gives.named (λ e. omega (arith, e))
 no_explain rows lacks (Describe file role json) gives = other_name _ _ gives.named (λ e. omega (arith, e))
 no_explain rows lacks (Explain file role statement session json) gives = lacks file role statement session json gives.words
+
+pub no_dump : (rows : List Row) → ((file out : TheWord) → HasWords rows (Dump file out) → ⊥) → (given : Given) → GivesAs (codes "dump") rows given → ⊥
+no_dump rows lacks (Format file pages admin journal) gives = other_name _ _ gives.named (λ e. omega (arith, e))
+no_dump rows lacks (Copy file new pages journal) gives = other_name _ _ gives.named (λ e. omega (arith, e))
+no_dump rows lacks (Dump file out) gives = lacks file out gives.words
+no_dump rows lacks (Restore dump new pages journal) gives = other_name _ _ gives.named (λ e. omega (arith, e))
+no_dump rows lacks (Journal file state) gives = other_name _ _ gives.named (λ e. omega (arith, e))
+no_dump rows lacks (Run file script stop explain) gives = other_name _ _ gives.named (λ e. omega (arith, e))
+no_dump rows lacks (RunMemory admin script stop explain) gives = other_name _ _ gives.named (λ e. omega (arith, e))
+no_dump rows lacks (Serve file port connections idle) gives = other_name _ _ gives.named (λ e. omega (arith, e))
+no_dump rows lacks (ServeSocket file socket connections idle) gives = other_name _ _ gives.named (λ e. omega (arith, e))
+no_dump rows lacks (ServeClients file place counts) gives = other_name _ _ gives.named (λ e. omega (arith, e))
+no_dump rows lacks (Check file) gives = other_name _ _ gives.named (λ e. omega (arith, e))
+no_dump rows lacks (Describe file role json) gives = other_second _ _ gives.named (λ e. omega (arith, e))
+no_dump rows lacks (Explain file role statement session json) gives = other_name _ _ gives.named (λ e. omega (arith, e))
+
+pub no_restore : (rows : List Row) → ((dump new pages : TheWord) (journal : Bool) → HasWords rows (Restore dump new pages journal) → ⊥) → (given : Given) → GivesAs (codes "restore") rows given → ⊥
+no_restore rows lacks (Format file pages admin journal) gives = other_name _ _ gives.named (λ e. omega (arith, e))
+no_restore rows lacks (Copy file new pages journal) gives = other_name _ _ gives.named (λ e. omega (arith, e))
+no_restore rows lacks (Dump file out) gives = other_name _ _ gives.named (λ e. omega (arith, e))
+no_restore rows lacks (Restore dump new pages journal) gives = lacks dump new pages journal gives.words
+no_restore rows lacks (Journal file state) gives = other_name _ _ gives.named (λ e. omega (arith, e))
+no_restore rows lacks (Run file script stop explain) gives = other_second _ _ gives.named (λ e. omega (arith, e))
+no_restore rows lacks (RunMemory admin script stop explain) gives = other_second _ _ gives.named (λ e. omega (arith, e))
+no_restore rows lacks (Serve file port connections idle) gives = other_name _ _ gives.named (λ e. omega (arith, e))
+no_restore rows lacks (ServeSocket file socket connections idle) gives = other_name _ _ gives.named (λ e. omega (arith, e))
+no_restore rows lacks (ServeClients file place counts) gives = other_name _ _ gives.named (λ e. omega (arith, e))
+no_restore rows lacks (Check file) gives = other_name _ _ gives.named (λ e. omega (arith, e))
+no_restore rows lacks (Describe file role json) gives = other_name _ _ gives.named (λ e. omega (arith, e))
+no_restore rows lacks (Explain file role statement session json) gives = other_name _ _ gives.named (λ e. omega (arith, e))

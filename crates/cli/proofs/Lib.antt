@@ -7,6 +7,9 @@ pub mod PlaceCommas
 mod Blank
 pub mod Changes
 mod Copied
+mod NewFiles
+mod Dumped
+mod Restored
 mod Served
 mod ServedClients
 mod ServingOrders

@@ -1,14 +1,13 @@
 -- A word up to its first comma, and what stands behind that.
-use Rattle.std.proofs.Common.{◌≡◌, ◌≢◌, ◌<◌, ℕ, Bool, true, false, List, [], ◌∷◌, ◌++◌, Option, Some, None, All, length, get_or, take, refl, sym, ap, subst, ◌∙◌, arith, eqb, eq-eqb, length-take}
+use Rattle.std.proofs.Common.{◌≡◌, ◌≢◌, ⊎_elim, inr, ◌<◌, ℕ, true, false, List, [], ◌∷◌, ◌++◌, Option, Some, None, length, get_or, take, refl, sym, ap, subst, ◌∙◌, arith, eqb, eq-eqb, length-take}
 use Rattle.std.specs.Prelude.{MatchOption}
 use Rattle.std.specs.List.{before_first, position_or_len}
 use Rattle.std.proofs.lemmas.List.{take_all, get_or-take}
 use Rattle.std.proofs.lemmas.List.Elements.{All-head, All-tail, All-from_get_or}
 use Rattle.std.proofs.lemmas.List.Sums.{fails_before_first}
-use Rattle.cli.specs.CommandLine.{lent_word}
-use Rattle.cli.specs.PlaceWords.{HasNoComma, NoOptions, NoPlaceWord, SaysOptions, SaysParts, place_word, with_options}
+use Rattle.cli.specs.PlaceWords.{AskForPasswords, HasNoComma, NoOptions, NoPlaceWord, SayNothing, SaysModeBeside, SaysMore, SaysOptions, SaysParts, SaysRoleAndMode, SaysThree, SaysTwo, SaysTwoOrThree, place_word, with_options}
 use Rattle.cli.specs.declared.place_words.PlaceKind.{PlaceKind}
-use Rattle.systems.specs.declared.place.SocketAccess.{SocketAccess}
+use Rattle.cli.specs.declared.served_place.PlaceDoor.{PlaceDoor}
 use Rattle.cli.specs.declared.place_options.PlaceGuard.{PlaceGuard}
 
 no_comma : (b : ℕ) → eqb b 44 ≡ false → b ≢ 44
@@ -70,17 +69,41 @@ one_cut (a ∷ xs) (b ∷ bs) x y p q is =
     joined : a ≡ b → xs ≡ bs → a ∷ xs ≡ b ∷ bs
     joined h t = cc
 
--- what the parts of the words behind a comma say, the words say
-module _ (kind : PlaceKind) (words first : List ℕ) (second : Option (List ℕ)) (cut : words ≡ with_options first second) (is_first : HasNoComma first) where
-  none_says : ((role : Option (List ℕ)) (access : SocketAccess) → SaysParts kind first second role access → ⊥) → NoOptions kind words
-  none_says none role access it =
-      let same = one_cut it.first first it.second second it.is_first is_first (sym it.cut ∙ cut) in
-      none role access (subst (λ (o : Option (List ℕ)). SaysParts kind first o role access) same.1 (subst (λ (w : List ℕ). SaysParts kind w it.second role access) same.0 it.says))
+-- ---- what the parts of words say, the words say
 
-  pub says_so : (r : Option PlaceGuard) → MatchOption r ((role : Option (List ℕ)) (access : SocketAccess) → SaysParts kind first second role access → ⊥) (λ g. SaysParts kind first second (lent_word g.role) g.access)
-      → MatchOption r (NoOptions kind words) (λ g. SaysOptions kind words (lent_word g.role) g.access)
+module _ (kind : PlaceKind) (words first : List ℕ) (rest : Option (List ℕ)) (cut : words ≡ with_options first rest) (is_first : HasNoComma first) where
+  none_says : SayNothing (SaysParts kind first rest) → NoOptions kind words
+  none_says none door access it =
+      let same = one_cut it.first first it.rest rest it.is_first is_first (sym it.cut ∙ cut) in
+      none door access (subst (λ (o : Option (List ℕ)). SaysParts kind first o door access) same.1 (subst (λ (w : List ℕ). SaysParts kind w it.rest door access) same.0 it.says))
+
+  pub says_so : (r : Option PlaceGuard) → MatchOption r (SayNothing (SaysParts kind first rest)) (λ g. SaysParts kind first rest g.door g.access)
+      → MatchOption r (NoOptions kind words) (λ g. SaysOptions kind words g.door g.access)
   says_so None none = none_says none
-  says_so (Some g) says = record { first = first; second = second; cut = cut; is_first = is_first; says = says }
+  says_so (Some g) says = record { first = first; rest = rest; cut = cut; is_first = is_first; says = says }
+
+module _ (kind : PlaceKind) (first rest second : List ℕ) (third : Option (List ℕ)) (cut : rest ≡ with_options second third) (is_second : HasNoComma second) where
+  no_more : SayNothing (SaysTwoOrThree kind first second third) → SayNothing (SaysMore kind first rest)
+  no_more none door access it =
+      let same = one_cut it.second second it.third third it.is_second is_second (sym it.cut ∙ cut) in
+      none door access (subst (λ (o : Option (List ℕ)). SaysTwoOrThree kind first second o door access) same.1 (subst (λ (w : List ℕ). SaysTwoOrThree kind first w it.third door access) same.0 it.says))
+
+  pub more_so : (r : Option PlaceGuard) → MatchOption r (SayNothing (SaysTwoOrThree kind first second third)) (λ g. SaysTwoOrThree kind first second third g.door g.access)
+      → MatchOption r (SayNothing (SaysMore kind first rest)) (λ g. SaysMore kind first rest g.door g.access)
+  more_so None none = no_more none
+  more_so (Some g) says = record { second = second; third = third; cut = cut; is_second = is_second; says = says }
+
+-- two words say nothing that say no role and mode in either order, and ask for no passwords
+pub two_none : (kind : PlaceKind) (first second : List ℕ) → SayNothing (SaysRoleAndMode kind first second) → SayNothing (SaysRoleAndMode kind second first) → ((door : PlaceDoor) → AskForPasswords first second door → ⊥)
+    → SayNothing (SaysTwo kind first second)
+two_none kind first second none other neither door access says = ⊎_elim (none door access) (λ more. ⊎_elim (other door access) (λ asks. neither door asks.0) more) says
+
+-- three words say what the last way of reading them says, where the others say nothing
+pub three_so : (kind : PlaceKind) (first second third : List ℕ) → SayNothing (SaysModeBeside kind first second third) → SayNothing (SaysModeBeside kind second first third)
+    → (r : Option PlaceGuard) → MatchOption r (SayNothing (SaysModeBeside kind third first second)) (λ g. SaysModeBeside kind third first second g.door g.access)
+    → MatchOption r (SayNothing (SaysThree kind first second third)) (λ g. SaysThree kind first second third g.door g.access)
+three_so kind first second third none other None neither = λ door access says. ⊎_elim (none door access) (λ more. ⊎_elim (other door access) (neither door access) more) says
+three_so kind first second third none other (Some g) says = inr (inr says)
 
 -- a word that is of no kind up to its first comma is none
 pub no_place_word : (word first : List ℕ) (rest : Option (List ℕ)) → word ≡ with_options first rest → HasNoComma first → ((kind : PlaceKind) (behind : List ℕ) → first ≢ place_word kind behind) → NoPlaceWord word

@@ -15,7 +15,7 @@ use Rattle.wire.specs.Listening.{Listening}
 use Rattle.databases.specs.declared.database.Opened.{Opened}
 use Rattle.databases.specs.Openings.{device_under, state_under}
 use Rattle.cli.specs.declared.fault.CommandFault.{CommandFault}
-use Rattle.cli.specs.declared.fault.CommandFault.TheVariants.{Exists, InUse, Memory, Device, WrongSize, NotADatabase, NewerFormat, Damaged, Full, Number, PrintedTo, Net, Partial, NoRoom, ScriptUnread, ScriptNotUtf8, NoRole, StatementRefused, NotOverRows, FirstFormat, NoSwitchRoom, NoSwitchNumber, Output}
+use Rattle.cli.specs.declared.fault.CommandFault.TheVariants.{Exists, InUse, Memory, Device, WrongSize, NotADatabase, NewerFormat, Damaged, Full, Number, PrintedTo, Net, Partial, NoRoom, NotADump, OtherDump, DamagedDump, NoDumpRoom, ScriptUnread, ScriptNotUtf8, NoRole, StatementRefused, NotOverRows, FirstFormat, NoSwitchRoom, NoSwitchNumber, Output}
 use Rattle.cli.specs.Files.{ChangesDevice, IsOpenedAt}
 use Rattle.cli.specs.Migrations.{TellsMigration}
 use Rattle.cli.specs.Serving.{ChangesBoth, IsBoundBetween, IsNotBound, ServesAs, ServesAt, ServesOn}
@@ -67,6 +67,10 @@ module _ {D L X C : Type 0} (g : Ghosts D) (c : SinkGhosts C) (Reads : ReadingRe
   served_at (Err Number) it = absurd it
   served_at (Err Partial) it = absurd it
   served_at (Err (NoRoom pages least)) it = absurd it
+  served_at (Err NotADump) it = absurd it
+  served_at (Err (OtherDump version)) it = absurd it
+  served_at (Err DamagedDump) it = absurd it
+  served_at (Err (NoDumpRoom pages)) it = absurd it
   served_at (Err (ScriptUnread cause)) it = absurd it
   served_at (Err (ScriptNotUtf8 line byte)) it = absurd it
   served_at (Err NoRole) it = absurd it
@@ -139,6 +143,10 @@ module _ (X : Type 0) {D L C : Type 0} (g : Ghosts D) (c : SinkGhosts C) (Reads 
   served_so (Err Number) left closed closing counts it = absurd it
   served_so (Err Partial) left closed closing counts it = absurd it
   served_so (Err (NoRoom pages least)) left closed closing counts it = absurd it
+  served_so (Err NotADump) left closed closing counts it = absurd it
+  served_so (Err (OtherDump version)) left closed closing counts it = absurd it
+  served_so (Err DamagedDump) left closed closing counts it = absurd it
+  served_so (Err (NoDumpRoom pages)) left closed closing counts it = absurd it
   served_so (Err (ScriptUnread cause)) left closed closing counts it = absurd it
   served_so (Err (ScriptNotUtf8 line byte)) left closed closing counts it = absurd it
   served_so (Err NoRole) left closed closing counts it = absurd it

@@ -1,5 +1,5 @@
 -- The clients that were served over the database that was opened, at the place that was asked for.
-use Rattle.std.proofs.Common.{arith, ◌≡◌, ◌≤◌, ◌∙◌, ap, sym, subst, inl, inr, ℕ, Bool, List, Option, Result, Ok, Err}
+use Rattle.std.proofs.Common.{arith, ◌≡◌, ◌≤◌, ◌∙◌, ap, sym, subst, inl, inr, ℕ, Bool, List, Result, Ok, Err}
 use Rattle.sector_device.specs.Device.{IsSynced}
 use Rattle.sector_device.specs.declared.device.Device.{Ghosts}
 use Rattle.channels.specs.declared.attend.Attend.{Ghosts as AttendGhosts}
@@ -10,7 +10,6 @@ use Rattle.systems.specs.Systems.{HasDevice, Hears, IsBound, IsOpen, IsSame, IsS
 use Rattle.abstract_database.specs.Runs.{ReadingRelation}
 use Rattle.journal_store.specs.declared.device_stores.DeviceStore.{DeviceStore}
 use Rattle.server.specs.declared.server.Server.{Server}
-use Rattle.doors.specs.declared.door_talk.DoorTalk.{DoorTalk}
 use Rattle.talks.specs.declared.talk.Talk.{Ghosts as TalkGhosts}
 use Rattle.talks.specs.declared.clients.ServedClients.{Ghosts as ClientsGhosts}
 use Rattle.talks.specs.declared.serving.ServeEnd.{ServeEnd}
@@ -19,7 +18,7 @@ use Rattle.wire.specs.ScriptRun.{Known}
 use Rattle.databases.specs.declared.database.Opened.{Opened}
 use Rattle.databases.specs.Openings.{device_under, state_under}
 use Rattle.cli.specs.declared.fault.CommandFault.{CommandFault}
-use Rattle.cli.specs.declared.fault.CommandFault.TheVariants.{Exists, InUse, Memory, Device, WrongSize, NotADatabase, NewerFormat, Damaged, Full, Number, PrintedTo, Net, Partial, NoRoom, ScriptUnread, ScriptNotUtf8, NoRole, StatementRefused, NotOverRows, FirstFormat, NoSwitchRoom, NoSwitchNumber, Output}
+use Rattle.cli.specs.declared.fault.CommandFault.TheVariants.{Exists, InUse, Memory, Device, WrongSize, NotADatabase, NewerFormat, Damaged, Full, Number, PrintedTo, Net, Partial, NoRoom, NotADump, OtherDump, DamagedDump, NoDumpRoom, ScriptUnread, ScriptNotUtf8, NoRole, StatementRefused, NotOverRows, FirstFormat, NoSwitchRoom, NoSwitchNumber, Output}
 use Rattle.cli.specs.declared.serve_clients.ManyClients.{ManyClients}
 use Rattle.cli.specs.Files.{ChangesDevice, IsOpenedAt}
 use Rattle.cli.specs.Migrations.{TellsMigration}
@@ -51,10 +50,10 @@ bound_between old mid polled new place bound listener ended kind asked heard ope
 
 -- ---- at a place that was bound
 
-module _ {D L X C T P : Type 0} (g : Ghosts D) (a : AttendGhosts L C) (t : TalkGhosts (DoorTalk T)) (p : ClientsGhosts P (DoorTalk T)) (Reads : ReadingRelation) (role : Option (List ℕ)) (many : ManyClients) (server : Server (DeviceStore D g) X) (listener polled : L) (coming : KeepsAll (a.coming listener) (a.coming polled))
+module _ {D L X C T P : Type 0} (g : Ghosts D) (a : AttendGhosts L C) (t : TalkGhosts T) (p : ClientsGhosts P T) (Reads : ReadingRelation) (Made : T → Type 0) (many : ManyClients) (server : Server (DeviceStore D g) X) (listener polled : L) (coming : KeepsAll (a.coming listener) (a.coming polled))
     (closed : KeepsAll (a.closed listener) (a.closed polled)) where
   -- who comes to a listener that is polled is who came to it before
-  served_from : (end : ServeEnd) (left : D) (ended : L) → ServesComing g a t p Reads role many server polled end left ended → ServesComing g a t p Reads role many server listener end left ended
+  served_from : (end : ServeEnd) (left : D) (ended : L) → ServesComing g a t p Reads Made many server polled end left ended → ServesComing g a t p Reads Made many server listener end left ended
   served_from end left ended it = record {
     before = it.before;
     after = it.after;
@@ -64,7 +63,7 @@ module _ {D L X C T P : Type 0} (g : Ghosts D) (a : AttendGhosts L C) (t : TalkG
     none_contends = it.none_contends;
     none_refused = it.none_refused;
     none_looked = it.none_looked;
-    at_door = it.at_door;
+    made = it.made;
     serves = it.serves;
     closed = it.closed;
   }
@@ -73,7 +72,7 @@ module _ {D L X C T P : Type 0} (g : Ghosts D) (a : AttendGhosts L C) (t : TalkG
   none_from left ended it = record { left_is = it.left_is; coming = λ c. it.coming c ∙ coming c; closed = λ c. it.closed c ∙ closed c }
 
   pub clients_served_at : (old new : SystemState D L) (place bound : ListenPlace) (before after : Known) (ended : L) (left : D) → IsBoundBetween old place bound listener ended new → (result : Result ServeEnd CommandFault)
-      → ServesClientsOn g a t p Reads bound role many server polled before result left ended after → ServesClientsAt g a t p Reads old place role many server before result left new after
+      → ServesClientsOn g a t p Reads bound Made many server polled before result left ended after → ServesClientsAt g a t p Reads old place Made many server before result left new after
   clients_served_at old new place bound before after ended left between (Ok end) it = record { bound = bound; listener = listener; ended = ended; between = between; told = it.0; serves = served_from end left ended it.1 }
   clients_served_at old new place bound before after ended left between (Err Output) it = record { bound = bound; listener = listener; ended = ended; between = between; none = none_from left ended it }
   clients_served_at old new place bound before after ended left between (Err Memory) it = (record { bound = bound; listener = listener; ended = ended; between = between; none = none_from left ended it.0 }, it.1)
@@ -89,6 +88,10 @@ module _ {D L X C T P : Type 0} (g : Ghosts D) (a : AttendGhosts L C) (t : TalkG
   clients_served_at old new place bound before after ended left between (Err Number) it = absurd it
   clients_served_at old new place bound before after ended left between (Err Partial) it = absurd it
   clients_served_at old new place bound before after ended left between (Err (NoRoom pages least)) it = absurd it
+  clients_served_at old new place bound before after ended left between (Err NotADump) it = absurd it
+  clients_served_at old new place bound before after ended left between (Err (OtherDump version)) it = absurd it
+  clients_served_at old new place bound before after ended left between (Err DamagedDump) it = absurd it
+  clients_served_at old new place bound before after ended left between (Err (NoDumpRoom pages)) it = absurd it
   clients_served_at old new place bound before after ended left between (Err (ScriptUnread cause)) it = absurd it
   clients_served_at old new place bound before after ended left between (Err (ScriptNotUtf8 line byte)) it = absurd it
   clients_served_at old new place bound before after ended left between (Err NoRole) it = absurd it
@@ -101,10 +104,10 @@ module _ {D L X C T P : Type 0} (g : Ghosts D) (a : AttendGhosts L C) (t : TalkG
 
 -- ---- once the database was opened
 
-module _ (X : Type 0) {D L C T P : Type 0} (g : Ghosts D) (a : AttendGhosts L C) (t : TalkGhosts (DoorTalk T)) (p : ClientsGhosts P (DoorTalk T)) (Reads : ReadingRelation) (old mid end new : SystemState D L) (path : List ℕ) (place : ListenPlace) (role : Option (List ℕ)) (many : ManyClients) (told : Bool) (before noted after : Known)
+module _ (X : Type 0) {D L C T P : Type 0} (g : Ghosts D) (a : AttendGhosts L C) (t : TalkGhosts T) (p : ClientsGhosts P T) (Reads : ReadingRelation) (old mid end new : SystemState D L) (path : List ℕ) (place : ListenPlace) (Made : T → Type 0) (many : ManyClients) (told : Bool) (before noted after : Known)
     (opened : Opened D X g) (at : IsOpenedAt g old path opened mid) (renewed : old.faithful → IsSynced (state_under opened.server)) (tells : TellsMigration opened.was_migrated path told before noted) where
   -- the device, where the place was not bound
-  left_changed : (left : D) → IsUnboundAt g a t p Reads mid place role many opened.server noted left end after → (end.faithful → IsOpen end path → HasDevice new path left) → (end.faithful → IsSameBut path end new)
+  left_changed : (left : D) → IsUnboundAt g a t p Reads mid place Made many opened.server noted left end after → (end.faithful → IsOpen end path → HasDevice new path left) → (end.faithful → IsSameBut path end new)
       → old.faithful → ChangesDevice g old path at.device (device_under opened.server) new
   left_changed left none closed closing is =
       let at_mid = (at.others is).faithful is in
@@ -113,7 +116,7 @@ module _ (X : Type 0) {D L C T P : Type 0} (g : Ghosts D) (a : AttendGhosts L C)
       (closed_again g path at.device left old end new (at.named is) (same.devices path ∙ at.is_open is) (but_then_same path old mid end (at.others is) same) closed closing is)
 
   none_served : (left : D) (heard : Known) → TellsMigration opened.was_migrated path told before heard → (end.faithful → IsOpen end path → HasDevice new path left) → (end.faithful → IsSameBut path end new)
-      → AreNotServedAt g a t p Reads mid place role many opened.server noted left end → AreNotServedOver X g a t p Reads old path place role many told before heard new
+      → AreNotServedAt g a t p Reads mid place Made many opened.server noted left end → AreNotServedOver X g a t p Reads old path place Made many told before heard new
   none_served left heard migrated closed closing it = record {
     file = record { device = at.device; opened = opened; is_opened = at.is_opened; tells = migrated };
     bound = it.bound;
@@ -130,7 +133,7 @@ module _ (X : Type 0) {D L C T P : Type 0} (g : Ghosts D) (a : AttendGhosts L C)
   silent_tells silent = subst (λ (known : Known). TellsMigration opened.was_migrated path told before known) (sym silent) tells
 
   pub clients_served_so : (result : Result ServeEnd CommandFault) (left : D) → (end.faithful → IsOpen end path → HasDevice new path left) → (end.faithful → IsSameBut path end new) → end.failures ≤ new.failures
-      → ServesClientsAt g a t p Reads mid place role many opened.server noted result left end after → ServesAllAs X g a t p Reads old path place role many told before result new after
+      → ServesClientsAt g a t p Reads mid place Made many opened.server noted result left end after → ServesAllAs X g a t p Reads old path place Made many told before result new after
   clients_served_so (Ok finish) left closed closing counts it = record {
     noted = noted;
     file = record { device = at.device; opened = opened; is_opened = at.is_opened; tells = tells };
@@ -167,6 +170,10 @@ module _ (X : Type 0) {D L C T P : Type 0} (g : Ghosts D) (a : AttendGhosts L C)
   clients_served_so (Err Number) left closed closing counts it = absurd it
   clients_served_so (Err Partial) left closed closing counts it = absurd it
   clients_served_so (Err (NoRoom pages least)) left closed closing counts it = absurd it
+  clients_served_so (Err NotADump) left closed closing counts it = absurd it
+  clients_served_so (Err (OtherDump version)) left closed closing counts it = absurd it
+  clients_served_so (Err DamagedDump) left closed closing counts it = absurd it
+  clients_served_so (Err (NoDumpRoom pages)) left closed closing counts it = absurd it
   clients_served_so (Err (ScriptUnread cause)) left closed closing counts it = absurd it
   clients_served_so (Err (ScriptNotUtf8 line byte)) left closed closing counts it = absurd it
   clients_served_so (Err NoRole) left closed closing counts it = absurd it

@@ -43,6 +43,14 @@ describe_app = with_rule (with_rule (with_rule (new_app (codes "describe")) (wor
 abbrev pub copy_app : App
 copy_app = with_rule (with_rule (with_rule (with_rule (new_app (codes "copy")) (word_rule (codes "file") true)) (word_rule (codes "new") true)) (option_rule (codes "pages") true)) (flag_rule (codes "journal"))
 
+-- `dump FILE OUT`
+abbrev pub dump_app : App
+dump_app = with_rule (with_rule (new_app (codes "dump")) (word_rule (codes "file") true)) (word_rule (codes "out") true)
+
+-- `restore DUMP NEW --pages N`, with `--journal` or without
+abbrev pub restore_app : App
+restore_app = with_rule (with_rule (with_rule (with_rule (new_app (codes "restore")) (word_rule (codes "dump") true)) (word_rule (codes "new") true)) (option_rule (codes "pages") true)) (flag_rule (codes "journal"))
+
 -- `journal`, with two words
 abbrev pub journal_app : App
 journal_app = with_rule (with_rule (new_app (codes "journal")) (word_rule (codes "file") true)) (word_rule (codes "state") true)
@@ -65,7 +73,7 @@ bare_app =
     }
 
 abbrev pub program_app : App
-program_app = with_subcommand (with_subcommand (with_subcommand (with_subcommand (with_subcommand (with_subcommand (with_subcommand (with_subcommand bare_app format_app.top) run_app.top) serve_app.top) check_app.top) describe_app.top) copy_app.top) journal_app.top) explain_app.top
+program_app = with_subcommand (with_subcommand (with_subcommand (with_subcommand (with_subcommand (with_subcommand (with_subcommand (with_subcommand (with_subcommand (with_subcommand bare_app format_app.top) run_app.top) serve_app.top) check_app.top) describe_app.top) copy_app.top) journal_app.top) dump_app.top) restore_app.top) explain_app.top
 
 -- ---- a value of `clap` is such a part of it
 

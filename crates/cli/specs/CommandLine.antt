@@ -62,6 +62,8 @@ given_counts words = record { clients = words.clients.now; connections = lent_wo
 pub data Given : Type 0 where
   Format : (file pages admin : TheWord) (journal : Bool) → Given
   Copy : (file new pages : TheWord) (journal : Bool) → Given
+  Dump : (file out : TheWord) → Given
+  Restore : (dump new pages : TheWord) (journal : Bool) → Given
   Journal : (file state : TheWord) → Given
   Run : (file script : TheWord) (stop explain : Bool) → Given
   RunMemory : (admin script : TheWord) (stop explain : Bool) → Given
@@ -75,6 +77,8 @@ pub data Given : Type 0 where
 abbrev pub command_of : Given → TheWord
 command_of (Format file pages admin journal) = codes "format"
 command_of (Copy file new pages journal) = codes "copy"
+command_of (Dump file out) = codes "dump"
+command_of (Restore dump new pages journal) = codes "restore"
 command_of (Journal file state) = codes "journal"
 command_of (Run file script stop explain) = codes "run"
 command_of (RunMemory admin script stop explain) = codes "run"
@@ -117,12 +121,14 @@ pub record HasCounts (rows : List Row) (counts : GivenCounts) : Type 0 where
   pub idle : first_of (codes "idle") rows ≡ counts.idle
   pub block : first_of (codes "block") rows ≡ counts.block
 
--- the words stand where the command takes them: `format` and `copy` have `--journal` or not; `run` has two words without `--memory`, and one with it;
+-- the words stand where the command takes them: `format`, `copy` and `restore` have `--journal` or not; `run` has two words without `--memory`, and one with it;
 -- `serve` has a port or a socket, and `--idle` or not; `describe` has a role or none, and `--json` or not;
 -- `explain` has `--session` or not, and `--json` or not
 abbrev pub HasWords : List Row → Given → Type 0
 HasWords rows (Format file pages admin journal) = (first_of (codes "file") rows ≡ Some file) × (first_of (codes "pages") rows ≡ Some pages) × (first_of (codes "admin") rows ≡ Some admin) × IsFlag (one_of (codes "journal") rows) journal
 HasWords rows (Copy file new pages journal) = (first_of (codes "file") rows ≡ Some file) × (first_of (codes "new") rows ≡ Some new) × (first_of (codes "pages") rows ≡ Some pages) × IsFlag (one_of (codes "journal") rows) journal
+HasWords rows (Dump file out) = (first_of (codes "file") rows ≡ Some file) × (first_of (codes "out") rows ≡ Some out)
+HasWords rows (Restore dump new pages journal) = (first_of (codes "dump") rows ≡ Some dump) × (first_of (codes "new") rows ≡ Some new) × (first_of (codes "pages") rows ≡ Some pages) × IsFlag (one_of (codes "journal") rows) journal
 HasWords rows (Journal file state) = (first_of (codes "file") rows ≡ Some file) × (first_of (codes "state") rows ≡ Some state)
 HasWords rows (Run file script stop explain) = (first_of (codes "memory") rows ≡ None) × (first_of (codes "first") rows ≡ Some file) × (first_of (codes "second") rows ≡ Some script) × AreRunFlags rows stop explain
 HasWords rows (RunMemory admin script stop explain) = (first_of (codes "memory") rows ≡ Some admin) × (first_of (codes "first") rows ≡ Some script) × (first_of (codes "second") rows ≡ None) × AreRunFlags rows stop explain
@@ -195,7 +201,7 @@ NamesPlace kinds.PostgresFolder word served = IsFolderServed word served
 -- the place, and whom it lets in
 pub record IsPlaceAs (kind : PlaceKind) (word : TheWord) (options : Option TheWord) (served : ServedPlace) : Type 0 where
   pub placed : NamesPlace kind word served
-  pub guarded : SaysGuard kind options (lent_word served.role) served.access
+  pub guarded : SaysGuard kind options served.door served.access
 
 abbrev pub IsPlaceFor : GivenPlace → ServedPlace → Type 0
 IsPlaceFor (AtPort word) served = IsPlaceAs kinds.Port word None served
@@ -212,6 +218,8 @@ IsRoleName (Some name) = IsName name
 abbrev pub IsOrdered : (Given → Type 0) → Invocation → Type 0
 IsOrdered G (order.Format file pages admin journal) = (number : TheWord) × G (Format file.now number admin.now journal) × IsNumberFor Pages number pages × IsName admin.now
 IsOrdered G (order.Copy file new pages journal) = (number : TheWord) × G (Copy file.now new.now number journal) × IsNumberFor Pages number pages
+IsOrdered G (order.Dump file out) = G (Dump file.now out.now)
+IsOrdered G (order.Restore dump new pages journal) = (number : TheWord) × G (Restore dump.now new.now number journal) × IsNumberFor Pages number pages
 IsOrdered G (order.Journal file on) = G (Journal file.now (switch_word on))
 IsOrdered G (order.Run file script on) = (stop explain : Bool) × G (Run file.now script.now stop explain) × (on ≡ at_refusal stop explain)
 IsOrdered G (order.RunMemory admin script on) = (stop explain : Bool) × G (RunMemory admin.now script.now stop explain) × (on ≡ at_refusal stop explain) × IsName admin.now
@@ -270,6 +278,7 @@ count_in _ counts = None
 abbrev pub number_in : NumberOption → Given → Option TheWord
 number_in Pages (Format file pages admin journal) = Some pages
 number_in Pages (Copy file new pages journal) = Some pages
+number_in Pages (Restore dump new pages journal) = Some pages
 number_in Port (Serve file port connections idle) = Some port
 number_in Connections (Serve file port connections idle) = Some connections
 number_in Connections (ServeSocket file socket connections idle) = Some connections

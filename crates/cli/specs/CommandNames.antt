@@ -1,13 +1,15 @@
 -- The commands by their names, and how each is called.
 use Rattle.std.specs.Prelude.{ℕ, List, codes, Option, Some, None}
 use Rattle.cli.specs.declared.command_name.CommandName.{CommandName}
-use Rattle.cli.specs.declared.command_name.CommandName.TheVariants.{Format, Copy, Journal, Run, Serve, Check, Describe, Explain}
-use Rattle.cli.specs.declared.texts.TheConstants.{CHECK_USAGE, COPY_USAGE, DESCRIBE_USAGE, EXPLAIN_USAGE, FORMAT_USAGE, JOURNAL_USAGE, RUN_USAGE, SERVE_USAGE, USAGE}
+use Rattle.cli.specs.declared.command_name.CommandName.TheVariants.{Format, Copy, Dump, Restore, Journal, Run, Serve, Check, Describe, Explain}
+use Rattle.cli.specs.declared.texts.TheConstants.{CHECK_USAGE, COPY_USAGE, DESCRIBE_USAGE, DUMP_USAGE, EXPLAIN_USAGE, FORMAT_USAGE, JOURNAL_USAGE, RESTORE_USAGE, RUN_USAGE, SERVE_USAGE, USAGE}
 
 -- its name, as a word of a command line
 abbrev pub command_word : CommandName → List ℕ
 command_word Format = codes "format"
 command_word Copy = codes "copy"
+command_word Dump = codes "dump"
+command_word Restore = codes "restore"
 command_word Journal = codes "journal"
 command_word Run = codes "run"
 command_word Serve = codes "serve"
@@ -19,6 +21,8 @@ command_word Explain = codes "explain"
 abbrev pub usage_for : Option CommandName → List ℕ
 usage_for (Some Format) = FORMAT_USAGE.now
 usage_for (Some Copy) = COPY_USAGE.now
+usage_for (Some Dump) = DUMP_USAGE.now
+usage_for (Some Restore) = RESTORE_USAGE.now
 usage_for (Some Journal) = JOURNAL_USAGE.now
 usage_for (Some Run) = RUN_USAGE.now
 usage_for (Some Serve) = SERVE_USAGE.now

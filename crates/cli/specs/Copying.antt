@@ -71,7 +71,7 @@ module _ {D L : Type 0} (g : Ghosts D) (old : SystemState D L) (partial target :
     pub content : (g.state device).faithful → KeepsContent (g.state device) (g.state left)
 
   -- it was taken away again, unless the system failed
-  pub record IsTakenBack (new : SystemState D L) : Type 0 where
+  pub record WasTakenAway (new : SystemState D L) : Type 0 where
     pub removed : old.faithful → IsUnnamed new partial ⊎ Rose old.failures new.failures
     pub others : old.faithful → IsSameBut partial old new
     pub counts : old.failures ≤ new.failures
@@ -83,7 +83,7 @@ module _ {D L : Type 0} (g : Ghosts D) (old : SystemState D L) (partial target :
     pub blank : D
     pub copy : D
     pub tried : IsTried (Err why) left blank copy
-    pub taken : IsTakenBack new
+    pub taken : WasTakenAway new
 
   -- it was whole, and did not get its name
   pub record IsNotNamed (fault : CopyRefusal) (left : D) (new : SystemState D L) : Type 0 where
@@ -93,7 +93,7 @@ module _ {D L : Type 0} (g : Ghosts D) (old : SystemState D L) (partial target :
     pub blank : D
     pub copy : D
     pub tried : IsTried (Ok tt) left blank copy
-    pub taken : IsTakenBack new
+    pub taken : WasTakenAway new
 
   -- it is whole, and has its name, which nothing had
   pub record IsCopied (left : D) (new : SystemState D L) : Type 0 where

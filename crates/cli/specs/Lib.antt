@@ -8,6 +8,10 @@ pub mod Commands
 pub mod CopyFaults
 pub mod Copying
 pub mod CopyNames
+pub mod NewFiles
+pub mod Dumping
+pub mod Restoring
+pub mod DumpCommands
 pub mod Faults
 pub mod Files
 pub mod Formatting

@@ -1,5 +1,6 @@
 -- What the program does for a command: its output, its messages and its exit status.
-use Rattle.std.specs.Prelude.{◌≡◌, ◌⊎◌, ◌++◌, ℕ, Bool, List, codes, Option, Some, Result, Ok, Err, IsUtf8}
+use Rattle.std.specs.Prelude.{◌≡◌, ◌⊎◌, ◌++◌, ℕ, Bool, true, false, List, codes, Option, Some, Result, Ok, Err, IsUtf8}
+use Rattle.std.specs.Borrow.{Bor}
 use Rattle.std.specs.Option.{option_map}
 use Rattle.sql_types.specs.Name.{IsName}
 use Rattle.abstract_database.specs.Lists.{TheName}
@@ -18,7 +19,6 @@ use Rattle.cli.specs.declared.command.UsageFault.TheVariants as usage
 use Rattle.cli.specs.declared.texts.TheConstants.{HELP, VERSION}
 use Rattle.cli.specs.declared.command_name.CommandName.{CommandName}
 use Rattle.cli.specs.declared.command_name.CommandName.TheVariants as command_name
-use Rattle.cli.specs.CommandLine.{lent_word}
 use Rattle.cli.specs.CommandNames.{usage_for}
 use Rattle.cli.specs.Usage.{name_reason, usage_reason}
 use Rattle.cli.specs.declared.fault.CommandFault.{CommandFault}
@@ -37,6 +37,8 @@ use Rattle.cli.specs.declared.ending.Subject.{Subject}
 use Rattle.cli.specs.declared.ending.Subject.TheVariants as subject
 use Rattle.cli.specs.Ending.{caller_status, ending_of, ending_of_serving, name_message, fault_status, Exits, ExitsAfter, HasTold}
 use Rattle.cli.specs.CopyCommand.{Copies}
+use Rattle.cli.specs.Restoring.{ChecksOrDump}
+use Rattle.cli.specs.DumpCommands.{Dumps, Restores}
 use Rattle.cli.specs.Describing.{Describes}
 use Rattle.cli.specs.ExplainCommand.{ExplainsStatement}
 use Rattle.cli.specs.Printing.{EndsBy, IsPrinted, Prints}
@@ -44,15 +46,20 @@ use Rattle.cli.specs.Running.{RunsOverNew}
 use Rattle.cli.specs.ScriptNotes.{HasToldNotes}
 use Rattle.channels.specs.declared.attend.Attend.{Ghosts as AttendGhosts}
 use Rattle.doors.specs.declared.door_talk.DoorTalk.{DoorTalk}
+use Rattle.password_talks.specs.declared.login.PasswordPlace.{PasswordPlace}
+use Rattle.password_talks.specs.declared.password_talk.PasswordTalk.{PasswordTalk}
+use Rattle.postgres_logins.specs.declared.postgres_login_talk.PostgresLoginTalk.{PostgresLoginTalk}
 use Rattle.talks.specs.declared.talk.Talk.{Ghosts as TalkGhosts}
 use Rattle.talks.specs.declared.clients.ServedClients.{Ghosts as ClientsGhosts}
 use Rattle.talks.specs.declared.clients.Finish.TheVariants as finish
 use Rattle.talks.specs.declared.serving.ServeEnd.{ServeEnd}
 use Rattle.talks.specs.declared.serving.ServeEnd.TheVariants as clients
 use Rattle.cli.specs.declared.serve_clients.ManyClients.{ManyClients}
+use Rattle.cli.specs.declared.served_place.PlaceDoor.{PlaceDoor}
+use Rattle.cli.specs.declared.served_place.PlaceDoor.TheVariants.{Anyone, Only, Passwords}
 use Rattle.cli.specs.declared.served_place.Protocol.TheVariants.{Frames, Postgres}
 use Rattle.cli.specs.declared.served_place.ServedPlace.{ServedPlace}
-use Rattle.cli.specs.ServingClients.{ServesClientsFile}
+use Rattle.cli.specs.ServingClients.{IsDoorFor, ServesClientsFile, password_place}
 use Rattle.cli.specs.Script.{IsReadAt, Source, ill_encoded}
 use Rattle.cli.specs.JournalCommand.{Switches}
 
@@ -137,13 +144,17 @@ pub record DoesFormat {D L K : Type 0} (g : Ghosts D) (k : SinkGhosts K) (old : 
   pub does : DoneFor command_name.Format admin (EndsBy file (λ e. IsNotFormatted old (k.held out_before) e new (k.held out_after) ⊎ Formats g old path pages admin journal (k.held out_before) e new (k.held out_after)) exit err_before err_after) exit out_before out_after err_before err_after
   pub unnamed : (IsName admin → ⊥) → IsSame old new
 
--- a database was opened over the file, or none was; that the file was migrated was told, where it was
-pub record Checks (X : Type 0) {D L : Type 0} (g : Ghosts D) (old : SystemState D L) (file : Subject) (path : List ℕ) (exit : Exit) (new : SystemState D L) (out_before out_after err_before err_after : Known) : Type 0 where
+-- a database was opened over the file, or none was; that the file was migrated was told, where it was. Where no database is there, it
+-- was read as a dump
+pub record Checks (X : Type 0) {D L S : Type 0} (g : Ghosts D) (state : S → SystemState D L) (old : SystemState D L) (file : Subject) (path : List ℕ) (exit : Exit) (new : SystemState D L) (out_before out_after err_before err_after : Known) : Type 0 where
   pub end : CommandEnd (Unit {0})
   pub heard : Known
-  pub checks : ChecksFile X g old path err_before end new heard
+  pub mid : S
+  pub checks : ChecksFile X g old path err_before end (state mid) heard
+  pub outcome : Result (Unit {0}) CommandFault
+  pub reads : ChecksOrDump g (state mid) path end.outcome outcome new
   pub ending : Ending
-  pub answered : IsAnswered end.outcome (codes "ok CHECK\n") out_before ending out_after
+  pub answered : IsAnswered outcome (codes "ok CHECK\n") out_before ending out_after
   pub ends : ExitsAfter end.told file ending exit heard err_after
 
 -- how the run of a script over a file ended
@@ -234,30 +245,48 @@ abbrev pub outcome_of_clients : Result ServeEnd CommandFault → Result Served C
 outcome_of_clients (Ok end) = Ok (served_by end)
 outcome_of_clients (Err f) = Err f
 
--- many clients at once were served at a place over the database in a file, or why they were not was told; that the file was migrated was told, where it was
-pub record ServesMany (X : Type 0) {D L C T P : Type 0} (g : Ghosts D) (a : AttendGhosts L C) (t : TalkGhosts (DoorTalk T)) (p : ClientsGhosts P (DoorTalk T)) (Reads : ReadingRelation) (old : SystemState D L) (file : Subject) (path : List ℕ) (place : ServedPlace) (many : ManyClients) (exit : Exit) (new : SystemState D L) (err_before err_after : Known) : Type 0 where
+-- many clients at once were served at a place over the database in a file, or why they were not was told; that the file was migrated was told, where it
+-- was. `Made` is said of the conversations that are made there
+pub record ServesMany (X : Type 0) {D L C T P : Type 0} (g : Ghosts D) (a : AttendGhosts L C) (t : TalkGhosts T) (p : ClientsGhosts P T) (Reads : ReadingRelation) (old : SystemState D L) (file : Subject) (path : List ℕ) (place : ListenPlace) (Made : T → Type 0) (many : ManyClients) (exit : Exit) (new : SystemState D L) (err_before err_after : Known) : Type 0 where
   pub end : CommandEnd ServeEnd
   pub heard : Known
-  pub serves : ServesClientsFile X g a t p Reads old path place.place (lent_word place.role) many err_before end new heard
-  pub ends : ExitsAfter end.told (server_subject file place.place (outcome_of_clients end.outcome)) (ending_of_server (outcome_of_clients end.outcome)) exit heard err_after
+  pub serves : ServesClientsFile X g a t p Reads old path place Made many err_before end new heard
+  pub ends : ExitsAfter end.told (server_subject file place (outcome_of_clients end.outcome)) (ending_of_server (outcome_of_clients end.outcome)) exit heard err_after
 
--- the same by the protocol of the place: `t` is what is said of conversations in frames, and `p` of the clients that have them; `u` and `q` are the same of PostgreSQL's protocol
-pub record ServesManyAt (X : Type 0) {D L C T P U Q : Type 0} (g : Ghosts D) (a : AttendGhosts L C) (t : TalkGhosts (DoorTalk T)) (p : ClientsGhosts P (DoorTalk T)) (u : TalkGhosts (DoorTalk U)) (q : ClientsGhosts Q (DoorTalk U)) (Reads : ReadingRelation) (old : SystemState D L) (file : Subject) (path : List ℕ) (place : ServedPlace) (many : ManyClients) (exit : Exit) (new : SystemState D L) (err_before err_after : Known) : Type 0 where
-  pub in_frames : place.protocol ≡ Frames → ServesMany X g a t p Reads old file path place many exit new err_before err_after
-  pub by_postgres : place.protocol ≡ Postgres → ServesMany X g a u q Reads old file path place many exit new err_before err_after
+-- a place asks for passwords
+abbrev pub asks_for_passwords : PlaceDoor → Bool
+asks_for_passwords Anyone = false
+asks_for_passwords (Only role) = false
+asks_for_passwords (Passwords table mock) = true
+
+-- the same by one protocol, by whom the place lets in: each conversation stands at its door, or each asks for a password whose verifier is in the table
+-- that is named. `t` and `p` are said of the first, `v` and `w` of the others, and `place_of` is the place at which one of those asks
+pub record ServesManyBy (X : Type 0) {D L C T P V W : Type 0} (g : Ghosts D) (a : AttendGhosts L C) (t : TalkGhosts (DoorTalk T)) (p : ClientsGhosts P (DoorTalk T)) (v : TalkGhosts V) (w : ClientsGhosts W V) (place_of : V → PasswordPlace) (Reads : ReadingRelation) (old : SystemState D L) (file : Subject) (path : List ℕ) (place : ServedPlace) (many : ManyClients) (exit : Exit) (new : SystemState D L) (err_before err_after : Known) : Type 0 where
+  pub at_door : asks_for_passwords place.door ≡ false → ServesMany X g a t p Reads old file path place.place (λ talk. IsDoorFor place.door talk.door) many exit new err_before err_after
+  pub with_passwords : (table mock : Bor (List ℕ)) → place.door ≡ Passwords table mock → ServesMany X g a v w Reads old file path place.place (λ talk. place_of talk ≡ password_place table.now mock.now) many exit new err_before err_after
+
+-- the same by the protocol of the place: `t` is what is said of conversations in frames, `p` of the clients that have them, and `v` and `w` the same of
+-- those that ask for passwords; `u`, `q`, `m` and `n` are the same of PostgreSQL's protocol
+pub record ServesManyAt (X : Type 0) {D L C T P U Q V W M N : Type 0} (g : Ghosts D) (a : AttendGhosts L C) (t : TalkGhosts (DoorTalk T)) (p : ClientsGhosts P (DoorTalk T)) (u : TalkGhosts (DoorTalk U)) (q : ClientsGhosts Q (DoorTalk U)) (v : TalkGhosts (PasswordTalk V)) (w : ClientsGhosts W (PasswordTalk V)) (m : TalkGhosts (PostgresLoginTalk M)) (n : ClientsGhosts N (PostgresLoginTalk M)) (Reads : ReadingRelation) (old : SystemState D L) (file : Subject) (path : List ℕ) (place : ServedPlace) (many : ManyClients) (exit : Exit) (new : SystemState D L) (err_before err_after : Known) : Type 0 where
+  pub in_frames : place.protocol ≡ Frames → ServesManyBy X g a t p v w (λ talk. talk.login.place) Reads old file path place many exit new err_before err_after
+  pub by_postgres : place.protocol ≡ Postgres → ServesManyBy X g a u q m n (λ talk. talk.login.place) Reads old file path place many exit new err_before err_after
 
 -- ---- what a command does
 
 -- `X` decides events, `g` is what is said of the devices of files, `k` of the sink that takes answers, `c` of the sinks of connections,
 -- `listening` of listeners, `a` of those that are polled, `t` of conversations in frames, `p` of clients that come to such a listener and have them, `u` and `q` the same of
--- PostgreSQL's protocol, and `state` of systems. The script that was named was run over the database that was named, or why not was told; a
+-- PostgreSQL's protocol, `v` and `w` of frames that ask for passwords, `m` and `n` of PostgreSQL's protocol that does, and `state` of systems. The script that was named was run over the database that was named, or why not was told; a
 -- database in a file was made, copied, checked, described or served, a statement over it was explained, or its journal was turned on or off; or a text was printed
-module _ (X : Type 0) {D L K C S H T P U Q : Type 0} (g : Ghosts D) (k : SinkGhosts K) (c : SinkGhosts C) (a : AttendGhosts L H) (t : TalkGhosts (DoorTalk T)) (p : ClientsGhosts P (DoorTalk T)) (u : TalkGhosts (DoorTalk U)) (q : ClientsGhosts Q (DoorTalk U)) (Reads : ReadingRelation) (listening : L → Option Listening) (state : S → SystemState D L) (old : SystemState D L) where
+module _ (X : Type 0) {D L K C S H T P U Q V W M N : Type 0} (g : Ghosts D) (k : SinkGhosts K) (c : SinkGhosts C) (a : AttendGhosts L H) (t : TalkGhosts (DoorTalk T)) (p : ClientsGhosts P (DoorTalk T)) (u : TalkGhosts (DoorTalk U)) (q : ClientsGhosts Q (DoorTalk U)) (v : TalkGhosts (PasswordTalk V)) (w : ClientsGhosts W (PasswordTalk V)) (m : TalkGhosts (PostgresLoginTalk M)) (n : ClientsGhosts N (PostgresLoginTalk M)) (Reads : ReadingRelation) (listening : L → Option Listening) (state : S → SystemState D L) (old : SystemState D L) where
   abbrev pub IsPerformed : Invocation → Exit → SystemState D L → K → K → Known → Known → Type 0
   IsPerformed (order.Format file pages admin journal) exit new out_before out_after err_before err_after =
       DoesFormat g k old (subject.Named file) file.now pages admin.now journal exit new out_before out_after err_before err_after
   IsPerformed (order.Copy file target pages journal) exit new out_before out_after err_before err_after =
       Copies g state old file target pages journal exit new (k.held out_before) (k.held out_after) err_before err_after
+  IsPerformed (order.Dump file target) exit new out_before out_after err_before err_after =
+      Dumps g state old file target exit new (k.held out_before) (k.held out_after) err_before err_after
+  IsPerformed (order.Restore dump target pages journal) exit new out_before out_after err_before err_after =
+      Restores g state old dump target pages journal exit new (k.held out_before) (k.held out_after) err_before err_after
   IsPerformed (order.Journal file on) exit new out_before out_after err_before err_after =
       Switches g old file on exit new (k.held out_before) (k.held out_after) err_before err_after
   IsPerformed (order.Run file script on) exit new out_before out_after err_before err_after =
@@ -269,9 +298,9 @@ module _ (X : Type 0) {D L K C S H T P U Q : Type 0} (g : Ghosts D) (k : SinkGho
   IsPerformed (order.ServeSocket file socket connections idle) exit new out_before out_after err_before err_after =
       Serves X g c Reads listening old (subject.Named file) file.now (Socket socket) connections exit new err_before err_after × (out_after ≡ out_before)
   IsPerformed (order.ServeClients file place many) exit new out_before out_after err_before err_after =
-      ServesManyAt X g a t p u q Reads old (subject.Named file) file.now place many exit new err_before err_after × (out_after ≡ out_before)
+      ServesManyAt X g a t p u q v w m n Reads old (subject.Named file) file.now place many exit new err_before err_after × (out_after ≡ out_before)
   IsPerformed (order.Check file) exit new out_before out_after err_before err_after =
-      Checks X g old (subject.Named file) file.now exit new (k.held out_before) (k.held out_after) err_before err_after
+      Checks X g state old (subject.Named file) file.now exit new (k.held out_before) (k.held out_after) err_before err_after
   IsPerformed (order.Describe file role json) exit new out_before out_after err_before err_after =
       Describes g old file role exit new (k.held out_before) (k.held out_after) err_before err_after
   IsPerformed (order.Explain file asked) exit new out_before out_after err_before err_after =

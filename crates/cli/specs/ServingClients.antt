@@ -24,7 +24,7 @@ use Rattle.postgres_messages.specs.Backend.{error_response, reply_bytes}
 use Rattle.postgres_messages.specs.declared.backend.Severity.TheVariants.{Fatal}
 use Rattle.doors.specs.declared.door.Door.{Door}
 use Rattle.doors.specs.declared.door.Door.TheVariants.{Anyone, Only}
-use Rattle.doors.specs.declared.door_talk.DoorTalk.{DoorTalk}
+use Rattle.password_talks.specs.declared.login.PasswordPlace.{PasswordPlace}
 use Rattle.talks.specs.declared.talk.Talk.{Ghosts as TalkGhosts}
 use Rattle.talks.specs.declared.clients.ServedClients.{Ghosts as ClientsGhosts}
 use Rattle.talks.specs.declared.serving.ServeEnd.{ServeEnd}
@@ -36,6 +36,8 @@ use Rattle.cli.specs.declared.fault.CommandFault.{CommandFault}
 use Rattle.cli.specs.declared.fault.CommandFault.TheVariants.{Memory, Net, Output}
 use Rattle.cli.specs.declared.opened.CommandEnd.{CommandEnd}
 use Rattle.cli.specs.declared.serve_clients.ManyClients.{ManyClients}
+use Rattle.cli.specs.declared.served_place.PlaceDoor.{PlaceDoor}
+use Rattle.cli.specs.declared.served_place.PlaceDoor.TheVariants as whom
 use Rattle.cli.specs.declared.served_place.Protocol.{Protocol}
 use Rattle.cli.specs.declared.served_place.Protocol.TheVariants.{Frames, Postgres}
 use Rattle.cli.specs.Commands.{IsFileOpened, IsFileUnopened}
@@ -74,19 +76,25 @@ abbrev pub crowded_said : Protocol → List ℕ
 crowded_said Frames = answer_frames 0 (answer_text (Refused TooManyConnections))
 crowded_said Postgres = reply_bytes (error_response (record { severity = Fatal; code = codes "53300"; message = codes "sorry, too many clients already"; position = None }))
 
--- the door of a place where one comes in as this role alone, or as any role where none is named
-abbrev pub IsDoorFor : Option (List ℕ) → Door → Type 0
-IsDoorFor None Anyone = Unit {0}
-IsDoorFor None (Only name) = ⊥
-IsDoorFor (Some role) Anyone = ⊥
-IsDoorFor (Some role) (Only name) = name ≡ role
+-- the door of a place, where it asks for no passwords
+abbrev pub IsDoorFor : PlaceDoor → Door → Type 0
+IsDoorFor whom.Anyone Anyone = Unit {0}
+IsDoorFor whom.Anyone (Only name) = ⊥
+IsDoorFor (whom.Only role) Anyone = ⊥
+IsDoorFor (whom.Only role) (Only name) = name ≡ role.now
+IsDoorFor (whom.Passwords table mock) door = ⊥
 
--- `a` is what is said of listeners that are polled, `t` of conversations, and `p` of clients that come to such a listener
-module _ {D X L C T P : Type 0} (g : Ghosts D) (a : AttendGhosts L C) (t : TalkGhosts (DoorTalk T)) (p : ClientsGhosts P (DoorTalk T)) (Reads : ReadingRelation) where
+-- a place that asks for passwords: the verifiers are kept in the table of this name, and that of the role `mock` stands in for those that are missing
+abbrev pub password_place : List ℕ → List ℕ → PasswordPlace
+password_place table mock = record { table = table; mock = mock }
+
+-- `a` is what is said of listeners that are polled, `t` of conversations, `p` of clients that come to such a listener, and `Made` of the conversations
+-- that are made there
+module _ {D X L C T P : Type 0} (g : Ghosts D) (a : AttendGhosts L C) (t : TalkGhosts T) (p : ClientsGhosts P T) (Reads : ReadingRelation) where
   -- the clients that come to a listener were served from this server on: so many in all, each of whose bytes are those that come to the listener.
-  -- Nobody waited before, and none could not be taken. The conversation of each stands at the door of the place. Of each that was let go the
-  -- listener has what had gone out to it
-  pub record ServesComing (role : Option (List ℕ)) (many : ManyClients) (server : Server (DeviceStore D g) X) (listener : L) (end : ServeEnd) (left : D) (ended : L) : Type 0 where
+  -- Nobody waited before, and none could not be taken. The conversation of each is one of those that are made there. Of each that was let go
+  -- the listener has what had gone out to it
+  pub record ServesComing (Made : T → Type 0) (many : ManyClients) (server : Server (DeviceStore D g) X) (listener : L) (end : ServeEnd) (left : D) (ended : L) : Type 0 where
     pub before : P
     pub after : P
     pub coming : (c : ℕ) → p.at before c ≡ awaited (a.coming listener c)
@@ -95,7 +103,7 @@ module _ {D X L C T P : Type 0} (g : Ghosts D) (a : AttendGhosts L C) (t : TalkG
     pub none_contends : p.contention before ≡ uncontended true
     pub none_refused : p.refusals before ≡ 0
     pub none_looked : p.looks before ≡ 0
-    pub at_door : (talk : DoorTalk T) → p.makes (p.maker before) talk → IsDoorFor role talk.door
+    pub made : (talk : T) → p.makes (p.maker before) talk → Made talk
     pub serves : ServesClientsFrom g t p Reads server before end left after
     pub closed : (c : ℕ) (sent : NamedBytes) → p.at after c ≡ gone sent → a.closed ended c ≡ sent
 
@@ -108,16 +116,16 @@ module _ {D X L C T P : Type 0} (g : Ghosts D) (a : AttendGhosts L C) (t : TalkG
   -- ---- at a listener that is polled
 
   -- it was told where the server listens, and those that came were served; or that was not taken, or memory was refused, and nobody was
-  module _ (place : ListenPlace) (role : Option (List ℕ)) (many : ManyClients) (server : Server (DeviceStore D g) X) (listener : L) (told_before : Known) where
+  module _ (place : ListenPlace) (Made : T → Type 0) (many : ManyClients) (server : Server (DeviceStore D g) X) (listener : L) (told_before : Known) where
     abbrev pub ServesClientsOn : Result ServeEnd CommandFault → D → L → Known → Type 0
-    ServesClientsOn (Ok end) left ended told_after = Appends told_before told_after (listening_text place) × ServesComing role many server listener end left ended
+    ServesClientsOn (Ok end) left ended told_after = Appends told_before told_after (listening_text place) × ServesComing Made many server listener end left ended
     ServesClientsOn (Err Output) left ended told_after = TakesNobody server listener left ended
     ServesClientsOn (Err Memory) left ended told_after = TakesNobody server listener left ended × (told_after ≡ told_before)
     ServesClientsOn (Err fault) left ended told_after = ⊥
 
   -- ---- at a place
 
-  module _ (old : SystemState D L) (place : ListenPlace) (role : Option (List ℕ)) (many : ManyClients) (server : Server (DeviceStore D g) X) (before : Known) where
+  module _ (old : SystemState D L) (place : ListenPlace) (Made : T → Type 0) (many : ManyClients) (server : Server (DeviceStore D g) X) (before : Known) where
     -- it was not bound, and nothing was done
     pub record IsUnboundAt (left : D) (new : SystemState D L) (after : Known) : Type 0 where
       pub left_is : left ≡ device_under server
@@ -133,7 +141,7 @@ module _ {D X L C T P : Type 0} (g : Ghosts D) (a : AttendGhosts L C) (t : TalkG
       pub ended : L
       pub between : IsBoundBetween old place bound listener ended new
       pub told : Appends before after (listening_text bound)
-      pub serves : ServesComing role many server listener end left ended
+      pub serves : ServesComing Made many server listener end left ended
 
     -- it was bound, and nobody was taken there
     pub record AreNotServedAt (left : D) (new : SystemState D L) : Type 0 where
@@ -160,7 +168,7 @@ module _ {D X L C T P : Type 0} (g : Ghosts D) (a : AttendGhosts L C) (t : TalkG
 -- ---- a place and a file
 
 -- `X` decides events, and `path` is that of the file
-module _ (X : Type 0) {D L C T P : Type 0} (g : Ghosts D) (a : AttendGhosts L C) (t : TalkGhosts (DoorTalk T)) (p : ClientsGhosts P (DoorTalk T)) (Reads : ReadingRelation) (old : SystemState D L) (path : List ℕ) (place : ListenPlace) (role : Option (List ℕ)) (many : ManyClients) where
+module _ (X : Type 0) {D L C T P : Type 0} (g : Ghosts D) (a : AttendGhosts L C) (t : TalkGhosts T) (p : ClientsGhosts P T) (Reads : ReadingRelation) (old : SystemState D L) (path : List ℕ) (place : ListenPlace) (Made : T → Type 0) (many : ManyClients) where
   -- the database was opened, of which a stop left each sector as it was read then, and the place bound, it was told where, and those that
   -- came there were served; the file is there as the server has left it
   pub record AreServedOver (told : Bool) (before : Known) (end : ServeEnd) (new : SystemState D L) (after : Known) : Type 0 where
@@ -174,7 +182,7 @@ module _ (X : Type 0) {D L C T P : Type 0} (g : Ghosts D) (a : AttendGhosts L C)
     pub listener : L
     pub ended : L
     pub left : D
-    pub serves : ServesComing g a t p Reads role many file.opened.server listener end left ended
+    pub serves : ServesComing g a t p Reads Made many file.opened.server listener end left ended
     pub changes : old.faithful → ChangesBoth old path (the_place bound) file.device left listener ended new
 
   -- the database was opened and the place bound, and nobody was taken there; the file is there as opening it has left it

@@ -19,7 +19,7 @@ folder_reason folder = codes "'" ++ (folder ++ codes "' cannot have the file of 
 
 -- why the words behind the comma of a place are refused
 abbrev pub options_reason : List ℕ → List ℕ
-options_reason words = codes "behind a comma PLACE takes role=NAME, and of a socket mode=600 or mode=660, each once, not '" ++ (words ++ codes "'")
+options_reason words = codes "behind a comma PLACE takes role=NAME, or passwords=TABLE with mock=ROLE, and of a socket mode=600 or mode=660, each once, not '" ++ (words ++ codes "'")
 
 -- why a word for a number is refused
 abbrev pub number_reason : NumberOption → List ℕ → List ℕ

@@ -2,7 +2,7 @@
 
 ghost use Rattle.cli.specs.CarryingOut.{IsCarriedOut};
 
-use crate::client_talks::{DoorTalks, FrameTalks, PostgresTalks};
+use crate::client_talks::{DoorTalks, FrameTalks, PasswordTalks, PostgresLogins, PostgresTalks};
 use crate::command::Invocation;
 use crate::ending::Performed;
 use crate::explained_runs::explain;
@@ -11,7 +11,9 @@ use crate::refusals::explained_run;
 use channels::attend::Attend;
 use doors::door_talk::DoorTalk;
 use frame_talks::frame_talk::FrameTalk;
+use password_talks::password_talk::PasswordTalk;
 use polled_clients::clients::PolledClients;
+use postgres_logins::postgres_login_talk::PostgresLoginTalk;
 use postgres_talks::postgres_talk::PostgresTalk;
 use sector_device::Device;
 use server::decide::EventHandler;
@@ -27,19 +29,23 @@ use wire::text_sink::TakesText;
 /// Does what a command asks for: a run whose refusals are to be told of as `explain` does, and any other order
 /// as `perform` does. With `--explain` or `--stop` `err` is told of each refusal of a script, after `out` has
 /// taken it as ever. With `--stop` the script ends at the first, and the exit status is 3.
-pub fn carry_out<Y: System, X: EventHandler + Drop, K: TakesText + Drop, E: Write + Drop>(
+pub fn carry_out<'a, Y: System, X: EventHandler + Drop, K: TakesText + Drop, E: Write + Drop>(
     system: &mut Y,
     alloc: Global,
     handler: X,
-    order: &Invocation<'_>,
+    order: &Invocation<'a>,
     out: K,
     err: E,
 ) -> Performed<K, E>
     ensures { IsCarriedOut X Y.Device.Device K.Sink Y.Listener.Sink.Sink Y.Listener.Attend
         ⟦<DoorTalk<FrameTalk> as Talk>⟧
-        ⟦<PolledClients<DoorTalk<FrameTalk>, Y::Channel, Y::Listener, DoorTalks<FrameTalks>> as ServedClients<DoorTalk<FrameTalk>>>⟧
+        ⟦<PolledClients<DoorTalk<FrameTalk>, Y::Channel, Y::Listener, DoorTalks<'a, FrameTalks>> as ServedClients<DoorTalk<FrameTalk>>>⟧
         ⟦<DoorTalk<PostgresTalk> as Talk>⟧
-        ⟦<PolledClients<DoorTalk<PostgresTalk>, Y::Channel, Y::Listener, DoorTalks<PostgresTalks>> as ServedClients<DoorTalk<PostgresTalk>>>⟧
+        ⟦<PolledClients<DoorTalk<PostgresTalk>, Y::Channel, Y::Listener, DoorTalks<'a, PostgresTalks>> as ServedClients<DoorTalk<PostgresTalk>>>⟧
+        ⟦<PasswordTalk<FrameTalk> as Talk>⟧
+        ⟦<PolledClients<PasswordTalk<FrameTalk>, Y::Channel, Y::Listener, PasswordTalks<'a, FrameTalks, Y::Draw>> as ServedClients<PasswordTalk<FrameTalk>>>⟧
+        ⟦<PostgresLoginTalk<PostgresTalk> as Talk>⟧
+        ⟦<PolledClients<PostgresLoginTalk<PostgresTalk>, Y::Channel, Y::Listener, PostgresLogins<'a, PostgresTalks, Y::Draw>> as ServedClients<PostgresLoginTalk<PostgresTalk>>>⟧
         E.contents X.Reads
         Y.Listener.listening Y.state (Y.state system.old) order.now out err (Y.state system.new)
         result }

@@ -1,25 +1,31 @@
 //! The conversations with the clients of a place, by its protocol.
 
 ghost use Rattle.std.specs.Prelude.{◌≡◌, IfOk};
-ghost use Rattle.cli.specs.CommandLine.{lent_word};
 ghost use Rattle.cli.specs.declared.served_place.Protocol.{Protocol};
 ghost use Rattle.cli.specs.declared.served_place.Protocol.TheVariants.{Frames, Postgres};
-ghost use Rattle.cli.specs.ServingClients.{IsDoorFor, crowded_said};
+ghost use Rattle.cli.specs.ServingClients.{IsDoorFor, crowded_said, password_place};
 
+use crate::served_place::PlaceDoor;
 use doors::door::Door;
 use doors::door_talk::DoorTalk;
 use frame_talks::frame_talk::FrameTalk;
 use frame_talks::said::say_answer;
+use password_talks::login::{Login, PasswordPlace};
+use password_talks::password_talk::PasswordTalk;
 use polled_clients::clients::TalkMaker;
+use postgres_logins::login::SaslLogin;
+use postgres_logins::postgres_login_talk::PostgresLoginTalk;
 use postgres_messages::backend::{BackendMessage, Report, Severity};
 use postgres_messages::message_writer::MessageWriter;
 use postgres_talks::postgres_talk::PostgresTalk;
 use sql_types::answer::Answer;
 use sql_types::name::Name;
 use sql_types::state::SqlState;
-use sql_types::try_copy::TryCopy;
+use sql_types::text::Text;
 use std::alloc::{AllocError, Global};
 use std::cell::Cell;
+use std::time::Duration;
+use systems::Draw;
 use talks::talk::Talk;
 
 /// What speaks by one protocol to whoever comes to a place.
@@ -30,7 +36,13 @@ pub trait Speaker {
     /// What one is told who comes while as many are served as may be. An error: an allocation failed.
     fn crowded_refusal(&self, alloc: Global) -> Result<Vec<u8>, AllocError>
         ensures { IfOk result (λ said. said.items ≡ crowded_said (protocol self.now)) };
+
+    /// How long one may be there before a session is opened for it. `None`: for ever.
+    fn login_limit(&self) -> Option<Duration>;
 }
+
+/// For how many seconds one may be there at a place that asks for a password, before it has shown one.
+const LOGIN_SECONDS: u64 = 10;
 
 /// Conversations of frames, one for each client that comes.
 #[derive(Drop)]
@@ -61,6 +73,10 @@ impl Speaker for FrameTalks {
         let answer = Answer::Refused(SqlState::TooManyConnections);
         say_answer(alloc, 0, &answer, &mut said)?;
         Ok(said)
+    }
+
+    fn login_limit(&self) -> Option<Duration> {
+        None
     }
 }
 
@@ -109,20 +125,24 @@ impl Speaker for PostgresTalks {
             Err(_) => Err(AllocError),
         }
     }
+
+    fn login_limit(&self) -> Option<Duration> {
+        None
+    }
 }
 
-/// The conversations of a speaker at the door of a place, one for each client that comes.
+/// The conversations of a maker at the door of a place, one for each client that comes.
 #[derive(Drop)]
-pub struct DoorTalks<F> {
+pub struct DoorTalks<'a, F> {
     alloc: Global,
-    door: Door,
+    door: PlaceDoor<'a>,
     speaker: F,
 }
 
-impl<F> DoorTalks<F> {
+impl<'a, F> DoorTalks<'a, F> {
     /// Nobody has come to this door.
-    pub(crate) fn new(alloc: Global, door: Door, speaker: F) -> DoorTalks<F>
-        ensures { result.door ≡ door }
+    pub(crate) fn new(alloc: Global, door: PlaceDoor<'a>, speaker: F) -> DoorTalks<'a, F>
+        ensures { result.door ≡ door.entry }
     {
         DoorTalks {
             alloc,
@@ -132,26 +152,168 @@ impl<F> DoorTalks<F> {
     }
 }
 
-impl<T: Talk, F: TalkMaker<T>> TalkMaker<DoorTalk<T>> for DoorTalks<F> {
-    ghost makes = { λ maker talk. talk.door ≡ maker.door };
+impl<'a, T: Talk, F: TalkMaker<T>> TalkMaker<DoorTalk<T>> for DoorTalks<'a, F> {
+    ghost makes = { λ maker talk. IsDoorFor maker.door talk.door };
 
     fn make(&self) -> Result<DoorTalk<T>, AllocError> {
-        let door = self.door.try_copy(self.alloc)?;
+        let door = door_for(self.alloc, self.door)?;
         let talk = self.speaker.make()?;
         Ok(DoorTalk::new(door, talk))
     }
 }
 
-/// The door of a place where one comes in as this role alone, or as any role where none is named. An
-/// error: an allocation failed. No role can be named so that has no name: nobody is let in then, either.
-pub(crate) fn door_for(alloc: Global, role: Option<&str>) -> Result<Door, AllocError>
-    ensures { IfOk result (IsDoorFor (lent_word role.entry)) }
+impl<F: Speaker> Speaker for DoorTalks<'_, F> {
+    ghost protocol = { λ maker. F.protocol maker.speaker };
+
+    fn crowded_refusal(&self, alloc: Global) -> Result<Vec<u8>, AllocError> {
+        self.speaker.crowded_refusal(alloc)
+    }
+
+    fn login_limit(&self) -> Option<Duration> {
+        None
+    }
+}
+
+/// The door of a place that asks for no passwords. An error: an allocation failed. No role can be named so
+/// that has no name: nobody is let in then, either, nor at a place that asks for passwords.
+pub(crate) fn door_for(alloc: Global, door: PlaceDoor<'_>) -> Result<Door, AllocError>
+    ensures { IfOk result (IsDoorFor door.entry) }
 {
-    let Some(role) = role else {
-        return Ok(Door::Anyone);
-    };
-    match Name::from_str(alloc, role)? {
-        Some(name) => Ok(Door::Only(name)),
-        None => Err(AllocError),
+    match door {
+        PlaceDoor::Anyone => Ok(Door::Anyone),
+        PlaceDoor::Only(role) => match Name::from_str(alloc, role)? {
+            Some(name) => Ok(Door::Only(name)),
+            None => Err(AllocError),
+        },
+        PlaceDoor::Passwords { table: _, mock: _ } => Err(AllocError),
+    }
+}
+
+/// What conversations are made with at a place that asks for passwords: the table of verifiers, the role whose
+/// verifier stands in for those that are missing, and what draws bytes that nobody can foretell.
+#[derive(Drop)]
+pub struct PasswordDoor<'a, D> {
+    alloc: Global,
+    table: &'a str,
+    mock: &'a str,
+    draw: D,
+}
+
+impl<'a, D> PasswordDoor<'a, D> {
+    /// The door of a place whose verifiers are in this table.
+    pub(crate) fn new(alloc: Global, table: &'a str, mock: &'a str, draw: D) -> PasswordDoor<'a, D>
+        ensures table { result.table.now ≡ table.now }
+        ensures mock { result.mock.now ≡ mock.now }
+    {
+        PasswordDoor {
+            alloc,
+            table,
+            mock,
+            draw,
+        }
+    }
+}
+
+impl<D: Draw> PasswordDoor<'_, D> {
+    // The place, for one conversation. An error: an allocation failed. No table can be named so that has no
+    // name: nobody is let in then, either.
+    fn place(&self) -> Result<PasswordPlace, AllocError>
+        ensures { IfOk result (λ place. place ≡ password_place self.now.table.now self.now.mock.now) }
+    {
+        let Some(table) = Name::from_str(self.alloc, self.table)? else {
+            return Err(AllocError);
+        };
+        let mock = Text::from_str(self.alloc, self.mock)?;
+        Ok(PasswordPlace { table, mock })
+    }
+
+    // Bytes for one conversation. Where none are drawn it is as where an allocation fails.
+    fn drawn(&self) -> Result<[u8; 32], AllocError> {
+        match self.draw.draw() {
+            Some(drawn) => Ok(drawn),
+            None => Err(AllocError),
+        }
+    }
+}
+
+/// The conversations of a maker in frames at a place that asks for passwords, one for each client that comes.
+#[derive(Drop)]
+pub struct PasswordTalks<'a, F, D> {
+    door: PasswordDoor<'a, D>,
+    speaker: F,
+}
+
+impl<'a, F, D> PasswordTalks<'a, F, D> {
+    /// Nobody has come to this place.
+    pub(crate) fn new(door: PasswordDoor<'a, D>, speaker: F) -> PasswordTalks<'a, F, D>
+        ensures { result.door ≡ door.entry }
+    {
+        PasswordTalks { door, speaker }
+    }
+}
+
+impl<'a, T: Talk, F: TalkMaker<T>, D: Draw> TalkMaker<PasswordTalk<T>> for PasswordTalks<'a, F, D> {
+    ghost makes = { λ maker talk. talk.login.place ≡ password_place maker.door.table.now maker.door.mock.now };
+
+    fn make(&self) -> Result<PasswordTalk<T>, AllocError> {
+        let drawn = self.door.drawn()?;
+        let place = self.door.place()?;
+        let talk = self.speaker.make()?;
+        let login = Login::new(self.door.alloc, place, drawn);
+        Ok(PasswordTalk::new(login, talk))
+    }
+}
+
+impl<F: Speaker, D> Speaker for PasswordTalks<'_, F, D> {
+    ghost protocol = { λ maker. F.protocol maker.speaker };
+
+    fn crowded_refusal(&self, alloc: Global) -> Result<Vec<u8>, AllocError> {
+        self.speaker.crowded_refusal(alloc)
+    }
+
+    fn login_limit(&self) -> Option<Duration> {
+        Some(Duration::from_secs(LOGIN_SECONDS))
+    }
+}
+
+/// The conversations of a maker of PostgreSQL's protocol at a place that asks for passwords, one for each client
+/// that comes.
+#[derive(Drop)]
+pub struct PostgresLogins<'a, F, D> {
+    door: PasswordDoor<'a, D>,
+    speaker: F,
+}
+
+impl<'a, F, D> PostgresLogins<'a, F, D> {
+    /// Nobody has come to this place.
+    pub(crate) fn new(door: PasswordDoor<'a, D>, speaker: F) -> PostgresLogins<'a, F, D>
+        ensures { result.door ≡ door.entry }
+    {
+        PostgresLogins { door, speaker }
+    }
+}
+
+impl<'a, T: Talk, F: TalkMaker<T>, D: Draw> TalkMaker<PostgresLoginTalk<T>>
+    for PostgresLogins<'a, F, D> {
+    ghost makes = { λ maker talk. talk.login.place ≡ password_place maker.door.table.now maker.door.mock.now };
+
+    fn make(&self) -> Result<PostgresLoginTalk<T>, AllocError> {
+        let drawn = self.door.drawn()?;
+        let place = self.door.place()?;
+        let talk = self.speaker.make()?;
+        let login = SaslLogin::new(self.door.alloc, place, drawn);
+        Ok(PostgresLoginTalk::new(login, talk))
+    }
+}
+
+impl<F: Speaker, D> Speaker for PostgresLogins<'_, F, D> {
+    ghost protocol = { λ maker. F.protocol maker.speaker };
+
+    fn crowded_refusal(&self, alloc: Global) -> Result<Vec<u8>, AllocError> {
+        self.speaker.crowded_refusal(alloc)
+    }
+
+    fn login_limit(&self) -> Option<Duration> {
+        Some(Duration::from_secs(LOGIN_SECONDS))
     }
 }

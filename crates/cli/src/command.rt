@@ -8,6 +8,7 @@ ghost use Rattle.cli.specs.Numbers.{IsNumberFor};
 ghost use Rattle.cli.specs.PlaceWords.{IsSocketPath};
 ghost use Rattle.cli.specs.Usage.{usage_reason};
 
+use crate::dump_words::{read_dump, read_restore};
 use crate::error_reason::ErrorReason;
 use crate::explain_command::AskedStatement;
 use crate::explain_words::read_explain;
@@ -39,6 +40,19 @@ pub enum Invocation<'a> {
     /// `--journal` NEW has a journal.
     Copy {
         file: &'a str,
+        new: &'a str,
+        pages: u32,
+        journal: bool,
+    },
+    /// `dump FILE OUT`: writes a dump of the database in FILE to OUT, a new file.
+    Dump {
+        file: &'a str,
+        out: &'a str,
+    },
+    /// `restore DUMP NEW --pages N`: makes NEW, a new file of N pages, a database of the dump in DUMP. With
+    /// `--journal` NEW has a journal.
+    Restore {
+        dump: &'a str,
         new: &'a str,
         pages: u32,
         journal: bool,
@@ -85,7 +99,7 @@ pub enum Invocation<'a> {
     /// writer lock, and with `--idle SECONDS` a client ends that sends nothing for so long. One ends, too,
     /// that keeps another from writing for `--block SECONDS`, or half a minute. `serve FILE --at PLACE
     /// --clients N` is the same with `port:P` and `socket:PATH`; with `pgport:P` and `pgsocket:FOLDER` clients
-    /// are spoken to by PostgreSQL's protocol.
+    /// are spoken to by PostgreSQL's protocol. What stands behind a comma of PLACE says whom it lets in.
     ServeClients {
         file: &'a str,
         place: ServedPlace<'a>,
@@ -136,8 +150,8 @@ pub enum UsageFault<'a> {
     Path(&'a str),
     /// FOLDER of a socket for PostgreSQL's clients is empty or has over 93 bytes.
     Folder(&'a str),
-    /// What stands behind the comma of PLACE is not `role=NAME`, `mode=600` or `mode=660`, each once at most, and a
-    /// mode of a socket alone.
+    /// What stands behind the comma of PLACE is not `role=NAME`, `passwords=TABLE` with `mock=ROLE`, `mode=600` or
+    /// `mode=660`, each once at most; a mode is of a socket alone.
     Options(&'a str),
     /// NAME is empty, has over 63 bytes or a zero byte.
     Name(&'a str),
@@ -187,7 +201,7 @@ impl fmt::Display for UsageFault<'_> {
             UsageFault::Options(words) => {
                 write!(
                     f,
-                    "behind a comma PLACE takes role=NAME, and of a socket mode=600 or mode=660, each once, not '{words}'"
+                    "behind a comma PLACE takes role=NAME, or passwords=TABLE with mock=ROLE, and of a socket mode=600 or mode=660, each once, not '{words}'"
                 )
             }
             UsageFault::Name(name) => {
@@ -206,7 +220,7 @@ impl fmt::Display for UsageFault<'_> {
 }
 
 /// The order that the words after the program's name give, as `clap` reads them: one of the commands
-/// `format`, `copy`, `journal`, `run`, `serve`, `check`, `describe` and `explain` with its words and options, each
+/// `format`, `copy`, `dump`, `restore`, `journal`, `run`, `serve`, `check`, `describe` and `explain` with its words and options, each
 /// given once; or a flag for help or the version. Words that give none are refused: by `Grammar`, `Form`, `Serving`,
 /// `ServingClients`, `ServingAt`, `Number`, `Path`, `Folder`, `Options`, `Name` or `Switch`.
 /// `Memory` may come of any words.
@@ -250,6 +264,8 @@ fn read_given<'a>(name: &str, given: &ArgMatches<'a>) -> Result<Invocation<'a>, 
     match name {
         "format" => read_format(given),
         "copy" => read_copy(given),
+        "dump" => read_dump(given),
+        "restore" => read_restore(given),
         "journal" => read_journal(given),
         "run" => read_run(given),
         "serve" => read_serve(given),

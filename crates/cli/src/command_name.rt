@@ -5,8 +5,8 @@ ghost use Rattle.cli.specs.CommandNames.{command_word, usage_for};
 ghost use Rattle.cli.specs.declared.command_name.CommandName.{CommandName as TheCommand};
 
 use crate::texts::{
-    CHECK_USAGE, COPY_USAGE, DESCRIBE_USAGE, EXPLAIN_USAGE, FORMAT_USAGE, JOURNAL_USAGE, RUN_USAGE,
-    SERVE_USAGE, USAGE,
+    CHECK_USAGE, COPY_USAGE, DESCRIBE_USAGE, DUMP_USAGE, EXPLAIN_USAGE, FORMAT_USAGE,
+    JOURNAL_USAGE, RESTORE_USAGE, RUN_USAGE, SERVE_USAGE, USAGE,
 };
 
 /// A command of the program.
@@ -14,6 +14,8 @@ use crate::texts::{
 pub enum CommandName {
     Format,
     Copy,
+    Dump,
+    Restore,
     Journal,
     Run,
     Serve,
@@ -30,6 +32,8 @@ pub fn command_named(name: &str) -> Option<CommandName>
     match name {
         "format" => Some(CommandName::Format),
         "copy" => Some(CommandName::Copy),
+        "dump" => Some(CommandName::Dump),
+        "restore" => Some(CommandName::Restore),
         "journal" => Some(CommandName::Journal),
         "run" => Some(CommandName::Run),
         "serve" => Some(CommandName::Serve),
@@ -47,6 +51,8 @@ pub(crate) fn usage_of(command: Option<CommandName>) -> &'static str
     match command {
         Some(CommandName::Format) => FORMAT_USAGE,
         Some(CommandName::Copy) => COPY_USAGE,
+        Some(CommandName::Dump) => DUMP_USAGE,
+        Some(CommandName::Restore) => RESTORE_USAGE,
         Some(CommandName::Journal) => JOURNAL_USAGE,
         Some(CommandName::Run) => RUN_USAGE,
         Some(CommandName::Serve) => SERVE_USAGE,

@@ -44,7 +44,7 @@ pub(crate) fn copy<Y: System, K: TakesText, E: Write>(
 }
 
 // Gives a copy that was made a journal, where one is asked for.
-fn give_journal<Y: System>(
+pub(crate) fn give_journal<Y: System>(
     system: &mut Y,
     alloc: Global,
     new: &str,
@@ -81,7 +81,7 @@ fn end_of_copy<K: TakesText>(
 }
 
 // Why a copy was refused, whichever file it was refused for.
-fn fault_of(refusal: CopyRefusal) -> CommandFault
+pub(crate) fn fault_of(refusal: CopyRefusal) -> CommandFault
     ensures { result ≡ fault_in refusal }
 {
     match refusal {
@@ -90,7 +90,11 @@ fn fault_of(refusal: CopyRefusal) -> CommandFault
 }
 
 // What the end of a copy is about: the file, where that was refused; else the new one.
-fn subject_of_copy<'a>(copied: Result<(), CopyRefusal>, file: &'a str, new: &'a str) -> Subject<'a>
+pub(crate) fn subject_of_copy<'a>(
+    copied: Result<(), CopyRefusal>,
+    file: &'a str,
+    new: &'a str,
+) -> Subject<'a>
     ensures { result ≡ copy_subject file.entry new.entry copied }
 {
     match copied {

@@ -41,6 +41,14 @@ pub enum CommandFault {
     Partial,
     /// The database to be copied does not fit in so many pages. It wants so many at least.
     NoRoom { pages: u32, least: u64 },
+    /// The file is no dump.
+    NotADump,
+    /// The file is a dump whose form is of this version, which is not the one that this program knows.
+    OtherDump(u32),
+    /// The dump was cut off or is damaged, or its records stand for no database.
+    DamagedDump,
+    /// The database that a dump makes does not fit in so many pages.
+    NoDumpRoom(u32),
     /// Another process has the file open.
     InUse,
     /// The port or the socket cannot be bound, for this cause, or a connection cannot be taken.
@@ -82,6 +90,10 @@ impl fmt::Display for CommandFault {
             CommandFault::NewerFormat(_) => write!(f, "Format"),
             CommandFault::Exists | CommandFault::Partial => write!(f, "Exists"),
             CommandFault::NoRoom { pages: _, least: _ } => write!(f, "Full"),
+            CommandFault::NotADump => write!(f, "NotADump"),
+            CommandFault::OtherDump(_) => write!(f, "Format"),
+            CommandFault::DamagedDump => write!(f, "Damaged"),
+            CommandFault::NoDumpRoom(_) => write!(f, "Full"),
             CommandFault::InUse => write!(f, "InUse"),
             CommandFault::Net(_) => write!(f, "Net"),
             CommandFault::ScriptUnread(_) => write!(f, "Script"),
@@ -143,6 +155,26 @@ impl fmt::Display for Reason {
                 f,
                 "the database does not fit in {pages} pages; it wants at least {least}"
             ),
+            CommandFault::NotADump => {
+                write!(
+                    f,
+                    "no dump, or one that is cut off; 'guarddb dump' makes one of a database"
+                )
+            }
+            CommandFault::OtherDump(version) => write!(
+                f,
+                "a dump of version {version}, and this guarddb knows 1; restore it with the guarddb that made it"
+            ),
+            CommandFault::DamagedDump => write!(
+                f,
+                "the dump is cut off or damaged, or is of no database; restore another"
+            ),
+            CommandFault::NoDumpRoom(pages) => {
+                write!(
+                    f,
+                    "the database does not fit in {pages} pages; ask for more"
+                )
+            }
             CommandFault::InUse => write!(f, "another process has it open"),
             CommandFault::Net(cause) => write!(f, "{cause}"),
             CommandFault::ScriptUnread(cause) => write!(f, "{cause}"),

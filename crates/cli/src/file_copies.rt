@@ -94,7 +94,7 @@ fn copy_beside<Y: System>(
 }
 
 // The name that a copy has until it is whole. The only error is that an allocation failed.
-fn partial_name(alloc: Global, target: &str) -> Result<String, AllocError>
+pub(crate) fn partial_name(alloc: Global, target: &str) -> Result<String, AllocError>
     ensures { IfOk result (λ name. string_bytes name ≡ partial_path target.now) }
 {
     let mut name = String::from_str(alloc, target)?;
@@ -151,7 +151,7 @@ fn copy_with_progress<D: JournalDevice, W: CopyProgress + Drop>(
 }
 
 // Why nothing was made under the name that a copy has until it is whole.
-fn partial_fault(fault: FileFault) -> CopyRefusal
+pub(crate) fn partial_fault(fault: FileFault) -> CopyRefusal
     ensures { result ≡ of_partial fault }
 {
     match fault {
@@ -162,7 +162,7 @@ fn partial_fault(fault: FileFault) -> CopyRefusal
 }
 
 // Gives a copy that is whole its name, or takes it away.
-fn rename_copy<Y: System>(
+pub(crate) fn rename_copy<Y: System>(
     system: &mut Y,
     partial: &str,
     target: &str,

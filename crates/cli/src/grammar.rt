@@ -4,6 +4,7 @@ ghost use Rattle.std.specs.Prelude.{IfOk};
 ghost use Rattle.clap.specs.Words.{new_app};
 ghost use Rattle.cli.specs.CommandGrammar.{HasBelow, IsArg, IsCommand, word_rule, option_rule, format_app, copy_app, journal_app, run_app, serve_app, check_app, describe_app, explain_app, flag_rule, bare_app, program_app};
 
+use crate::dump_words::{dump_command, restore_command};
 use crate::texts::{USAGE, VERSION_NUMBER};
 use clap::{Arg, ArgAction, Command};
 use std::alloc::{AllocError, Global};
@@ -19,6 +20,8 @@ pub(crate) fn program_command<'a>(alloc: Global) -> Result<Command<'a>, AllocErr
     let command = with_below(command, describe_command(alloc))?;
     let command = with_below(command, copy_command(alloc))?;
     let command = with_below(command, journal_command(alloc))?;
+    let command = with_below(command, dump_command(alloc))?;
+    let command = with_below(command, restore_command(alloc))?;
     with_below(command, explain_command(alloc))
 }
 
@@ -137,14 +140,14 @@ fn explain_command<'a>(alloc: Global) -> Result<Command<'a>, AllocError>
 }
 
 /// A command of this name, without words.
-fn command<'a>(alloc: Global, name: &'a str) -> Command<'a>
+pub(crate) fn command<'a>(alloc: Global, name: &'a str) -> Command<'a>
     ensures { IsCommand (new_app name.entry.now) result }
 {
     Command::new(alloc, name).override_usage(usage())
 }
 
 /// A word that belongs to no option, which messages call `value`.
-fn word<'a>(alloc: Global, id: &'a str, value: &'a str, required: bool) -> Arg<'a>
+pub(crate) fn word<'a>(alloc: Global, id: &'a str, value: &'a str, required: bool) -> Arg<'a>
     ensures { IsArg (word_rule id.entry.now required) result }
 {
     Arg::new(alloc, id)
@@ -154,7 +157,7 @@ fn word<'a>(alloc: Global, id: &'a str, value: &'a str, required: bool) -> Arg<'
 }
 
 /// The option `--ID`, which takes one word, which messages call `value`.
-fn option<'a>(alloc: Global, id: &'a str, value: &'a str, required: bool) -> Arg<'a>
+pub(crate) fn option<'a>(alloc: Global, id: &'a str, value: &'a str, required: bool) -> Arg<'a>
     ensures { IsArg (option_rule id.entry.now required) result }
 {
     Arg::new(alloc, id)
@@ -165,7 +168,7 @@ fn option<'a>(alloc: Global, id: &'a str, value: &'a str, required: bool) -> Arg
 }
 
 /// The flag `--ID`, which takes no word.
-fn flag<'a>(alloc: Global, id: &'a str) -> Arg<'a>
+pub(crate) fn flag<'a>(alloc: Global, id: &'a str) -> Arg<'a>
     ensures { IsArg (flag_rule id.entry.now) result }
 {
     Arg::new(alloc, id).long(id).action(ArgAction::SetTrue)

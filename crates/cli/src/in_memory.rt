@@ -4,20 +4,22 @@ ghost use Rattle.systems.specs.MemSystem.{system_state};
 ghost use Rattle.cli.specs.CarryingOut.{IsCarriedOut};
 
 use crate::carrying_out::carry_out;
-use crate::client_talks::{DoorTalks, FrameTalks, PostgresTalks};
+use crate::client_talks::{DoorTalks, FrameTalks, PasswordTalks, PostgresLogins, PostgresTalks};
 use crate::command::Invocation;
 use crate::ending::Performed;
 use channels::attend::Attend;
 use channels::memory::MemChannel;
 use doors::door_talk::DoorTalk;
 use frame_talks::frame_talk::FrameTalk;
+use password_talks::password_talk::PasswordTalk;
 use polled_clients::clients::PolledClients;
+use postgres_logins::postgres_login_talk::PostgresLoginTalk;
 use postgres_talks::postgres_talk::PostgresTalk;
 use sector_device::{Device, HistoryDevice, WriteProtected};
 use server::decide::EventHandler;
 use std::alloc::Global;
 use std::io::Write;
-use systems::{MemListener, MemSystem};
+use systems::{MemListener, MemSystem, ZeroDraw};
 use talks::clients::ServedClients;
 use talks::talk::Talk;
 use wire::frame_sink::FrameSink;
@@ -27,20 +29,24 @@ use wire::text_sink::TakesText;
 
 /// Does what an order asks for over a system in memory, as `carry_out` does. That system is faithful,
 /// so what `carry_out` promises of a faithful system is promised here with no premise.
-pub fn carry_out_in_memory<X: EventHandler + Drop, K: TakesText + Drop, E: Write + Drop>(
+pub fn carry_out_in_memory<'a, X: EventHandler + Drop, K: TakesText + Drop, E: Write + Drop>(
     system: &mut MemSystem<WriteProtected<HistoryDevice>>,
     alloc: Global,
     handler: X,
-    order: &Invocation<'_>,
+    order: &Invocation<'a>,
     out: K,
     err: E,
 ) -> Performed<K, E>
     ensures faithful { (system_state system.old).faithful }
     ensures carried_out { IsCarriedOut X ⟦<WriteProtected<HistoryDevice> as Device>⟧ K.Sink
         ⟦<FrameSink<Vec<u8>> as Sink>⟧ ⟦<MemListener as Attend<MemChannel>>⟧ ⟦<DoorTalk<FrameTalk> as Talk>⟧
-        ⟦<PolledClients<DoorTalk<FrameTalk>, MemChannel, MemListener, DoorTalks<FrameTalks>> as ServedClients<DoorTalk<FrameTalk>>>⟧
+        ⟦<PolledClients<DoorTalk<FrameTalk>, MemChannel, MemListener, DoorTalks<'a, FrameTalks>> as ServedClients<DoorTalk<FrameTalk>>>⟧
         ⟦<DoorTalk<PostgresTalk> as Talk>⟧
-        ⟦<PolledClients<DoorTalk<PostgresTalk>, MemChannel, MemListener, DoorTalks<PostgresTalks>> as ServedClients<DoorTalk<PostgresTalk>>>⟧
+        ⟦<PolledClients<DoorTalk<PostgresTalk>, MemChannel, MemListener, DoorTalks<'a, PostgresTalks>> as ServedClients<DoorTalk<PostgresTalk>>>⟧
+        ⟦<PasswordTalk<FrameTalk> as Talk>⟧
+        ⟦<PolledClients<PasswordTalk<FrameTalk>, MemChannel, MemListener, PasswordTalks<'a, FrameTalks, ZeroDraw>> as ServedClients<PasswordTalk<FrameTalk>>>⟧
+        ⟦<PostgresLoginTalk<PostgresTalk> as Talk>⟧
+        ⟦<PolledClients<PostgresLoginTalk<PostgresTalk>, MemChannel, MemListener, PostgresLogins<'a, PostgresTalks, ZeroDraw>> as ServedClients<PostgresLoginTalk<PostgresTalk>>>⟧
         E.contents X.Reads ⟦<MemListener as Listen>⟧.listening
         system_state (system_state system.old) order.now out err (system_state system.new) result }
 {

@@ -9,7 +9,7 @@ use crate::command::{Invocation, UsageFault, is_socket_path, read_number};
 use crate::number::NumberOption;
 use crate::place_options::{read_guard, split_at_comma};
 use crate::serve_words::{CountWords, read_counts};
-use crate::served_place::{Protocol, ServedPlace};
+use crate::served_place::{PlaceDoor, Protocol, ServedPlace};
 use clap::ArgMatches;
 use systems::{ListenPlace, SocketAccess};
 
@@ -141,7 +141,7 @@ fn read_place<'a>(word: PlaceWord<'a>) -> Result<ServedPlace<'a>, UsageFault<'a>
     Ok(ServedPlace {
         place: served.place,
         protocol: served.protocol,
-        role: guard.role,
+        door: guard.door,
         access: guard.access,
     })
 }
@@ -168,7 +168,7 @@ fn at_port<'a>(protocol: Protocol, word: &'a str) -> Result<ServedPlace<'a>, Usa
     Ok(ServedPlace {
         place: ListenPlace::Port(port as u16),
         protocol,
-        role: None,
+        door: PlaceDoor::Anyone,
         access: SocketAccess::Owner,
     })
 }
@@ -184,7 +184,7 @@ fn at_socket<'a>(path: &'a str) -> Result<ServedPlace<'a>, UsageFault<'a>>
     Ok(ServedPlace {
         place: ListenPlace::Socket(path),
         protocol: Protocol::Frames,
-        role: None,
+        door: PlaceDoor::Anyone,
         access: SocketAccess::Owner,
     })
 }
@@ -200,7 +200,7 @@ fn in_folder<'a>(folder: &'a str) -> Result<ServedPlace<'a>, UsageFault<'a>>
     Ok(ServedPlace {
         place: ListenPlace::PostgresFolder(folder),
         protocol: Protocol::Postgres,
-        role: None,
+        door: PlaceDoor::Anyone,
         access: SocketAccess::Owner,
     })
 }

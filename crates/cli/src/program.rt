@@ -1,16 +1,20 @@
 //! What the program does for a command: its output, its messages and its exit status.
 
 ghost use Rattle.std.specs.Prelude.{◌≡◌};
-ghost use Rattle.cli.specs.Program.{ending_of_server, place_subject, server_subject, Checks, DoesFormat, Formats, IsAnswered, IsPerformed, Serves, ServesMany, ServesManyAt, outcome_of_clients};
+ghost use Rattle.cli.specs.Program.{ending_of_server, place_subject, server_subject, Checks, DoesFormat, Formats, IsAnswered, IsPerformed, Serves, ServesMany, ServesManyAt, ServesManyBy, outcome_of_clients};
 
-use crate::client_talks::{DoorTalks, FrameTalks, PostgresTalks, Speaker};
+use crate::client_talks::{
+    DoorTalks, FrameTalks, PasswordDoor, PasswordTalks, PostgresLogins, PostgresTalks, Speaker,
+};
 use crate::command::{Invocation, UsageFault, is_name};
 use crate::command_name::CommandName;
 use crate::copy_command::copy;
 use crate::describing::describe;
+use crate::dump_commands::{dump, restore};
 use crate::ending::{Ending, Exit, Subject, exit_after, exit_with};
 use crate::explain_command::explain_statement;
 use crate::fault::CommandFault;
+use crate::file_restores::check_as_dump;
 use crate::format::format_file;
 use crate::journal_command::switch;
 use crate::opened::CommandEnd;
@@ -19,13 +23,15 @@ use crate::run::check_file;
 use crate::runs::{run_over_file, run_read_in_memory};
 use crate::serve::{Limits, serve_file};
 use crate::serve_clients::{ManyClients, serve_clients_file};
-use crate::served_place::{Protocol, ServedPlace};
+use crate::served_place::{PlaceDoor, Protocol, ServedPlace};
 use crate::texts::{HELP, VERSION};
 use crate::usage::report_usage;
 use channels::attend::Attend;
 use doors::door_talk::DoorTalk;
 use frame_talks::frame_talk::FrameTalk;
+use password_talks::password_talk::PasswordTalk;
 use polled_clients::clients::{PolledClients, TalkMaker};
+use postgres_logins::postgres_login_talk::PostgresLoginTalk;
 use postgres_talks::postgres_talk::PostgresTalk;
 use sector_device::Device;
 use server::decide::EventHandler;
@@ -65,6 +71,8 @@ const CHECKED: &str = "ok CHECK\n";
 /// `copy` writes nothing to the file either, and a copy is there only once it is whole. A copy that was
 /// made stays where `out` fails, and where it is not given the journal that was asked for.
 ///
+/// `dump` writes nothing to the file, and a dump is there only once it is whole; so is the database that `restore` makes.
+///
 /// `journal` gives a database a journal or takes it away, and the database stays the same at every
 /// moment. A file of format 1 cannot have one: the fault is `FirstFormat`.
 ///
@@ -78,19 +86,23 @@ const CHECKED: &str = "ok CHECK\n";
 /// connections are those that come to the place. However it ends, a file that was opened is closed
 /// and there as it was left, a place that was bound is given up, and nothing else of the system has
 /// changed.
-pub fn perform<Y: System, X: EventHandler + Drop, K: TakesText, E: Write>(
+pub fn perform<'a, Y: System, X: EventHandler + Drop, K: TakesText, E: Write>(
     system: &mut Y,
     alloc: Global,
     handler: X,
-    order: &Invocation<'_>,
+    order: &Invocation<'a>,
     out: &mut K,
     err: &mut E,
 ) -> Exit
     ensures { IsPerformed X Y.Device.Device K.Sink Y.Listener.Sink.Sink Y.Listener.Attend
         ⟦<DoorTalk<FrameTalk> as Talk>⟧
-        ⟦<PolledClients<DoorTalk<FrameTalk>, Y::Channel, Y::Listener, DoorTalks<FrameTalks>> as ServedClients<DoorTalk<FrameTalk>>>⟧
+        ⟦<PolledClients<DoorTalk<FrameTalk>, Y::Channel, Y::Listener, DoorTalks<'a, FrameTalks>> as ServedClients<DoorTalk<FrameTalk>>>⟧
         ⟦<DoorTalk<PostgresTalk> as Talk>⟧
-        ⟦<PolledClients<DoorTalk<PostgresTalk>, Y::Channel, Y::Listener, DoorTalks<PostgresTalks>> as ServedClients<DoorTalk<PostgresTalk>>>⟧
+        ⟦<PolledClients<DoorTalk<PostgresTalk>, Y::Channel, Y::Listener, DoorTalks<'a, PostgresTalks>> as ServedClients<DoorTalk<PostgresTalk>>>⟧
+        ⟦<PasswordTalk<FrameTalk> as Talk>⟧
+        ⟦<PolledClients<PasswordTalk<FrameTalk>, Y::Channel, Y::Listener, PasswordTalks<'a, FrameTalks, Y::Draw>> as ServedClients<PasswordTalk<FrameTalk>>>⟧
+        ⟦<PostgresLoginTalk<PostgresTalk> as Talk>⟧
+        ⟦<PolledClients<PostgresLoginTalk<PostgresTalk>, Y::Channel, Y::Listener, PostgresLogins<'a, PostgresTalks, Y::Draw>> as ServedClients<PostgresLoginTalk<PostgresTalk>>>⟧
         X.Reads Y.Listener.listening Y.state (Y.state system.old) order.now result (Y.state system.new) out.old out.new
         (E.contents err.old) (E.contents err.new) }
 {
@@ -107,6 +119,13 @@ pub fn perform<Y: System, X: EventHandler + Drop, K: TakesText, E: Write>(
             pages,
             journal,
         } => copy(system, alloc, *file, *new, *pages, *journal, out, err),
+        Invocation::Dump { file, out: new } => dump(system, alloc, *file, *new, out, err),
+        Invocation::Restore {
+            dump,
+            new,
+            pages,
+            journal,
+        } => restore(system, alloc, *dump, *new, *pages, *journal, out, err),
         Invocation::Journal { file, on } => switch(system, alloc, *file, *on, out, err),
         Invocation::Run {
             file,
@@ -208,7 +227,7 @@ fn format<Y: System, K: TakesText>(
     answer(formatted, FORMATTED, out)
 }
 
-// Checks the database in a file, and says that it is whole.
+// Checks the database or the dump in a file, and says that it is whole.
 fn check<Y: System, X: EventHandler + Drop, K: TakesText, E: Write>(
     system: &mut Y,
     alloc: Global,
@@ -217,11 +236,12 @@ fn check<Y: System, X: EventHandler + Drop, K: TakesText, E: Write>(
     out: &mut K,
     err: &mut E,
 ) -> Exit
-    ensures { Checks X Y.Device.Device (Y.state system.old) (Subject.Named file.entry) file.now
+    ensures { Checks X Y.Device.Device Y.state (Y.state system.old) (Subject.Named file.entry) file.now
         result (Y.state system.new) (K.held out.old) (K.held out.new) (E.contents err.old)
         (E.contents err.new) }
 {
     let CommandEnd { outcome, told } = check_file(system, alloc, handler, file, err);
+    let outcome = check_as_dump(system, alloc, file, outcome);
     let ending = answer(outcome, CHECKED, out);
     exit_after(told, ending, Subject::Named(file), err)
 }
@@ -257,30 +277,92 @@ fn serve<Y: System, X: EventHandler + Drop, E: Write>(
 
 // Serves many clients at once at a place, each by the protocol of that, over the database in a file, and
 // tells how that ended.
-fn serve_at<Y: System, X: EventHandler + Drop, E: Write>(
+fn serve_at<'a, Y: System, X: EventHandler + Drop, E: Write>(
     system: &mut Y,
     alloc: Global,
     handler: X,
     file: &str,
-    place: ServedPlace<'_>,
+    place: ServedPlace<'a>,
     many: ManyClients,
     err: &mut E,
 ) -> Exit
     ensures { ServesManyAt X Y.Device.Device Y.Listener.Attend ⟦<DoorTalk<FrameTalk> as Talk>⟧
-        ⟦<PolledClients<DoorTalk<FrameTalk>, Y::Channel, Y::Listener, DoorTalks<FrameTalks>> as ServedClients<DoorTalk<FrameTalk>>>⟧
+        ⟦<PolledClients<DoorTalk<FrameTalk>, Y::Channel, Y::Listener, DoorTalks<'a, FrameTalks>> as ServedClients<DoorTalk<FrameTalk>>>⟧
         ⟦<DoorTalk<PostgresTalk> as Talk>⟧
-        ⟦<PolledClients<DoorTalk<PostgresTalk>, Y::Channel, Y::Listener, DoorTalks<PostgresTalks>> as ServedClients<DoorTalk<PostgresTalk>>>⟧
+        ⟦<PolledClients<DoorTalk<PostgresTalk>, Y::Channel, Y::Listener, DoorTalks<'a, PostgresTalks>> as ServedClients<DoorTalk<PostgresTalk>>>⟧
+        ⟦<PasswordTalk<FrameTalk> as Talk>⟧
+        ⟦<PolledClients<PasswordTalk<FrameTalk>, Y::Channel, Y::Listener, PasswordTalks<'a, FrameTalks, Y::Draw>> as ServedClients<PasswordTalk<FrameTalk>>>⟧
+        ⟦<PostgresLoginTalk<PostgresTalk> as Talk>⟧
+        ⟦<PolledClients<PostgresLoginTalk<PostgresTalk>, Y::Channel, Y::Listener, PostgresLogins<'a, PostgresTalks, Y::Draw>> as ServedClients<PostgresLoginTalk<PostgresTalk>>>⟧
         X.Reads (Y.state system.old) (Subject.Named file.entry) file.now place.entry many
         result (Y.state system.new) (E.contents err.old) (E.contents err.new) }
 {
     match place.protocol {
-        Protocol::Frames => {
-            let speaker = FrameTalks::new(alloc);
-            serve_many(system, alloc, handler, file, place, speaker, many, err)
+        Protocol::Frames => serve_in_frames(system, alloc, handler, file, place, many, err),
+        Protocol::Postgres => serve_by_postgres(system, alloc, handler, file, place, many, err),
+    }
+}
+
+// The same in frames, by whom the place lets in.
+fn serve_in_frames<'a, Y: System, X: EventHandler + Drop, E: Write>(
+    system: &mut Y,
+    alloc: Global,
+    handler: X,
+    file: &str,
+    place: ServedPlace<'a>,
+    many: ManyClients,
+    err: &mut E,
+) -> Exit
+    ensures { ServesManyBy X Y.Device.Device Y.Listener.Attend ⟦<DoorTalk<FrameTalk> as Talk>⟧
+        ⟦<PolledClients<DoorTalk<FrameTalk>, Y::Channel, Y::Listener, DoorTalks<'a, FrameTalks>> as ServedClients<DoorTalk<FrameTalk>>>⟧
+        ⟦<PasswordTalk<FrameTalk> as Talk>⟧
+        ⟦<PolledClients<PasswordTalk<FrameTalk>, Y::Channel, Y::Listener, PasswordTalks<'a, FrameTalks, Y::Draw>> as ServedClients<PasswordTalk<FrameTalk>>>⟧
+        (λ talk. talk.login.place)
+        X.Reads (Y.state system.old) (Subject.Named file.entry) file.now place.entry many
+        result (Y.state system.new) (E.contents err.old) (E.contents err.new) }
+{
+    let speaker = FrameTalks::new(alloc);
+    match place.door {
+        PlaceDoor::Anyone | PlaceDoor::Only(_) => {
+            let maker = DoorTalks::new(alloc, place.door, speaker);
+            serve_many(system, alloc, handler, file, place, maker, many, err)
         }
-        Protocol::Postgres => {
-            let speaker = PostgresTalks::new(alloc);
-            serve_many(system, alloc, handler, file, place, speaker, many, err)
+        PlaceDoor::Passwords { table, mock } => {
+            let door = PasswordDoor::new(alloc, table, mock, system.drawing());
+            let maker = PasswordTalks::new(door, speaker);
+            serve_many(system, alloc, handler, file, place, maker, many, err)
+        }
+    }
+}
+
+// The same by PostgreSQL's protocol.
+fn serve_by_postgres<'a, Y: System, X: EventHandler + Drop, E: Write>(
+    system: &mut Y,
+    alloc: Global,
+    handler: X,
+    file: &str,
+    place: ServedPlace<'a>,
+    many: ManyClients,
+    err: &mut E,
+) -> Exit
+    ensures { ServesManyBy X Y.Device.Device Y.Listener.Attend ⟦<DoorTalk<PostgresTalk> as Talk>⟧
+        ⟦<PolledClients<DoorTalk<PostgresTalk>, Y::Channel, Y::Listener, DoorTalks<'a, PostgresTalks>> as ServedClients<DoorTalk<PostgresTalk>>>⟧
+        ⟦<PostgresLoginTalk<PostgresTalk> as Talk>⟧
+        ⟦<PolledClients<PostgresLoginTalk<PostgresTalk>, Y::Channel, Y::Listener, PostgresLogins<'a, PostgresTalks, Y::Draw>> as ServedClients<PostgresLoginTalk<PostgresTalk>>>⟧
+        (λ talk. talk.login.place)
+        X.Reads (Y.state system.old) (Subject.Named file.entry) file.now place.entry many
+        result (Y.state system.new) (E.contents err.old) (E.contents err.new) }
+{
+    let speaker = PostgresTalks::new(alloc);
+    match place.door {
+        PlaceDoor::Anyone | PlaceDoor::Only(_) => {
+            let maker = DoorTalks::new(alloc, place.door, speaker);
+            serve_many(system, alloc, handler, file, place, maker, many, err)
+        }
+        PlaceDoor::Passwords { table, mock } => {
+            let door = PasswordDoor::new(alloc, table, mock, system.drawing());
+            let maker = PostgresLogins::new(door, speaker);
+            serve_many(system, alloc, handler, file, place, maker, many, err)
         }
     }
 }
@@ -298,17 +380,17 @@ fn serve_many<
     handler: X,
     file: &str,
     place: ServedPlace<'_>,
-    speaker: F,
+    maker: F,
     many: ManyClients,
     err: &mut E,
 ) -> Exit
-    ensures { ServesMany X Y.Device.Device Y.Listener.Attend ⟦<DoorTalk<T> as Talk>⟧
-        ⟦<PolledClients<DoorTalk<T>, Y::Channel, Y::Listener, DoorTalks<F>> as ServedClients<DoorTalk<T>>>⟧
-        X.Reads (Y.state system.old) (Subject.Named file.entry) file.now place.entry many
+    ensures { ServesMany X Y.Device.Device Y.Listener.Attend T.Talk
+        ⟦<PolledClients<T, Y::Channel, Y::Listener, F> as ServedClients<T>>⟧
+        X.Reads (Y.state system.old) (Subject.Named file.entry) file.now place.entry.place (F.makes maker) many
         result (Y.state system.new) (E.contents err.old) (E.contents err.new) }
 {
     let CommandEnd { outcome, told } = serve_clients_file(
-        system, alloc, handler, file, place, speaker, many, err,
+        system, alloc, handler, file, place, maker, many, err,
     );
     let outcome = outcome_of_clients(outcome);
     let about = subject_of_server(outcome, file, place.place);

@@ -1,10 +1,9 @@
 //! A server of many clients at once at a place of a system, over a database in a file.
 
 ghost use Rattle.std.specs.Prelude.{◌≡◌};
-ghost use Rattle.cli.specs.CommandLine.{lent_word};
 ghost use Rattle.cli.specs.ServingClients.{asked_wait, AreLimits, IsLimitOf, ServesClientsAt, ServesClientsFile, ServesClientsOn};
 
-use crate::client_talks::{DoorTalks, Speaker, door_for};
+use crate::client_talks::Speaker;
 use crate::fault::CommandFault;
 use crate::opened::{CommandEnd, open_database_in, tell_migration};
 use crate::serve::tell_place;
@@ -12,7 +11,6 @@ use crate::served_place::ServedPlace;
 use channels::attend::Attend;
 use channels::channel::Channel;
 use databases::serve_clients_on;
-use doors::door_talk::DoorTalk;
 use journal_store::{DeviceStore, JournalDevice};
 use polled_clients::clients::{ClientLimits, PolledClients, TalkMaker};
 use sector_device::Device;
@@ -44,9 +42,10 @@ pub struct ManyClients {
 }
 
 impl ManyClients {
-    // The same, as the clients take it.
-    fn limits(self) -> ClientLimits
-        ensures { AreLimits self result }
+    // The same, as the clients take it. One may be there for so long before a session is opened for it.
+    fn limits(self, login: Option<Duration>) -> ClientLimits
+        ensures limits { AreLimits self result }
+        ensures login { result.login ≡ login }
     {
         ClientLimits {
             connections: self.connections.unwrap_or(u32::MAX),
@@ -54,6 +53,7 @@ impl ManyClients {
             wait: limit_of(asked_wait(self.wait)),
             idle: limit_of(self.idle),
             block: limit_of(Some(self.block)),
+            login,
         }
     }
 }
@@ -76,8 +76,8 @@ fn limit_of(seconds: Option<u32>) -> Option<Duration>
 }
 
 /// Serves many clients at once, which come to a place of the system, over the database in the file at
-/// `path`, whose events `handler` decides. `speaker` makes the conversation with each, which is told its own
-/// answers alone, at the door of the place: no session is opened for a role as which one may not come in there.
+/// `path`, whose events `handler` decides. `maker` makes the conversation with each, which is told its own
+/// answers alone. Of `place` its door is not looked at: who may come in is for the conversations to say.
 /// Who comes while as many are served at once as may be is told so, and closed.
 /// `err` is told as at `serve_file`. However it ends, the place is given up and the file is closed.
 ///
@@ -99,13 +99,13 @@ pub fn serve_clients_file<
     handler: X,
     path: &str,
     place: ServedPlace<'_>,
-    speaker: F,
+    maker: F,
     many: ManyClients,
     err: &mut E,
 ) -> CommandEnd<ServeEnd>
-    ensures { ServesClientsFile X Y.Device.Device Y.Listener.Attend ⟦<DoorTalk<T> as Talk>⟧
-        ⟦<PolledClients<DoorTalk<T>, Y::Channel, Y::Listener, DoorTalks<F>> as ServedClients<DoorTalk<T>>>⟧
-        X.Reads (Y.state system.old) path.entry.now place.entry.place (lent_word place.entry.role) many
+    ensures { ServesClientsFile X Y.Device.Device Y.Listener.Attend T.Talk
+        ⟦<PolledClients<T, Y::Channel, Y::Listener, F> as ServedClients<T>>⟧
+        X.Reads (Y.state system.old) path.entry.now place.entry.place (F.makes maker) many
         (E.contents err.old) result (Y.state system.new) (E.contents err.new) }
 {
     let opened = match open_database_in(system, alloc, handler, path) {
@@ -113,7 +113,7 @@ pub fn serve_clients_file<
         Err(fault) => return CommandEnd::unopened(fault),
     };
     let told = tell_migration(opened.was_migrated, path, err);
-    let (left, outcome) = serve_clients_at(system, alloc, opened.server, place, speaker, many, err);
+    let (left, outcome) = serve_clients_at(system, alloc, opened.server, place, maker, many, err);
     system.close(path, left);
     CommandEnd { outcome, told }
 }
@@ -130,13 +130,13 @@ fn serve_clients_at<
     alloc: Global,
     server: Server<DeviceStore<Y::Device>, X>,
     place: ServedPlace<'_>,
-    speaker: F,
+    maker: F,
     many: ManyClients,
     err: &mut E,
 ) -> (Y::Device, Result<ServeEnd, CommandFault>)
-    ensures { ServesClientsAt Y.Device.Device Y.Listener.Attend ⟦<DoorTalk<T> as Talk>⟧
-        ⟦<PolledClients<DoorTalk<T>, Y::Channel, Y::Listener, DoorTalks<F>> as ServedClients<DoorTalk<T>>>⟧
-        X.Reads (Y.state system.old) place.entry.place (lent_word place.entry.role) many server
+    ensures { ServesClientsAt Y.Device.Device Y.Listener.Attend T.Talk
+        ⟦<PolledClients<T, Y::Channel, Y::Listener, F> as ServedClients<T>>⟧
+        X.Reads (Y.state system.old) place.entry.place (F.makes maker) many server
         (E.contents err.old) result.1 result.0 (Y.state system.new) (E.contents err.new) }
 {
     let (mut listener, bound) = match system.bind(place.place, place.access, None) {
@@ -149,7 +149,7 @@ fn serve_clients_at<
     match system.poll(&mut listener) {
         Ok(()) => {
             let (left, outcome, listener) = serve_clients_on_place(
-                alloc, server, listener, bound, place.role, speaker, many, err,
+                alloc, server, listener, bound, maker, many, err,
             );
             system.unbind(bound, listener);
             (left, outcome)
@@ -177,21 +177,16 @@ fn serve_clients_on_place<
     server: Server<DeviceStore<D>, X>,
     listener: L,
     place: ListenPlace<'_>,
-    role: Option<&str>,
-    speaker: F,
+    maker: F,
     many: ManyClients,
     err: &mut E,
 ) -> (D, Result<ServeEnd, CommandFault>, L)
-    ensures { ServesClientsOn D.Device L.Attend ⟦<DoorTalk<T> as Talk>⟧
-        ⟦<PolledClients<DoorTalk<T>, C, L, DoorTalks<F>> as ServedClients<DoorTalk<T>>>⟧
-        X.Reads place.entry (lent_word role.entry) many server listener (E.contents err.old) result.1
+    ensures { ServesClientsOn D.Device L.Attend T.Talk
+        ⟦<PolledClients<T, C, L, F> as ServedClients<T>>⟧
+        X.Reads place.entry (F.makes maker) many server listener (E.contents err.old) result.1
         result.0 result.2 (E.contents err.new) }
 {
-    let Ok(door) = door_for(alloc, role) else {
-        let left = server.into_store().into_device();
-        return (left, Err(CommandFault::Memory), listener);
-    };
-    let Ok(refusal) = speaker.crowded_refusal(alloc) else {
+    let Ok(refusal) = maker.crowded_refusal(alloc) else {
         let left = server.into_store().into_device();
         return (left, Err(CommandFault::Memory), listener);
     };
@@ -199,8 +194,8 @@ fn serve_clients_on_place<
         let left = server.into_store().into_device();
         return (left, Err(CommandFault::Output), listener);
     };
-    let maker = DoorTalks::new(alloc, door, speaker);
-    let mut clients = PolledClients::new(alloc, listener, maker, many.limits(), refusal);
+    let limits = many.limits(maker.login_limit());
+    let mut clients = PolledClients::new(alloc, listener, maker, limits, refusal);
     let (left, end) = serve_clients_on(alloc, server, &mut clients);
     (left, Ok(end), clients.into_attend())
 }

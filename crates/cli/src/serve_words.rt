@@ -8,7 +8,7 @@ use crate::command::{Invocation, UsageFault, is_socket_path, read_number};
 use crate::number::NumberOption;
 use crate::place_words::read_at;
 use crate::serve_clients::ManyClients;
-use crate::served_place::{Protocol, ServedPlace};
+use crate::served_place::{PlaceDoor, Protocol, ServedPlace};
 use clap::ArgMatches;
 use systems::{ListenPlace, SocketAccess};
 
@@ -196,7 +196,7 @@ fn many_on_port<'a>(
         place: ServedPlace {
             place: ListenPlace::Port(port as u16),
             protocol: Protocol::Frames,
-            role: None,
+            door: PlaceDoor::Anyone,
             access: SocketAccess::Owner,
         },
         many,
@@ -223,7 +223,7 @@ fn many_on_socket<'a>(
         place: ServedPlace {
             place: ListenPlace::Socket(socket),
             protocol: Protocol::Frames,
-            role: None,
+            door: PlaceDoor::Anyone,
             access: SocketAccess::Owner,
         },
         many,

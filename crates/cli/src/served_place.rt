@@ -11,14 +11,25 @@ pub enum Protocol {
     Postgres,
 }
 
+/// Whom a place lets in.
+#[derive(Clone, Copy)]
+pub enum PlaceDoor<'a> {
+    /// Anyone, as any role.
+    Anyone,
+    /// Whoever may come there, as the role of this name and as no other.
+    Only(&'a str),
+    /// Whoever shows the password of a role, as that role. The verifiers of passwords are kept in the table of
+    /// this name; that of the role `mock`, whose password nobody has, stands in for those that are missing.
+    Passwords { table: &'a str, mock: &'a str },
+}
+
 /// A place where a server listens, the protocol by which it speaks to all that come there, and whom it
 /// lets in.
 #[derive(Clone, Copy)]
 pub struct ServedPlace<'a> {
     pub place: ListenPlace<'a>,
     pub protocol: Protocol,
-    /// The role as which alone one comes in there. `None`: one comes in as any role.
-    pub role: Option<&'a str>,
+    pub door: PlaceDoor<'a>,
     /// Whom the file of a socket lets connect.
     pub access: SocketAccess,
 }

@@ -13,6 +13,8 @@ pub const USAGE: &str = "guarddb format FILE --pages N --admin NAME [--journal]
        guarddb describe FILE [ROLE] [--json]
        guarddb explain FILE ROLE STATEMENT [--session LOGIN] [--json]
        guarddb copy FILE NEW --pages N [--journal]
+       guarddb dump FILE OUT
+       guarddb restore DUMP NEW --pages N [--journal]
        guarddb journal FILE on|off
        guarddb < SCRIPT";
 
@@ -21,6 +23,12 @@ pub const FORMAT_USAGE: &str = "guarddb format FILE --pages N --admin NAME [--jo
 
 /// How `copy` is called.
 pub const COPY_USAGE: &str = "guarddb copy FILE NEW --pages N [--journal]";
+
+/// How `dump` is called.
+pub const DUMP_USAGE: &str = "guarddb dump FILE OUT";
+
+/// How `restore` is called.
+pub const RESTORE_USAGE: &str = "guarddb restore DUMP NEW --pages N [--journal]";
 
 /// How `journal` is called.
 pub const JOURNAL_USAGE: &str = "guarddb journal FILE on|off";
@@ -60,6 +68,8 @@ Usage: guarddb format FILE --pages N --admin NAME [--journal]
        guarddb describe FILE [ROLE] [--json]
        guarddb explain FILE ROLE STATEMENT [--session LOGIN] [--json]
        guarddb copy FILE NEW --pages N [--journal]
+       guarddb dump FILE OUT
+       guarddb restore DUMP NEW --pages N [--journal]
        guarddb journal FILE on|off
        guarddb < SCRIPT
 
@@ -99,13 +109,17 @@ Commands:
   serve FILE --at PLACE --clients N [--connections K] [--wait SECONDS] [--idle SECONDS] [--block SECONDS]
           The same at PLACE: port:P or socket:PATH, as above; or pgport:P or pgsocket:FOLDER,
           where psql connects, by PostgreSQL's protocol. In FOLDER, of 1 to 93 bytes, the file
-          .s.PGSQL.5432 is made, and taken away at the end. No password is asked for.
-          With PLACE,role=NAME one comes in as the role NAME and as no other. With
-          PLACE,mode=660 the file of a socket lets its group connect, too
+          .s.PGSQL.5432 is made, and taken away at the end. With PLACE,role=NAME one comes in
+          as the role NAME and as no other. With PLACE,passwords=TABLE,mock=ROLE one shows the
+          password of a role first (SCRAM-SHA-256): TABLE keeps the verifiers, and that of
+          ROLE, whose password nobody has, stands in for those that are missing. Else no
+          password is asked for. With PLACE,mode=660 the file of a socket lets its group
+          connect, too
           Example: guarddb serve shop.db --at pgsocket:/run/shop,role=app --clients 100
   check FILE
           Opens the database in FILE and says whether it is whole. A FILE of format 1 is of
-          format 2 then, as after run and serve, and no guarddb of format 1 opens it again
+          format 2 then, as after run and serve, and no guarddb of format 1 opens it again. Of
+          a FILE that is a dump it says whether that is whole
           Example: guarddb check shop.db
   describe FILE [ROLE] [--json]
           Prints the roles, tables, privileges and policies of the database in FILE, or with
@@ -124,6 +138,18 @@ Commands:
           others may read it meanwhile. A NEW that is there already is left as it is. With
           --journal NEW has a journal, whether FILE has one or not
           Example: guarddb copy shop.db backup.db --pages 256 --journal
+  dump FILE OUT
+          Writes a dump of the database in FILE to OUT, a new file: a backup that is no larger
+          than what the database has, and shows by itself whether it is whole. FILE is not
+          written, of format 1 neither, and others may read it meanwhile. An OUT that is there
+          already is left as it is
+          Example: guarddb dump shop.db shop.dump
+  restore DUMP NEW --pages N [--journal]
+          Makes NEW, a new file of N pages, N from 64 to 65536, a database of the dump in DUMP,
+          and prints how many superusers and how many roles that may log in it has: whoever can
+          write a dump can make each of its roles one. A NEW that is there already is left as it
+          is. With --journal NEW has a journal
+          Example: guarddb restore shop.dump shop.db --pages 256
   journal FILE on|off
           Gives the database in FILE a journal, or takes its journal away: the database stays
           the same. With a journal small commits are quicker, and no older guarddb opens FILE

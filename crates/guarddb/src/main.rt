@@ -170,6 +170,13 @@ fn are_told_to_database(system: &RealSystem<'_, HostRuntime>, order: &Invocation
             pages: _,
             journal: _,
         } => system.tells_to(*file) || system.tells_to(*new),
+        Invocation::Dump { file, out } => system.tells_to(*file) || system.tells_to(*out),
+        Invocation::Restore {
+            dump,
+            new,
+            pages: _,
+            journal: _,
+        } => system.tells_to(*dump) || system.tells_to(*new),
         Invocation::RunMemory {
             admin: _,
             script: _,

@@ -1,6 +1,7 @@
 //! The system of a machine: its files, its ports and its sockets.
 #![tactic(auto)]
 
+mod drawn;
 mod file_id;
 mod files;
 mod guarded_socket;
@@ -12,6 +13,7 @@ mod real_listener;
 mod socket;
 mod streams;
 
+pub use drawn::SystemDraw;
 pub use listening::PlaceListener;
 pub use progress::PrintedProgress;
 pub use real::RealSystem;

@@ -1,5 +1,6 @@
 //! The system of a machine.
 
+use crate::drawn::SystemDraw;
 use crate::file_id::{FileId, file_at};
 use crate::files::open_file;
 use crate::listening::PlaceListener;
@@ -14,6 +15,7 @@ use sector_device::{FileDevice, FileFault, SystemCause, SystemFile, WriteProtect
 use std::alloc::Global;
 use std::fs::File;
 use std::net::{Net, TcpListener, TcpStream};
+use std::random::RandomSource;
 use std::rt::Files;
 use std::time::{Clock, Duration};
 use std::{fs, io};
@@ -65,6 +67,7 @@ impl<
         + Net<Listener = TcpListener, Stream = TcpStream>
         + Eprint
         + Clock
+        + RandomSource
         + AllocGlobal,
 > System for RealSystem<'r, R> {
     ghost use Rattle.real_system.specs.Unsaid.{unsaid};
@@ -77,6 +80,8 @@ impl<
 
     type CopyProgress = PrintedProgress<'r, R>;
 
+    type Draw = SystemDraw<'r, R>;
+
     ghost state = { λ s. unsaid s.failures };
 
     fn failures(&self) -> u64 {
@@ -85,6 +90,10 @@ impl<
 
     fn copy_progress(&self) -> PrintedProgress<'r, R> {
         PrintedProgress::begin(self.rt)
+    }
+
+    fn drawing(&self) -> SystemDraw<'r, R> {
+        SystemDraw::begin(self.rt)
     }
 
     fn read_text(&mut self, _alloc: Global, path: &str) -> Result<Vec<u8>, TextFault> {

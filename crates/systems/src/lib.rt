@@ -3,6 +3,7 @@
 #![tactic(auto)]
 
 mod access;
+mod draw;
 mod entries;
 mod fault;
 mod listener;
@@ -11,6 +12,7 @@ mod place;
 mod system;
 
 pub use access::Access;
+pub use draw::{Draw, ZeroDraw};
 pub use entries::{Content, NamedContent};
 pub use fault::{OpenPathFault, TextFault};
 pub use listener::{MemListener, MemReader};

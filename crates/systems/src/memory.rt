@@ -4,6 +4,7 @@ ghost use Rattle.std.specs.Prelude.{◌≡◌};
 ghost use Rattle.systems.specs.Memory.{memory_state};
 
 use crate::access::Access;
+use crate::draw::ZeroDraw;
 use crate::entries::{
     Content, NamedContent, add, add_removed, exchange, find_content, is_named, is_open, rename_open,
 };
@@ -69,6 +70,8 @@ impl System for MemSystem<WriteProtected<HistoryDevice>> {
 
     type CopyProgress = Unwatched;
 
+    type Draw = ZeroDraw;
+
     ghost state = { λ s. memory_state s.entries.items s.port s.listener s.failures };
 
     fn failures(&self) -> u64 {
@@ -77,6 +80,10 @@ impl System for MemSystem<WriteProtected<HistoryDevice>> {
 
     fn copy_progress(&self) -> Unwatched {
         Unwatched
+    }
+
+    fn drawing(&self) -> ZeroDraw {
+        ZeroDraw
     }
 
     fn read_text(&mut self, alloc: Global, path: &str) -> Result<Vec<u8>, TextFault> {

@@ -6,6 +6,7 @@ ghost use Rattle.systems.specs.Places.{ThePlace, the_place, IsOfKind, IsBoundFor
 ghost use Rattle.systems.specs.Systems.{At, Absent, SystemState, HasDevice, IsHeldFrom, IsOpen, IsOpenFor, IsReadable, IsReading, MayOpen, IsNamed, IsUnnamed, HasText, Hears, IsBound, Rose, IsSame, IsSameBut, IsSameButAt, IsSameButBoth, HoldsZeros, LeavesAll, LeavesAlso, LeavesNoMore, LeavesOthers};
 
 use crate::access::Access;
+use crate::draw::Draw;
 use crate::fault::{OpenPathFault, TextFault};
 use crate::place::{ListenPlace, SocketAccess};
 use channels::attend::Attend;
@@ -35,6 +36,9 @@ pub trait System {
     /// What is told how far a copy is.
     type CopyProgress: CopyProgress + Drop;
 
+    /// What draws bytes that nobody can foretell.
+    type Draw: Draw + Drop;
+
     /// What the system is at one moment.
     ghost state: { Self → SystemState Self.Device Self.Listener };
 
@@ -44,6 +48,9 @@ pub trait System {
 
     /// What is told how far a copy is that begins now. It is no part of the system, which stays as it is, whatever is told.
     fn copy_progress(&self) -> Self::CopyProgress;
+
+    /// What draws bytes from now on. It is no part of the system, which stays as it is, whatever is drawn.
+    fn drawing(&self) -> Self::Draw;
 
     /// Reads the bytes of a text.
     ///

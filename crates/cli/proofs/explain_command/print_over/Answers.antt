@@ -4,7 +4,6 @@ use Rattle.stored_database.specs.Definitions.{Definitions}
 use Rattle.statement_explanations.specs.declared.explained.Acting.{Acting}
 use Rattle.statement_explanations.specs.declared.explained.ExplainFault.{ExplainFault}
 use Rattle.statement_explanations.specs.Explained.{IsExplained, asked_session, fault_in}
-use Rattle.cli.specs.declared.ending.Ending.{Ending}
 use Rattle.cli.specs.declared.ending.Ending.TheVariants as ending
 use Rattle.cli.specs.declared.ending.Subject.{Subject}
 use Rattle.cli.specs.declared.fault.CommandFault.{CommandFault}

@@ -1,7 +1,18 @@
-use Rattle.std.proofs.Common.{inl, inr}
+use Rattle.std.proofs.Common.{inl, inr, refl}
 use Rattle.cli.specs.Copying.{partial_path}
 use Rattle.cli.proofs.Copied.{copies_file, still_faithful}
+use Rattle.cli.proofs.NewFiles.{not_opened}
 use Rattle.cli.proofs.file_copies.copy_file.Goals as goal
+
+pub returns-in-Err-clause-copies : goal.returns-in-Err-clause-copies
+returns-in-Err-clause-copies g c =
+    let state = g.Y.System.state in
+    let opening = c.in-Err.ensures in
+    inr (inl (record {
+      why = c.from.result;
+      is = refl;
+      unopened = not_opened g.Y.Device.Device (state c.args.system.now) (state c.open.new.self) c.args.path.now c.in-Err.fault c.from.result c.from.ensures opening.missing opening.in_use opening.printed opening.cause opening.kept opening.counts;
+    }))
 
 pub returns-clause-copies : goal.returns-clause-copies
 returns-clause-copies g c =

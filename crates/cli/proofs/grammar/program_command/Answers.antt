@@ -1,6 +1,6 @@
 use Rattle.std.proofs.lemmas.Result.{IfOk-weaker}
 use Rattle.clap.specs.Words.{with_subcommand}
-use Rattle.cli.specs.CommandGrammar.{IsCommand, bare_app, format_app, run_app, serve_app, check_app, copy_app, describe_app, explain_app, journal_app}
+use Rattle.cli.specs.CommandGrammar.{IsCommand, bare_app, format_app, run_app, serve_app, check_app, copy_app, describe_app, explain_app, journal_app, dump_app, restore_app}
 use Rattle.cli.proofs.BuiltCommands.{with_one_below}
 use Rattle.cli.proofs.grammar.program_command.Goals as goal
 
@@ -20,4 +20,8 @@ returns c =
     let copies : IsCommand (with_subcommand six copy_app.top) c.in_ok-command-6.command = with_one_below six copy_app c.in_ok-command-5.command c.copy_command.result c.in_ok-command-6.command describes c.copy_command.ensures c.in_ok-command-6.ensures in
     let seven = with_subcommand six copy_app.top in
     let journals : IsCommand (with_subcommand seven journal_app.top) c.in_ok-command-7.command = with_one_below seven journal_app c.in_ok-command-6.command c.journal_command.result c.in_ok-command-7.command copies c.journal_command.ensures c.in_ok-command-7.ensures in
-    IfOk-weaker c.with_below-8.result _ _ (λ command h. with_one_below (with_subcommand seven journal_app.top) explain_app c.in_ok-command-7.command c.explain_command.result command journals c.explain_command.ensures h) c.with_below-8.ensures
+    let eight = with_subcommand seven journal_app.top in
+    let dumps : IsCommand (with_subcommand eight dump_app.top) c.in_ok-command-8.command = with_one_below eight dump_app c.in_ok-command-7.command c.dump_command.result c.in_ok-command-8.command journals c.dump_command.ensures c.in_ok-command-8.ensures in
+    let nine = with_subcommand eight dump_app.top in
+    let restores : IsCommand (with_subcommand nine restore_app.top) c.in_ok-command-9.command = with_one_below nine restore_app c.in_ok-command-8.command c.restore_command.result c.in_ok-command-9.command dumps c.restore_command.ensures c.in_ok-command-9.ensures in
+    IfOk-weaker c.with_below-10.result _ _ (λ command h. with_one_below (with_subcommand nine restore_app.top) explain_app c.in_ok-command-9.command c.explain_command.result command restores c.explain_command.ensures h) c.with_below-10.ensures

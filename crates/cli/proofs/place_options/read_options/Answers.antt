@@ -12,4 +12,4 @@ returns-in-None c =
 pub returns-in-Some : goal.returns-in-Some
 returns-in-Some c =
     let first = c.split_at_comma.result.0.now in
-    says_so c.args.kind c.args.words.now first (Some c.in-Some.second.now) (c.split_at_comma.ensures.whole ∙ ap (λ o. with_options first (lent_word o)) c.in-Some.is) c.split_at_comma.ensures.first c.two_options.result c.two_options.ensures
+    says_so c.args.kind c.args.words.now first (Some c.in-Some.rest.now) (c.split_at_comma.ensures.whole ∙ ap (λ o. with_options first (lent_word o)) c.in-Some.is) c.split_at_comma.ensures.first c.more_options.result c.more_options.ensures

@@ -1,4 +1,4 @@
-use Rattle.std.proofs.Common.{◌≡◌, ◌∙◌, ap, rules, codes, refl, subst, Some}
+use Rattle.std.proofs.Common.{◌≡◌, ◌∙◌, ap, rules, codes, refl, Some}
 use Rattle.std.proofs.lemmas.Result.{IfErr-weaker, IfOk-weaker}
 use Rattle.clap.specs.Words.{first_of, found_of, rows_of}
 use Rattle.cli.specs.CommandLine.{At, GivenCounts, GivesAs, HasCounts, HasPlaceWord, ServeClients, lent_word}

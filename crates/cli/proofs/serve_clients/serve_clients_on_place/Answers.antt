@@ -1,9 +1,8 @@
-use Rattle.std.proofs.Common.{rules, ◌≡◌, ◌∙◌, ℕ, true, ap, refl, subst, sym, Option, Some, None, is_some}
+use Rattle.std.proofs.Common.{rules, ◌≡◌, ◌∙◌, ℕ, true, ap, refl, subst, Option, Some, None, is_some}
 use Rattle.std.specs.declared.time.Duration.{Duration}
 use Rattle.std.specs.Io.KnownBytes.{Appends}
 use Rattle.cli.specs.Serving.{listening_text}
-use Rattle.cli.specs.CommandLine.{lent_word}
-use Rattle.cli.specs.ServingClients.{IsDoorFor, IsLimitOf, uncontended}
+use Rattle.cli.specs.ServingClients.{IsLimitOf, uncontended}
 use Rattle.cli.proofs.serve_clients.serve_clients_on_place.Goals as goal
 
 is_limited : (limit : Option Duration) (seconds : ℕ) → IsLimitOf (Some seconds) limit → uncontended (is_some limit) ≡ uncontended true
@@ -18,12 +17,12 @@ returns g c =
         before = c.new-clients.result;
         after = c.serve_clients_on-left.new.clients;
         coming = c.new-clients.ensures.at;
-        expected = ap Some (c.new-clients.ensures.expected ∙ c.limits.ensures.connections);
+        expected = ap Some (c.new-clients.ensures.expected ∙ c.limits-limits.ensures.limits.connections);
         none_waits = c.new-clients.ensures.waiting;
-        none_contends = c.new-clients.ensures.contention ∙ is_limited (c.limits.result).block c.args.many.block c.limits.ensures.block;
+        none_contends = c.new-clients.ensures.contention ∙ is_limited c.limits-limits.result.block c.args.many.block c.limits-limits.ensures.limits.block;
         none_refused = c.new-clients.ensures.refusals;
         none_looked = c.new-clients.ensures.looks;
-        at_door = λ talk made. subst (IsDoorFor (lent_word c.args.role)) (sym (made ∙ ap (λ m. m.door) c.new-clients.ensures.maker ∙ c.new-maker.ensures)) c.in-Ok.ensures;
+        made = λ talk made. subst (λ m. g.F.TalkMaker.makes m talk) c.new-clients.ensures.maker made;
         serves = c.serve_clients_on-left.ensures;
         closed = c.into_attend.ensures;
       },

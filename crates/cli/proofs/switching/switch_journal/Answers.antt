@@ -1,7 +1,38 @@
-use Rattle.std.proofs.Common.{inl}
+use Rattle.std.proofs.Common.{◌≡◌, ◌≢◌, ℕ, List, inl, refl}
+use Rattle.sector_device.specs.declared.system_cause.SystemCause.{SystemCause}
+use Rattle.systems.specs.declared.access.Access.TheVariants.{Write}
+use Rattle.systems.specs.declared.fault.OpenPathFault.{OpenPathFault}
+use Rattle.systems.specs.declared.fault.OpenPathFault.TheVariants as opening
+use Rattle.systems.specs.Systems.{IsHeldFrom, IsUnnamed, Rose, SystemState}
+use Rattle.cli.specs.Files.{StandsAt}
 use Rattle.cli.proofs.Changes.{closed_again}
 use Rattle.cli.proofs.Switched.{so_switched}
 use Rattle.cli.proofs.switching.switch_journal.Goals as goal
+
+-- why a file was not opened to be written
+stands_to_write : {D L : Type 0} (old new : SystemState D L) (path : List ℕ) (why : OpenPathFault) → (why ≡ opening.Missing → IsUnnamed old path) → (why ≡ opening.InUse → IsHeldFrom Write old path) → why ≢ opening.PrintedTo
+    → ((cause : SystemCause) → why ≡ opening.Device cause → Rose old.failures new.failures) → StandsAt Write why old path new
+stands_to_write old new path opening.Missing missing in_use printed failed = missing refl
+stands_to_write old new path opening.InUse missing in_use printed failed = in_use refl
+stands_to_write old new path opening.PrintedTo missing in_use printed failed = printed refl
+stands_to_write old new path opening.Memory missing in_use printed failed = tt
+stands_to_write old new path (opening.Device cause) missing in_use printed failed = failed cause refl
+
+pub returns-in-Err : goal.returns-in-Err
+returns-in-Err g c =
+    let state = g.Y.System.state in
+    let refused = c.in-Err.ensures in
+    inl (record {
+      why = c.from.result;
+      is = refl;
+      unopened = record {
+        why = c.in-Err.fault;
+        is = c.from.ensures;
+        cause = λ is. stands_to_write (state c.args.system.now) (state c.open.new.self) c.args.path.now c.in-Err.fault (refused.missing is) (refused.in_use is) (refused.printed is) refused.cause;
+        same = refused.kept;
+        counts = refused.counts;
+      };
+    })
 
 pub returns : goal.returns
 returns g c =
