@@ -13,6 +13,9 @@ A connection carries one event at a time, of up to 256 sessions; threads that sh
 of its own. The server takes the next connection when this one is closed, and answers it nothing before: then the timeout, 30 seconds,
 ends the wait. Where a connection ends before an answer has come, which is a ConnectionError, or a TimeoutError, it is not known
 whether the event was carried out.
+
+At a place that asks for passwords `connect(5433, user='ann', password=..)` shows ann's, once for each connection; then it opens sessions for
+ann alone.
 """
 import collections
 import contextlib
@@ -29,9 +32,12 @@ import time
 import warnings
 
 import guarddb_layout
+import guarddb_scram
 import guarddb_syntax
+from guarddb_scram import BadServer
 
 OPEN, STATEMENT, CLOSE, ANSWER = 1, 2, 3, 4     # the kinds of frames
+FIRST, MESSAGE, LAST = 5, 6, 7                  # those of an exchange in which a password is shown
 MAX_TEXT = 131067                               # bytes that one frame carries
 MAX_NAME = 63                                   # bytes of a name
 HEAD = struct.Struct('>IBI')                    # the length of what follows it, the kind, the session
@@ -59,6 +65,8 @@ CAUSES = {
 LEAST, GREATEST = -2 ** 63, 2 ** 63 - 1         # of BIGINT
 ENDED = 'the server ended the connection'
 NOT_KNOWN = 'it is not known whether the event was carried out'
+LABEL = 0                                       # the number under which a password is shown
+NOT_SHOWN = {'28000': 'password refused', '08P01': 'password refused, since this place asks for none'}
 Done = collections.namedtuple('Done', 'tag count warning')      # such as ('INSERT', 3, None), ('GRANT', None, '01007')
 Code = collections.namedtuple('Code', 'name meaning')
 
@@ -117,6 +125,12 @@ class Refused(Exception):
         return '\n'.join(filter(None, [described(self.code), guarddb_syntax.pointed(self.statement) if is_syntax else '']))
 
 
+class PasswordRefused(Refused):
+    """The password was refused, 28000, or the place asks for none, 08P01. The connection is closed."""
+    def __str__(self):
+        return f'{self.code} {CODES[self.code].name}: {NOT_SHOWN[self.code]}'
+
+
 class TakenForAlias(UserWarning):
     """A statement has a word that the server takes for an alias, where other databases have a keyword."""
 
@@ -140,10 +154,32 @@ def described(code):
     return '{} {}: {}'.format(code, *CODES[code]) if code in CODES else code
 
 
-def connect(place, wait=0, timeout=TIMEOUT, tables=None):
+def connect(place, wait=0, timeout=TIMEOUT, tables=None, user=None, password=None):
     """A connection to a server: at a port, an int, or at the path of a socket, a str. It is tried again for `wait` seconds. An answer
     that does not come within `timeout` seconds is a TimeoutError, and None is no limit. `tables`, as `guarddb_layout.tables` gives
-    them, are for the columns of `SELECT *`."""
+    them, are for the columns of `SELECT *`.
+
+    At a place that asks for passwords `user` is the role whose `password` is shown, before anything else is sent. A PasswordRefused
+    where it is not that role's, and where the place asks for none; a BadServer where the server does not show that it keeps the
+    password's verifier. A ValueError for what is no role's name or no password; a TypeError where one of both is not given."""
+    check_login(user, password)
+    connection = connected(place, wait, timeout, tables)
+    if user is not None:
+        connection.show(user, password)
+    return connection
+
+
+def check_login(user, password):
+    """Raises the errors of `connect` for a user and a password, none of which has the password."""
+    if (user is None) != (password is None):
+        raise TypeError('a password is shown for a user: give both, or neither')
+    if user is not None:
+        quoted_name(user)
+        guarddb_scram.checked(password)
+
+
+def connected(place, wait, timeout, tables):
+    """A connection over which nothing was sent."""
     is_port, end = isinstance(place, int), time.monotonic() + wait
     while True:
         stream = socket.socket(socket.AF_INET if is_port else socket.AF_UNIX)
@@ -199,6 +235,33 @@ class Connection(ClosedAtItsEnd):
         number = next(self.numbers)
         read_answer(self.exchange(OPEN, number, login))
         return Session(self, number)
+
+    def show(self, user, password):
+        """Shows the password of a role, as `connect` does. Afterwards sessions are opened for this role alone. Whatever is raised, the
+        connection is closed."""
+        try:
+            exchange = guarddb_scram.Exchange(password)
+            challenge = self._message(FIRST, f'{user}\0{exchange.first()}')
+            exchange.check(self._message(LAST, exchange.last(challenge)))
+        except BaseException as fault:
+            fault = no_answer(fault, self.socket.gettimeout(), 'the password was not shown')
+            self.close(str(fault) or type(fault).__name__)
+            raise fault from None
+
+    def _message(self, kind, text):
+        """Sends a message of an exchange, and gives the server's answer to it."""
+        payload = text.encode()
+        self.socket.sendall(HEAD.pack(5 + len(payload), kind, LABEL) + payload)
+        length, kind, session = HEAD.unpack(self._read(9))
+        if kind not in (MESSAGE, ANSWER) or session != LABEL or not 5 <= length <= 5 + MAX_TEXT:
+            raise ConnectionError('this is no answer of a Guarddb server to a password')
+        answer = self._read(length - 5).decode('ascii', 'replace')
+        if kind == MESSAGE:
+            return answer
+        code = re.fullmatch(r'refused ([0-9A-Z]{5})\n', answer)
+        if not code:
+            raise ConnectionError('this is no answer of a Guarddb server to a password')
+        raise (PasswordRefused if code[1] in NOT_SHOWN else Refused)(code[1])
 
     def exchange(self, kind, number, text=''):
         """Sends an event of the session of this number, and gives the text of its answer, once no other thread waits for one. A
@@ -256,10 +319,10 @@ class Connection(ClosedAtItsEnd):
         self.socket.close()
 
 
-def no_answer(fault, timeout):
-    """The fault of an event that was not answered, with the cause in its message."""
+def no_answer(fault, timeout, is_left=NOT_KNOWN):
+    """The fault of an event that was not answered, with the cause in its message, and what that leaves."""
     if isinstance(fault, socket.timeout):
-        return socket.timeout(f'no answer came within {timeout:g} seconds: {NOT_KNOWN}')
+        return socket.timeout(f'no answer came within {timeout:g} seconds: {is_left}')
     if isinstance(fault, ConnectionError) and fault.errno:
         fault.strerror = ENDED
     return fault

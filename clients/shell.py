@@ -31,12 +31,14 @@ from shell_help import HELP, KEYWORDS, explained, forms
 from shell_hints import told, warn_of_aliases
 from shell_listing import list_privileges, list_roles, list_table, list_tables, names_of
 from shell_output import Output, csv_lines, edited
+from shell_password import Passwords, change as change_password
 from shell_place import (CONNECTION, NO_READER, OWN, REFUSED, End, Fault, Place, cause, end_by, open_standard_streams, say,
                          signals_held, warn)
 from shell_typing import line_editing, readline
 from shell_variables import Variables
 
 PATIENCE = 3                                    # seconds after which it is said that an open is not answered yet
+NO_LOGIN = '28000'
 KEEP_BLOCK = ('53100', '53200', '58030')        # refusals that leave a block as it was
 WORD = re.compile(r'''(["'])((?:(?!\1).|\1\1)*)\1|\S+''', re.DOTALL)
 LIST_COMMAND = re.compile(r'\\(d\w*\+?|l\+?)')
@@ -51,6 +53,7 @@ NO_SESSION = r'No session is open: \c ROLE opens one.'
 NOTHING_TYPED = 'Nothing is typed so far.'
 NOT_RUN = '\nThe rest of the line was not run.'
 WITH_A_DOT = r'Commands begin with \; \? lists them.'
+ONE_ROLE = 'Over this connection the password of {} was shown, and sessions are for that role alone.'
 GOES_ON = 'This line belongs to the statement typed so far. Ctrl-C discards that, Ctrl-D leaves.'
 
 
@@ -90,12 +93,41 @@ class Shell:
         if opened and role not in (None, opened.role):
             raise Fault(REFUSED, f'The session {name} belongs to the role {opened.role}.')
         if not opened:
-            self.connection = self.connection or self.place.connect()
-            with patience():
-                session = self.answered(self.connection.open, role or name)
-            opened = self.sessions[name] = Opened(session, name, role or name)
+            opened = self.sessions[name] = Opened(self.opened(role or name), name, role or name)
             self.names.add(role or name)
         self.current = opened
+
+    def opened(self, role):
+        """A session for a role. Where the place asks for a password, and none is given, it is typed."""
+        if self.place.user not in (None, role) and not self.sessions:
+            self.leave()
+        is_first = self.connection is None
+        try:
+            return self.opened_once(role)
+        except Fault as fault:
+            if self.place.user not in (None, role):
+                raise Fault(fault.status, f'{fault.text}\n{ONE_ROLE.format(self.place.user)}') from None
+            if not is_first or not self.asks_for_password(fault):
+                raise
+        self.leave()
+        self.place.passwords.ask(self.place.name, role)
+        return self.opened_once(role)
+
+    def opened_once(self, role):
+        self.connection = self.connection or self.place.connect(role)
+        with patience():
+            return self.answered(self.connection.open, role)
+
+    def asks_for_password(self, fault):
+        """Whether the place asks for passwords, by the fault of an open that was the first event: then the connection has ended. Else
+        a close is answered."""
+        if self.place.is_file or self.place.user or getattr(fault.__cause__, 'code', None) != NO_LOGIN:
+            return False
+        try:
+            self.connection.exchange(guarddb.CLOSE, 0)
+        except OSError as fault:
+            return not isinstance(fault, socket.timeout)
+        return False
 
     def close(self, name=None):
         opened = self.sessions.get(name) if name else self.current
@@ -313,6 +345,7 @@ class Shell:
             '\\dt': (0, 1, lambda *words: self.list(list_tables, *words)), '\\du': (0, 1, lambda *words: self.list(list_roles, *words)),
             '\\dp': (0, 1, lambda *words: self.list(list_privileges, *words)), '\\copy': (1, 99, None), '\\e': (0, 1, self.edit),
             '\\o': (0, 1, lambda name=None: self.output.send(name)), '\\pset': (0, 2, self.set_output),
+            '\\password': (0, 2, lambda *words: change_password(self, *words)),
             '\\z': (0, 1, lambda *words: self.list(list_privileges, *words)),
             '\\g': (0, 1, self.run_sent), '\\gx': (0, 0, self.run_expanded), '\\p': (0, 0, self.tell_text),
             '\\echo': (0, 999, self.echo), '\\set': (0, 999, self.set_variable), '\\unset': (1, 1, self.unset_variable),
@@ -610,7 +643,8 @@ def run_given(shell, given):
 
 def run_shell(given):
     is_interactive = not given.runs and sys.stdin.isatty() and sys.stdout.isatty()
-    shell = Shell(Place(given.place, given.program, given.timeout), is_interactive, given.A, given.form)
+    place = Place(given.place, given.program, given.timeout, Passwords(os.environ))
+    shell = Shell(place, is_interactive, given.A, given.form)
     try:
         run_given(shell, given)
         shell.tell_blocks()

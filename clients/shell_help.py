@@ -18,6 +18,7 @@ HELP = r'''Statements end with ; and may take several lines. Ctrl-C discards the
   \echo [-n] TEXT    prints TEXT; -n leaves out the newline
   \e [FILE]          edits the text typed so far, or the last statement, or a file, and runs it
   \p  \r             shows, discards the text typed so far
+  \password [R [T]]  asks for a new password of the role R, and has the table T keep its verifier
   \h [WORD ..]       shows the syntax of all statements, or of those that begin with these words
   \i FILE            runs the statements and commands in a file
   \o [FILE]          sends answers to a file, and without one to the terminal again

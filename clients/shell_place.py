@@ -102,9 +102,11 @@ def new_folder():
 
 
 class Place:
-    """The place of a server: a port, a socket, or a file, for which a server of one connection is started here."""
-    def __init__(self, name, program, timeout):
-        self.name, self.program, self.timeout = name, program, timeout
+    """The place of a server: a port, a socket, or a file, for which a server of one connection is started here. A server that is not
+    started here may ask for the password of a role."""
+    def __init__(self, name, program, timeout, passwords=None):
+        self.name, self.program, self.timeout, self.passwords = name, program, timeout, passwords
+        self.user = None        # the role whose password was shown
         self.server = self.folder = self.messages = None
         self.begun = ''         # of a message that is not yet there to its end
         self.is_port = re.fullmatch('[0-9]{1,5}', name) is not None
@@ -118,14 +120,25 @@ class Place:
             hint = hint if isinstance(fault, FileNotFoundError) else ''
             raise End(CONNECTION, f'{self.name} is not a port, a socket or a file: {cause(fault)}.{hint}') from None
 
-    def connect(self):
+    def connect(self, role=None):
+        """A connection, over which the role's password is shown where one is given."""
         if self.is_file:
             self.stop(at_once=True)         # a start that was given up
             return self.start()
         if self.is_port and not 0 < int(self.name) < 65536:
             raise Fault(CONNECTION, f'There is no port {self.name}: they are 1 to 65535.')
+        password = self.passwords and self.passwords.find(self.name, role)
+        self.user = role if password else None
         try:
-            return guarddb.connect(int(self.name) if self.is_port else self.name, timeout=self.timeout)
+            return guarddb.connect(int(self.name) if self.is_port else self.name, timeout=self.timeout, user=self.user, password=password)
+        except guarddb.Refused as refusal:
+            self.passwords.forget(role)
+            raise Fault(REFUSED, f'ERROR:  {refusal}') from None
+        except ValueError as fault:
+            self.passwords.forget(role)
+            raise Fault(REFUSED, f'No password was shown: {fault}.') from None
+        except guarddb.BadServer as fault:
+            raise Fault(CONNECTION, f'No password was shown, and the connection is closed: {fault}.') from None
         except OSError as fault:
             raise Fault(CONNECTION, f'No server at {self.name}: {cause(fault)}.') from None
 

@@ -14,7 +14,7 @@ from shell_place import cause, warn
 LINES_KEPT = 1000
 OF_FILES = ('\\i', '\\o', '\\g', '\\e')
 COPIED = re.compile(r'.*\s(?:to|from)\s+(\S*)', re.IGNORECASE)      # what stands before the file of \copy
-OF_NAMES = ('\\d', '\\dt', '\\dp', '\\du', '\\z', '\\copy')
+OF_NAMES = ('\\d', '\\dt', '\\dp', '\\du', '\\z', '\\copy', '\\password')
 DELIMITERS = ' \t\n();,=<>+-*/%.'
 
 

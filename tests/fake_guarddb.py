@@ -21,6 +21,7 @@ import time
 
 sys.path.insert(0, os.path.join(os.path.dirname(os.path.abspath(__file__)), '..', 'scripts'))
 import model
+import fake_passwords
 
 FAULT = os.environ.get('FAKE_FAULT')
 MAX_TEXT = 131067
@@ -233,12 +234,30 @@ def serve_connection(server, stream):
         server.write_late()
 
 
+def listener_at(place):
+    is_port = isinstance(place, int)
+    listener = socket.socket(socket.AF_INET if is_port else socket.AF_UNIX)
+    listener.setsockopt(socket.SOL_SOCKET, socket.SO_REUSEADDR, 1)
+    listener.bind(('127.0.0.1', place) if is_port else place)
+    listener.listen()
+    return listener
+
+
+def serve_with_passwords(server, words):
+    """Serves a place such as `port:5433,passwords=logins,mock=nobody`."""
+    where, *options = words.split(',')
+    options, (kind, _, name) = dict(option.split('=') for option in options), where.partition(':')
+    if kind == 'socket' and os.path.exists(name):       # of a server that was killed
+        os.remove(name)
+    with listener_at(int(name) if kind == 'port' else name) as listener:
+        sys.stderr.write(f'guarddb: listening on {"127.0.0.1:" if kind == "port" else ""}{name}\n')
+        sys.stderr.flush()
+        fake_passwords.Place(server, options['passwords'], options['mock']).serve(listener)
+
+
 def serve(server, place, connections, idle):
     is_port = isinstance(place, int)
-    with socket.socket(socket.AF_INET if is_port else socket.AF_UNIX) as listener:
-        listener.setsockopt(socket.SOL_SOCKET, socket.SO_REUSEADDR, 1)
-        listener.bind(('127.0.0.1', place) if is_port else place)
-        listener.listen()
+    with listener_at(place) as listener:
         sys.stderr.write(f'guarddb: listening on {place}\n')
         for _ in range(connections):
             stream, _ = listener.accept()
@@ -279,6 +298,8 @@ def perform(words):
     elif words[:1] == ['serve'] and [words[2], words[4]] == ['--socket', '--connections']:
         serve(opened(words[1]), words[3], int(words[5]), idle_in(words))
         os.remove(words[3])
+    elif words[:1] == ['serve'] and [words[2], words[4]] == ['--at', '--clients'] and ',passwords=' in words[3]:
+        serve_with_passwords(opened(words[1]), words[3])
     elif words[:1] == ['describe'] and words[2:] == ['--json']:
         print(json.dumps(description(opened(words[1], fcntl.LOCK_SH).committed)))
     elif words[:1] == ['check']:

@@ -144,10 +144,11 @@ class AtServer(unittest.TestCase):
         self.assertEqual(run('run', self.path, script)[0], 0)
 
     @contextlib.contextmanager
-    def served(self, *words, port=None):
-        """A server for PostgreSQL's clients, in the folder or at a port. It is ended by a signal, unless it has ended itself."""
+    def served(self, *words, port=None, behind=''):
+        """A server for PostgreSQL's clients, in the folder or at a port, with what stands behind its comma. It is ended by a signal, unless it has
+        ended itself."""
         place = f'pgport:{port}' if port else f'pgsocket:{self.folder}'
-        server = subprocess.Popen([PROGRAM, 'serve', self.path, '--at', place, *map(str, words)], stdout=subprocess.DEVNULL, stderr=subprocess.PIPE, text=True)
+        server = subprocess.Popen([PROGRAM, 'serve', self.path, '--at', place + behind, *map(str, words)], stdout=subprocess.DEVNULL, stderr=subprocess.PIPE, text=True)
         try:
             told = server.stderr.readline()
             self.assertEqual(told, f'guarddb: listening on {f"127.0.0.1:{port}" if port else self.socket}\n')

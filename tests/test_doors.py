@@ -13,10 +13,12 @@ import subprocess
 import unittest
 
 from postgres_client import AtServer, Client, codes, kinds, start_packet
-from program import IS_FAKE, PATIENCE, PROGRAM, free_port
+from program import IS_FAKE, PATIENCE, PROGRAM, free_port, run
 import guarddb
 
 GROUP, OTHER, USER = 2001, 2002, 2003
+SAYS = ('behind a comma PLACE takes role=NAME, or passwords=TABLE with mock=ROLE, and of a socket mode=600 or mode=660, each once, '
+        "not '{}'")
 
 
 @unittest.skipIf(IS_FAKE, 'GUARDDB names no program')
@@ -90,6 +92,26 @@ class Doors(AtServer):
                         os.umask(before)
                         with contextlib.suppress(FileNotFoundError):
                             os.unlink(told)
+
+    def test_words_that_say_nothing_of_passwords(self):
+        """One word without the other, beside a role, twice, without a name, and with a mode of a port."""
+        for place, words in [
+            ('port:5432', 'passwords=t'), ('port:5432', 'mock=m'), ('socket:s', 'passwords=t,mode=660'), ('socket:s', 'mock=m,mode=660'),
+            ('port:5432', 'passwords=t,role=bob'), ('port:5432', 'passwords=t,mock=m,role=bob'), ('port:5432', 'passwords=t,passwords=t'),
+            ('port:5432', 'passwords=t,mock=m,mock=m'), ('socket:s', 'passwords=t,mock=m,mode=600,mode=600'), ('port:5432', 'passwords=,mock=m'),
+            ('port:5432', 'passwords=t,mock='), ('port:5432', 'passwords=t,mock=m,'), ('port:5432', 'Passwords=t,mock=m'),
+            ('port:5432', 'passwords=t,mock=m,mode=660'), ('pgport:5432', 'mode=660,passwords=t,mock=m'), ('pgsocket:/tmp', 'passwords=t'),
+        ]:
+            with self.subTest(place + ',' + words):
+                status, out, err = run('serve', self.path, '--at', f'{place},{words}', '--clients', '5')
+                self.assertEqual((status, out, err.split('\n')[0]), (2, '', f'error: {SAYS.format(words)}'))
+
+    def test_a_mode_beside_passwords(self):
+        path = os.path.join(self.folder, 'sock')
+        for words, mode in [('passwords=t,mock=m', 0o600), ('mock=m,mode=660,passwords=t', 0o660), ('mode=660,passwords=t,mock=m', 0o660),
+                            ('passwords=t,mock=m,mode=660', 0o660), ('mock=m,passwords=t,mode=600', 0o600)]:
+            with self.subTest(words), self.at(f'socket:{path},{words}', path):
+                self.assertEqual(self.mode(path), mode)
 
     @unittest.skipIf(os.geteuid() != 0, 'only root can be another user')
     def test_who_may_connect(self):

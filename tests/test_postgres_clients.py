@@ -29,7 +29,7 @@ def python_with(module):
 
 PYTHON = python_with('psycopg2')
 WITHOUT = {name: value for name, value in os.environ.items() if not name.startswith('PG')}
-OPTIONS = "behind a comma PLACE takes role=NAME, and of a socket mode=600 or mode=660, each once, not '{}'"
+OPTIONS = "behind a comma PLACE takes role=NAME, or passwords=TABLE with mock=ROLE, and of a socket mode=600 or mode=660, each once, not '{}'"
 RULE = 'serve --at PLACE takes FILE and --clients N, and no port or socket; PLACE is port:P, socket:PATH, pgport:P or pgsocket:FOLDER'
 
 
@@ -61,6 +61,15 @@ class Psql(AtPsql):
         with self.served('--clients', 5):
             self.assertEqual(self.psql('SELECT k, x FROM t ORDER BY k;', options=()),
                              (0, ' k |  x  \n---+-----\n 1 | one\n 2 | \n(2 rows)\n\n', ''))
+
+    def test_labels(self):
+        with self.served('--clients', 5):
+            self.assertEqual(self.psql('SELECT k AS "Key", x AS user FROM t AS y ORDER BY k;', options=()),
+                             (0, ' Key | user \n-----+------\n   1 | one\n   2 | \n(2 rows)\n\n', ''))
+            self.assertEqual(self.psql('SELECT count(*) AS n FROM t;', options=()), (0, ' n \n---\n 2\n(1 row)\n\n', ''))
+            self.assertEqual(self.psql('', options=('-A',), given=['-c', 'SELECT 1 AS a; SELECT 2 AS b']), (0, 'a\n1\n(1 row)\nb\n2\n(1 row)\n', ''))
+            status, printed, said = self.psql('SELECT -k AS k FROM t ORDER BY k;\nSELECT k n FROM t;\nSELECT 5 AS five;\n')
+            self.assertEqual((status, printed, self.said(said)), (0, '5\n', ['42601', '42601']))
 
     def test_words(self):
         """-c, several of them, and several statements in one; -f; -1."""
@@ -254,6 +263,12 @@ class Psycopg2(AtServer):
                                             'cursor.execute("SELECT k FROM t WHERE k > 5")', 'print(cursor.rowcount)'),
                              ["[(1, 'one', True), (2, None, False)] 2 k", '[(2,)]', '0'])
 
+    def test_labels(self):
+        with self.served('--clients', 3):
+            self.assertEqual(self.run_there('cursor.execute("SELECT k AS \\"Key\\", x AS end, k FROM t WHERE k = %s", (1,))', 'print([column.name for column in cursor.description], cursor.fetchall())',
+                                            'cursor.execute("SELECT count(*) AS n FROM t")', 'print(cursor.description[0].name, cursor.fetchall())'),
+                             ["['Key', 'end', 'k'] [(1, 'one', 1)]", 'n [(2,)]'])
+
     def test_a_transaction(self):
         with self.served('--clients', 3), Client(self.socket, 'bob') as other:
             self.assertEqual(self.run_there('cursor.executemany("INSERT INTO t VALUES (%s, %s)", [(3, "it\'s"), (4, None)])', 'print(cursor.rowcount, cursor.statusmessage)',
@@ -326,6 +341,17 @@ class OtherDrivers(AtServer):
                                             '    print([tuple(row) for row in await connection.fetch("SELECT k, x, k = 1 FROM t ORDER BY k")])', '    print(await connection.execute("DELETE FROM t WHERE k = 3"))',
                                             '    await connection.close()', 'asyncio.run(main())', port=port),
                              ['INSERT 0 1', "[(1, 'one', True), (2, None, False), (3, None, False)]", 'DELETE 1'])
+
+    def test_labels_of_asyncpg(self):
+        port = free_port()
+        with self.served('--clients', 3, port=port):
+            self.assertEqual(self.run_there('asyncpg', 'import asyncio, asyncpg, sys', 'async def main():',
+                                            '    connection = await asyncpg.connect(host="127.0.0.1", port=int(sys.argv[1]), user="root", database="root")',
+                                            '    for _ in range(2): print([dict(row) for row in await connection.fetch("SELECT k AS \\"Key\\", x AS user, k = 1 FROM t ORDER BY k LIMIT 1")])',
+                                            '    prepared = await connection.prepare("SELECT count(*) AS n FROM t")', '    print([column.name for column in prepared.get_attributes()], await prepared.fetchval())',
+                                            '    try: await connection.fetch("SELECT k AS n FROM t WHERE k = $1", 1)', '    except asyncpg.PostgresError as fault: print(fault.sqlstate)',
+                                            '    await connection.close()', 'asyncio.run(main())', port=port),
+                             ["[{'Key': 1, 'user': 'one', '?column?': True}]"] * 2 + ["['n'] 2", '42601'])
 
     def test_values_of_asyncpg(self):
         port = free_port()

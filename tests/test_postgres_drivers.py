@@ -36,7 +36,7 @@ class Drivers(AtServer):
     @unittest.skipUnless(JAVA and os.path.exists(JDBC), 'the JDBC driver is not installed')
     def test_jdbc(self):
         self.assertEqual(self.printed(JAVA, '-cp', JDBC, os.path.join(DRIVERS, 'Jdbc.java')), [
-            '2 rows', '1 one true', '2 null false', 'refused 23505', *['1 one, 4 four, '] * 7, '4 four, ', '1 rows',
+            '2 rows', '1 one true', '2 null false', *['Key user b 1 one'] * 7, '2', 'refused 23505', *['1 one, 4 four, '] * 7, '4 four, ', '1 rows',
             '10000 rows, 0 wrong', '9999 rows, 0 wrong', '10000 read', 'refused 25006'])
 
     @unittest.skipUnless(runs(NODE, '-e', "require('pg')"), 'node-postgres is not installed')
