@@ -1,0 +1,5 @@
+pub mod Done
+pub mod Shown
+pub mod Answers
+pub mod Entitled
+pub mod Runs

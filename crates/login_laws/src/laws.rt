@@ -1,0 +1,103 @@
+//! Laws of sessions that clients have, and of their answers.
+
+ghost use Rattle.doors.specs.declared.door.Door.{Door};
+ghost use Rattle.doors.specs.declared.door_talk.DoorTalk.{DoorTalk as TheDoorTalk};
+ghost use Rattle.password_talks.specs.declared.login.PasswordPlace.{PasswordPlace};
+ghost use Rattle.password_talks.specs.declared.password_talk.PasswordTalk.{PasswordTalk as ThePasswordTalk};
+ghost use Rattle.postgres_logins.specs.declared.postgres_login_talk.PostgresLoginTalk.{PostgresLoginTalk as TheLoginTalk};
+ghost use Rattle.std.specs.Prelude.{[]};
+ghost use Rattle.login_laws.specs.Answers.{all_was_done, answers_are_of_own_sessions, clients_learn_their_own};
+ghost use Rattle.login_laws.specs.Entitled.{sessions_are_answered_as_entitled, sessions_are_opened_as_entitled, sessions_are_wanted_as_entitled};
+ghost use Rattle.login_laws.specs.Runs.{look_ups_of_others_entitle_nobody, other_texts_entitle_nobody, who_authenticates_and_is_found_is_entitled, who_shows_and_is_found_is_entitled};
+ghost use Rattle.login_laws.specs.Shown.{MayComeIn, ShowedPassword, ShowedPasswordInMessages};
+
+use doors::door_talk::DoorTalk;
+use password_talks::password_talk::PasswordTalk;
+use postgres_logins::postgres_login_talk::PostgresLoginTalk;
+use server::decide::EventHandler;
+use store::Store;
+use talks::clients::ServedClients;
+use talks::talk::Talk;
+
+/// At a place that asks for passwords, each session that the server opened for a client which came was opened for a
+/// role whose password the bytes that this client sent had shown. The verifier of that password is the text that the
+/// committed database kept for the role when it was looked up for that, twice, and just before the session: the last
+/// thing that was done for this client is such a look-up, too.
+///
+/// `wanted`: so it is of each session that a client wanted which came in these turns, in the order of what was done for
+/// it. `opened`: so it is of each session that it has after them and had not before. `answered`: so it is of each session
+/// of which it is told an answer in them, and which was opened before that answer.
+///
+/// A password that changes after that last look-up counts for the sessions that are wanted later, and one that is open
+/// goes on. That what is drawn for an exchange is not foretold is trusted.
+pub fn sessions_are_of_who_showed_the_password<
+    S: Store,
+    X: EventHandler,
+    T: Talk,
+    C: ServedClients<PasswordTalk<T>>,
+>()
+    ensures wanted { sessions_are_wanted_as_entitled PasswordPlace S X (ThePasswordTalk T) C X.Reads S.state ⟦<PasswordTalk<T> as Talk>⟧ C.ServedClients
+        (λ talk. talk.login.place) (λ talk. talk.login.drawn) (ShowedPassword S.state) }
+    ensures opened { sessions_are_opened_as_entitled PasswordPlace S X (ThePasswordTalk T) C X.Reads S.state ⟦<PasswordTalk<T> as Talk>⟧ C.ServedClients
+        (λ talk. talk.login.place) (λ talk. talk.login.drawn) (ShowedPassword S.state) }
+    ensures answered { sessions_are_answered_as_entitled PasswordPlace S X (ThePasswordTalk T) C X.Reads S.state ⟦<PasswordTalk<T> as Talk>⟧ C.ServedClients
+        (λ talk. talk.login.place) (λ talk. talk.login.drawn) (ShowedPassword S.state) }
+{}
+
+/// The same of clients of PostgreSQL's protocol: each session is for the role that the StartupMessage of the client
+/// named, and whose password its next two messages showed.
+pub fn postgres_sessions_are_of_who_showed_the_password<
+    S: Store,
+    X: EventHandler,
+    T: Talk,
+    C: ServedClients<PostgresLoginTalk<T>>,
+>()
+    ensures wanted { sessions_are_wanted_as_entitled PasswordPlace S X (TheLoginTalk T) C X.Reads S.state ⟦<PostgresLoginTalk<T> as Talk>⟧ C.ServedClients
+        (λ talk. talk.login.place) (λ talk. talk.login.drawn) (ShowedPasswordInMessages S.state) }
+    ensures opened { sessions_are_opened_as_entitled PasswordPlace S X (TheLoginTalk T) C X.Reads S.state ⟦<PostgresLoginTalk<T> as Talk>⟧ C.ServedClients
+        (λ talk. talk.login.place) (λ talk. talk.login.drawn) (ShowedPasswordInMessages S.state) }
+    ensures answered { sessions_are_answered_as_entitled PasswordPlace S X (TheLoginTalk T) C X.Reads S.state ⟦<PostgresLoginTalk<T> as Talk>⟧ C.ServedClients
+        (λ talk. talk.login.place) (λ talk. talk.login.drawn) (ShowedPasswordInMessages S.state) }
+{}
+
+/// At a door each session that the server opened for a client which came is for a role as which one may come in there.
+pub fn sessions_are_of_whom_the_door_admits<
+    S: Store,
+    X: EventHandler,
+    T: Talk,
+    C: ServedClients<DoorTalk<T>>,
+>()
+    ensures wanted { sessions_are_wanted_as_entitled Door S X (TheDoorTalk T) C X.Reads S.state ⟦<DoorTalk<T> as Talk>⟧ C.ServedClients
+        (λ talk. talk.door) (λ talk. []) MayComeIn }
+    ensures opened { sessions_are_opened_as_entitled Door S X (TheDoorTalk T) C X.Reads S.state ⟦<DoorTalk<T> as Talk>⟧ C.ServedClients
+        (λ talk. talk.door) (λ talk. []) MayComeIn }
+    ensures answered { sessions_are_answered_as_entitled Door S X (TheDoorTalk T) C X.Reads S.state ⟦<DoorTalk<T> as Talk>⟧ C.ServedClients
+        (λ talk. talk.door) (λ talk. []) MayComeIn }
+{}
+
+/// An answer of a session goes to the client for which that session was opened, and to no other.
+///
+/// `made`: what the turns of clients hold was done by the server, one step or question after the other. `learnt`: what
+/// a client learns is what was told of the things that were done for it alone. `answers`: what was done in an open
+/// session was done for its client, for which it was opened before, in these turns or before them.
+pub fn answers_go_to_who_opened_the_session<
+    S: Store,
+    X: EventHandler,
+    T: Talk,
+    C: ServedClients<T>,
+>()
+    ensures made { all_was_done S X T C X.Reads S.state T.Talk C.ServedClients }
+    ensures learnt { clients_learn_their_own S X T C X.Reads S.state T.Talk C.ServedClients }
+    ensures answers { answers_are_of_own_sessions S X T C X.Reads S.state T.Talk C.ServedClients }
+{}
+
+/// Runs that these laws let be, and runs that they refuse. `met`, `postgres_met`: a client that shows its password, for
+/// which what is kept is found each time, is entitled to its session. `others`, `postgres_others`: look-ups of other
+/// clients entitle nobody. `texts`: the text that is found last is the one whose password was shown, and is kept then.
+pub fn who_shows_a_password_is_entitled<S: Store, X: EventHandler>()
+    ensures met { who_shows_and_is_found_is_entitled S X S.state }
+    ensures postgres_met { who_authenticates_and_is_found_is_entitled S X S.state }
+    ensures others { look_ups_of_others_entitle_nobody S X S.state (ShowedPassword S.state) }
+    ensures postgres_others { look_ups_of_others_entitle_nobody S X S.state (ShowedPasswordInMessages S.state) }
+    ensures texts { other_texts_entitle_nobody S X S.state }
+{}
