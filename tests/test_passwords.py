@@ -33,6 +33,7 @@ from guarddb_scram import Exchange
 CLIENTS = os.path.join(TOP, 'clients')
 SECRET = 'correct horse; battery:staple'
 REFUSED, BAD = b'refused 28000\n', b'refused 08P01\n'
+LIMIT = 10          # seconds that one may be there without a session
 OWN = 'role = session_user AND role = current_user'
 # RFC 7677, 3: the user "user" with the password "pencil".
 NONCE = 'rOprNGfwEbeRWgbNEkqO'
@@ -567,6 +568,25 @@ class Places(AtPlace):
                             status = 0 if (client.ask(OPEN, 1, role), client.rest()) == ((ANSWER, 1, REFUSED), []) else 2
                     os._exit(status)
                 self.assertEqual(os.waitstatus_to_exitcode(os.waitpid(child, 0)[1]), 0)
+
+
+    def test_strangers_keep_nobody_out(self):
+        """Of those without a session the first ends for a new one once 32 are there, and all end after ten seconds, whatever bytes they send. Sessions stay."""
+        with self.served(), self.connect() as connection, connection.open('ann') as ann:
+            begun = time.monotonic()
+            strangers = [Raw(self.place) for _ in range(40)]
+            strangers[-1].send(b'\0')
+            with self.connect() as another, another.open('ann') as other:
+                self.assertEqual(other.ask('SELECT session_user'), [['ann']])
+            self.assertEqual(strangers[0].rest(), [])
+            self.assertLess(time.monotonic() - begun, LIMIT - 1)
+            time.sleep(LIMIT / 2)
+            strangers[-1].send(b'\0')
+            self.assertEqual(strangers[-1].rest(), [])
+            self.assertGreater(time.monotonic() - begun, LIMIT - 1)
+            self.assertEqual(ann.ask('SELECT session_user'), [['ann']])
+            for stranger in strangers:
+                stranger.__exit__()
 
 
 class Changes(AtPlace):
