@@ -4,6 +4,7 @@ ghost use Rattle.std.specs.Prelude.{◌≡◌};
 
 use crate::blocks::close;
 use crate::opening::open;
+use crate::readings::{Readings, TextReader};
 use crate::texts::{asks_for_lock, decide_read, decide_text, describe, is_locked_out};
 use server::decide::{Context, EventHandler};
 use server::decision::Decision;
@@ -20,6 +21,8 @@ use store::{Fault, Map};
 #[derive(Drop)]
 pub struct SessionHandler<X> {
     executor: X,
+    // Texts that were read lately: what it decides does not depend on them.
+    readings: Readings,
 }
 
 impl<X> SessionHandler<X> {
@@ -27,7 +30,18 @@ impl<X> SessionHandler<X> {
     pub fn new(executor: X) -> SessionHandler<X>
         ensures { result.executor ≡ executor }
     {
-        SessionHandler { executor }
+        SessionHandler {
+            executor,
+            readings: Readings::new(),
+        }
+    }
+
+    // What reads texts, with this to take memory from.
+    fn reader(&self, alloc: Global) -> TextReader<'_> {
+        TextReader {
+            alloc,
+            readings: &self.readings,
+        }
     }
 }
 
@@ -63,7 +77,8 @@ impl<X: Execute> EventHandler for SessionHandler<X> {
             }
             Event::Statement { session, text } => {
                 let number = number_in(client, *session);
-                decide_text(&self.executor, alloc, map, context, number, text.as_str())
+                let reader = self.reader(alloc);
+                decide_text(&self.executor, reader, map, context, number, text.as_str())
             }
             Event::Close { session } => {
                 let number = number_in(client, *session);
@@ -95,7 +110,7 @@ impl<X: Execute> EventHandler for SessionHandler<X> {
         match event {
             Event::Statement { session, text } => {
                 let number = number_in(client, *session);
-                is_locked_out(alloc, context, number, text.as_str())
+                is_locked_out(self.reader(alloc), context, number, text.as_str())
             }
             Event::Open { .. } | Event::Close { .. } => Ok(false),
         }
@@ -111,7 +126,7 @@ impl<X: Execute> EventHandler for SessionHandler<X> {
         match event {
             Event::Statement { session, text } => {
                 let number = number_in(client, *session);
-                asks_for_lock(alloc, context, number, text.as_str())
+                asks_for_lock(self.reader(alloc), context, number, text.as_str())
             }
             Event::Close { .. } | Event::Open { .. } => Ok(false),
         }
@@ -127,7 +142,7 @@ impl<X: Execute> EventHandler for SessionHandler<X> {
     ) -> StatementDescription {
         describe(
             &self.executor,
-            alloc,
+            self.reader(alloc),
             context,
             number_in(client, session),
             text,

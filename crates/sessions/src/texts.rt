@@ -15,7 +15,7 @@ ghost use Rattle.sessions.specs.Readings.{ReadsText};
 
 use crate::answers::refuse;
 use crate::laws::one_reading;
-use crate::reading::read_text;
+use crate::readings::TextReader;
 use crate::seeing::other_holds_lock;
 use crate::statements::OpenSession;
 use server::decide::Context;
@@ -36,7 +36,7 @@ use store::{Fault, Map};
 /// comes over a map that shows a database.
 pub(crate) fn decide_text<M: Map, X: Execute>(
     executor: &X,
-    alloc: Global,
+    reader: TextReader<'_>,
     map: &mut M,
     context: Context<'_>,
     number: u64,
@@ -57,7 +57,7 @@ pub(crate) fn decide_text<M: Map, X: Execute>(
             SessionChange::Keep,
         ));
     };
-    match read_text(alloc, text) {
+    match reader.read(text) {
         Ok(Ok(statement)) => {
             let open = OpenSession {
                 number,
@@ -65,7 +65,9 @@ pub(crate) fn decide_text<M: Map, X: Execute>(
                 catalogue: context.catalogue,
                 writer: context.writer,
             };
-            open.decide(executor, alloc, map, &statement)
+            let decided = open.decide(executor, reader.alloc, map, &statement);
+            reader.keep(text, statement);
+            decided
         }
         Ok(Err(code)) => Ok(refuse(number, session, code)),
         Err(_) => Err(Fault::Memory),
@@ -110,7 +112,7 @@ pub(crate) fn decide_read<M: Map, X: Execute>(
 /// holds the writer lock. The only error is that an allocation failed, and it comes only in an open
 /// session, beside the holder of the writer lock, for a text of at most 65,536 bytes.
 pub(crate) fn is_locked_out(
-    alloc: Global,
+    reader: TextReader<'_>,
     context: Context<'_>,
     number: u64,
     text: &str,
@@ -130,7 +132,7 @@ pub(crate) fn is_locked_out(
     if !other_holds_lock(context.writer, number) {
         return Ok(false);
     }
-    match read_text(alloc, text) {
+    match reader.read(text) {
         Ok(Ok(statement)) => {
             let open = OpenSession {
                 number,
@@ -138,7 +140,9 @@ pub(crate) fn is_locked_out(
                 catalogue: context.catalogue,
                 writer: context.writer,
             };
-            open.is_locked_out(alloc, &statement)
+            let told = open.is_locked_out(reader.alloc, &statement);
+            reader.keep(text, statement);
+            told
         }
         Ok(Err(_)) => Ok(false),
         Err(_) => Err(AllocError),
@@ -150,7 +154,7 @@ pub(crate) fn is_locked_out(
 /// comes only in an open session, while nobody holds the writer lock, for a text of at most 65,536
 /// bytes.
 pub(crate) fn asks_for_lock(
-    alloc: Global,
+    reader: TextReader<'_>,
     context: Context<'_>,
     number: u64,
     text: &str,
@@ -170,7 +174,7 @@ pub(crate) fn asks_for_lock(
     if context.writer.is_some() {
         return Ok(false);
     }
-    match read_text(alloc, text)? {
+    match reader.read(text)? {
         Ok(statement) => {
             let open = OpenSession {
                 number,
@@ -178,7 +182,9 @@ pub(crate) fn asks_for_lock(
                 catalogue: context.catalogue,
                 writer: context.writer,
             };
-            open.asks_for_lock(alloc, &statement)
+            let told = open.asks_for_lock(reader.alloc, &statement);
+            reader.keep(text, statement);
+            told
         }
         Err(_) => Ok(false),
     }
@@ -190,7 +196,7 @@ pub(crate) fn asks_for_lock(
 /// `OutOfMemory` where an allocation failed.
 pub(crate) fn describe<X: Execute>(
     executor: &X,
-    alloc: Global,
+    reader: TextReader<'_>,
     context: Context<'_>,
     number: u64,
     text: &str,
@@ -205,7 +211,7 @@ pub(crate) fn describe<X: Execute>(
     let Some(session) = context.sessions.get(&number) else {
         return StatementDescription::Refused(SqlState::ConnectionDoesNotExist);
     };
-    match read_text(alloc, text) {
+    match reader.read(text) {
         Ok(Ok(statement)) => {
             let open = OpenSession {
                 number,
@@ -213,7 +219,9 @@ pub(crate) fn describe<X: Execute>(
                 catalogue: context.catalogue,
                 writer: context.writer,
             };
-            open.describe(executor, alloc, &statement)
+            let described = open.describe(executor, reader.alloc, &statement);
+            reader.keep_for_run(text, statement);
+            described
         }
         Ok(Err(code)) => StatementDescription::Refused(code),
         Err(_) => StatementDescription::Refused(SqlState::OutOfMemory),

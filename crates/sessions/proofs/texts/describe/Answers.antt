@@ -13,10 +13,13 @@ pub returns-in-Ok-Ok : goal.returns-in-Ok-Ok
 returns-in-Ok-Ok g c records db holder shown held holds =
     let found = sym c.in-Some.ensures.value in
     let read = subst (ReadsText c.args.text.now) c.in-Ok-Ok.field-0-is c.in-Ok-Ok.ensures.reads in
-    text_described db holder c.args.context.sessions.now.entries c.args.number c.args.text.now c.in-Some.session.now found (Ok c.in-Ok-Ok.statement) c.describe.result read
-    (c.describe.ensures read.1 records db holder c.args.context.sessions.now.entries (record { committed = shown; held = held; in_block = holds; is_open = found }))
+    text_described db holder c.args.context.sessions.now.entries c.args.number c.args.text.now c.in-Some.session.now found (Ok c.in-Ok-Ok.statement) c.describe-described.result read
+    (c.describe-described.ensures read.1 records db holder c.args.context.sessions.now.entries (record { committed = shown; held = held; in_block = holds; is_open = found }))
 
 pub returns-in-Ok-Err : goal.returns-in-Ok-Err
 returns-in-Ok-Err g c records db holder shown held holds =
     text_described db holder c.args.context.sessions.now.entries c.args.number c.args.text.now c.in-Some.session.now (sym c.in-Some.ensures.value) (Err c.in-Ok-Err.code) (Refused c.in-Ok-Err.code)
     (subst (ReadsText c.args.text.now) c.in-Ok-Err.field-0-is c.in-Ok-Err.ensures.reads) (inr refl)
+
+pub keep_for_run-requires : goal.keep_for_run-requires
+keep_for_run-requires g c = subst (ReadsText c.args.text.now) c.in-Ok-Ok.field-0-is c.in-Ok-Ok.ensures.reads
