@@ -29,6 +29,16 @@ def memory_of(process):
     return tuple(int(told[name].split()[0]) << 10 for name in ('VmRSS', 'VmHWM'))
 
 
+def column_names(body):
+    """The names of the columns of a RowDescription: behind each stand 18 bytes (55.7)."""
+    names, rest = [], body[2:]
+    while rest:
+        name, _, rest = rest.partition(b'\0')
+        names.append(name.decode())
+        rest = rest[18:]
+    return names
+
+
 class Conversations(AtServer):
     def test_two_at_once(self):
         with self.served('--clients', 2), Client(self.socket, 'root') as first, Client(self.socket, 'bob') as second:
@@ -315,13 +325,32 @@ class Parameters(AtServer):
             self.assertEqual((kinds(told), told[1][1], told[4][1]), (b'1tT2DCZ', b'\0\1\0\0\0\x14', b'\0\2\0\0\0\x08costs $1\0\0\0\x03one'))
             self.assertEqual(client.ask('SELECT COUNT(*) FROM t')[1], (b'D', b'\0\1\0\0\0\x012'))
 
+    def test_labels_and_values(self):
+        """The names that PostgreSQL 15 tells for the columns of these texts."""
+        with self.served('--clients', 1), Client(self.socket, 'root') as client:
+            for text, values, names, types, row in [
+                    ('SELECT count(*) AS n FROM t WHERE k = $1', [b'1'], ['n'], [20], [b'1']),
+                    ('SELECT $1 AS "$2", k AS "a $3" FROM t WHERE k = 1', [b"'; AS z --"], ['$2', 'a $3'], [25], [b"'; AS z --", b'1']),
+                    ('SELECT k /* $9 */ AS /* x */ "Key" -- $3\n FROM t WHERE k = $1', [b'2'], ['Key'], [20], [b'2']),
+                    ('SELECT $1 AS user, x AS end FROM t AS u WHERE u.k = $2', [b'AS', b'1'], ['user', 'end'], [25, 20], [b'AS', b'one']),
+                    ('SELECT $1 AS a, x, $1 AS a FROM t LIMIT $2', [b'" AS b', b'1'], ['a', 'x', 'a'], [25, 20], [b'" AS b', b'one', b'" AS b']),
+                    ('SELECT version() AS v', [], ['v'], [], None), ('SELECT current_schema() AS "S"', [], ['S'], [], [b'public'])]:
+                with self.subTest(text):
+                    told = client.ask(parse(text, 'a'), describe(b'S', 'a'), bind(values, name='a'), describe(b'P'), execute(), bind(values, name='a'), execute(), close(b'S', 'a'), SYNC)
+                    self.assertEqual(kinds(told), b'1tT2TDC2DC3Z', codes(told))
+                    self.assertEqual(told[1][1], struct.pack('>H', len(types)) + b''.join(struct.pack('>I', one) for one in types))
+                    self.assertEqual([column_names(told[at][1]) for at in (2, 4)], [names] * 2)
+                    if row:
+                        self.assertEqual([told[at][1] for at in (5, 8)], [struct.pack('>H', len(row)) + b''.join(struct.pack('>I', len(value)) + value for value in row)] * 2)
+            self.assertEqual([column_names(client.ask(text)[0][1]) for text in ('SELECT version() AS v', 'SELECT version()', 'select current_schema() as "S"')], [['v'], ['version'], ['S']])
+
     def test_types_that_are_found(self):
         """A type that is not declared is found by where its parameter stands, and one that is declared is told as it is."""
         with self.served('--clients', 1), Client(self.socket, 'root') as client:
             for text, declared, wanted in [
                     ('SELECT $1', (), [25]), ('SELECT k FROM t WHERE k = $1', (), [20]), ('SELECT k FROM t WHERE x = $1 LIMIT $2', (), [25, 20]), ('SELECT $1 + 1, NOT $2', (), [20, 16]),
                     ('INSERT INTO t VALUES ($1, $2), ($3, $4)', (), [20, 25, 20, 25]), ('UPDATE t SET x = $2 WHERE k = $1', [23], [23, 25]), ('DELETE FROM t WHERE $1 AND k < $2', [0, 21], [16, 21]),
-                    ('SELECT $2', [0], [25, 25]), ('SELECT $1', [1043, 16], [1043, 16]), ('SELECT k FROM t WHERE $1 = k', [705], [20]), ('SELECT k FROM t LIMIT $1', [0], [20])]:
+                    ('SELECT $2', [23], [23, 25]), ('SELECT $1', [1043, 16], [1043, 16]), ('SELECT k FROM t WHERE $1 = k', [705], [20]), ('SELECT k FROM t LIMIT $1', [0], [20])]:
                 with self.subTest(text):
                     told = client.ask(parse(text, types=declared), describe(b'S'), SYNC)
                     self.assertEqual(kinds(told), b'1t' + (b'T' if text.startswith('SELECT') else b'n') + b'Z', codes(told))
@@ -348,6 +377,9 @@ class Parameters(AtServer):
                     ((parse('SELECT $0'),), '42P02'), ((parse('SELECT $65536'),), '42P02'), ((parse('CREATE TABLE u (k BIGINT PRIMARY KEY, x BIGINT) -- $1\n $1'),), '42P02'),
                     ((parse('SELECT $1', types=[114]),), '0A000'), ((parse('SELECT $1; SELECT $2'),), '42601'), ((parse('SELECT $1 $2'),), '42601'), ((parse('SELECT $1 /* '), bind(), execute()), '42601'),
                     ((parse('SELECT zz FROM t WHERE k = $1'),), '42703'), ((parse('SELECT k FROM t WHERE k = $1', types=[25]),), '42804'), ((parse('SELECT $4097'),), '54000'),
+                    ((parse('SELECT $2'),), '42P18'), ((parse('SELECT $2', types=[0]),), '42P18'), ((parse('SELECT k FROM t WHERE k = $2', types=[705]),), '42P18'),
+                    ((parse('SELECT $1', types=[1043, 0]),), '42P18'), ((parse('INSERT INTO t VALUES ($1, $3)'),), '42P18'), ((parse('SELECT zz FROM t WHERE k = $2'),), '42703'),
+                    ((parse('SELECT $1 AS $2'),), '42601'), ((parse('SELECT k AS a FROM t WHERE k = $1; SELECT 1 AS b'),), '42601'), ((parse('SELECT -k AS k FROM t WHERE k = $1 ORDER BY k'),), '42601'),
                     ((parse('SELECT k FROM pg_catalog.pg_class WHERE k = $1'),), '0A000'), ((parse('SELECT left FROM t WHERE k = $1'),), '0A000'),
                     ((one, bind()), '08P01'), ((one, bind([b'1', b'2'])), '08P01'), ((write, bind([b'1', None], formats=[0, 0, 0])), '08P01'),
                     ((one, bind([b'x'])), '22P02'), ((one, bind([b''])), '22P02'), ((one, bind([b'9223372036854775808'])), '22003'), ((one, bind([b'1'], formats=[1])), '22P03'),

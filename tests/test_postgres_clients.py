@@ -310,10 +310,11 @@ class OtherDrivers(AtServer):
             self.assertEqual(self.run_there('psycopg', 'import psycopg, sys', 'connection = psycopg.connect(host=sys.argv[1], user="root", autocommit=True)',
                                             'print(connection.execute("SELECT k, x FROM t ORDER BY k").fetchall())',
                                             'print(connection.execute("SELECT k FROM t WHERE k = %s", (1,)).fetchall())',
+                                            'found = connection.execute("SELECT %s AS \\"a $2\\", x AS user FROM t WHERE k = %s", ("AS z", 1))', 'print([column.name for column in found.description], found.fetchall())',
                                             'cursor = psycopg.ClientCursor(connection)', 'print(cursor.execute("SELECT k FROM t WHERE k = %s AND x = %s", (1, "one")).fetchall())',
                                             'connection.autocommit = False',
                                             'print(connection.execute("SELECT 1").fetchall())', 'connection.rollback()', 'connection.close()'),
-                             ["[(1, 'one'), (2, None)]", '[(1,)]', '[(1,)]', '[(1,)]'])
+                             ["[(1, 'one'), (2, None)]", '[(1,)]', "['a $2', 'user'] [('AS z', 'one')]", '[(1,)]', '[(1,)]'])
 
     def test_values_of_psycopg(self):
         """Values of each type, in text and in binary, are what they were; a statement is prepared at its sixth use."""
@@ -349,9 +350,14 @@ class OtherDrivers(AtServer):
                                             '    connection = await asyncpg.connect(host="127.0.0.1", port=int(sys.argv[1]), user="root", database="root")',
                                             '    for _ in range(2): print([dict(row) for row in await connection.fetch("SELECT k AS \\"Key\\", x AS user, k = 1 FROM t ORDER BY k LIMIT 1")])',
                                             '    prepared = await connection.prepare("SELECT count(*) AS n FROM t")', '    print([column.name for column in prepared.get_attributes()], await prepared.fetchval())',
-                                            '    try: await connection.fetch("SELECT k AS n FROM t WHERE k = $1", 1)', '    except asyncpg.PostgresError as fault: print(fault.sqlstate)',
+                                            '    prepared = await connection.prepare("SELECT $1 AS \\"a $2\\", k AS n FROM t WHERE k = $2")', '    print([column.name for column in prepared.get_attributes()])',
+                                            '    for k in (1, 2): print(dict(await prepared.fetchrow("AS z\'; --", k)))',
+                                            '    for k in (0, 1): print([dict(row) for row in await connection.fetch("SELECT count(*) AS n FROM t WHERE k > $1", k)])',
+                                            '    try: await connection.fetch("SELECT k AS n FROM t WHERE k = $2", 1)', '    except asyncpg.PostgresError as fault: print(fault.sqlstate)',
+                                            '    try: await connection.fetch("SELECT -k AS k FROM t WHERE k = $1 ORDER BY k", 1)', '    except asyncpg.PostgresError as fault: print(fault.sqlstate)',
                                             '    await connection.close()', 'asyncio.run(main())', port=port),
-                             ["[{'Key': 1, 'user': 'one', '?column?': True}]"] * 2 + ["['n'] 2", '42601'])
+                             ["[{'Key': 1, 'user': 'one', '?column?': True}]"] * 2 + ["['n'] 2", "['a $2', 'n']", '{\'a $2\': "AS z\'; --", \'n\': 1}', '{\'a $2\': "AS z\'; --", \'n\': 2}',
+                                                                                      "[{'n': 2}]", "[{'n': 1}]", '42P18', '42601'])
 
     def test_values_of_asyncpg(self):
         port = free_port()
@@ -387,10 +393,10 @@ class OtherDrivers(AtServer):
             self.assertEqual(self.run_there('pg8000', 'import pg8000, sys', 'connection = pg8000.connect(user="root", host="127.0.0.1", port=int(sys.argv[1]))', 'cursor = connection.cursor()',
                                             'def ask(*words): cursor.execute(*words); print(*cursor.fetchall())',
                                             'ask("SELECT k, x, k = 1 FROM t ORDER BY k")', 'cursor.execute("INSERT INTO t VALUES (%s, %s)", (3, "it\'s"))', 'print(cursor.rowcount)',
-                                            'ask("SELECT k, x FROM t WHERE x = %s AND k > %s", ("it\'s", 1))', 'ask("SELECT %s, NOT %s", ("\'; --", True))',
+                                            'ask("SELECT k, x FROM t WHERE x = %s AND k > %s", ("it\'s", 1))', 'ask("SELECT %s, NOT %s", ("\'; --", True))', 'ask("SELECT %s AS a, k AS b FROM t WHERE k = %s", ("AS z", 1))', 'print(*(str(column[0]) for column in cursor.description))',
                                             'cursor.execute("UPDATE t SET x = %s WHERE k = %s", (None, 1))', 'connection.commit()', 'ask("SELECT x FROM t WHERE k = %s", (1,))',
                                             'connection.rollback()', 'connection.close()', port=port),
-                             ["[1, 'one', True] [2, None, False]", '1', '[3, "it\'s"]', '["\'; --", False]', '[None]'])
+                             ["[1, 'one', True] [2, None, False]", '1', '[3, "it\'s"]', '["\'; --", False]', "['AS z', 1]", "b'a' b'b'", '[None]'])
 
 
 class Places(AtServer):

@@ -36,24 +36,25 @@ class Drivers(AtServer):
     @unittest.skipUnless(JAVA and os.path.exists(JDBC), 'the JDBC driver is not installed')
     def test_jdbc(self):
         self.assertEqual(self.printed(JAVA, '-cp', JDBC, os.path.join(DRIVERS, 'Jdbc.java')), [
-            '2 rows', '1 one true', '2 null false', *['Key user b 1 one'] * 7, '2', 'refused 23505', *['1 one, 4 four, '] * 7, '4 four, ', '1 rows',
+            '2 rows', '1 one true', '2 null false', *['Key user b 1 one'] * 7, *(f"n a ? {1 + turn % 2} AS z'" for turn in range(7)), '2', 'refused 23505', *['1 one, 4 four, '] * 7, '4 four, ', '1 rows',
             '10000 rows, 0 wrong', '9999 rows, 0 wrong', '10000 read', 'refused 25006'])
 
     @unittest.skipUnless(runs(NODE, '-e', "require('pg')"), 'node-postgres is not installed')
     def test_node_postgres(self):
         self.assertEqual(self.printed(NODE, os.path.join(DRIVERS, 'node_postgres.js')), [
-            '2 rows', '[{"k":"1","x":"one"},{"k":"2","x":null}]', 'refused 23505', '[{"k":"2"}]',
+            '2 rows', '[{"k":"1","x":"one"},{"k":"2","x":null}]', 'refused 23505', '[{"k":"2"}]', *(f'[{{"n":"{k}","a $1":"AS z\'"}}]' for k in (1, 2)),
             '[{"k":"-4","x":null},{"k":"1","x":"one"},{"k":"2","x":null},{"k":"5","x":"it\'s"}]', ' '.join('4' * 9)])
 
     @unittest.skipUnless(runs(PERL, '-MDBD::Pg', '-e', '1'), 'DBD::Pg is not installed')
     def test_dbd_pg(self):
         self.assertEqual(self.printed(PERL, os.path.join(DRIVERS, 'dbd_pg.pl')), [
-            '2 rows', '1 one, 2 null', 'refused 23505', '2', '-4 null, 1 one, 2 null'])
+            '2 rows', '1 one, 2 null', 'refused 23505', '2', "n Word 1 AS z'", "n Word 2 AS z'", '-4 null, 1 one, 2 null'])
 
     @unittest.skipUnless(ALCHEMY, 'SQLAlchemy is not installed')
     def test_sqlalchemy_core(self):
         self.assertEqual(self.printed(ALCHEMY, os.path.join(DRIVERS, 'sqlalchemy_core.py')), [
-            "[(-2, None), (1, 'one')]", '[]', 'refused 23505', '2'])
+            "[(-2, None), (1, 'one')]", '[]', 'refused 23505', '2', "['key', 'user', 'Next'] [(1, 'one', 2)]", "['key', 'user', 'Next'] [(-2, None, -1)]", "[{'n': 0}]",
+            '[{\'n\': -2, \'a b\': "AS z\'"}, {\'n\': 1, \'a b\': "AS z\'"}]'])
 
 
 if __name__ == '__main__':

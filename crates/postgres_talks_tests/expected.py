@@ -14,8 +14,8 @@ def query(words):
     return message(b'Q', text(words))
 
 
-def parse(name, words):
-    return message(b'P', text(name) + text(words) + b'\0\0')
+def parse(name, words, types=()):
+    return message(b'P', text(name) + text(words) + struct.pack(f'>H{len(types)}I', len(types), *types))
 
 
 def bind(portal, name, formats=()):
@@ -85,6 +85,9 @@ OTHER = error('0A000', 'cached plan must not change result type')
 PARSED, BOUND, CLOSED, SUSPENDED = message(b'1'), message(b'2'), message(b'3'), message(b's')
 LABELLED = 'SELECT a AS "N", b, c AS user, d FROM t'
 LABELS = columns(('N', 20, 8), HEADS[1], ('user', 16, 1), HEADS[3])
+PARAMETER = 'SELECT a AS "$2", b, c AS user, d FROM t WHERE w = $1'
+PARAMETER_LABELS = columns(('$2', 20, 8), HEADS[1], ('user', 16, 1), HEADS[3])
+VERSION = row(b'PostgreSQL 15.0 (Guarddb)') + complete('SELECT 1')
 ROWS = [row(str(number).encode()) for number in range(1, 6)]
 
 # what a client sends behind the start, and what it is told
@@ -157,6 +160,15 @@ PLAYED = [
     (parse('a', LABELLED) + describe(b'S', 'a') + bind('p', 'a') + describe(b'P', 'p') + execute('p') + bind('', 'a') + execute('') + SYNC
      + parse('', 'SELECT 1') + describe(b'S', '') + SYNC,
      PARSED + NONE + LABELS + BOUND + LABELS + ONE_ROW[len(FOUR):] + BOUND + ONE_ROW[len(FOUR):] + IDLE + PARSED + NONE + FOUR + IDLE),
+    (parse('a', PARAMETER) + describe(b'S', 'a') + bind_value('p', 'a', b"'; AS z --") + describe(b'P', 'p') + execute('p') + bind_value('', 'a', b"'; AS z --") + execute('') + SYNC,
+     PARSED + message(b't', struct.pack('>HI', 1, 25)) + PARAMETER_LABELS + BOUND + PARAMETER_LABELS + ONE_ROW[len(FOUR):] + BOUND + ONE_ROW[len(FOUR):] + IDLE),
+    (query('SELECT version() AS v') + parse('a', 'select current_schema() as "S"') + describe(b'S', 'a') + bind('p', 'a') + describe(b'P', 'p') + execute('p') + SYNC
+     + query('SELECT version()'),
+     columns(('v', 25, 0xFFFF)) + VERSION + IDLE + PARSED + NONE + columns(('S', 25, 0xFFFF)) + BOUND + columns(('S', 25, 0xFFFF)) + row(b'public') + complete('SELECT 1')
+     + IDLE + columns(('version', 25, 0xFFFF)) + VERSION + IDLE),
+    (parse('', 'INSERT $2') + SYNC + parse('a', 'INSERT $2', [20]) + describe(b'S', 'a') + SYNC + parse('', 'UPDATE $2') + SYNC,
+     error('42P18', 'could not determine data type of parameter') + IDLE + PARSED + message(b't', struct.pack('>HII', 2, 20, 20)) + NO_DATA + IDLE
+     + error('42601', 'syntax error') + IDLE),
 ]
 
 for sent, told in PLAYED:

@@ -15,6 +15,7 @@ LABELLED = [
     ('SELECT k {AS k}, o {AS p} FROM t ORDER BY t.o, k LIMIT 2;', ['k', 'p']),
     ('SELECT o {AS "FROM t"}, x FROM t WHERE o = \'k AS z\'', ['FROM t', None]),
     ('SELECT x IS NULL {AS missing}, - k {AS minus} FROM t', ['missing', 'minus']),
+    ('SELECT 1 {AS "$1"}, k {AS "; DROP TABLE t --"}, \'$2 AS x\' {AS "\'"} FROM t', ['$1', '; DROP TABLE t --', "'"]),
 ]
 PLAIN = ['SELECT k FROM t', 'SELECT "AS" FROM t', 'INSERT INTO t (k) VALUES (1)', 'UPDATE t AS u SET k = 1', '']
 ALIASES = ['SELECT k FROM t AS u', 'SELECT k, x FROM t AS u JOIN t AS v ON u.k = v.k']

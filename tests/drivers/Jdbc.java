@@ -37,6 +37,17 @@ public class Jdbc {
                 }
             }
         }
+        try (PreparedStatement p = at.prepareStatement("SELECT k AS n, ? AS \"a ?\" FROM j WHERE k = ?")) {
+            for (int turn = 0; turn < 7; turn++) {
+                p.setString(1, "AS z'");
+                p.setLong(2, 1 + turn % 2);
+                try (ResultSet rows = p.executeQuery()) {
+                    ResultSetMetaData told = rows.getMetaData();
+                    rows.next();
+                    System.out.println(told.getColumnLabel(1) + " " + told.getColumnLabel(2) + " " + rows.getLong("n") + " " + rows.getString("a ?"));
+                }
+            }
+        }
         try (Statement s = at.createStatement(); ResultSet rows = s.executeQuery("SELECT count(*) AS n FROM j")) {
             rows.next();
             System.out.println(rows.getLong("n"));

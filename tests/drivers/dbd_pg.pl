@@ -18,6 +18,11 @@ $at->do("INSERT INTO p VALUES (3, 'three')");
 $at->rollback;
 eval { $at->do("INSERT INTO p VALUES (1, 'again')") } or print 'refused ', $at->state, "\n";
 rows('SELECT k FROM p WHERE k = ? OR x = ?', 2, "one'; DROP TABLE p; --");
+my $labelled = $at->prepare('SELECT k AS n, ? AS "Word" FROM p WHERE k = ?');
+for my $k (1, 2) {
+    $labelled->execute("AS z'", $k);
+    print join(' ', @{$labelled->{NAME}}, map { @$_ } @{$labelled->fetchall_arrayref}), "\n";
+}
 $at->do('INSERT INTO p VALUES (?, ?)', undef, -4, undef);
 rows('SELECT k, x FROM p ORDER BY k');
 $at->disconnect;

@@ -15,6 +15,8 @@ async function statements(at) {
 async function values(at) {
   const found = await at.query('SELECT k FROM n WHERE k = $1 OR x = $2', [2, "one'; DROP TABLE n; --"]);
   console.log(JSON.stringify(found.rows));
+  const labelled = 'SELECT k AS n, $2 AS "a $1" FROM n WHERE k = $1';
+  for (const k of [1, 2]) console.log(JSON.stringify((await at.query({ name: 'labels', text: labelled, values: [k, "AS z'"] })).rows));
   const prepared = { name: 'one', text: 'INSERT INTO n VALUES ($1, $2)' };
   for (const row of [[-4, null], [5, 'it\'s']]) await at.query({ ...prepared, values: row });
   console.log(JSON.stringify((await at.query('SELECT k, x FROM n ORDER BY k')).rows));

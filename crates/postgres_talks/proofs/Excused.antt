@@ -59,6 +59,7 @@ text_spares fault.OtherColumns = refl
 text_spares fault.UnknownFormat = refl
 text_spares fault.OtherFormats = refl
 text_spares fault.UnknownParameter = refl
+text_spares fault.IndeterminateType = refl
 text_spares fault.UnknownType = refl
 text_spares fault.InvalidText = refl
 text_spares fault.InvalidBinary = refl

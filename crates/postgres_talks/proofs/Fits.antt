@@ -44,7 +44,7 @@ use Rattle.postgres_talks.specs.Played.{Input, asked, bad, said_to_input, told}
 use Rattle.postgres_talks.specs.Requests.{fault_of, heeded, said_to_done, said_to_request, said_unless}
 use Rattle.postgres_talks.specs.Rows.{are_rows_of, data_type_of, described_column, described_columns, is_row_of, is_value_of, row_said, rows_said, select_tag, value_in, values_in}
 use Rattle.postgres_talks.specs.Sayings.{Saying, complete_said, message}
-use Rattle.postgres_talks.specs.Settled.{settled_row, settled_tag}
+use Rattle.postgres_talks.specs.Settled.{settled_tag, told_row}
 use Rattle.postgres_talks.specs.Tags.{done_tag}
 
 both : (a b : Bool) → (a && b) ≡ true → (a ≡ true) × (b ≡ true)
@@ -225,14 +225,14 @@ row_of_text : (r : Option (List ℕ × List ℕ)) (tag : List ℕ) → RowsFit N
 row_of_text None tag = tt
 row_of_text (Some r) tag = (((value.Text r.1, refl, refl), tt), tt)
 
-settled_fits : (t : Mode) (x : Settled) → t ≡ mode.Query → RowsFit None (settled_said t x)
-settled_fits t x is = subst (λ (u : Mode). RowsFit None (settled_said u x)) (sym is) (row_of_text (settled_row x) (settled_tag x))
+settled_fits : (t : Mode) (ls : List (Option (List ℕ))) (x : Settled) → t ≡ mode.Query → RowsFit None (settled_said t ls x)
+settled_fits t ls x is = subst (λ (u : Mode). RowsFit None (settled_said u ls x)) (sym is) (row_of_text (told_row ls x) (settled_tag x))
 
-settling_fits : (b : TalkBlock) (t : Mode) (x : Settled) (s : Option BlockStanding) → t ≡ mode.Query → RowsFit None (said_settling b t x s)
-settling_fits b t x None is = tt
-settling_fits b t x (Some standing.Failed) is = failed_fits b t (fault.Refused state.InFailedTransaction) standing.Failed
-settling_fits b t x (Some standing.Inside) is = settled_fits t x is
-settling_fits b t x (Some standing.Outside) is = settled_fits t x is
+settling_fits : (b : TalkBlock) (t : Mode) (ls : List (Option (List ℕ))) (x : Settled) (s : Option BlockStanding) → t ≡ mode.Query → RowsFit None (said_settling b t ls x s)
+settling_fits b t ls x None is = tt
+settling_fits b t ls x (Some standing.Failed) is = failed_fits b t (fault.Refused state.InFailedTransaction) standing.Failed
+settling_fits b t ls x (Some standing.Inside) is = settled_fits t ls x is
+settling_fits b t ls x (Some standing.Outside) is = settled_fits t ls x is
 
 head_fits : (k : DescribedKind) (oids : List ℕ) (f : ValueFormat) (r : Option (List ℕ × List ℕ)) → RowsFit None (parameters_said k oids ++ settled_head f r)
 head_fits named.Statement oids f None = tt
@@ -240,11 +240,11 @@ head_fits named.Statement oids f (Some r) = tt
 head_fits named.Portal oids f None = tt
 head_fits named.Portal oids f (Some r) = tt
 
-row_told_fits : (k : DescribedKind) (oids : List ℕ) (b : TalkBlock) (t : Mode) (f : ValueFormat) (x : Settled) (s : Option BlockStanding) → RowsFit None (said_row_told k oids b t f x s)
-row_told_fits k oids b t f x None = tt
-row_told_fits k oids b t f x (Some standing.Failed) = failed_fits b t (fault.Refused state.InFailedTransaction) standing.Failed
-row_told_fits k oids b t f x (Some standing.Inside) = head_fits k oids f (settled_row x)
-row_told_fits k oids b t f x (Some standing.Outside) = head_fits k oids f (settled_row x)
+row_told_fits : (k : DescribedKind) (oids : List ℕ) (b : TalkBlock) (t : Mode) (f : ValueFormat) (r : Option (List ℕ × List ℕ)) (s : Option BlockStanding) → RowsFit None (said_row_told k oids b t f r s)
+row_told_fits k oids b t f r None = tt
+row_told_fits k oids b t f r (Some standing.Failed) = failed_fits b t (fault.Refused state.InFailedTransaction) standing.Failed
+row_told_fits k oids b t f r (Some standing.Inside) = head_fits k oids f r
+row_told_fits k oids b t f r (Some standing.Outside) = head_fits k oids f r
 
 nothing_told_fits : (k : DescribedKind) (oids : List ℕ) (s : Option BlockStanding) → RowsFit None (said_nothing_told k oids s)
 nothing_told_fits k oids None = tt
@@ -266,10 +266,10 @@ standing_fits : (t : TalkStage) (m : TalkMoment) (s : Option BlockStanding) → 
 standing_fits (stage.Refusing f) m s is = refusing_fits m.block m.mode f s
 standing_fits (stage.Judging f) m s is = judging_fits m.block m.mode f s
 standing_fits stage.Closing m s is = closing_fits s
-standing_fits (stage.Settling x) m s is = settling_fits m.block m.mode x s is
+standing_fits (stage.Settling x) m s is = settling_fits m.block m.mode m.labels x s is
 standing_fits stage.Emptying m s is = emptying_fits s
 standing_fits stage.Resuming m s is = resuming_fits m s is
-standing_fits (stage.TellingRow k x) m s is = row_told_fits k (oids_told m) m.block m.mode (next_format m.formats) x s
+standing_fits (stage.TellingRow k x) m s is = row_told_fits k (oids_told m) m.block m.mode (next_format m.formats) (told_row m.labels x) s
 standing_fits (stage.TellingNothing k) m s is = nothing_told_fits k (oids_told m) s
 standing_fits (stage.Telling k) m s is = tt
 standing_fits (stage.Typing at c) m s is = tt

@@ -4,6 +4,7 @@ pub mod Playing
 pub mod Asking
 pub mod Slicing
 pub mod Labelling
+pub mod Statements
 pub mod Excused
 pub mod Typings
 pub mod Bindings

@@ -51,7 +51,7 @@ use Rattle.postgres_talks.specs.Portals.{held_in, rows_in}
 use Rattle.postgres_talks.proofs.Staying.{carries_block, closes_block, describes_block, finishes_block, goes_on_block, rows_block}
 use Rattle.postgres_talks.specs.Typing.{new_template}
 use Rattle.postgres_talks.proofs.Typings.{begins_block, typing_block, typing_seen}
-use Rattle.postgres_talks.specs.Settled.{settled_tag, settled_row}
+use Rattle.postgres_talks.specs.Settled.{settled_tag, told_row}
 use Rattle.postgres_talks.specs.Tags.{done_tag}
 use Rattle.postgres_talks.specs.Sayings.{Saying, error_said, complete_said}
 
@@ -307,14 +307,14 @@ row_seen : (r : Option (List ℕ × List ℕ)) (b : Seen) (ys : List Saying) →
 row_seen (Some r) b ys = refl
 row_seen None b ys = refl
 
-settled_keeps : (m : TalkMoment) (x : Settled) → Keeps m.block (settled_said m.mode x) (goes_on m).block
+settled_keeps : (m : TalkMoment) (x : Settled) → Keeps m.block (settled_said m.mode m.labels x) (goes_on m).block
 settled_keeps m x =
-    columns_seen m.mode (settled_row x) (seen_as m.block) (settled_rows (settled_row x) ++ complete_said (settled_tag x) ∷ [])
-    ∙ row_seen (settled_row x) (seen_as m.block) (complete_said (settled_tag x) ∷ [])
+    columns_seen m.mode (told_row m.labels x) (seen_as m.block) (settled_rows (told_row m.labels x) ++ complete_said (settled_tag x) ∷ [])
+    ∙ row_seen (told_row m.labels x) (seen_as m.block) (complete_said (settled_tag x) ∷ [])
     ∙ ap (option_and_then (λ c. seen_all c [])) (settled_tag_seen (seen_as m.block) x)
     ∙ ap (λ (b : TalkBlock). Some (seen_as b)) (sym (goes_on_block m))
 
-settling_keeps : (m : TalkMoment) (x : Settled) (s : Option BlockStanding) → Keeps m.block (said_settling m.block m.mode x s) (after_settling m s).block
+settling_keeps : (m : TalkMoment) (x : Settled) (s : Option BlockStanding) → Keeps m.block (said_settling m.block m.mode m.labels x s) (after_settling m s).block
 settling_keeps m x None = refl
 settling_keeps m x (Some standing.Failed) = failed_keeps m.block m (fault.Refused state.InFailedTransaction) standing.Failed refl
 settling_keeps m x (Some standing.Inside) = settled_keeps m x
@@ -334,11 +334,11 @@ row_told_seen named.Statement oids f (Some r) b = refl
 row_told_seen named.Portal oids f None b = refl
 row_told_seen named.Portal oids f (Some r) b = refl
 
-row_told_keeps : (k : DescribedKind) (m : TalkMoment) (x : Settled) (s : Option BlockStanding) → Keeps m.block (said_row_told k (oids_told m) m.block m.mode (next_format m.formats) x s) (after_row_told m s).block
+row_told_keeps : (k : DescribedKind) (m : TalkMoment) (x : Settled) (s : Option BlockStanding) → Keeps m.block (said_row_told k (oids_told m) m.block m.mode (next_format m.formats) (told_row m.labels x) s) (after_row_told m s).block
 row_told_keeps k m x None = refl
 row_told_keeps k m x (Some standing.Failed) = failed_keeps m.block m (fault.Refused state.InFailedTransaction) standing.Failed refl
-row_told_keeps k m x (Some standing.Inside) = row_told_seen k (oids_told m) (next_format m.formats) (settled_row x) (seen_as m.block)
-row_told_keeps k m x (Some standing.Outside) = row_told_seen k (oids_told m) (next_format m.formats) (settled_row x) (seen_as m.block)
+row_told_keeps k m x (Some standing.Inside) = row_told_seen k (oids_told m) (next_format m.formats) (told_row m.labels x) (seen_as m.block)
+row_told_keeps k m x (Some standing.Outside) = row_told_seen k (oids_told m) (next_format m.formats) (told_row m.labels x) (seen_as m.block)
 
 nothing_told_keeps : (k : DescribedKind) (m : TalkMoment) (s : Option BlockStanding) → Keeps m.block (said_nothing_told k (oids_told m) s) (after_closing m s).block
 nothing_told_keeps k m None = refl

@@ -67,7 +67,7 @@ starts_on_block (piece.Control text) m = refl
 starts_on_block piece.BeginReadOnly m = refl
 starts_on_block piece.DiscardAll m = discards_block m.block m
 starts_on_block (piece.Select t) m = selects_block m.mode t m
-starts_on_block (piece.Settled s) m = refl
+starts_on_block (piece.Settled s ls) m = refl
 starts_on_block (piece.Faulty f) m = refl
 starts_on_block piece.Empty m = refl
 
@@ -82,9 +82,9 @@ goes_on_if false m = goes_on_with_block m.left m
 pub goes_on_block : (m : TalkMoment) → (goes_on m).block ≡ m.block
 goes_on_block m = goes_on_if (is_several m.block m.mode (length m.left)) m
 
-describes_settled_block : (k : DescribedKind) (x : Settled) (r : Option (List ℕ × List ℕ)) (m : TalkMoment) → (describes_settled k x r m).block ≡ m.block
-describes_settled_block k x None m = refl
-describes_settled_block k x (Some r) m = refl
+describes_settled_block : (k : DescribedKind) (x : Settled) (ls : List (Option (List ℕ))) (r : Option (List ℕ × List ℕ)) (m : TalkMoment) → (describes_settled k x ls r m).block ≡ m.block
+describes_settled_block k x ls None m = refl
+describes_settled_block k x ls (Some r) m = refl
 
 describes_piece_block : (k : DescribedKind) (p : StatementPiece) (m : TalkMoment) → (describes_piece k p m).block ≡ m.block
 describes_piece_block k (piece.Statement text) m = refl
@@ -92,7 +92,7 @@ describes_piece_block k (piece.Control text) m = refl
 describes_piece_block k piece.BeginReadOnly m = refl
 describes_piece_block k piece.DiscardAll m = refl
 describes_piece_block k (piece.Select t) m = refl
-describes_piece_block k (piece.Settled x) m = describes_settled_block k x (settled_row x) m
+describes_piece_block k (piece.Settled x ls) m = describes_settled_block k x ls (settled_row x) m
 describes_piece_block k (piece.Faulty f) m = refl
 describes_piece_block k piece.Empty m = refl
 
@@ -106,7 +106,7 @@ carried_block (piece.Control text) m = goes_on_block m
 carried_block piece.BeginReadOnly m = goes_on_block m
 carried_block piece.DiscardAll m = discards_block m.block (record m { left = [] })
 carried_block (piece.Select t) m = goes_on_block m
-carried_block (piece.Settled s) m = goes_on_block m
+carried_block (piece.Settled s ls) m = goes_on_block m
 carried_block (piece.Faulty f) m = goes_on_block m
 carried_block piece.Empty m = goes_on_block m
 

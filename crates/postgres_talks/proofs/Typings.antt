@@ -15,9 +15,8 @@ use Rattle.postgres_talks.specs.declared.piece.StatementPiece.TheVariants as pie
 use Rattle.postgres_talks.specs.Blocks.{Seen, seen_all}
 use Rattle.postgres_talks.specs.Fitting.{RowsFit}
 use Rattle.postgres_talks.specs.Named.{find}
-use Rattle.postgres_talks.specs.Outcomes.{description_outcome}
 use Rattle.postgres_talks.specs.Sayings.{Saying, fatal_said, message}
-use Rattle.postgres_talks.specs.Typing.{after_typing, asks_first, asks_of, begins_typing, candidate_behind, goes_on_typing, keeps, said_behind, said_tried, said_typed, said_types, said_typing, template_in, tries, typed, types_by, types_found, unknown_from}
+use Rattle.postgres_talks.specs.Typing.{after_typing, asks_first, asks_of, begins_typing, candidate_behind, goes_on_typing, keeps, said_behind, said_tried, said_typed, said_types, said_typing, template_in, tries, typed, types_by, types_found, typing_outcome, unknown_from}
 use Rattle.postgres_talks.specs.Units.{is_error}
 
 -- ---- the block
@@ -44,7 +43,7 @@ types_block (outcome.Breaks f) at c t d m = refl
 
 tries_block : (o : Option ParameterKind) (at : ℕ) (c : ParameterKind) (t : TypedTemplate) (d : StatementDescription) (m : TalkMoment) → (tries o at c t d m).block ≡ m.block
 tries_block (Some next) at c t d m = asks_block at next (sample_text at next t.types t.template) m
-tries_block None at c t d m = types_block (description_outcome None [] d) at c t d m
+tries_block None at c t d m = types_block (typing_outcome at t d) at c t d m
 
 found_block : (o : Option TypedTemplate) (at : ℕ) (c : ParameterKind) (d : StatementDescription) (m : TalkMoment) → (types_found o at c d m).block ≡ m.block
 found_block None at c d m = refl
@@ -74,7 +73,7 @@ all_typing P none kept fatal at c m d = of_types (template_in (find m.name m.sta
 
     of_types : (o : Option TypedTemplate) → P (said_types o at c d)
     of_types None = none
-    of_types (Some t) = of_tried (candidate_behind at c t.types d) (description_outcome None [] d) (unknown_from (suc at) t.types)
+    of_types (Some t) = of_tried (candidate_behind at c t.types d) (typing_outcome at t d) (unknown_from (suc at) t.types)
 
 pub typing_seen : (b : Seen) (at : ℕ) (c : ParameterKind) (m : TalkMoment) (d : StatementDescription) → seen_all b (said_typing at c m d) ≡ Some b
 typing_seen b at c m d = all_typing (λ said. seen_all b said ≡ Some b) refl refl (λ f. refl) at c m d

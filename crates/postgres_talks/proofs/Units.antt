@@ -44,7 +44,7 @@ use Rattle.postgres_talks.specs.Rows.{row_said, rows_said, select_tag}
 use Rattle.std.specs.Prelude.{◌==◌, nat_lt, take}
 use Rattle.postgres_messages.specs.Backend.{portal_suspended}
 use Rattle.postgres_talks.specs.Sayings.{Saying, complete_said, message}
-use Rattle.postgres_talks.specs.Settled.{settled_row, settled_tag}
+use Rattle.postgres_talks.specs.Settled.{settled_tag, told_row}
 use Rattle.postgres_talks.specs.Tags.{done_tag}
 use Rattle.postgres_talks.proofs.Typings.{typing_quiet}
 use Rattle.postgres_talks.specs.Units.{IsCommitAnswer, RollsBack, SaysError, is_error}
@@ -221,9 +221,9 @@ quiet_row : (r : Option (List ℕ × List ℕ)) (ys : List Saying) → IsQuiet y
 quiet_row None ys quiet = quiet
 quiet_row (Some r) ys quiet = quiet
 
-quiet_settled : (t : Mode) (x : Settled) → IsQuiet (settled_said t x)
-quiet_settled t x = quiet_on (settled_columns t (settled_row x)) (settled_rows (settled_row x) ++ complete_said (settled_tag x) ∷ []) (quiet_columns t (settled_row x))
-    (quiet_row (settled_row x) (complete_said (settled_tag x) ∷ []) refl)
+quiet_settled : (t : Mode) (ls : List (Option (List ℕ))) (x : Settled) → IsQuiet (settled_said t ls x)
+quiet_settled t ls x = quiet_on (settled_columns t (told_row ls x)) (settled_rows (told_row ls x) ++ complete_said (settled_tag x) ∷ []) (quiet_columns t (told_row ls x))
+    (quiet_row (told_row ls x) (complete_said (settled_tag x) ∷ []) refl)
 
 -- ---- what says an error
 
@@ -253,11 +253,11 @@ judging_rolls f m (Some standing.Outside) is says = failed_rolls f m is
 judging_rolls f m (Some standing.Failed) is says = failed_rolls f m is
 
 settling_rolls : (x : Settled) (m : TalkMoment) (s : Option BlockStanding) → m.block ≡ block.Implicit
-    → SaysError (said_settling m.block m.mode x s) → RollsBack (after_settling m s)
-settling_rolls x m None is says = absurd (no_error (said_settling m.block m.mode x None) refl says)
+    → SaysError (said_settling m.block m.mode m.labels x s) → RollsBack (after_settling m s)
+settling_rolls x m None is says = absurd (no_error (said_settling m.block m.mode m.labels x None) refl says)
 settling_rolls x m (Some standing.Failed) is says = failed_rolls (fault.Refused state.InFailedTransaction) m is
-settling_rolls x m (Some standing.Inside) is says = absurd (no_error (settled_said m.mode x) (quiet_settled m.mode x) says)
-settling_rolls x m (Some standing.Outside) is says = absurd (no_error (settled_said m.mode x) (quiet_settled m.mode x) says)
+settling_rolls x m (Some standing.Inside) is says = absurd (no_error (settled_said m.mode m.labels x) (quiet_settled m.mode m.labels x) says)
+settling_rolls x m (Some standing.Outside) is says = absurd (no_error (settled_said m.mode m.labels x) (quiet_settled m.mode m.labels x) says)
 
 quiet_emptying : (s : Option BlockStanding) → IsQuiet (said_emptying s)
 quiet_emptying None = refl
@@ -271,12 +271,12 @@ quiet_row_told : (k : DescribedKind) (oids : List ℕ) (f : ValueFormat) (r : Op
 quiet_row_told named.Statement oids f r = quiet_head f r
 quiet_row_told named.Portal oids f r = quiet_head f r
 
-row_told_rolls : (k : DescribedKind) (f : ValueFormat) (x : Settled) (m : TalkMoment) (s : Option BlockStanding) → m.block ≡ block.Implicit
-    → SaysError (said_row_told k (oids_told m) m.block m.mode f x s) → RollsBack (after_row_told m s)
-row_told_rolls k f x m None is says = absurd (no_error (said_row_told k (oids_told m) m.block m.mode f x None) refl says)
-row_told_rolls k f x m (Some standing.Failed) is says = failed_rolls (fault.Refused state.InFailedTransaction) m is
-row_told_rolls k f x m (Some standing.Inside) is says = absurd (no_error (parameters_said k (oids_told m) ++ settled_head f (settled_row x)) (quiet_row_told k (oids_told m) f (settled_row x)) says)
-row_told_rolls k f x m (Some standing.Outside) is says = absurd (no_error (parameters_said k (oids_told m) ++ settled_head f (settled_row x)) (quiet_row_told k (oids_told m) f (settled_row x)) says)
+row_told_rolls : (k : DescribedKind) (f : ValueFormat) (r : Option (List ℕ × List ℕ)) (m : TalkMoment) (s : Option BlockStanding) → m.block ≡ block.Implicit
+    → SaysError (said_row_told k (oids_told m) m.block m.mode f r s) → RollsBack (after_row_told m s)
+row_told_rolls k f r m None is says = absurd (no_error (said_row_told k (oids_told m) m.block m.mode f r None) refl says)
+row_told_rolls k f r m (Some standing.Failed) is says = failed_rolls (fault.Refused state.InFailedTransaction) m is
+row_told_rolls k f r m (Some standing.Inside) is says = absurd (no_error (parameters_said k (oids_told m) ++ settled_head f r) (quiet_row_told k (oids_told m) f r) says)
+row_told_rolls k f r m (Some standing.Outside) is says = absurd (no_error (parameters_said k (oids_told m) ++ settled_head f r) (quiet_row_told k (oids_told m) f r) says)
 
 quiet_nothing_told : (k : DescribedKind) (oids : List ℕ) (s : Option BlockStanding) → IsQuiet (said_nothing_told k oids s)
 quiet_nothing_told k oids None = refl
@@ -294,7 +294,7 @@ standing_rolls stage.Resuming m s is says = absurd (no_error (said_resuming m s)
 standing_rolls stage.Discarding m s is says = absurd (no_error [] refl says)
 standing_rolls stage.Starting m s is says = absurd (no_error [] refl says)
 standing_rolls stage.Opening m s is says = absurd (no_error [] refl says)
-standing_rolls (stage.TellingRow k x) m s is says = row_told_rolls k (next_format m.formats) x m s is says
+standing_rolls (stage.TellingRow k x) m s is says = row_told_rolls k (next_format m.formats) (told_row m.labels x) m s is says
 standing_rolls (stage.TellingNothing k) m s is says = absurd (no_error (said_nothing_told k (oids_told m) s) (quiet_nothing_told k (oids_told m) s) says)
 standing_rolls (stage.Telling k) m s is says = absurd (no_error [] refl says)
 standing_rolls (stage.Typing at c) m s is says = absurd (no_error [] refl says)

@@ -3,7 +3,7 @@ use Rattle.std.specs.Prelude.{ℕ, List, codes}
 use Rattle.sql_types.specs.State.{state_code}
 use Rattle.postgres_texts.specs.Sentences.{refusal_text}
 use Rattle.postgres_talks.specs.declared.fault.TalkFault.{TalkFault}
-use Rattle.postgres_talks.specs.declared.fault.TalkFault.TheVariants.{Refused, NotText, OtherVersion, Unsupported, Internal, ReservedWord, Catalogue, SeveralStatements, UnknownStatement, UnknownPortal, StatementExists, PortalExists, OtherCount, OtherColumns, UnknownFormat, OtherFormats, UnknownParameter, UnknownType, InvalidText, InvalidBinary, OtherTokens, InsideBlock, OnlyReads}
+use Rattle.postgres_talks.specs.declared.fault.TalkFault.TheVariants.{Refused, NotText, OtherVersion, Unsupported, Internal, ReservedWord, Catalogue, SeveralStatements, UnknownStatement, UnknownPortal, StatementExists, PortalExists, OtherCount, OtherColumns, UnknownFormat, OtherFormats, UnknownParameter, IndeterminateType, UnknownType, InvalidText, InvalidBinary, OtherTokens, InsideBlock, OnlyReads}
 
 abbrev pub fault_code : TalkFault → List ℕ
 fault_code (Refused state) = state_code state
@@ -23,6 +23,7 @@ fault_code OtherColumns = codes "0A000"
 fault_code UnknownFormat = codes "22023"
 fault_code OtherFormats = codes "08P01"
 fault_code UnknownParameter = codes "42P02"
+fault_code IndeterminateType = codes "42P18"
 fault_code UnknownType = codes "0A000"
 fault_code InvalidText = codes "22P02"
 fault_code InvalidBinary = codes "22P03"
@@ -48,6 +49,7 @@ fault_text OtherColumns = codes "cached plan must not change result type"
 fault_text UnknownFormat = codes "format code is not supported"
 fault_text OtherFormats = codes "number of format codes is another"
 fault_text UnknownParameter = codes "there is no such parameter"
+fault_text IndeterminateType = codes "could not determine data type of parameter"
 fault_text UnknownType = codes "type of a parameter is not supported"
 fault_text InvalidText = codes "invalid input syntax for the type of a parameter"
 fault_text InvalidBinary = codes "incorrect binary data format in a parameter"

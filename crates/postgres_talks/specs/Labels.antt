@@ -28,6 +28,11 @@ abbrev pub with_labels : List (Option (List ℕ)) → List ResultColumn → List
 with_labels ls [] = []
 with_labels ls (c ∷ cs) = labelled_column (next_label ls) c ∷ with_labels (other_labels ls) cs
 
+-- a column of this name, called by its label, if it has one
+abbrev pub called : Option (List ℕ) → List ℕ → List ℕ
+called None name = name
+called (Some label) name = label
+
 -- what a statement would answer whose columns have these labels
 abbrev pub labelled_description : List (Option (List ℕ)) → StatementDescription → StatementDescription
 labelled_description ls (description.Rows columns) = description.Rows (with_labels ls columns)

@@ -15,6 +15,7 @@ pub mod Steps
 pub mod Typing
 pub mod Moments
 pub mod Requests
+pub mod Statements
 pub mod Talks
 pub mod TalkLaws
 pub mod Played

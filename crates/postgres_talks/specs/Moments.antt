@@ -51,7 +51,7 @@ use Rattle.postgres_talks.specs.Rows.{columns_said}
 pub use Rattle.postgres_talks.specs.Rows.{headed_said, table_said}
 use Rattle.postgres_talks.specs.Labels.{labelled_description}
 use Rattle.postgres_talks.specs.Named.{find, tell}
-use Rattle.postgres_talks.specs.Settled.{settled_tag, settled_row}
+use Rattle.postgres_talks.specs.Settled.{settled_tag, settled_row, told_row}
 use Rattle.postgres_talks.specs.Tags.{done_tag}
 pub use Rattle.postgres_talks.specs.Steps.{asks, describes, looks, listens, ends}
 use Rattle.postgres_talks.specs.Typing.{after_typing, said_typing, template_in}
@@ -105,18 +105,18 @@ starts_on (piece.Control text) m = asks stage.Running text (record m { columns =
 starts_on piece.BeginReadOnly m = asks stage.Running (codes "BEGIN") (record m { columns = None; read_only = true })
 starts_on piece.DiscardAll m = discards m.block m
 starts_on (piece.Select t) m = selects m.mode t m
-starts_on (piece.Settled s) m = looks (stage.Settling s) m
+starts_on (piece.Settled s ls) m = looks (stage.Settling s) (record m { labels = ls })
 starts_on (piece.Faulty f) m = looks (stage.Refusing f) m
 starts_on piece.Empty m = looks stage.Emptying m
 
 -- what Describe asks for is told once it is known
-abbrev pub describes_settled : DescribedKind → Settled → Option (List ℕ × List ℕ) → TalkMoment → TalkMoment
-describes_settled k x None m = looks (stage.TellingNothing k) m
-describes_settled k x (Some r) m = looks (stage.TellingRow k x) m
+abbrev pub describes_settled : DescribedKind → Settled → List (Option (List ℕ)) → Option (List ℕ × List ℕ) → TalkMoment → TalkMoment
+describes_settled k x ls None m = looks (stage.TellingNothing k) m
+describes_settled k x ls (Some r) m = looks (stage.TellingRow k x) (record m { labels = ls })
 
 abbrev pub describes_piece : DescribedKind → StatementPiece → TalkMoment → TalkMoment
 describes_piece k (piece.Select t) m = describes (stage.Telling k) t m
-describes_piece k (piece.Settled x) m = describes_settled k x (settled_row x) m
+describes_piece k (piece.Settled x ls) m = describes_settled k x ls (settled_row x) m
 describes_piece k (piece.Faulty f) m = looks (stage.Refusing f) m
 describes_piece k p m = looks (stage.TellingNothing k) m
 
@@ -413,14 +413,14 @@ abbrev pub settled_rows : Option (List ℕ × List ℕ) → List Saying
 settled_rows (Some r) = message (data_row (Some r.1 ∷ [])) ∷ []
 settled_rows None = []
 
-abbrev pub settled_said : Mode → Settled → List Saying
-settled_said t s = settled_columns t (settled_row s) ++ (settled_rows (settled_row s) ++ complete_said (settled_tag s) ∷ [])
+abbrev pub settled_said : Mode → List (Option (List ℕ)) → Settled → List Saying
+settled_said t ls s = settled_columns t (told_row ls s) ++ (settled_rows (told_row ls s) ++ complete_said (settled_tag s) ∷ [])
 
 -- in a block that has failed it is refused
-abbrev pub said_settling : TalkBlock → Mode → Settled → Option BlockStanding → List Saying
-said_settling b t x None = fatal_said (fault.Refused ConnectionDoesNotExist) ∷ []
-said_settling b t x (Some standing.Failed) = said_failed b t (fault.Refused InFailedTransaction) standing.Failed
-said_settling b t x (Some s) = settled_said t x
+abbrev pub said_settling : TalkBlock → Mode → List (Option (List ℕ)) → Settled → Option BlockStanding → List Saying
+said_settling b t ls x None = fatal_said (fault.Refused ConnectionDoesNotExist) ∷ []
+said_settling b t ls x (Some standing.Failed) = said_failed b t (fault.Refused InFailedTransaction) standing.Failed
+said_settling b t ls x (Some s) = settled_said t ls x
 
 abbrev pub after_settling : TalkMoment → Option BlockStanding → TalkMoment
 after_settling m None = ends m
@@ -428,10 +428,10 @@ after_settling m (Some standing.Failed) = after_failed m.block (fault.Refused In
 after_settling m (Some s) = goes_on m
 
 -- Describe of what needs no machine: in a block that has failed it tells no columns
-abbrev pub said_row_told : DescribedKind → List ℕ → TalkBlock → Mode → ValueFormat → Settled → Option BlockStanding → List Saying
-said_row_told k oids b t f x None = fatal_said (fault.Refused ConnectionDoesNotExist) ∷ []
-said_row_told k oids b t f x (Some standing.Failed) = said_failed b t (fault.Refused InFailedTransaction) standing.Failed
-said_row_told k oids b t f x (Some s) = parameters_said k oids ++ settled_head f (settled_row x)
+abbrev pub said_row_told : DescribedKind → List ℕ → TalkBlock → Mode → ValueFormat → Option (List ℕ × List ℕ) → Option BlockStanding → List Saying
+said_row_told k oids b t f r None = fatal_said (fault.Refused ConnectionDoesNotExist) ∷ []
+said_row_told k oids b t f r (Some standing.Failed) = said_failed b t (fault.Refused InFailedTransaction) standing.Failed
+said_row_told k oids b t f r (Some s) = parameters_said k oids ++ settled_head f r
 
 abbrev pub after_row_told : TalkMoment → Option BlockStanding → TalkMoment
 after_row_told m None = ends m
@@ -467,10 +467,10 @@ abbrev pub said_standing : TalkStage → TalkMoment → Option BlockStanding →
 said_standing (stage.Refusing f) m s = said_refusing m.block m.mode f s
 said_standing (stage.Judging f) m s = said_judging m.block m.mode f s
 said_standing stage.Closing m s = said_closing s
-said_standing (stage.Settling x) m s = said_settling m.block m.mode x s
+said_standing (stage.Settling x) m s = said_settling m.block m.mode m.labels x s
 said_standing stage.Emptying m s = said_emptying s
 said_standing stage.Resuming m s = said_resuming m s
-said_standing (stage.TellingRow k x) m s = said_row_told k (oids_told m) m.block m.mode (next_format m.formats) x s
+said_standing (stage.TellingRow k x) m s = said_row_told k (oids_told m) m.block m.mode (next_format m.formats) (told_row m.labels x) s
 said_standing (stage.TellingNothing k) m s = said_nothing_told k (oids_told m) s
 said_standing t m s = []
 

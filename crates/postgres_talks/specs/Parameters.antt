@@ -19,7 +19,7 @@ use Rattle.postgres_talks.specs.declared.fault.TalkFault.TheVariants as fault
 use Rattle.postgres_talks.specs.declared.named_pieces.NamedPiece.{NamedPiece}
 use Rattle.postgres_talks.specs.declared.parameters.TypedTemplate.{TypedTemplate}
 use Rattle.postgres_talks.specs.declared.piece.StatementPiece.{StatementPiece}
-use Rattle.postgres_talks.specs.Pieces.{ArePiecesOf}
+use Rattle.postgres_talks.specs.Pieces.{ArePiecesOf, labelled}
 
 -- ---- the types that a client declares
 
@@ -102,14 +102,19 @@ abbrev pub only_piece : List StatementPiece → Result StatementPiece TalkFault
 only_piece (p ∷ []) = Ok p
 only_piece ps = Err fault.SeveralStatements
 
-abbrev pub IsPieceOfBound : Result (List ℕ) BindFault → Result StatementPiece TalkFault → Type 0
-IsPieceOfBound (Err f) r = r ≡ Err (binding_fault f)
-IsPieceOfBound (Ok text) r = (pieces : List StatementPiece) × ArePiecesOf text pieces × (r ≡ only_piece pieces)
+-- its columns have these labels
+abbrev pub with_labels_of : List (Option (List ℕ)) → Result StatementPiece TalkFault → Result StatementPiece TalkFault
+with_labels_of ls (Ok p) = Ok (labelled ls p)
+with_labels_of ls (Err f) = Err f
 
--- the text of the template with these values is the statement
-abbrev pub IsBoundByValues : List Fragment → Result (List Value) ValueFault → Result StatementPiece TalkFault → Type 0
-IsBoundByValues template (Err f) r = r ≡ Err (value_fault f)
-IsBoundByValues template (Ok values) r = (bound : Result (List ℕ) BindFault) × IsTemplateBinding template values bound × IsPieceOfBound bound r
+abbrev pub IsPieceOfBound : List (Option (List ℕ)) → Result (List ℕ) BindFault → Result StatementPiece TalkFault → Type 0
+IsPieceOfBound ls (Err f) r = r ≡ Err (binding_fault f)
+IsPieceOfBound ls (Ok text) r = (pieces : List StatementPiece) × ArePiecesOf text pieces × (r ≡ with_labels_of ls (only_piece pieces))
+
+-- the text of the template with these values is the statement, whose columns have the labels of the template
+abbrev pub IsBoundByValues : TypedTemplate → Result (List Value) ValueFault → Result StatementPiece TalkFault → Type 0
+IsBoundByValues t (Err f) r = r ≡ Err (value_fault f)
+IsBoundByValues t (Ok values) r = (bound : Result (List ℕ) BindFault) × IsTemplateBinding t.template values bound × IsPieceOfBound t.labels bound r
 
 abbrev pub count_fault : TypedTemplate → TheBinding → Option TalkFault
 count_fault t b =
@@ -118,7 +123,7 @@ count_fault t b =
 
 abbrev pub IsBoundUnless : Option TalkFault → TypedTemplate → TheBinding → Result StatementPiece TalkFault → Type 0
 IsBoundUnless (Some f) t b r = r ≡ Err f
-IsBoundUnless None t b r = IsBoundByValues t.template (received_values t.types b.formats b.values) r
+IsBoundUnless None t b r = IsBoundByValues t (received_values t.types b.formats b.values) r
 
 -- a statement without parameters takes no values
 abbrev pub bound_plain : StatementPiece → ℕ → Result StatementPiece TalkFault

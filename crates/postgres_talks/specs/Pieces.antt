@@ -108,7 +108,7 @@ by_substitute (Some s) slice ts = substituted s
 by_substitute None slice ts = plain slice ts
 
 abbrev pub by_settled : Option Settled → List ℕ → List Lexeme → StatementPiece
-by_settled (Some s) slice ts = piece.Settled s
+by_settled (Some s) slice ts = piece.Settled s []
 by_settled None slice ts = by_substitute (substitute_in substitutes (line_of ts)) slice ts
 
 -- a slice of a text that has these tokens
@@ -125,9 +125,10 @@ piece_by text (Err state) = faulty text
 
 -- ---- labels of its columns
 
--- a SELECT has these
+-- a SELECT has these, and so has one that is answered without the machine
 abbrev pub labelled : List (Option (List ℕ)) → StatementPiece → StatementPiece
 labelled ls (piece.Select t) = piece.Select (record t { labels = ls })
+labelled ls (piece.Settled s others) = piece.Settled s ls
 labelled ls p = p
 
 -- what a text is as a whole

@@ -9,11 +9,13 @@ use Rattle.postgres_messages.specs.Frontend.{TheMessage, statement, portal, TheB
 use Rattle.postgres_messages.specs.Start.{TheParameter, TheStart, cancel_request, gss_request, ssl_request, startup, other_version, SpellsStart}
 use Rattle.statement_parameters.specs.declared.fault.TemplateFault.{TemplateFault}
 use Rattle.statement_parameters.specs.declared.fault.TemplateFault.TheVariants as unread
+use Rattle.statement_parameters.specs.declared.template.LabelledTemplate.{LabelledTemplate}
 use Rattle.statement_parameters.specs.declared.types.ParameterKind.TheVariants as kind
 use Rattle.statement_parameters.specs.declared.types.ParameterType.{ParameterType}
 use Rattle.statement_parameters.specs.Masks.{is_plain}
 use Rattle.statement_parameters.specs.Samples.{sample_text}
-use Rattle.statement_parameters.specs.Templates.{Fragment, IsTemplateReading, parameter_count}
+use Rattle.statement_parameters.specs.Readings.{IsTemplateReading}
+use Rattle.statement_parameters.specs.Templates.{Fragment, parameter_count}
 use Rattle.talks.specs.declared.want.SessionEntry.{SessionEntry}
 use Rattle.talks.specs.declared.want.Way.TheVariants as way
 use Rattle.talks.specs.declared.want.Want.TheVariants as want
@@ -113,10 +115,10 @@ abbrev pub IsSampledParse : List ℕ → TypedTemplate → Option (List ℕ) →
 IsSampledParse name t None r = r ≡ request.Fails mode.Batch (fault.Refused ProgramLimitExceeded)
 IsSampledParse name t (Some text) r = (pieces : List StatementPiece) × ArePiecesOf text pieces × (r ≡ template_request name t pieces)
 
-abbrev pub IsTypedParse : List ℕ → List Fragment → Option (List ParameterType) → Request → Type 0
+abbrev pub IsTypedParse : List ℕ → LabelledTemplate → Option (List ParameterType) → Request → Type 0
 IsTypedParse name t None r = r ≡ request.Fails mode.Batch fault.UnknownType
 IsTypedParse name t (Some types) r =
-    IsSampledParse name (record { template = t; types = types }) (sample_text (length types) kind.Text types t) r
+    IsSampledParse name (record { template = t.template; labels = t.labels; types = types }) (sample_text (length types) kind.Text types t.template) r
 
 -- there are at most 4096
 abbrev pub template_fault : List Fragment → List ℕ → Option TalkFault
@@ -124,25 +126,25 @@ template_fault t oids =
     if takes_values t then (if nat_le (type_count t oids) 4096 then None else Some (fault.Refused ProgramLimitExceeded))
     else Some fault.UnknownParameter
 
-abbrev pub IsTemplateParse : Option TalkFault → List ℕ → List Fragment → List ℕ → Request → Type 0
+abbrev pub IsTemplateParse : Option TalkFault → List ℕ → LabelledTemplate → List ℕ → Request → Type 0
 IsTemplateParse (Some f) name t oids r = r ≡ request.Fails mode.Batch f
-IsTemplateParse None name t oids r = IsTypedParse name t (declared_types t oids) r
+IsTemplateParse None name t oids r = IsTypedParse name t (declared_types t.template oids) r
 
 abbrev pub IsPlainParse : List ℕ → List ℕ → Request → Type 0
 IsPlainParse name text r = (pieces : List StatementPiece) × ArePiecesOf text pieces × (r ≡ prepare_request name pieces)
 
 -- a text without parameters is one of the language
-abbrev pub IsCountedParse : Bool → List ℕ → List ℕ → List Fragment → List ℕ → Request → Type 0
+abbrev pub IsCountedParse : Bool → List ℕ → List ℕ → LabelledTemplate → List ℕ → Request → Type 0
 IsCountedParse true name text t oids r = IsPlainParse name text r
-IsCountedParse false name text t oids r = IsTemplateParse (template_fault t oids) name t oids r
+IsCountedParse false name text t oids r = IsTemplateParse (template_fault t.template oids) name t oids r
 
-abbrev pub IsParseOf : Result (List Fragment) TemplateFault → List ℕ → List ℕ → List ℕ → Request → Type 0
-IsParseOf (Ok t) name text oids r = IsCountedParse (parameter_count t == 0) name text t oids r
+abbrev pub IsParseOf : Result LabelledTemplate TemplateFault → List ℕ → List ℕ → List ℕ → Request → Type 0
+IsParseOf (Ok t) name text oids r = IsCountedParse (parameter_count t.template == 0) name text t oids r
 IsParseOf (Err unread.UnknownParameter) name text oids r = r ≡ request.Fails mode.Batch fault.UnknownParameter
 IsParseOf (Err f) name text oids r = IsPlainParse name text r
 
 abbrev pub IsReadParse : List ℕ → List ℕ → List ℕ → Request → Type 0
-IsReadParse name text oids r = (read : Result (List Fragment) TemplateFault) × IsTemplateReading text read × IsParseOf read name text oids r
+IsReadParse name text oids r = (read : Result LabelledTemplate TemplateFault) × IsTemplateReading text read × IsParseOf read name text oids r
 
 -- a plain text has none
 abbrev pub IsParseBy : Bool → List ℕ → List ℕ → List ℕ → Request → Type 0
@@ -239,7 +241,7 @@ row_width None = None
 row_width (Some r) = Some 1
 
 abbrev pub piece_width : StatementPiece → Option ℕ
-piece_width (piece.Settled x) = row_width (settled_row x)
+piece_width (piece.Settled x ls) = row_width (settled_row x)
 piece_width p = None
 
 abbrev pub known_width : Option (List ResultColumn) → StatementPiece → Option ℕ

@@ -6,6 +6,7 @@ use Rattle.postgres_texts.specs.Settings.{name_of, initial_value}
 use Rattle.postgres_talks.specs.declared.settled.Settled.{Settled}
 use Rattle.postgres_talks.specs.declared.settled.Substitute.{Substitute}
 use Rattle.postgres_talks.specs.declared.settled.Substitute.TheVariants as substitute
+use Rattle.postgres_talks.specs.Labels.{called, next_label}
 use Rattle.postgres_talks.specs.declared.settled.Settled.TheVariants.{Set, Reset, CloseAll, DeallocateAll, UnlistenAll, AdvisoryUnlockAll, CurrentSchema, Version, Show}
 
 -- lines, and what each is
@@ -87,3 +88,12 @@ settled_row CurrentSchema = Some (codes "current_schema", codes "public")
 settled_row AdvisoryUnlockAll = Some (codes "pg_advisory_unlock_all", codes "")
 settled_row (Show s) = Some (name_of s, initial_value s)
 settled_row s = None
+
+-- and where that column has this label
+abbrev pub labelled_row : Option (List ℕ) → Option (List ℕ × List ℕ) → Option (List ℕ × List ℕ)
+labelled_row label None = None
+labelled_row label (Some r) = Some (called label r.0, r.1)
+
+-- as its client is told it, where the columns of the text have these labels
+abbrev pub told_row : List (Option (List ℕ)) → Settled → Option (List ℕ × List ℕ)
+told_row ls s = labelled_row (next_label ls) (settled_row s)

@@ -1,5 +1,5 @@
 -- How the types of parameters are found that a client has not declared: the machine is asked about texts with samples in their place.
-use Rattle.std.specs.Prelude.{ℕ, suc, nat_lt, is_some, if◌then◌else◌, List, [], ◌∷◌, length, drop, set, Option, Some, None}
+use Rattle.std.specs.Prelude.{ℕ, suc, nat_lt, ◌&&◌, not, Bool, true, is_some, if◌then◌else◌, List, [], ◌∷◌, length, drop, set, Option, Some, None}
 use Rattle.sql_ast.specs.declared.description.StatementDescription.{StatementDescription}
 use Rattle.sql_ast.specs.declared.description.StatementDescription.TheVariants as description
 use Rattle.sql_types.specs.declared.state.SqlState.TheVariants.{DatatypeMismatch, ProgramLimitExceeded}
@@ -10,6 +10,7 @@ use Rattle.statement_parameters.specs.declared.types.ParameterKind.{ParameterKin
 use Rattle.statement_parameters.specs.declared.types.ParameterKind.TheVariants as kind
 use Rattle.statement_parameters.specs.declared.types.ParameterType.{ParameterType}
 use Rattle.statement_parameters.specs.Samples.{sample_text}
+use Rattle.statement_parameters.specs.Templates.{has_parameter}
 use Rattle.statement_parameters.specs.Types.{kind_of, type_of_kind}
 use Rattle.postgres_talks.specs.declared.fault.TalkFault.{TalkFault}
 use Rattle.postgres_talks.specs.declared.fault.TalkFault.TheVariants as fault
@@ -72,6 +73,18 @@ begins_typing t m = asks_first (unknown_from 0 t.types) t m
 
 -- ---- what is learnt
 
+-- a parameter whose type is looked for stands nowhere, as `$1` in a text that has `$2` alone
+abbrev pub is_missing : ℕ → TypedTemplate → Bool
+is_missing at t = nat_lt at (length t.types) && not (has_parameter t.template (suc at))
+
+-- it has no type, as PostgreSQL has it
+abbrev pub unless_missing : Outcome → Bool → Outcome
+unless_missing outcome.Done true = outcome.Refused fault.IndeterminateType
+unless_missing o missing = o
+
+abbrev pub typing_outcome : ℕ → TypedTemplate → StatementDescription → Outcome
+typing_outcome at t d = unless_missing (description_outcome None [] d) (is_missing at t)
+
 -- the candidate is the type
 abbrev pub typed : ℕ → ParameterKind → TypedTemplate → TypedTemplate
 typed at c t = record t { types = set t.types at (type_of_kind c) }
@@ -82,15 +95,15 @@ new_template name p t = record { name = name; piece = p; columns = None; formats
 abbrev pub keeps : StatementPiece → TypedTemplate → TalkMoment → TalkMoment
 keeps p t m = record m { statements = put (new_template m.name p t) m.statements }
 
--- the text with samples, by which it is described
-abbrev pub sampled_piece : Want → StatementDescription → StatementPiece
-sampled_piece (want.Description session text) (description.Rows columns) = piece.Select (bare text)
-sampled_piece (want.Description session text) d = piece.Statement text
-sampled_piece w d = piece.Empty
+-- the text with samples, by which it is described, and the labels of its columns
+abbrev pub sampled_piece : List (Option (List ℕ)) → Want → StatementDescription → StatementPiece
+sampled_piece ls (want.Description session text) (description.Rows columns) = piece.Select (record { text = text; labels = ls })
+sampled_piece ls (want.Description session text) d = piece.Statement text
+sampled_piece ls w d = piece.Empty
 
 abbrev pub goes_on_typing : Option ℕ → TypedTemplate → StatementDescription → TalkMoment → TalkMoment
 goes_on_typing (Some at) t d m = asks_sample at kind.Text t (keeps piece.Empty t m)
-goes_on_typing None t d m = listens (keeps (sampled_piece m.want d) t m)
+goes_on_typing None t d m = listens (keeps (sampled_piece t.labels m.want d) t m)
 
 abbrev pub types_by : Outcome → ℕ → ParameterKind → TypedTemplate → StatementDescription → TalkMoment → TalkMoment
 types_by outcome.Done at c t d m = goes_on_typing (unknown_from (suc at) t.types) (typed at c t) d m
@@ -99,7 +112,7 @@ types_by (outcome.Breaks f) at c t d m = ends m
 
 abbrev pub tries : Option ParameterKind → ℕ → ParameterKind → TypedTemplate → StatementDescription → TalkMoment → TalkMoment
 tries (Some next) at c t d m = asks_sample at next t m
-tries None at c t d m = types_by (description_outcome None [] d) at c t d m
+tries None at c t d m = types_by (typing_outcome at t d) at c t d m
 
 -- of what is kept under a name
 abbrev pub template_in : Option NamedPiece → Option TypedTemplate
@@ -130,7 +143,7 @@ said_tried None o next = said_typed o next
 
 abbrev pub said_types : Option TypedTemplate → ℕ → ParameterKind → StatementDescription → List Saying
 said_types None at c d = []
-said_types (Some t) at c d = said_tried (candidate_behind at c t.types d) (description_outcome None [] d) (unknown_from (suc at) t.types)
+said_types (Some t) at c d = said_tried (candidate_behind at c t.types d) (typing_outcome at t d) (unknown_from (suc at) t.types)
 
 abbrev pub said_typing : ℕ → ParameterKind → TalkMoment → StatementDescription → List Saying
 said_typing at c m d = said_types (template_in (find m.name m.statements)) at c d

@@ -4,15 +4,16 @@ ghost use Rattle.std.specs.Prelude.{◌≡◌, IfOk, Ok, length, map};
 ghost use Rattle.std.specs.Option.{option_copied};
 ghost use Rattle.postgres_messages.specs.Views.{viewed_binding, viewed_value};
 ghost use Rattle.statement_parameters.specs.Received.{received_value};
-ghost use Rattle.postgres_talks.specs.Parameters.{IsBoundPiece, IsBoundByValues, IsBoundUnless, IsPieceOfBound, are_codes_for, binding_fault, bound_plain, count_fault, next_code, only_piece, other_codes, received_values, value_fault};
+ghost use Rattle.postgres_talks.specs.Parameters.{IsBoundPiece, IsBoundByValues, IsBoundUnless, IsPieceOfBound, are_codes_for, binding_fault, bound_plain, count_fault, next_code, only_piece, other_codes, received_values, value_fault, with_labels_of};
 
 use crate::fault::TalkFault;
 use crate::named_pieces::NamedPiece;
 use crate::parameters::TypedTemplate;
 use crate::piece::{PieceQueue, StatementPiece};
-use crate::pieces::pieces_of;
+use crate::pieces::{labelled, pieces_of};
 use postgres_messages::frontend::{BoundValues, FieldBytes};
 use sql_types::items::Items;
+use sql_types::name::Name;
 use sql_types::state::SqlState;
 use sql_types::text::Text;
 use sql_types::try_copy::TryCopy;
@@ -20,7 +21,6 @@ use sql_types::value::Value;
 use statement_parameters::binding::bound_text;
 use statement_parameters::fault::BindFault;
 use statement_parameters::received::{ValueFault, value_of};
-use statement_parameters::template::Template;
 use statement_parameters::types::ParameterType;
 use std::alloc::{AllocError, Global};
 
@@ -72,7 +72,7 @@ fn bound_template(
         &bound.formats,
         &bound.values,
     )? {
-        Ok(values) => bound_by_values(alloc, &template.template, values.as_slice()),
+        Ok(values) => bound_by_values(alloc, template, values.as_slice()),
         Err(fault) => Ok(Err(value_fault(fault))),
     }
 }
@@ -166,24 +166,40 @@ fn received_value(
 // The text of a template with values is a statement.
 fn bound_by_values(
     alloc: Global,
-    template: &Template,
+    template: &TypedTemplate,
     values: &[Value],
 ) -> Result<Result<StatementPiece, TalkFault>, AllocError>
     ensures { IfOk result (λ piece. IsBoundByValues template.now (Ok values.now) piece) }
 {
-    match bound_text(alloc, template, values)? {
-        Ok(text) => piece_of_bound(alloc, &text),
+    match bound_text(alloc, &template.template, values)? {
+        Ok(text) => piece_of_bound(alloc, &template.labels, &text),
         Err(fault) => Ok(Err(binding_fault(fault))),
     }
 }
 
+// The one statement of a text, whose columns have these labels.
 fn piece_of_bound(
     alloc: Global,
+    labels: &Items<Option<Name>>,
     text: &Text,
 ) -> Result<Result<StatementPiece, TalkFault>, AllocError>
-    ensures { IfOk result (λ piece. IsPieceOfBound (Ok text.now) piece) }
+    ensures { IfOk result (λ piece. IsPieceOfBound labels.now (Ok text.now) piece) }
 {
-    Ok(only_piece(pieces_of(alloc, text.as_str())?))
+    let pieces = pieces_of(alloc, text.as_str())?;
+    let labels = labels.try_copy(alloc)?;
+    Ok(with_labels_of(labels, only_piece(pieces)))
+}
+
+fn with_labels_of(
+    labels: Items<Option<Name>>,
+    piece: Result<StatementPiece, TalkFault>,
+) -> Result<StatementPiece, TalkFault>
+    ensures { result ≡ with_labels_of labels piece }
+{
+    match piece {
+        Ok(piece) => Ok(labelled(labels, piece)),
+        Err(fault) => Err(fault),
+    }
 }
 
 fn only_piece(mut pieces: PieceQueue) -> Result<StatementPiece, TalkFault>

@@ -11,6 +11,7 @@ use crate::settled::{Settled, Substitute, substitute_of};
 use crate::words::is_same_word;
 use postgres_texts::reserved::is_reserved;
 use sql_lexer::token::{Punctuation, Reserved, Token, TokenKind};
+use sql_types::items::Items;
 use sql_types::text::Text;
 use std::alloc::{AllocError, Global};
 
@@ -24,7 +25,7 @@ pub(crate) fn piece_of(
 {
     let line = line_of(alloc, tokens)?;
     match Settled::of_line(line.as_str()) {
-        Some(settled) => Ok(StatementPiece::Settled(settled)),
+        Some(settled) => Ok(StatementPiece::Settled(settled, Items::new(alloc))),
         None => by_substitute(alloc, substitute_of(line.as_str()), slice, tokens),
     }
 }

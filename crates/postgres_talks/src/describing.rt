@@ -13,6 +13,7 @@ use crate::rows::columns_in;
 use crate::settled::Settled;
 use sql_ast::description::{ResultColumn, StatementDescription};
 use sql_types::items::Items;
+use sql_types::name::Name;
 use std::alloc::{AllocError, Global};
 use std::mem;
 use talks::want::Want;
@@ -24,18 +25,28 @@ impl TalkMoment {
     {
         match piece {
             StatementPiece::Select(text) => self.describe(TalkStage::Telling(kind), text),
-            StatementPiece::Settled(settled) => self.describe_settled(kind, settled),
+            StatementPiece::Settled(settled, labels) => {
+                self.describe_settled(kind, settled, labels)
+            }
             StatementPiece::Faulty(fault) => self.look(TalkStage::Refusing(fault)),
             _ => self.look(TalkStage::TellingNothing(kind)),
         }
     }
 
-    fn describe_settled(&mut self, kind: DescribedKind, settled: Settled)
-        ensures { self.new ≡ describes_settled kind settled (settled_row settled) self.old }
+    fn describe_settled(
+        &mut self,
+        kind: DescribedKind,
+        settled: Settled,
+        labels: Items<Option<Name>>,
+    )
+        ensures { self.new ≡ describes_settled kind settled labels (settled_row settled) self.old }
     {
         match settled.row() {
             None => self.look(TalkStage::TellingNothing(kind)),
-            Some(_) => self.look(TalkStage::TellingRow(kind, settled)),
+            Some(_) => {
+                self.labels = labels;
+                self.look(TalkStage::TellingRow(kind, settled));
+            }
         }
     }
 

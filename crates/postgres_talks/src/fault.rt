@@ -43,6 +43,8 @@ pub enum TalkFault {
     OtherFormats,
     /// `42P02`: a parameter 0 or above 65535, or one in a statement that takes none.
     UnknownParameter,
+    /// `42P18`: a parameter without a type that stands nowhere, as `$1` in a text that has `$2` alone.
+    IndeterminateType,
     /// `0A000`: a type of a parameter that there is not.
     UnknownType,
     /// `22P02`: a value in text that is none of its type.
@@ -79,6 +81,7 @@ impl TalkFault {
             TalkFault::UnknownFormat => "22023",
             TalkFault::OtherFormats => "08P01",
             TalkFault::UnknownParameter => "42P02",
+            TalkFault::IndeterminateType => "42P18",
             TalkFault::UnknownType => "0A000",
             TalkFault::InvalidText => "22P02",
             TalkFault::InvalidBinary => "22P03",
@@ -111,6 +114,7 @@ impl TalkFault {
             TalkFault::UnknownFormat => "format code is not supported",
             TalkFault::OtherFormats => "number of format codes is another",
             TalkFault::UnknownParameter => "there is no such parameter",
+            TalkFault::IndeterminateType => "could not determine data type of parameter",
             TalkFault::UnknownType => "type of a parameter is not supported",
             TalkFault::InvalidText => "invalid input syntax for the type of a parameter",
             TalkFault::InvalidBinary => "incorrect binary data format in a parameter",

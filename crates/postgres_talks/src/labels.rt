@@ -1,7 +1,7 @@
 //! Columns that are called by their labels.
 
 ghost use Rattle.std.specs.Prelude.{◌≡◌, IfOk};
-ghost use Rattle.postgres_talks.specs.Labels.{labelled_column, labelled_description, next_label, other_labels, with_labels};
+ghost use Rattle.postgres_talks.specs.Labels.{called, labelled_column, labelled_description, next_label, other_labels, with_labels};
 
 use sql_ast::description::{ResultColumn, StatementDescription};
 use sql_types::items::Items;
@@ -60,6 +60,16 @@ fn next_column(
         name,
         column_type: column.column_type,
     })
+}
+
+// What a column of this name is called, of which these are the label and those behind it.
+pub(crate) fn called<'a>(labels: &'a [Option<Name>], name: &'a str) -> &'a str
+    ensures { result.now ≡ called (next_label labels.now) name.now }
+{
+    match labels {
+        [Some(label), ..] => label.as_str(),
+        _ => name,
+    }
 }
 
 // The labels of the columns behind it.

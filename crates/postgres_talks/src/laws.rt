@@ -1,9 +1,12 @@
 //! What a conversation makes of a client's bytes.
 
-ghost use Rattle.std.specs.Prelude.{◌≡◌, ◌⊎◌, ℕ, false, true, List, [], ◌∷◌, ◌++◌, filter, length, map, All, IsSome, Option, None, Some};
+ghost use Rattle.std.specs.Prelude.{◌≡◌, ◌⊎◌, ℕ, false, true, List, [], ◌∷◌, ◌++◌, filter, length, map, All, IsSome, Ok, Option, None, Some};
 ghost use Rattle.sql_ast.specs.declared.description.ResultColumn.{ResultColumn as TheResultColumn};
 ghost use Rattle.sql_types.specs.declared.answer.Answer.{Answer as TheAnswer};
 ghost use Rattle.sql_types.specs.declared.value.Value.{Value as TheValue};
+ghost use Rattle.statement_parameters.specs.declared.template.LabelledTemplate.{LabelledTemplate as TheTemplate};
+ghost use Rattle.statement_parameters.specs.declared.types.ParameterType.{ParameterType as TheType};
+ghost use Rattle.statement_parameters.specs.Readings.{IsTemplateReading};
 ghost use Rattle.talks.specs.Wants.{Learnt};
 ghost use Rattle.talks.specs.Conversations.{Heard};
 ghost use Rattle.talks.specs.declared.want.BlockStanding.{BlockStanding as TheStanding};
@@ -17,6 +20,7 @@ ghost use Rattle.postgres_messages.specs.declared.backend.ValueFormat.{ValueForm
 ghost use Rattle.postgres_talks.specs.declared.named_pieces.NamedPiece.{NamedPiece as ThePortal};
 ghost use Rattle.postgres_talks.specs.declared.outcome.Outcome.{Outcome as TheOutcome};
 ghost use Rattle.postgres_talks.specs.declared.postgres_talk.PostgresTalk.{PostgresTalk as TheTalk};
+ghost use Rattle.postgres_talks.specs.declared.piece.StatementPiece.{StatementPiece as ThePiece};
 ghost use Rattle.postgres_talks.specs.declared.requests.Request.{Request as TheRequest};
 ghost use Rattle.postgres_talks.specs.Blocks.{IsOfAnswer, IsPassedOver, outside, seen_all};
 ghost use Rattle.postgres_talks.specs.Fitting.{RowsFit};
@@ -24,7 +28,9 @@ ghost use Rattle.postgres_talks.specs.Fetches.{ArePieces, fetches, is_row, left_
 ghost use Rattle.postgres_talks.specs.Labels.{with_labels};
 ghost use Rattle.postgres_talks.specs.Named.{find};
 ghost use Rattle.postgres_talks.specs.Outcomes.{table_outcome};
+ghost use Rattle.postgres_talks.specs.Parameters.{IsBoundByValues};
 ghost use Rattle.postgres_talks.specs.Portals.{holds};
+ghost use Rattle.postgres_talks.specs.Statements.{IsWrittenStatement};
 ghost use Rattle.postgres_talks.specs.Units.{IsCommitAnswer, RollsBack, SaysError};
 ghost use Rattle.postgres_talks.specs.Moments.{after_reply, ends, first_moment, ran, said_to_reply};
 ghost use Rattle.postgres_talks.specs.Played.{Input, PlayedOrGaveUp, TakesIn, after_input, said_in, said_to_input, told};
@@ -32,6 +38,7 @@ ghost use Rattle.postgres_talks.specs.Rows.{described_columns, is_row_of, row_sa
 ghost use Rattle.postgres_talks.specs.Requests.{after_request, said_to_request};
 
 use crate::postgres_talk::PostgresTalk;
+use statement_parameters::laws::labels_and_values_add_no_token;
 use talks::talk::Talk;
 
 /// What a conversation says to some bytes and to what it learns, in whatever pieces they come: what its definition says to one after
@@ -93,6 +100,17 @@ pub fn labels_rename_columns()
         → is_row_of (with_labels labels columns) row ≡ is_row_of columns row }
     ensures none { (columns : List TheResultColumn) → with_labels [] columns ≡ columns }
 {}
+
+/// What Bind makes of a text with parameters is the one statement whose tokens are those of the written text, less the labels of its columns,
+/// each parameter replaced by the tokens of one literal, and no others; and its columns have those labels.
+pub fn bound_statements_are_written()
+    ensures { (text : List ℕ) (read : TheTemplate) (types : List TheType) (values : List TheValue) (piece : ThePiece) → IsTemplateReading text (Ok read)
+        → IsBoundByValues (record { template = read.template; labels = read.labels; types = types }) (Ok values) (Ok piece)
+        → IsWrittenStatement text read.labels values piece }
+{
+    // For the proof: a text with values has the tokens of the written one, less its labels.
+    labels_and_values_add_no_token();
+}
 
 /// A portal whose rows are asked for in pieces, in a block that is open, tells each row of its answer once, in order. Each piece has as
 /// many rows as were asked for, and behind them stands that others may follow; the last has those that are left, and a tag that counts

@@ -244,11 +244,19 @@ impl TalkMoment {
             StatementPiece::BeginReadOnly => return self.begin_read_only(alloc),
             StatementPiece::DiscardAll => return self.discard(alloc),
             StatementPiece::Select(text) => self.select(text),
-            StatementPiece::Settled(settled) => self.look(TalkStage::Settling(settled)),
+            StatementPiece::Settled(settled, labels) => self.start_settled(settled, labels),
             StatementPiece::Faulty(fault) => self.look(TalkStage::Refusing(fault)),
             StatementPiece::Empty => self.look(TalkStage::Emptying),
         }
         Ok(())
+    }
+
+    // A text is answered without the machine, whose columns have these labels.
+    fn start_settled(&mut self, settled: Settled, names: Items<Option<Name>>)
+        ensures { self.new ≡ starts_on (StatementPiece.Settled settled names) self.old }
+    {
+        self.labels = names;
+        self.look(TalkStage::Settling(settled));
     }
 
     // In a block that only reads nothing is written.

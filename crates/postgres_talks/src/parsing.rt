@@ -1,9 +1,11 @@
 //! What Parse asks.
 
-ghost use Rattle.std.specs.Prelude.{◌≡◌, ◌<◌, ◌^◌, IfOk, Some, suc};
+ghost use Rattle.std.specs.Prelude.{◌≡◌, ◌==◌, ◌<◌, ◌^◌, IfOk, Some, length, suc};
+ghost use Rattle.statement_parameters.specs.Samples.{sample_text};
+ghost use Rattle.statement_parameters.specs.Templates.{parameter_count};
 ghost use Rattle.statement_parameters.specs.Types.{type_of_oid};
 ghost use Rattle.postgres_talks.specs.Parameters.{declared_type, declared_types, placed_type, takes_values, type_count};
-ghost use Rattle.postgres_talks.specs.Requests.{IsParse, IsParseOf, IsPlainParse, IsSampledParse, IsTemplateParse, IsTypedParse, prepare_request, template_fault, template_request};
+ghost use Rattle.postgres_talks.specs.Requests.{IsCountedParse, IsParse, IsParseOf, IsPlainParse, IsSampledParse, IsTemplateParse, IsTypedParse, prepare_request, template_fault, template_request};
 
 use crate::fault::TalkFault;
 use crate::moment::Mode;
@@ -16,7 +18,7 @@ use sql_types::state::SqlState;
 use sql_types::text::Text;
 use statement_parameters::fault::TemplateFault;
 use statement_parameters::samples::sample_text;
-use statement_parameters::template::{Template, is_plain};
+use statement_parameters::template::{LabelledTemplate, Template, is_plain};
 use statement_parameters::types::{ParameterKind, ParameterType};
 use std::alloc::{AllocError, Global};
 
@@ -36,11 +38,27 @@ pub(crate) fn parse_request(
         return plain_parse(alloc, name, text);
     }
     match Template::read(alloc, text)? {
-        Ok(template) if template.parameter_count() != 0 => {
-            template_parse(alloc, name, template, oids)
-        }
+        Ok(read) => counted_parse(alloc, name, text, read, oids),
         Err(TemplateFault::UnknownParameter) => Ok(refused(TalkFault::UnknownParameter)),
-        _ => plain_parse(alloc, name, text),
+        Err(TemplateFault::Refused(_)) => plain_parse(alloc, name, text),
+        Err(TemplateFault::NotText) => plain_parse(alloc, name, text),
+    }
+}
+
+// A text without parameters is one of the language.
+fn counted_parse(
+    alloc: Global,
+    name: &str,
+    text: &str,
+    read: LabelledTemplate,
+    oids: &[u32],
+) -> Result<Request, AllocError>
+    ensures { IfOk result (λ asked. IsCountedParse (parameter_count read.template == 0) name.now text.now read oids.now asked) }
+{
+    if read.template.parameter_count() == 0 {
+        plain_parse(alloc, name, text)
+    } else {
+        template_parse(alloc, name, read, oids)
     }
 }
 
@@ -72,18 +90,36 @@ fn prepare_request(alloc: Global, name: &str, mut pieces: PieceQueue) -> Result<
 fn template_parse(
     alloc: Global,
     name: &str,
-    template: Template,
+    read: LabelledTemplate,
     oids: &[u32],
 ) -> Result<Request, AllocError>
-    ensures { IfOk result (λ asked. IsTemplateParse (template_fault template oids.now) name.now template oids.now asked) }
+    ensures { IfOk result (λ asked. IsTemplateParse (template_fault read.template oids.now) name.now read oids.now asked) }
 {
-    if let Some(fault) = template_fault(&template, oids) {
+    if let Some(fault) = template_fault(&read.template, oids) {
         return Ok(refused(fault));
     }
-    match declared_types(alloc, &template, oids)? {
-        Some(types) => sampled_parse(alloc, name, TypedTemplate { template, types }),
+    match declared_types(alloc, &read.template, oids)? {
+        Some(types) => typed_parse(alloc, name, read, types),
         None => Ok(refused(TalkFault::UnknownType)),
     }
+}
+
+// What a statement is whose parameters have these types.
+fn typed_parse(
+    alloc: Global,
+    name: &str,
+    read: LabelledTemplate,
+    types: Items<ParameterType>,
+) -> Result<Request, AllocError>
+    ensures { IfOk result (λ asked. IsTypedParse name.now read (Some types) asked) }
+{
+    let LabelledTemplate { template, labels } = read;
+    let typed = TypedTemplate {
+        template,
+        labels,
+        types,
+    };
+    sampled_parse(alloc, name, typed)
 }
 
 fn template_fault(template: &Template, oids: &[u32]) -> Option<TalkFault>
@@ -163,7 +199,7 @@ fn placed_type(is_limit: bool, declared: ParameterType) -> ParameterType
 
 // What a statement with parameters is, with a sample of each type that is declared.
 fn sampled_parse(alloc: Global, name: &str, typed: TypedTemplate) -> Result<Request, AllocError>
-    ensures { IfOk result (λ asked. IsTypedParse name.now typed.template (Some typed.types) asked) }
+    ensures { IfOk result (λ asked. IsSampledParse name.now typed (sample_text (length typed.types) ParameterKind.Text typed.types typed.template) asked) }
 {
     let types = typed.types.as_slice();
     match sample_text(

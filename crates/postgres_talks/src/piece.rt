@@ -54,8 +54,8 @@ pub enum StatementPiece {
     DiscardAll,
     /// The machine is asked, and answers rows.
     Select(LabelledText),
-    /// It is answered without the machine.
-    Settled(Settled),
+    /// It is answered without the machine, and its columns have these labels.
+    Settled(Settled, Items<Option<Name>>),
     /// It has a fault.
     Faulty(TalkFault),
     /// There is none.
@@ -70,7 +70,9 @@ impl TryCopy for StatementPiece {
             StatementPiece::BeginReadOnly => Ok(StatementPiece::BeginReadOnly),
             StatementPiece::DiscardAll => Ok(StatementPiece::DiscardAll),
             StatementPiece::Select(text) => Ok(StatementPiece::Select(text.try_copy(alloc)?)),
-            StatementPiece::Settled(settled) => Ok(StatementPiece::Settled(*settled)),
+            StatementPiece::Settled(settled, labels) => {
+                Ok(StatementPiece::Settled(*settled, labels.try_copy(alloc)?))
+            }
             StatementPiece::Faulty(fault) => Ok(StatementPiece::Faulty(*fault)),
             StatementPiece::Empty => Ok(StatementPiece::Empty),
         }

@@ -135,14 +135,15 @@ fn whole_piece(alloc: Global, text: &str) -> Result<StatementPiece, AllocError>
     }
 }
 
-// A SELECT has these labels.
-fn labelled(labels: Items<Option<Name>>, piece: StatementPiece) -> StatementPiece
+// A SELECT has these labels, and so has one that is answered without the machine.
+pub(crate) fn labelled(labels: Items<Option<Name>>, piece: StatementPiece) -> StatementPiece
     ensures { result ≡ labelled labels piece }
 {
     match piece {
         StatementPiece::Select(LabelledText { text, labels: _ }) => {
             StatementPiece::Select(LabelledText { text, labels })
         }
+        StatementPiece::Settled(settled, _) => StatementPiece::Settled(settled, labels),
         other => other,
     }
 }

@@ -192,7 +192,7 @@ fn piece_width(piece: &StatementPiece) -> Option<usize>
     ensures { result ≡ piece_width piece.now }
 {
     match piece {
-        StatementPiece::Settled(settled) => row_width(settled.row()),
+        StatementPiece::Settled(settled, _) => row_width(settled.row()),
         _ => None,
     }
 }

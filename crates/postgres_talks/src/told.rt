@@ -10,11 +10,11 @@ ghost use Rattle.postgres_talks.specs.Labels.{labelled_description};
 ghost use Rattle.postgres_talks.specs.Outcomes.{description_outcome};
 ghost use Rattle.postgres_talks.specs.Rows.{columns_said};
 ghost use Rattle.postgres_talks.specs.Sayings.{Puts, message};
-ghost use Rattle.postgres_talks.specs.Settled.{settled_row};
+ghost use Rattle.postgres_talks.specs.Settled.{labelled_row, settled_row, told_row};
 
 use crate::fault::TalkFault;
 use crate::formats::next_format;
-use crate::labels::labelled_description;
+use crate::labels::{called, labelled_description};
 use crate::moment::{DescribedKind, Mode, TalkMoment, TalkStage};
 use crate::outcome::{Outcome, description_outcome};
 use crate::parameters::TypedTemplate;
@@ -26,6 +26,7 @@ use crate::typing::{say_typing, template_in};
 use postgres_messages::backend::{BackendMessage, DataType, DescribedColumn, ValueFormat};
 use postgres_messages::frontend::FieldBytes;
 use sql_ast::description::{ResultColumn, StatementDescription};
+use sql_types::name::Name;
 use sql_types::state::SqlState;
 use statement_parameters::types::ParameterType;
 use std::alloc::{AllocError, Global};
@@ -175,7 +176,7 @@ pub(crate) fn say_row_told(
     standing: Option<BlockStanding>,
     said: &mut Said,
 ) -> Result<(), AllocError>
-    ensures { OnOk result (Puts (said_row_told kind (oids_told moment.now) moment.now.block moment.now.mode (next_format moment.now.formats) settled standing) said.old said.new) }
+    ensures { OnOk result (Puts (said_row_told kind (oids_told moment.now) moment.now.block moment.now.mode (next_format moment.now.formats) (told_row moment.now.labels settled) standing) said.old said.new) }
 {
     match standing {
         None => said.put_fatal(TalkFault::Refused(SqlState::ConnectionDoesNotExist)),
@@ -200,10 +201,10 @@ fn say_head_of(
     settled: Settled,
     said: &mut Said,
 ) -> Result<(), AllocError>
-    ensures { OnOk result (Puts (parameters_said kind (oids_told moment.now) ++ settled_head format (settled_row settled)) said.old said.new) }
+    ensures { OnOk result (Puts (parameters_said kind (oids_told moment.now) ++ settled_head format (told_row moment.now.labels settled)) said.old said.new) }
 {
     say_parameters(alloc, moment, kind, said)?;
-    say_settled_head(format, settled.row(), said)?;
+    say_settled_head(format, told_row(moment.labels.as_slice(), settled), said)?;
     Ok(())
 }
 
@@ -229,7 +230,7 @@ pub(crate) fn say_settling(
     standing: Option<BlockStanding>,
     said: &mut Said,
 ) -> Result<(), AllocError>
-    ensures { OnOk result (Puts (said_settling moment.now.block moment.now.mode settled standing) said.old said.new) }
+    ensures { OnOk result (Puts (said_settling moment.now.block moment.now.mode moment.now.labels settled standing) said.old said.new) }
 {
     match standing {
         None => said.put_fatal(TalkFault::Refused(SqlState::ConnectionDoesNotExist)),
@@ -239,22 +240,33 @@ pub(crate) fn say_settling(
             BlockStanding::Failed,
             said,
         ),
-        Some(_) => say_settled(moment.mode, settled, said),
+        Some(_) => say_settled(moment, settled, said),
     }
 }
 
-fn say_settled(mode: Mode, settled: Settled, said: &mut Said) -> Result<(), AllocError>
-    ensures { OnOk result (Puts (settled_said mode settled) said.old said.new) }
+// The row of a text that is answered without the machine, as its client is told it.
+fn told_row<'a>(labels: &'a [Option<Name>], settled: Settled) -> Option<(&'a str, &'a str)>
+    ensures { option_map (λ r. (r.0.now, r.1.now)) result ≡ told_row labels.now settled }
 {
-    say_settled_columns(mode, settled.row(), said)?;
-    say_settled_rows(settled.row(), said)?;
+    match settled.row() {
+        Some((name, value)) => Some((called(labels, name), value)),
+        None => None,
+    }
+}
+
+fn say_settled(moment: &TalkMoment, settled: Settled, said: &mut Said) -> Result<(), AllocError>
+    ensures { OnOk result (Puts (settled_said moment.now.mode moment.now.labels settled) said.old said.new) }
+{
+    let row = told_row(moment.labels.as_slice(), settled);
+    say_settled_columns(moment.mode, row, said)?;
+    say_settled_rows(row, said)?;
     said.put(&BackendMessage::CommandComplete(settled.tag()))?;
     Ok(())
 }
 
 fn say_settled_columns(
     mode: Mode,
-    row: Option<(&'static str, &'static str)>,
+    row: Option<(&str, &str)>,
     said: &mut Said,
 ) -> Result<(), AllocError>
     ensures { OnOk result (Puts (settled_columns mode (option_map (λ r. (r.0.now, r.1.now)) row.entry)) said.old said.new) }
@@ -267,7 +279,7 @@ fn say_settled_columns(
 
 fn say_settled_head(
     format: ValueFormat,
-    row: Option<(&'static str, &'static str)>,
+    row: Option<(&str, &str)>,
     said: &mut Said,
 ) -> Result<(), AllocError>
     ensures { OnOk result (Puts (settled_head format (option_map (λ r. (r.0.now, r.1.now)) row.entry)) said.old said.new) }
@@ -282,10 +294,7 @@ fn say_settled_head(
     }
 }
 
-fn say_settled_rows(
-    row: Option<(&'static str, &'static str)>,
-    said: &mut Said,
-) -> Result<(), AllocError>
+fn say_settled_rows(row: Option<(&str, &str)>, said: &mut Said) -> Result<(), AllocError>
     ensures { OnOk result (Puts (settled_rows (option_map (λ r. (r.0.now, r.1.now)) row.entry)) said.old said.new) }
 {
     match row {

@@ -4,7 +4,7 @@ ghost use Rattle.std.specs.Prelude.{◌≡◌, ◌+◌, ◌<◌, ◌^◌, [], If
 ghost use Rattle.std.specs.Option.{option_copied};
 ghost use Rattle.postgres_talks.specs.Outcomes.{description_outcome};
 ghost use Rattle.postgres_talks.specs.Sayings.{Puts};
-ghost use Rattle.postgres_talks.specs.Typing.{after_typing, asks_first, asks_of, asks_sample, begins_typing, candidate_behind, first_unknown, goes_on_typing, keeps, new_template, next_candidate, refuses, said_behind, said_tried, said_typed, said_types, said_typing, sampled_piece, template_in, tries, typed, types_by, types_found, unknown_from};
+ghost use Rattle.postgres_talks.specs.Typing.{after_typing, asks_first, asks_of, asks_sample, begins_typing, candidate_behind, first_unknown, goes_on_typing, is_missing, keeps, new_template, next_candidate, refuses, said_behind, said_tried, said_typed, said_types, said_typing, sampled_piece, template_in, tries, typed, types_by, types_found, typing_outcome, unknown_from, unless_missing};
 
 use crate::fault::TalkFault;
 use crate::formats::ResultFormats;
@@ -17,6 +17,7 @@ use crate::said::Said;
 use postgres_messages::backend::BackendMessage;
 use sql_ast::description::StatementDescription;
 use sql_types::items::Items;
+use sql_types::name::Name;
 use sql_types::state::SqlState;
 use sql_types::text::Text;
 use sql_types::try_copy::TryCopy;
@@ -100,33 +101,63 @@ pub(crate) fn template_in(found: Option<&NamedPiece>) -> Option<&TypedTemplate>
     }
 }
 
+// Whether the parameter at an index, whose type is looked for, stands nowhere.
+fn is_missing(at: usize, template: &TypedTemplate) -> bool
+    ensures { result ≡ is_missing at template.now }
+{
+    at < template.types.len() && !template.template.has_parameter(at + 1)
+}
+
+// What comes of a sample: a parameter that stands nowhere has no type.
+fn typing_outcome(
+    at: usize,
+    template: &TypedTemplate,
+    description: &StatementDescription,
+) -> Outcome
+    ensures { result ≡ typing_outcome at template.now description.now }
+{
+    match description_outcome(&None, &[], description) {
+        Outcome::Done if is_missing(at, template) => {
+            Outcome::Refused(TalkFault::IndeterminateType)
+        }
+        outcome => outcome,
+    }
+}
+
 // With a type at an index.
 fn typed(at: usize, kind: ParameterKind, template: TypedTemplate) -> TypedTemplate
     ensures { result ≡ typed at kind template }
 {
-    let TypedTemplate { template, types } = template;
+    let TypedTemplate {
+        template,
+        labels,
+        types,
+    } = template;
     let mut types = types.into_vec();
     if at < types.len() {
         types[at] = ParameterType::of_kind(kind);
     }
     TypedTemplate {
         template,
+        labels,
         types: Items::from_vec(types),
     }
 }
 
-// The text with samples, by which a statement is described.
+// The text with samples, by which a statement is described, and the labels of its columns.
 fn sampled_piece(
     alloc: Global,
+    labels: &Items<Option<Name>>,
     want: &Want,
     description: &StatementDescription,
 ) -> Result<StatementPiece, AllocError>
-    ensures { IfOk result (λ piece. piece ≡ sampled_piece want.now description.now) }
+    ensures { IfOk result (λ piece. piece ≡ sampled_piece labels.now want.now description.now) }
 {
     match (want, description) {
         (Want::Description { session: _, text }, StatementDescription::Rows(_)) => {
             let text = text.try_copy(alloc)?;
-            Ok(StatementPiece::Select(LabelledText::bare(alloc, text)))
+            let labels = labels.try_copy(alloc)?;
+            Ok(StatementPiece::Select(LabelledText { text, labels }))
         }
         (Want::Description { session: _, text }, _) => {
             Ok(StatementPiece::Statement(text.try_copy(alloc)?))
@@ -252,9 +283,9 @@ impl TalkMoment {
         template: TypedTemplate,
         description: &StatementDescription,
     ) -> Result<(), AllocError>
-        ensures { OnOk result (self.new ≡ types_by (description_outcome None [] description.now) at candidate template description.now self.old) }
+        ensures { OnOk result (self.new ≡ types_by (typing_outcome at template description.now) at candidate template description.now self.old) }
     {
-        match description_outcome(&None, &[], description) {
+        match typing_outcome(at, &template, description) {
             Outcome::Done => {
                 let next = unknown_behind(at, template.types.as_slice());
                 let template = typed(at, candidate, template);
@@ -287,7 +318,7 @@ impl TalkMoment {
                 self.ask_sample(alloc, at, ParameterKind::Text, &template)
             }
             None => {
-                let piece = sampled_piece(alloc, &self.want, description)?;
+                let piece = sampled_piece(alloc, &template.labels, &self.want, description)?;
                 self.keep(alloc, piece, template)?;
                 self.listen();
                 Ok(())
@@ -308,24 +339,24 @@ pub(crate) fn say_typing(
 {
     match template_in(moment.statements.find(moment.name.as_str())) {
         None => Ok(()),
-        Some(template) => say_types(template.types.as_slice(), at, candidate, description, said),
+        Some(template) => say_types(template, at, candidate, description, said),
     }
 }
 
 fn say_types(
-    types: &[ParameterType],
+    template: &TypedTemplate,
     at: usize,
     candidate: ParameterKind,
     description: &StatementDescription,
     said: &mut Said,
 ) -> Result<(), AllocError>
-    ensures { OnOk result (Puts (said_tried (candidate_behind at candidate types.now description.now) (description_outcome None [] description.now) (unknown_from (suc at) types.now)) said.old said.new) }
+    ensures { OnOk result (Puts (said_tried (candidate_behind at candidate template.now.types description.now) (typing_outcome at template.now description.now) (unknown_from (suc at) template.now.types)) said.old said.new) }
 {
-    match candidate_behind(at, candidate, types, description) {
+    match candidate_behind(at, candidate, template.types.as_slice(), description) {
         Some(_) => Ok(()),
         None => say_typed(
-            description_outcome(&None, &[], description),
-            unknown_behind(at, types),
+            typing_outcome(at, template, description),
+            unknown_behind(at, template.types.as_slice()),
             said,
         ),
     }

@@ -71,6 +71,9 @@ impl PostgresDesk {
             "SELECT 1     " | "SELECT a       , b, c        , d FROM t" => {
                 Ok(Answer::Rows(one_row(self.alloc)?))
             }
+            "SELECT a        , b, c        , d FROM t WHERE w =   '''; AS z --'" => {
+                Ok(Answer::Rows(one_row(self.alloc)?))
+            }
             "SELECT 5" => Ok(Answer::Rows(five_rows(self.alloc)?)),
             "INSERT" => Ok(done(Tag::Insert, Some(2), None)),
             "UPDATE" => Ok(done(Tag::Update, Some(3), None)),
@@ -93,9 +96,13 @@ impl PostgresDesk {
             "SELECT 1     " | "SELECT a       , b, c        , d FROM t" => {
                 Ok(StatementDescription::Rows(four_columns(self.alloc)?))
             }
+            "SELECT a        , b, c        , d FROM t WHERE w =   '' "
+            | "SELECT a        , b, c        , d FROM t WHERE w =   '''; AS z --'" => {
+                Ok(StatementDescription::Rows(four_columns(self.alloc)?))
+            }
             "SELECT 2" | "SELECT 5" => Ok(StatementDescription::Rows(one_column(self.alloc)?)),
             "INSERT   '' " => Ok(StatementDescription::Refused(SqlState::DatatypeMismatch)),
-            "INSERT   0 " => Ok(StatementDescription::NoRows),
+            "INSERT   0 " | "INSERT   NULL " => Ok(StatementDescription::NoRows),
             _ => Ok(StatementDescription::Refused(SqlState::SyntaxError)),
         }
     }

@@ -4,3 +4,5 @@ pub mod Bound
 pub mod Reading
 pub mod Outside
 pub mod Plain
+pub mod Written
+pub mod OneReading

@@ -1,16 +1,19 @@
 -- A template is what the tokens of the masked text make of a text.
-use Rattle.std.proofs.Common.{◌≡◌, ◌∙◌, ◌++◌, ◌∷◌, [], ℕ, List, refl, sym, ap, subst, Option, Some, None, Result, Ok, Err}
+use Rattle.std.proofs.Common.{◌≡◌, ◌∙◌, ◌++◌, ◌∷◌, [], ℕ, List, refl, sym, ap, subst, Option, Some, None, Result, Ok, Err, IsUtf8}
 use Rattle.std.specs.Option.{ok_or}
 use Rattle.std.proofs.lemmas.List.{map-append}
 use Rattle.sql_types.specs.declared.state.SqlState.{SqlState}
 use Rattle.sql_lexer.specs.Lexeme.{Lexeme}
+use Rattle.select_labels.specs.declared.unlabelled.Unlabelled.{Unlabelled}
 use Rattle.statement_parameters.specs.declared.fault.TemplateFault.{TemplateFault}
 use Rattle.statement_parameters.specs.declared.fault.TemplateFault.TheVariants as fault
 use Rattle.statement_parameters.specs.declared.span.PartSpan.{PartSpan}
+use Rattle.statement_parameters.specs.declared.template.LabelledTemplate.{LabelledTemplate}
 use Rattle.statement_parameters.specs.Masks.{masked}
 use Rattle.statement_parameters.specs.Parts.{appended}
 use Rattle.statement_parameters.specs.Spans.{fragment_in, fragments_in}
-use Rattle.statement_parameters.specs.Templates.{Fragment, IsTemplateOf, IsTemplateReading, template_of, with_fragment, fragments_from}
+use Rattle.statement_parameters.specs.Readings.{IsShownReading, IsTemplateReading, IsTemplateWith, IsTemplateWithout, labelled}
+use Rattle.statement_parameters.specs.Templates.{Fragment, IsTemplateOf, template_of, with_fragment, fragments_from}
 use Rattle.statement_parameters.proofs.Lists.{put_behind}
 
 numbers_alone : (o : Option (List Fragment)) → Err fault.NotText ≡ ok_or o fault.UnknownParameter → ⊥
@@ -21,14 +24,27 @@ not_told : (text m : List ℕ) (ts : Result (List Lexeme) SqlState) → Err faul
 not_told text m (Ok ts) e = numbers_alone (fragments_from text m 0 ts) e
 not_told text m (Err s) e = cc
 
-pub reading : (text : List ℕ) (r : Result (List Fragment) TemplateFault) → IsTemplateOf text (masked text) r → IsTemplateReading text r
-reading text (Ok fs) k = k
-reading text (Err (fault.Refused s)) k = k
-reading text (Err fault.UnknownParameter) k = k
-reading text (Err fault.NotText) k = absurd (not_told text (masked text) k.tokens k.template_is)
+not_labelled : (text m : List ℕ) (ls : List (Option (List ℕ))) (o : Result (List Fragment) TemplateFault) → IsTemplateOf text m o → Err fault.NotText ≡ labelled ls o → ⊥
+not_labelled text m ls (Ok fs) k e = cc
+not_labelled text m ls (Err fault.NotText) k e = not_told text m k.tokens k.template_is
+not_labelled text m ls (Err fault.UnknownParameter) k e = cc
+not_labelled text m ls (Err (fault.Refused s)) k e = cc
 
-pub reading_of : (text shown : List ℕ) (r : Result (List Fragment) TemplateFault) → shown ≡ masked text → IsTemplateOf text shown r → IsTemplateReading text r
-reading_of text shown r e k = reading text r (subst (λ m. IsTemplateOf text m r) e k)
+not_with : (text m : List ℕ) (ls : List (Option (List ℕ))) → IsTemplateWith text m ls (Err fault.NotText) → ⊥
+not_with text m ls k = not_labelled text m ls k.template k.is_of k.is
+
+not_without : (text m : List ℕ) (o : Option Unlabelled) → IsTemplateWithout o text m (Err fault.NotText) → ⊥
+not_without text m None k = not_with text m [] k
+not_without text m (Some u) k = not_with text u.text u.labels k
+
+pub reading : (text : List ℕ) (r : Result LabelledTemplate TemplateFault) → IsUtf8 (masked text) → IsShownReading text (masked text) r → IsTemplateReading text r
+reading text (Ok fs) utf8 k = (utf8, k)
+reading text (Err (fault.Refused s)) utf8 k = (utf8, k)
+reading text (Err fault.UnknownParameter) utf8 k = (utf8, k)
+reading text (Err fault.NotText) utf8 k = absurd (not_without text (masked text) k.unlabelled k.template_is)
+
+pub reading_of : (text shown : List ℕ) (r : Result LabelledTemplate TemplateFault) → shown ≡ masked text → IsUtf8 shown → IsShownReading text shown r → IsTemplateReading text r
+reading_of text shown r e utf8 k = reading text r (subst IsUtf8 e utf8) (subst (λ m. IsShownReading text m r) e k)
 
 -- ---- a loop over tokens
 

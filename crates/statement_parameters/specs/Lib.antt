@@ -4,6 +4,8 @@ pub mod Eaten
 pub mod Masks
 pub mod Places
 pub mod Templates
+pub mod Readings
+pub mod Written
 pub mod Spans
 pub mod Bindings
 pub mod TemplateViews

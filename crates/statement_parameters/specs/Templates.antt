@@ -1,5 +1,6 @@
 -- How a written text is read: its tokens are those of the masked text, and a number behind the sign of a parameter is one.
-use Rattle.std.specs.Prelude.{◌≡◌, ℕ, ◌-◌, ◌==◌, ◌&&◌, nat_lt, nat_le, max, Bool, true, false, if◌then◌else◌, List, [], ◌∷◌, map, codes, slice_index, slice_range, Option, Some, None, Result, Ok, Err, IsUtf8}
+use Rattle.std.specs.Prelude.{◌≡◌, ℕ, ◌-◌, ◌==◌, ◌&&◌, nat_lt, nat_le, max, Bool, true, false, if◌then◌else◌, List, [], ◌∷◌, map, codes, slice_index, slice_range, Option, Some, None, Result, Ok, Err}
+use Rattle.std.specs.List.{list_any}
 use Rattle.std.specs.Option.{ok_or}
 use Rattle.std.specs.Str.{byte, str_eq_ignore_ascii_case}
 use Rattle.sql_types.specs.declared.state.SqlState.{SqlState}
@@ -9,7 +10,6 @@ use Rattle.sql_lexer.specs.Lexeme.{Lexeme, end_of}
 use Rattle.sql_lexer.specs.Lexing.{Lexes}
 use Rattle.statement_parameters.specs.declared.fault.TemplateFault.{TemplateFault}
 use Rattle.statement_parameters.specs.declared.fault.TemplateFault.TheVariants as fault
-use Rattle.statement_parameters.specs.Masks.{masked}
 use Rattle.statement_parameters.specs.Parts.{StatementPart, token, parameter}
 
 -- a part, and the blanks and comments of the masked text before it
@@ -64,10 +64,6 @@ pub record IsTemplateOf (text masked_text : List ℕ) (r : Result (List Fragment
   pub lexes : Lexes masked_text tokens
   pub template_is : r ≡ template_of text masked_text tokens
 
-abbrev pub IsTemplateReading : List ℕ → Result (List Fragment) TemplateFault → Type 0
-IsTemplateReading text (Err fault.NotText) = ¬ (IsUtf8 (masked text))
-IsTemplateReading text r = IsTemplateOf text (masked text) r
-
 -- ---- its parameters
 
 abbrev pub number_of : StatementPart → ℕ
@@ -81,6 +77,10 @@ greatest_from n (f ∷ fs) = greatest_from (max n (number_of f.part)) fs
 -- the greatest number, or 0
 abbrev pub parameter_count : List Fragment → ℕ
 parameter_count fs = greatest_from 0 fs
+
+-- the parameter of this number stands somewhere; no parameter has the number 0
+abbrev pub has_parameter : List Fragment → ℕ → Bool
+has_parameter fs n = list_any (λ f. number_of f.part == n) fs
 
 abbrev pub is_word : List ℕ → StatementPart → Bool
 is_word word (token bytes) = str_eq_ignore_ascii_case word bytes

@@ -1,4 +1,4 @@
-//! Written statements, and the parameters in them.
+//! Written statements, the parameters in them, and the labels of their columns.
 
 ghost use Rattle.std.specs.Prelude.{◌≡◌, ◌-◌, IfOk, IfSome, All, List, ℕ, max, slice_index, string_bytes};
 ghost use Rattle.std.specs.Option.{ok_or, option_map};
@@ -6,15 +6,20 @@ ghost use Rattle.std.specs.Str.{str_eq_ignore_ascii_case};
 ghost use Rattle.sql_lexer.specs.Lexeme.{IsPlaced, end_of, lexeme, lexemes};
 ghost use Rattle.statement_parameters.specs.Masks.{is_plain, masked};
 ghost use Rattle.statement_parameters.specs.Spans.{fragment_in, fragments_in, part_in, viewed_spans};
-ghost use Rattle.statement_parameters.specs.Templates.{IsTemplateReading, IsTemplateOf, fragment_of, fragments_from, begins_with, follows_limit, is_word, number_behind, number_of, parameter_count, template_of};
+ghost use Rattle.statement_parameters.specs.Templates.{IsTemplateOf, fragment_of, fragments_from, begins_with, follows_limit, has_parameter, is_word, number_behind, number_of, parameter_count, template_of};
+ghost use Rattle.statement_parameters.specs.Readings.{IsShownReading, IsTemplateReading, IsTemplateWith};
 ghost use Rattle.statement_parameters.specs.TemplateViews.{viewed_template};
 
 use crate::fault::TemplateFault;
 use crate::place::masked;
 use crate::span::{PartSpan, PartSpans, slice_of};
+use select_labels::unlabelled::without_labels;
 use sql_lexer::lexer;
 use sql_lexer::token::{Token, TokenKind};
+use sql_types::items::Items;
+use sql_types::name::Name;
 use sql_types::state::{Refusal, SqlState};
+use sql_types::text::Text;
 use sql_types::try_copy::TryCopy;
 use std::alloc::{AllocError, Global};
 use std::marker::Model;
@@ -22,24 +27,38 @@ use std::marker::Model;
 /// A written statement, which contracts see as its parts, each with the blanks before it.
 #[derive(Drop)]
 pub struct Template {
-    masked: String,
+    masked: Text,
     spans: Vec<PartSpan>,
 }
 
+/// A written statement without the labels of its columns, and those labels.
+#[derive(Drop)]
+pub struct LabelledTemplate {
+    pub template: Template,
+    /// For each item of a SELECT's list its label, if it has one; none where no item has one.
+    pub labels: Items<Option<Name>>,
+}
+
 impl Model for Template {
-    ghost use Rattle.std.specs.Prelude.{List, string_bytes};
+    ghost use Rattle.std.specs.Prelude.{List};
     ghost use Rattle.statement_parameters.specs.Templates.{Fragment};
     ghost use Rattle.statement_parameters.specs.Spans.{fragments_in};
 
     ghost Value = { List Fragment };
 
-    ghost view = { λ t. fragments_in (string_bytes t.masked) t.spans.items };
+    ghost view = { λ t. fragments_in t.masked t.spans.items };
 }
 
 impl Template {
     /// Reads a written statement (PostgreSQL 15 manual, 4.1, "Lexical Structure"). A parameter, `$` and its number, may stand wherever a
     /// token may begin; a comment between `/*` and `*/`, which may have others in it, counts as a blank. All else is as the language has it.
-    pub fn read(alloc: Global, text: &str) -> Result<Result<Template, TemplateFault>, AllocError>
+    /// The labels of a SELECT's list (PostgreSQL 15 manual, SELECT, "SELECT List") are no part of it.
+    ///
+    /// `AllocError` comes only where memory is refused.
+    pub fn read(
+        alloc: Global,
+        text: &str,
+    ) -> Result<Result<LabelledTemplate, TemplateFault>, AllocError>
         ensures { IfOk result (λ read. IsTemplateReading text.now read) }
     {
         let shown = masked(alloc, text.as_bytes())?;
@@ -54,6 +73,13 @@ impl Template {
         ensures { result ≡ parameter_count self.now }
     {
         parameter_count(self.spans())
+    }
+
+    /// Whether the parameter of a number stands somewhere.
+    pub fn has_parameter(&self, number: usize) -> bool
+        ensures { result ≡ has_parameter self.now number }
+    {
+        has_parameter(self.spans(), number)
     }
 
     /// Whether a parameter stands right behind the word LIMIT somewhere.
@@ -75,7 +101,7 @@ impl Template {
         ensures { viewed_spans result ≡ self.now }
     {
         PartSpans {
-            masked: self.masked.as_bytes(),
+            masked: self.masked.as_str().as_bytes(),
             spans: self.spans.as_slice(),
         }
     }
@@ -91,6 +117,19 @@ fn parameter_count(parts: PartSpans<'_>) -> u16
         rest = after;
     }
     count
+}
+
+fn has_parameter(parts: PartSpans<'_>, number: usize) -> bool
+    ensures { result ≡ has_parameter (viewed_spans parts.entry) number }
+{
+    let mut rest = parts.spans;
+    while let [span, after @ ..] = rest {
+        if number_of(span) as usize == number {
+            return true;
+        }
+        rest = after;
+    }
+    false
 }
 
 fn follows_limit(parts: PartSpans<'_>, number: usize) -> bool
@@ -119,7 +158,7 @@ fn begins_with(parts: PartSpans<'_>, word: &[u8]) -> bool
 
 impl TryCopy for Template {
     fn try_copy(&self, alloc: Global) -> Result<Template, AllocError> {
-        let masked = self.masked.clone()?;
+        let masked = self.masked.try_copy(alloc)?;
         let spans = Vec::from_slice(alloc, self.spans.as_slice())?;
         Ok(Template { masked, spans })
     }
@@ -133,17 +172,35 @@ pub fn is_plain(text: &str) -> bool
     !bytes.contains(&b'$') && !bytes.contains(&b'/')
 }
 
+// Reads a written text by its masked text, from which the labels of its columns are taken out.
 fn of_masked(
     alloc: Global,
     text: &str,
     shown: String,
-) -> Result<Result<Template, TemplateFault>, AllocError>
-    ensures { IfOk result (λ read. IsTemplateOf text.now (string_bytes shown) read) }
+) -> Result<Result<LabelledTemplate, TemplateFault>, AllocError>
+    ensures { IfOk result (λ read. IsShownReading text.now (string_bytes shown) read) }
+{
+    match without_labels(alloc, shown.as_str())? {
+        None => of_shown(alloc, text, Text::from_string(shown), Items::new(alloc)),
+        Some(unlabelled) => of_shown(alloc, text, unlabelled.text, unlabelled.labels),
+    }
+}
+
+fn of_shown(
+    alloc: Global,
+    text: &str,
+    shown: Text,
+    labels: Items<Option<Name>>,
+) -> Result<Result<LabelledTemplate, TemplateFault>, AllocError>
+    ensures { IfOk result (λ read. IsTemplateWith text.now shown labels read) }
 {
     match spans_in(alloc, text.as_bytes(), shown.as_str())? {
-        Ok(spans) => Ok(Ok(Template {
-            masked: shown,
-            spans,
+        Ok(spans) => Ok(Ok(LabelledTemplate {
+            template: Template {
+                masked: shown,
+                spans,
+            },
+            labels,
         })),
         Err(fault) => Ok(Err(fault)),
     }
