@@ -9,6 +9,8 @@ things in them, which leave what the tenant may tell as it was; the tenant makes
 Its answers must be the same in both scripts, up to the first that one alone answers 23505, 55P03 where others write, or 54000 to an
 UPDATE where columns are hidden. What both refuse alike ends nothing. Each answer is the model's, too.
 
+Before these come the smallest scripts in which something hidden tells, those of telling_scripts.py, each with both of its answers.
+
 Then families of twelve worlds that look the same: the places and codes of these refusals among the answers of one world determine
 all of its answers.
 
@@ -34,6 +36,7 @@ import sys
 
 from asked_pairs import ALONE, BESIDE_OTHERS, asked_pair, of_model, write
 from program import IS_FAKE, of_program
+from telling_scripts import TELLING, differences
 from tenant_worlds import OTHER_SESSIONS, SESSIONS, TenantWorld, tells_by_count
 from wrong_models import WRONG, of_wrong_model
 
@@ -280,6 +283,15 @@ def finds(kind, seed, pairs):
     return bool(difference)
 
 
+def tell_smallest():
+    """Prints what the smallest scripts tell otherwise than it is written; whether there is nothing."""
+    found = list(differences(of_program, of_model))
+    print('smallest scripts: %d pairs' % len(TELLING), flush=True)
+    for what, lines, told, right in found:
+        print('\n'.join(['# ' + what, *lines, 'is answered', told, 'and not', right]))
+    return not found
+
+
 def main():
     word = sys.argv[1] if sys.argv[1:] and sys.argv[1].startswith('--') else None
     words = sys.argv[2 if word else 1:]
@@ -291,7 +303,7 @@ def main():
     if word:
         tried = {'--premises': (needs, PREMISES), '--wrong': (finds, WRONG)}[word]
         return 0 if all([tried[0](each, seed, pairs) for each in tried[1]]) else 1
-    passed = [tell(kind, *try_kind(try_pair, seed, pairs, kind)) for kind in [ALONE, BESIDE_OTHERS, *KINDS]]
+    passed = [tell_smallest()] + [tell(kind, *try_kind(try_pair, seed, pairs, kind)) for kind in [ALONE, BESIDE_OTHERS, *KINDS]]
     passed.append(tell('families', *try_kind(try_family, seed, max(pairs // 10, 1), None)))
     return 0 if all(passed) else 1
 

@@ -128,7 +128,7 @@ module _ {S X : Type 0} (Reads : ReadingRelation) (state : S → StoreState) whe
   as_it_was old new w is sound here = (w, subst (λ (s : Server S X). Represents state s w) (sym is) here, subst (λ (s : Server S X). (state s.store).sound) (sym is) sound, refl)
 
   module _ {T C : Type 0} (t : TalkGhosts T) (k : ClientsGhosts C T) where
-    all_steps : (clients : C) (old : ServedMachine S X) (ds : List Exchange) (new : ServedMachine S X) → Steps (machine_of Reads state) t k clients old ds new → (w : At) → (state old.server.store).sound → Represents state old.server w →
+    pub all_steps : (clients : C) (old : ServedMachine S X) (ds : List Exchange) (new : ServedMachine S X) → Steps (machine_of Reads state) t k clients old ds new → (w : At) → (state old.server.store).sound → Represents state old.server w →
         Leads new.server w ds
     all_steps clients old [] new made w sound here = as_it_was old.server new.server w (ap (λ (m : ServedMachine S X). m.server) made) sound here
     all_steps clients old (d ∷ ds) new made w sound here =
@@ -145,7 +145,7 @@ module _ {S X : Type 0} (Reads : ReadingRelation) (state : S → StoreState) whe
         (led.0, led.1, led.2, (led.0, (took.1.closes.answer, refl, led.3), refl))
     one_turn old before (ends c why) new after took w sound here = as_it_was old.server new.server w (ap (λ (m : ServedMachine S X). m.server) took.4) sound here
 
-    all_turns : (old : ServedMachine S X) (before : C) (us : List Turn) (new : ServedMachine S X) (after : C) (took : TakesTurns (machine_of Reads state) t k old before us new after) → (w : At) → (state old.server.store).sound → Represents state old.server w →
+    pub all_turns : (old : ServedMachine S X) (before : C) (us : List Turn) (new : ServedMachine S X) (after : C) (took : TakesTurns (machine_of Reads state) t k old before us new after) → (w : At) → (state old.server.store).sound → Represents state old.server w →
         Leads new.server w (exchanges_of Reads state t k old before us new after took)
     all_turns old before [] new after took w sound here = as_it_was old.server new.server w (ap (λ (m : ServedMachine S X). m.server) took.0) sound here
     all_turns old before (u ∷ us) new after took w sound here =

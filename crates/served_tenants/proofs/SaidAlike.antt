@@ -25,7 +25,7 @@ use Rattle.served_tenants.proofs.HeardAlike.{any_front, front_any, behind, short
 
 -- ---- what a client learns in a list of exchanges
 
-all_joined : (c : ℕ) (ds es : List Exchange) → learnt_of_all c (ds ++ es) ≡ learnt_of_all c ds ++ learnt_of_all c es
+pub all_joined : (c : ℕ) (ds es : List Exchange) → learnt_of_all c (ds ++ es) ≡ learnt_of_all c ds ++ learnt_of_all c es
 all_joined c [] es = refl
 all_joined c (d ∷ ds) es = ap (λ (l : List Learnt). learnt_of c d ++ l) (all_joined c ds es) ∙ sym (append_assoc (learnt_of c d) (learnt_of_all c ds) (learnt_of_all c es))
 
@@ -47,7 +47,7 @@ none_learnt c (ends client w ∷ us) none = none_learnt c us none.1
 
 module _ {S X T C : Type 0} (Reads : ReadingRelation) (state : S → StoreState) (t : TalkGhosts T) (k : ClientsGhosts C T) where
   -- what a client learns of its turns is a front of its exchanges: behind it sessions are closed that it has left open
-  learnt_so : (c : ℕ) (old : ServedMachine S X) (before : C) (us : List Turn) (new : ServedMachine S X) (after : C) (took : TakesTurns (machine_of Reads state) t k old before us new after) → IsCourse c us →
+  pub learnt_so : (c : ℕ) (old : ServedMachine S X) (before : C) (us : List Turn) (new : ServedMachine S X) (after : C) (took : TakesTurns (machine_of Reads state) t k old before us new after) → IsCourse c us →
       (more : List Learnt) × (own_learnt c us ++ more ≡ learnt_of_all c (exchanges_of Reads state t k old before us new after took))
   learnt_so c old before [] new after took course = ([], refl)
   learnt_so c old before (steps d ds ∷ us) new after took course =
@@ -99,7 +99,7 @@ module _ (Reads : ReadingRelation) (a : ClientsOfTenant) (place place_there : �
   foreign_there : (y : Exchange) → a.clients (place_there y.client) ≡ false → learnt_of d y ≡ []
   foreign_there y other = none_of d y (λ it. let contrary : true ≡ false = sym own ∙ ap a.clients at_one ∙ ap (λ (i : ℕ). a.clients (place_there i)) (sym it) ∙ other in cc)
 
-  both_learnt : {w v : At} {xs ys : List Exchange} (alike : TellAlike Reads a place place_there w v xs ys) → NeverParts alike → AreFronts (learnt_of_all c xs) (learnt_of_all d ys)
+  pub both_learnt : {w v : At} {xs ys : List Exchange} (alike : TellAlike Reads a place place_there w v xs ys) → NeverParts alike → AreFronts (learnt_of_all c xs) (learnt_of_all d ys)
   both_learnt {ys = ys} (over_here st) end = any_front (learnt_of_all d ys)
   both_learnt {xs = xs} (over_there st) end = front_any (learnt_of_all c xs)
   both_learnt (told_alike next later {x = x} {y = y} {xs = xs} {ys = ys} is asked same it it_there rest) end =
@@ -141,7 +141,7 @@ module _ {T : Type 0} (t : TalkGhosts T) (Alike : T → T → Type 0) (speaks : 
     all_said same done done_there = all t Alike speaks
         (subst (λ (l : List ℕ). Heard t x.talk l xs said y.held y.talk) same (from_start x y xs came said new.held heard)) (from_start z u ys came_there said_there new_there.held heard_there) alike done done_there fronts
 
-  says : (from to from_there to_there : ClientState T) → IsAwaited from → IsAwaited from_there → (here : Passes t made from xs to) (beyond : Passes t made_there from_there ys to_there) → Says from to from_there to_there here beyond
+  pub says : (from to from_there to_there : ClientState T) → IsAwaited from → IsAwaited from_there → (here : Passes t made from xs to) (beyond : Passes t made_there from_there ys to_there) → Says from to from_there to_there here beyond
   says (awaited b) (awaited l) (awaited e) to_there is is_there here it = (λ of. any_front (said_to t made_there (awaited e) to_there ys it), λ same done done_there. absurd done)
   says (awaited b) (there y) (awaited e) (awaited m) is is_there here it = (λ of. front_any (said_to t made (awaited b) (there y) xs here), λ same done done_there. absurd done_there)
   says (awaited b) (gone s) (awaited e) (awaited m) is is_there here it = (λ of. front_any (said_to t made (awaited b) (gone s) xs here), λ same done done_there. absurd done_there)

@@ -1,0 +1,6 @@
+pub mod Committing
+pub mod ServedAlike
+pub mod ServedLivesTold
+pub mod SaidLives
+pub mod MadeLives
+pub mod ServedLivesApart

@@ -1,0 +1,4 @@
+pub mod ServedLives
+pub mod SaidLives
+pub mod MadeLives
+pub mod ServedLivesApart
