@@ -455,7 +455,7 @@ class Pages(InAFolder):
         os.symlink(PROGRAM, self.path('guarddb'))
         first, second = self.commands()
         self.assertEqual([words[1] for words in first], ['--unproved', 'format', 'run', 'check', 'describe', 'explain', 'copy', 'dump', 'restore',
-                                                      'clients/shell.py', 'serve'])
+                                                      'password', 'clients/shell.py', 'serve'])
         for words in first[1:-1]:
             self.ends_well(words, '\\q\n')
         server = subprocess.Popen(first[-1], cwd=self.folder, stdout=subprocess.DEVNULL, stderr=subprocess.PIPE)

@@ -76,6 +76,7 @@ module _ (words : TheWords) (name : TheWord) (rows : List Row) (fits : fault_of 
   order_asks (order.Dump file out) has = gives_of _ has
   order_asks (order.Restore dump new pages journal) has = (has.0, gives_of _ has.1, has.2)
   order_asks (order.Journal file on) has = gives_of _ has
+  order_asks (order.Password whose) has = (has.0, has.1, gives_of _ has.2, has.3)
   order_asks (order.Run file script on) has = (has.0, has.1, gives_of _ has.2, has.3)
   order_asks (order.RunMemory admin script on) has = (has.0, has.1, gives_of _ has.2, has.3, has.4)
   order_asks (order.Serve file port connections idle) has = (has.0, has.1, has.2, gives_of _ has.3, has.4, has.5, has.6)
@@ -99,6 +100,7 @@ module _ (words : TheWords) (name : TheWord) (rows : List Row) (fits : fault_of 
   order_refuses (usage.Options words) unfit = (unfit.0, unfit.1, gives_of _ unfit.2, unfit.3, unfit.4)
   order_refuses (usage.Name named) unfit = (unfit.0, gives_of _ unfit.1, unfit.2, unfit.3)
   order_refuses (usage.Switch word) unfit = (unfit.0, gives_of _ unfit.1, unfit.2, unfit.3)
+  order_refuses usage.Making unfit = gives_of _ unfit
   order_refuses (usage.Grammar e) unfit = absurd unfit
   order_refuses usage.Encoding unfit = absurd unfit
   order_refuses usage.Memory unfit = absurd unfit
@@ -116,6 +118,7 @@ asks_by words e (Ok (order.Copy file new pages journal)) kinds read = absurd rea
 asks_by words e (Ok (order.Dump file out)) kinds read = absurd read
 asks_by words e (Ok (order.Restore dump new pages journal)) kinds read = absurd read
 asks_by words e (Ok (order.Journal file on)) kinds read = absurd read
+asks_by words e (Ok (order.Password whose)) kinds read = absurd read
 asks_by words e (Ok (order.Run file script on)) kinds read = absurd read
 asks_by words e (Ok (order.RunMemory admin script on)) kinds read = absurd read
 asks_by words e (Ok (order.Serve file port connections idle)) kinds read = absurd read
@@ -140,6 +143,7 @@ refuses_by words e (Err (usage.Folder folder)) kinds read = absurd read
 refuses_by words e (Err (usage.Options behind)) kinds read = absurd read
 refuses_by words e (Err (usage.Name name)) kinds read = absurd read
 refuses_by words e (Err (usage.Switch word)) kinds read = absurd read
+refuses_by words e (Err usage.Making) kinds read = absurd read
 refuses_by words e (Err usage.Encoding) kinds read = absurd read
 refuses_by words e (Err usage.Memory) kinds read = tt
 

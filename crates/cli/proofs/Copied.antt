@@ -69,6 +69,8 @@ module _ {D L : Type 0} (old mid new : SystemState D L) (partial target : List â
   copy_against_since (New (command.NoDumpRoom wanted)) stands = absurd stands
   copy_against_since (New (command.ScriptUnread cause)) stands = absurd stands
   copy_against_since (New (command.ScriptNotUtf8 line byte)) stands = absurd stands
+  copy_against_since (New command.NoPassword) stands = absurd stands
+  copy_against_since (New command.ManyLines) stands = absurd stands
   copy_against_since (New command.NoRole) stands = absurd stands
   copy_against_since (New (command.StatementRefused code)) stands = absurd stands
   copy_against_since (New command.NotOverRows) stands = absurd stands

@@ -34,6 +34,7 @@ module _ (word file : TheWord) (options : Option TheWord) (counts : GivenCounts)
   no_count_so kind (usage.Name name) none = absurd none
   no_count_so kind (usage.Switch named) none = absurd none
   no_count_so kind (usage.Grammar e) none = absurd none
+  no_count_so kind usage.Making none = absurd none
   no_count_so kind usage.Encoding none = absurd none
   no_count_so kind usage.Memory none = absurd none
 
@@ -49,6 +50,7 @@ module _ (word file : TheWord) (options : Option TheWord) (counts : GivenCounts)
   no_path_so (usage.Name name) none = absurd none
   no_path_so (usage.Switch named) none = absurd none
   no_path_so (usage.Grammar e) none = absurd none
+  no_path_so usage.Making none = absurd none
   no_path_so usage.Encoding none = absurd none
   no_path_so usage.Memory none = absurd none
 
@@ -64,6 +66,7 @@ module _ (word file : TheWord) (options : Option TheWord) (counts : GivenCounts)
   no_folder_so (usage.Name name) none = absurd none
   no_folder_so (usage.Switch named) none = absurd none
   no_folder_so (usage.Grammar e) none = absurd none
+  no_folder_so usage.Making none = absurd none
   no_folder_so usage.Encoding none = absurd none
   no_folder_so usage.Memory none = absurd none
 
@@ -89,6 +92,7 @@ module _ (word file : TheWord) (options : Option TheWord) (counts : GivenCounts)
   no_options_so kind (usage.Name name) none = absurd none
   no_options_so kind (usage.Switch named) none = absurd none
   no_options_so kind (usage.Grammar e) none = absurd none
+  no_options_so kind usage.Making none = absurd none
   no_options_so kind usage.Encoding none = absurd none
   no_options_so kind usage.Memory none = absurd none
 

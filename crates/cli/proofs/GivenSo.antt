@@ -19,6 +19,7 @@ module _ (G : Given → Type 0) (words : Given) (gives : G words) where
   ordered_so (order.Dump file out) has = so _ has
   ordered_so (order.Restore dump new pages journal) has = (has.0, so _ has.1, has.2)
   ordered_so (order.Journal file on) has = so _ has
+  ordered_so (order.Password whose) has = (has.0, has.1, so _ has.2, has.3)
   ordered_so (order.Run file script on) has = (has.0, has.1, so _ has.2, has.3)
   ordered_so (order.RunMemory admin script on) has = (has.0, has.1, so _ has.2, has.3, has.4)
   ordered_so (order.Serve file port connections idle) has = (has.0, has.1, has.2, so _ has.3, has.4, has.5, has.6)
@@ -41,6 +42,7 @@ module _ (G : Given → Type 0) (words : Given) (gives : G words) where
   unfit_so (usage.Options words) unfit = (unfit.0, unfit.1, so _ unfit.2, unfit.3, unfit.4)
   unfit_so (usage.Name named) unfit = (unfit.0, so _ unfit.1, unfit.2, unfit.3)
   unfit_so (usage.Switch word) unfit = (unfit.0, so _ unfit.1, unfit.2, unfit.3)
+  unfit_so usage.Making unfit = so _ unfit
   unfit_so (usage.Grammar e) unfit = absurd unfit
   unfit_so usage.Encoding unfit = absurd unfit
   unfit_so usage.Memory unfit = absurd unfit
@@ -63,6 +65,7 @@ no_number_so option given word is (usage.Folder folder) none = absurd none
 no_number_so option given word is (usage.Options words) none = absurd none
 no_number_so option given word is (usage.Name name) none = absurd none
 no_number_so option given word is (usage.Switch named) none = absurd none
+no_number_so option given word is usage.Making none = absurd none
 no_number_so option given word is (usage.Grammar e) none = absurd none
 no_number_so option given word is usage.Encoding none = absurd none
 no_number_so option given word is usage.Memory none = absurd none

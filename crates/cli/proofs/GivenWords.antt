@@ -8,7 +8,7 @@ use Rattle.clap.specs.declared.parser.matches.Found.{Found}
 use Rattle.sql_types.specs.Name.{IsName}
 use Rattle.std.specs.Option.{unwrap_or}
 use Rattle.cli.specs.PlaceWords.{NoPlaceWord, place_word, with_options}
-use Rattle.cli.specs.CommandLine.{TheWord, Given, Format, Copy, Dump, Restore, Journal, Run, RunMemory, Serve, ServeSocket, ServeClients, GivenPlace, AtPort, AtSocket, At, GivenCounts, Check, Describe, Explain, HasPlaceWord, HasWords, GivesAs, IsFlag, IsRoleName, lent_word}
+use Rattle.cli.specs.CommandLine.{TheWord, Given, Format, Copy, Dump, Restore, Journal, Password, Run, RunMemory, Serve, ServeSocket, ServeClients, GivenPlace, AtPort, AtSocket, At, GivenCounts, Check, Describe, Explain, HasPlaceWord, HasWords, GivesAs, IsFlag, IsRoleName, lent_word}
 
 module _ (f : Found) (id : List ℕ) (r : Option (Bor (List ℕ))) (got : option_map (λ s. s.now) r ≡ first_value f id) where
   -- what a getter gives is the word that the rows have
@@ -122,6 +122,7 @@ no_format rows lacks (Copy file new pages journal) gives = other_name _ _ gives.
 no_format rows lacks (Dump file out) gives = other_name _ _ gives.named (λ e. omega (arith, e))
 no_format rows lacks (Restore dump new pages journal) gives = other_name _ _ gives.named (λ e. omega (arith, e))
 no_format rows lacks (Journal file state) gives = other_name _ _ gives.named (λ e. omega (arith, e))
+no_format rows lacks (Password new mock) gives = other_name _ _ gives.named (λ e. omega (arith, e))
 no_format rows lacks (Run file script stop explain) gives = other_name _ _ gives.named (λ e. omega (arith, e))
 no_format rows lacks (RunMemory admin script stop explain) gives = other_name _ _ gives.named (λ e. omega (arith, e))
 no_format rows lacks (Serve file port connections idle) gives = other_name _ _ gives.named (λ e. omega (arith, e))
@@ -137,6 +138,7 @@ no_run rows fewer lacks (Copy file new pages journal) gives = other_name _ _ giv
 no_run rows fewer lacks (Dump file out) gives = other_name _ _ gives.named (λ e. omega (arith, e))
 no_run rows fewer lacks (Restore dump new pages journal) gives = other_second _ _ gives.named (λ e. omega (arith, e))
 no_run rows fewer lacks (Journal file state) gives = other_name _ _ gives.named (λ e. omega (arith, e))
+no_run rows fewer lacks (Password new mock) gives = other_name _ _ gives.named (λ e. omega (arith, e))
 no_run rows fewer lacks (Run file script stop explain) gives = fewer file script stop explain gives.words
 no_run rows fewer lacks (RunMemory admin script stop explain) gives = lacks admin script stop explain gives.words
 no_run rows fewer lacks (Serve file port connections idle) gives = other_name _ _ gives.named (λ e. omega (arith, e))
@@ -152,6 +154,7 @@ no_serve rows port socket many (Copy file new pages journal) gives = other_name 
 no_serve rows port socket many (Dump file out) gives = other_name _ _ gives.named (λ e. omega (arith, e))
 no_serve rows port socket many (Restore dump new pages journal) gives = other_name _ _ gives.named (λ e. omega (arith, e))
 no_serve rows port socket many (Journal file state) gives = other_name _ _ gives.named (λ e. omega (arith, e))
+no_serve rows port socket many (Password new mock) gives = other_name _ _ gives.named (λ e. omega (arith, e))
 no_serve rows port socket many (Run file script stop explain) gives = other_name _ _ gives.named (λ e. omega (arith, e))
 no_serve rows port socket many (RunMemory admin script stop explain) gives = other_name _ _ gives.named (λ e. omega (arith, e))
 no_serve rows port socket many (Serve file number connections idle) gives = port file number connections idle gives.words
@@ -167,6 +170,7 @@ no_check rows lacks (Copy file new pages journal) gives = other_second _ _ gives
 no_check rows lacks (Dump file out) gives = other_name _ _ gives.named (λ e. omega (arith, e))
 no_check rows lacks (Restore dump new pages journal) gives = other_name _ _ gives.named (λ e. omega (arith, e))
 no_check rows lacks (Journal file state) gives = other_name _ _ gives.named (λ e. omega (arith, e))
+no_check rows lacks (Password new mock) gives = other_name _ _ gives.named (λ e. omega (arith, e))
 no_check rows lacks (Run file script stop explain) gives = other_name _ _ gives.named (λ e. omega (arith, e))
 no_check rows lacks (RunMemory admin script stop explain) gives = other_name _ _ gives.named (λ e. omega (arith, e))
 no_check rows lacks (Serve file port connections idle) gives = other_name _ _ gives.named (λ e. omega (arith, e))
@@ -182,6 +186,7 @@ no_describe rows lacks (Copy file new pages journal) gives = other_name _ _ give
 no_describe rows lacks (Dump file out) gives = other_second _ _ gives.named (λ e. omega (arith, e))
 no_describe rows lacks (Restore dump new pages journal) gives = other_name _ _ gives.named (λ e. omega (arith, e))
 no_describe rows lacks (Journal file state) gives = other_name _ _ gives.named (λ e. omega (arith, e))
+no_describe rows lacks (Password new mock) gives = other_name _ _ gives.named (λ e. omega (arith, e))
 no_describe rows lacks (Run file script stop explain) gives = other_name _ _ gives.named (λ e. omega (arith, e))
 no_describe rows lacks (RunMemory admin script stop explain) gives = other_name _ _ gives.named (λ e. omega (arith, e))
 no_describe rows lacks (Serve file port connections idle) gives = other_name _ _ gives.named (λ e. omega (arith, e))
@@ -197,6 +202,7 @@ no_copy rows lacks (Copy file new pages journal) gives = lacks file new pages jo
 no_copy rows lacks (Dump file out) gives = other_name _ _ gives.named (λ e. omega (arith, e))
 no_copy rows lacks (Restore dump new pages journal) gives = other_name _ _ gives.named (λ e. omega (arith, e))
 no_copy rows lacks (Journal file state) gives = other_name _ _ gives.named (λ e. omega (arith, e))
+no_copy rows lacks (Password new mock) gives = other_name _ _ gives.named (λ e. omega (arith, e))
 no_copy rows lacks (Run file script stop explain) gives = other_name _ _ gives.named (λ e. omega (arith, e))
 no_copy rows lacks (RunMemory admin script stop explain) gives = other_name _ _ gives.named (λ e. omega (arith, e))
 no_copy rows lacks (Serve file port connections idle) gives = other_name _ _ gives.named (λ e. omega (arith, e))
@@ -212,6 +218,7 @@ no_journal rows lacks (Copy file new pages journal) gives = other_name _ _ gives
 no_journal rows lacks (Dump file out) gives = other_name _ _ gives.named (λ e. omega (arith, e))
 no_journal rows lacks (Restore dump new pages journal) gives = other_name _ _ gives.named (λ e. omega (arith, e))
 no_journal rows lacks (Journal file state) gives = lacks file state gives.words
+no_journal rows lacks (Password new mock) gives = other_name _ _ gives.named (λ e. omega (arith, e))
 no_journal rows lacks (Run file script stop explain) gives = other_name _ _ gives.named (λ e. omega (arith, e))
 no_journal rows lacks (RunMemory admin script stop explain) gives = other_name _ _ gives.named (λ e. omega (arith, e))
 no_journal rows lacks (Serve file port connections idle) gives = other_name _ _ gives.named (λ e. omega (arith, e))
@@ -227,6 +234,7 @@ no_explain rows lacks (Copy file new pages journal) gives = other_name _ _ gives
 no_explain rows lacks (Dump file out) gives = other_name _ _ gives.named (λ e. omega (arith, e))
 no_explain rows lacks (Restore dump new pages journal) gives = other_name _ _ gives.named (λ e. omega (arith, e))
 no_explain rows lacks (Journal file state) gives = other_name _ _ gives.named (λ e. omega (arith, e))
+no_explain rows lacks (Password new mock) gives = other_name _ _ gives.named (λ e. omega (arith, e))
 no_explain rows lacks (Run file script stop explain) gives = other_name _ _ gives.named (λ e. omega (arith, e))
 no_explain rows lacks (RunMemory admin script stop explain) gives = other_name _ _ gives.named (λ e. omega (arith, e))
 no_explain rows lacks (Serve file port connections idle) gives = other_name _ _ gives.named (λ e. omega (arith, e))
@@ -242,6 +250,7 @@ no_dump rows lacks (Copy file new pages journal) gives = other_name _ _ gives.na
 no_dump rows lacks (Dump file out) gives = lacks file out gives.words
 no_dump rows lacks (Restore dump new pages journal) gives = other_name _ _ gives.named (λ e. omega (arith, e))
 no_dump rows lacks (Journal file state) gives = other_name _ _ gives.named (λ e. omega (arith, e))
+no_dump rows lacks (Password new mock) gives = other_name _ _ gives.named (λ e. omega (arith, e))
 no_dump rows lacks (Run file script stop explain) gives = other_name _ _ gives.named (λ e. omega (arith, e))
 no_dump rows lacks (RunMemory admin script stop explain) gives = other_name _ _ gives.named (λ e. omega (arith, e))
 no_dump rows lacks (Serve file port connections idle) gives = other_name _ _ gives.named (λ e. omega (arith, e))
@@ -257,6 +266,7 @@ no_restore rows lacks (Copy file new pages journal) gives = other_name _ _ gives
 no_restore rows lacks (Dump file out) gives = other_name _ _ gives.named (λ e. omega (arith, e))
 no_restore rows lacks (Restore dump new pages journal) gives = lacks dump new pages journal gives.words
 no_restore rows lacks (Journal file state) gives = other_name _ _ gives.named (λ e. omega (arith, e))
+no_restore rows lacks (Password new mock) gives = other_name _ _ gives.named (λ e. omega (arith, e))
 no_restore rows lacks (Run file script stop explain) gives = other_second _ _ gives.named (λ e. omega (arith, e))
 no_restore rows lacks (RunMemory admin script stop explain) gives = other_second _ _ gives.named (λ e. omega (arith, e))
 no_restore rows lacks (Serve file port connections idle) gives = other_name _ _ gives.named (λ e. omega (arith, e))

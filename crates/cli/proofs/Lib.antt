@@ -26,3 +26,4 @@ pub mod ScriptEnds
 pub mod UsageTold
 mod FaultMessages
 mod GivenJournals
+mod Makings

@@ -15,7 +15,7 @@ use Rattle.wire.specs.Listening.{Listening}
 use Rattle.databases.specs.declared.database.Opened.{Opened}
 use Rattle.databases.specs.Openings.{device_under, state_under}
 use Rattle.cli.specs.declared.fault.CommandFault.{CommandFault}
-use Rattle.cli.specs.declared.fault.CommandFault.TheVariants.{Exists, InUse, Memory, Device, WrongSize, NotADatabase, NewerFormat, Damaged, Full, Number, PrintedTo, Net, Partial, NoRoom, NotADump, OtherDump, DamagedDump, NoDumpRoom, ScriptUnread, ScriptNotUtf8, NoRole, StatementRefused, NotOverRows, FirstFormat, NoSwitchRoom, NoSwitchNumber, Output}
+use Rattle.cli.specs.declared.fault.CommandFault.TheVariants.{Exists, InUse, Memory, Device, WrongSize, NotADatabase, NewerFormat, Damaged, Full, Number, PrintedTo, Net, Partial, NoRoom, NotADump, OtherDump, DamagedDump, NoDumpRoom, ScriptUnread, ScriptNotUtf8, NoPassword, ManyLines, NoRole, StatementRefused, NotOverRows, FirstFormat, NoSwitchRoom, NoSwitchNumber, Output}
 use Rattle.cli.specs.Files.{ChangesDevice, IsOpenedAt}
 use Rattle.cli.specs.Migrations.{TellsMigration}
 use Rattle.cli.specs.Serving.{ChangesBoth, IsBoundBetween, IsNotBound, ServesAs, ServesAt, ServesOn}
@@ -73,6 +73,8 @@ module _ {D L X C : Type 0} (g : Ghosts D) (c : SinkGhosts C) (Reads : ReadingRe
   served_at (Err (NoDumpRoom pages)) it = absurd it
   served_at (Err (ScriptUnread cause)) it = absurd it
   served_at (Err (ScriptNotUtf8 line byte)) it = absurd it
+  served_at (Err NoPassword) it = absurd it
+  served_at (Err ManyLines) it = absurd it
   served_at (Err NoRole) it = absurd it
   served_at (Err (StatementRefused code)) it = absurd it
   served_at (Err NotOverRows) it = absurd it
@@ -149,6 +151,8 @@ module _ (X : Type 0) {D L C : Type 0} (g : Ghosts D) (c : SinkGhosts C) (Reads 
   served_so (Err (NoDumpRoom pages)) left closed closing counts it = absurd it
   served_so (Err (ScriptUnread cause)) left closed closing counts it = absurd it
   served_so (Err (ScriptNotUtf8 line byte)) left closed closing counts it = absurd it
+  served_so (Err NoPassword) left closed closing counts it = absurd it
+  served_so (Err ManyLines) left closed closing counts it = absurd it
   served_so (Err NoRole) left closed closing counts it = absurd it
   served_so (Err (StatementRefused code)) left closed closing counts it = absurd it
   served_so (Err NotOverRows) left closed closing counts it = absurd it

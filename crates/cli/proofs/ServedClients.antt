@@ -18,7 +18,7 @@ use Rattle.wire.specs.ScriptRun.{Known}
 use Rattle.databases.specs.declared.database.Opened.{Opened}
 use Rattle.databases.specs.Openings.{device_under, state_under}
 use Rattle.cli.specs.declared.fault.CommandFault.{CommandFault}
-use Rattle.cli.specs.declared.fault.CommandFault.TheVariants.{Exists, InUse, Memory, Device, WrongSize, NotADatabase, NewerFormat, Damaged, Full, Number, PrintedTo, Net, Partial, NoRoom, NotADump, OtherDump, DamagedDump, NoDumpRoom, ScriptUnread, ScriptNotUtf8, NoRole, StatementRefused, NotOverRows, FirstFormat, NoSwitchRoom, NoSwitchNumber, Output}
+use Rattle.cli.specs.declared.fault.CommandFault.TheVariants.{Exists, InUse, Memory, Device, WrongSize, NotADatabase, NewerFormat, Damaged, Full, Number, PrintedTo, Net, Partial, NoRoom, NotADump, OtherDump, DamagedDump, NoDumpRoom, ScriptUnread, ScriptNotUtf8, NoPassword, ManyLines, NoRole, StatementRefused, NotOverRows, FirstFormat, NoSwitchRoom, NoSwitchNumber, Output}
 use Rattle.cli.specs.declared.serve_clients.ManyClients.{ManyClients}
 use Rattle.cli.specs.Files.{ChangesDevice, IsOpenedAt}
 use Rattle.cli.specs.Migrations.{TellsMigration}
@@ -94,6 +94,8 @@ module _ {D L X C T P : Type 0} (g : Ghosts D) (a : AttendGhosts L C) (t : TalkG
   clients_served_at old new place bound before after ended left between (Err (NoDumpRoom pages)) it = absurd it
   clients_served_at old new place bound before after ended left between (Err (ScriptUnread cause)) it = absurd it
   clients_served_at old new place bound before after ended left between (Err (ScriptNotUtf8 line byte)) it = absurd it
+  clients_served_at old new place bound before after ended left between (Err NoPassword) it = absurd it
+  clients_served_at old new place bound before after ended left between (Err ManyLines) it = absurd it
   clients_served_at old new place bound before after ended left between (Err NoRole) it = absurd it
   clients_served_at old new place bound before after ended left between (Err (StatementRefused code)) it = absurd it
   clients_served_at old new place bound before after ended left between (Err NotOverRows) it = absurd it
@@ -176,6 +178,8 @@ module _ (X : Type 0) {D L C T P : Type 0} (g : Ghosts D) (a : AttendGhosts L C)
   clients_served_so (Err (NoDumpRoom pages)) left closed closing counts it = absurd it
   clients_served_so (Err (ScriptUnread cause)) left closed closing counts it = absurd it
   clients_served_so (Err (ScriptNotUtf8 line byte)) left closed closing counts it = absurd it
+  clients_served_so (Err NoPassword) left closed closing counts it = absurd it
+  clients_served_so (Err ManyLines) left closed closing counts it = absurd it
   clients_served_so (Err NoRole) left closed closing counts it = absurd it
   clients_served_so (Err (StatementRefused code)) left closed closing counts it = absurd it
   clients_served_so (Err NotOverRows) left closed closing counts it = absurd it

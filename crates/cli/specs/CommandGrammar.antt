@@ -55,6 +55,10 @@ restore_app = with_rule (with_rule (with_rule (with_rule (new_app (codes "restor
 abbrev pub journal_app : App
 journal_app = with_rule (with_rule (new_app (codes "journal")) (word_rule (codes "file") true)) (word_rule (codes "state") true)
 
+-- `password`, with `--new` or without, and with `--mock` or without
+abbrev pub password_app : App
+password_app = with_rule (with_rule (new_app (codes "password")) (flag_rule (codes "new"))) (flag_rule (codes "mock"))
+
 -- `explain`, with three words, with `--session LOGIN` or without, and with `--json` or without
 abbrev pub explain_app : App
 explain_app = with_rule (with_rule (with_rule (with_rule (with_rule (new_app (codes "explain")) (word_rule (codes "file") true)) (word_rule (codes "role") true)) (word_rule (codes "statement") true)) (option_rule (codes "session") false)) (flag_rule (codes "json"))
@@ -73,7 +77,7 @@ bare_app =
     }
 
 abbrev pub program_app : App
-program_app = with_subcommand (with_subcommand (with_subcommand (with_subcommand (with_subcommand (with_subcommand (with_subcommand (with_subcommand (with_subcommand (with_subcommand bare_app format_app.top) run_app.top) serve_app.top) check_app.top) describe_app.top) copy_app.top) journal_app.top) dump_app.top) restore_app.top) explain_app.top
+program_app = with_subcommand (with_subcommand (with_subcommand (with_subcommand (with_subcommand (with_subcommand (with_subcommand (with_subcommand (with_subcommand (with_subcommand (with_subcommand bare_app format_app.top) run_app.top) serve_app.top) check_app.top) describe_app.top) copy_app.top) journal_app.top) dump_app.top) restore_app.top) password_app.top) explain_app.top
 
 -- ---- a value of `clap` is such a part of it
 

@@ -23,6 +23,7 @@ use Rattle.cli.specs.declared.serve_words.CountWords.{CountWords}
 use Rattle.cli.specs.declared.served_place.Protocol.TheVariants.{Frames, Postgres}
 use Rattle.cli.specs.declared.served_place.ServedPlace.{ServedPlace}
 use Rattle.cli.specs.PlaceWords.{HasNoComma, IsFolderServed, SaysGuard, IsPortServed, IsSocketFolder, IsSocketPath, IsSocketServed, NoOptions, place_word, with_options}
+use Rattle.cli.specs.PasswordCommand.{verifier_asked}
 use Rattle.cli.specs.Refusals.{at_refusal}
 
 abbrev pub TheWord : Type 0
@@ -65,6 +66,7 @@ pub data Given : Type 0 where
   Dump : (file out : TheWord) → Given
   Restore : (dump new pages : TheWord) (journal : Bool) → Given
   Journal : (file state : TheWord) → Given
+  Password : (new mock : Bool) → Given
   Run : (file script : TheWord) (stop explain : Bool) → Given
   RunMemory : (admin script : TheWord) (stop explain : Bool) → Given
   Serve : (file port connections : TheWord) (idle : Option TheWord) → Given
@@ -80,6 +82,7 @@ command_of (Copy file new pages journal) = codes "copy"
 command_of (Dump file out) = codes "dump"
 command_of (Restore dump new pages journal) = codes "restore"
 command_of (Journal file state) = codes "journal"
+command_of (Password new mock) = codes "password"
 command_of (Run file script stop explain) = codes "run"
 command_of (RunMemory admin script stop explain) = codes "run"
 command_of (Serve file port connections idle) = codes "serve"
@@ -123,13 +126,14 @@ pub record HasCounts (rows : List Row) (counts : GivenCounts) : Type 0 where
 
 -- the words stand where the command takes them: `format`, `copy` and `restore` have `--journal` or not; `run` has two words without `--memory`, and one with it;
 -- `serve` has a port or a socket, and `--idle` or not; `describe` has a role or none, and `--json` or not;
--- `explain` has `--session` or not, and `--json` or not
+-- `explain` has `--session` or not, and `--json` or not; `password` has `--new` or not, and `--mock` or not
 abbrev pub HasWords : List Row → Given → Type 0
 HasWords rows (Format file pages admin journal) = (first_of (codes "file") rows ≡ Some file) × (first_of (codes "pages") rows ≡ Some pages) × (first_of (codes "admin") rows ≡ Some admin) × IsFlag (one_of (codes "journal") rows) journal
 HasWords rows (Copy file new pages journal) = (first_of (codes "file") rows ≡ Some file) × (first_of (codes "new") rows ≡ Some new) × (first_of (codes "pages") rows ≡ Some pages) × IsFlag (one_of (codes "journal") rows) journal
 HasWords rows (Dump file out) = (first_of (codes "file") rows ≡ Some file) × (first_of (codes "out") rows ≡ Some out)
 HasWords rows (Restore dump new pages journal) = (first_of (codes "dump") rows ≡ Some dump) × (first_of (codes "new") rows ≡ Some new) × (first_of (codes "pages") rows ≡ Some pages) × IsFlag (one_of (codes "journal") rows) journal
 HasWords rows (Journal file state) = (first_of (codes "file") rows ≡ Some file) × (first_of (codes "state") rows ≡ Some state)
+HasWords rows (Password new mock) = IsFlag (one_of (codes "new") rows) new × IsFlag (one_of (codes "mock") rows) mock
 HasWords rows (Run file script stop explain) = (first_of (codes "memory") rows ≡ None) × (first_of (codes "first") rows ≡ Some file) × (first_of (codes "second") rows ≡ Some script) × AreRunFlags rows stop explain
 HasWords rows (RunMemory admin script stop explain) = (first_of (codes "memory") rows ≡ Some admin) × (first_of (codes "first") rows ≡ Some script) × (first_of (codes "second") rows ≡ None) × AreRunFlags rows stop explain
 HasWords rows (Serve file port connections idle) = (first_of (codes "file") rows ≡ Some file) × (first_of (codes "port") rows ≡ Some port) × (first_of (codes "socket") rows ≡ None) × (first_of (codes "connections") rows ≡ Some connections) × (first_of (codes "idle") rows ≡ idle) × HasNoClients rows
@@ -221,6 +225,7 @@ IsOrdered G (order.Copy file new pages journal) = (number : TheWord) × G (Copy 
 IsOrdered G (order.Dump file out) = G (Dump file.now out.now)
 IsOrdered G (order.Restore dump new pages journal) = (number : TheWord) × G (Restore dump.now new.now number journal) × IsNumberFor Pages number pages
 IsOrdered G (order.Journal file on) = G (Journal file.now (switch_word on))
+IsOrdered G (order.Password whose) = (new mock : Bool) × G (Password new mock) × (verifier_asked new mock ≡ Some whose)
 IsOrdered G (order.Run file script on) = (stop explain : Bool) × G (Run file.now script.now stop explain) × (on ≡ at_refusal stop explain)
 IsOrdered G (order.RunMemory admin script on) = (stop explain : Bool) × G (RunMemory admin.now script.now stop explain) × (on ≡ at_refusal stop explain) × IsName admin.now
 IsOrdered G (order.Serve file port connections idle) = (number count : TheWord) × (limit : Option TheWord) × G (Serve file.now number count limit) × IsNumberFor Port number port × IsNumberFor Connections count connections × IsIdleFor limit idle
@@ -296,7 +301,7 @@ pub record IsNoSwitch (word : TheWord) : Type 0 where
   pub not_off : word ≢ codes "off"
 
 -- nothing is given that a command takes, or its name, its path, what it says of whom a place lets in, its word for on or off or one of its numbers is
--- none
+-- none; or `password` has both of its flags
 abbrev pub IsUnfit : (Given → Type 0) → UsageFault → Type 0
 IsUnfit G usage.Form = (given : Given) → G given → ⊥
 IsUnfit G usage.Serving = (given : Given) → G given → ⊥
@@ -308,6 +313,7 @@ IsUnfit G (usage.Folder folder) = (given : Given) × G given × (folder_in given
 IsUnfit G (usage.Options words) = (given : Given) × (kind : PlaceKind) × G given × (options_in given ≡ Some (kind, words.now)) × NoOptions kind words.now
 IsUnfit G (usage.Name name) = (given : Given) × G given × (name_in given ≡ Some name.now) × (IsName name.now → ⊥)
 IsUnfit G (usage.Switch word) = (given : Given) × G given × (switch_in given ≡ Some word.now) × IsNoSwitch word.now
+IsUnfit G usage.Making = G (Password true true)
 IsUnfit G _ = ⊥
 
 -- a word was given to an option, and gives it no number

@@ -29,6 +29,7 @@ pub mod Program
 pub mod Running
 pub mod Script
 pub mod JournalCommand
+pub mod PasswordCommand
 pub mod CommandNames
 pub mod ScriptNotes
 pub mod ExplainedRuns

@@ -20,7 +20,7 @@ use Rattle.cli.specs.declared.texts.TheConstants.{HELP, VERSION}
 use Rattle.cli.specs.declared.command_name.CommandName.{CommandName}
 use Rattle.cli.specs.declared.command_name.CommandName.TheVariants as command_name
 use Rattle.cli.specs.CommandNames.{usage_for}
-use Rattle.cli.specs.Usage.{name_reason, usage_reason}
+use Rattle.cli.specs.Usage.{fault_told, name_reason, usage_reason}
 use Rattle.cli.specs.declared.fault.CommandFault.{CommandFault}
 use Rattle.cli.specs.declared.opened.CommandEnd.{CommandEnd}
 use Rattle.cli.specs.Commands.{ChecksFile, RunsFile}
@@ -62,6 +62,7 @@ use Rattle.cli.specs.declared.served_place.ServedPlace.{ServedPlace}
 use Rattle.cli.specs.ServingClients.{IsDoorFor, ServesClientsFile, password_place}
 use Rattle.cli.specs.Script.{IsReadAt, Source, ill_encoded}
 use Rattle.cli.specs.JournalCommand.{Switches}
+use Rattle.cli.specs.PasswordCommand.{MakesVerifier}
 
 -- ---- faults of usage
 
@@ -72,7 +73,7 @@ usage_message usage reason = codes "error: " ++ (reason ++ (codes "\n\nUsage: " 
 -- what standard error is told of a fault of usage of a command; refused memory is told as elsewhere
 abbrev pub usage_text : Option CommandName → UsageFault → Option (List ℕ)
 usage_text command usage.Memory = Some (name_message fault.Memory)
-usage_text command u = option_map (usage_message (usage_for command)) (usage_reason u)
+usage_text command u = option_map (usage_message (usage_for command)) (usage_reason (fault_told command u))
 
 abbrev pub usage_status : UsageFault → ℕ
 usage_status usage.Memory = fault_status
@@ -276,7 +277,7 @@ pub record ServesManyAt (X : Type 0) {D L C T P U Q V W M N : Type 0} (g : Ghost
 -- `X` decides events, `g` is what is said of the devices of files, `k` of the sink that takes answers, `c` of the sinks of connections,
 -- `listening` of listeners, `a` of those that are polled, `t` of conversations in frames, `p` of clients that come to such a listener and have them, `u` and `q` the same of
 -- PostgreSQL's protocol, `v` and `w` of frames that ask for passwords, `m` and `n` of PostgreSQL's protocol that does, and `state` of systems. The script that was named was run over the database that was named, or why not was told; a
--- database in a file was made, copied, checked, described or served, a statement over it was explained, or its journal was turned on or off; or a text was printed
+-- database in a file was made, copied, checked, described or served, a statement over it was explained, or its journal was turned on or off; a verifier was made; or a text was printed
 module _ (X : Type 0) {D L K C S H T P U Q V W M N : Type 0} (g : Ghosts D) (k : SinkGhosts K) (c : SinkGhosts C) (a : AttendGhosts L H) (t : TalkGhosts (DoorTalk T)) (p : ClientsGhosts P (DoorTalk T)) (u : TalkGhosts (DoorTalk U)) (q : ClientsGhosts Q (DoorTalk U)) (v : TalkGhosts (PasswordTalk V)) (w : ClientsGhosts W (PasswordTalk V)) (m : TalkGhosts (PostgresLoginTalk M)) (n : ClientsGhosts N (PostgresLoginTalk M)) (Reads : ReadingRelation) (listening : L → Option Listening) (state : S → SystemState D L) (old : SystemState D L) where
   abbrev pub IsPerformed : Invocation → Exit → SystemState D L → K → K → Known → Known → Type 0
   IsPerformed (order.Format file pages admin journal) exit new out_before out_after err_before err_after =
@@ -289,6 +290,8 @@ module _ (X : Type 0) {D L K C S H T P U Q V W M N : Type 0} (g : Ghosts D) (k :
       Restores g state old dump target pages journal exit new (k.held out_before) (k.held out_after) err_before err_after
   IsPerformed (order.Journal file on) exit new out_before out_after err_before err_after =
       Switches g old file on exit new (k.held out_before) (k.held out_after) err_before err_after
+  IsPerformed (order.Password whose) exit new out_before out_after err_before err_after =
+      MakesVerifier old whose exit new (k.held out_before) (k.held out_after) err_before err_after
   IsPerformed (order.Run file script on) exit new out_before out_after err_before err_after =
       RunsOver X g k Reads old (subject.Named file) file.now (subject.Named script) script.now exit new out_before out_after err_before err_after
   IsPerformed (order.RunMemory admin script on) exit new out_before out_after err_before err_after =

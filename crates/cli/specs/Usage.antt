@@ -2,6 +2,9 @@
 use Rattle.std.specs.Prelude.{◌++◌, ℕ, List, codes, Option, Some, None}
 use Rattle.cli.specs.declared.command.UsageFault.{UsageFault}
 use Rattle.cli.specs.declared.command.UsageFault.TheVariants as usage
+use Rattle.cli.specs.declared.command_name.CommandName.{CommandName}
+use Rattle.cli.specs.declared.command_name.CommandName.TheVariants.{Password}
+use Rattle.clap.specs.declared.error.Error.{Error}
 use Rattle.cli.specs.declared.number.NumberOption.{NumberOption}
 use Rattle.cli.specs.Numbers.{number_rule}
 
@@ -42,5 +45,15 @@ usage_reason (usage.Folder folder) = Some (folder_reason folder.now)
 usage_reason (usage.Options words) = Some (options_reason words.now)
 usage_reason (usage.Name name) = Some (name_reason name.now)
 usage_reason (usage.Switch word) = Some (switch_reason word.now)
+usage_reason usage.Making = Some (codes "password takes --new, or --mock, or neither; a password stands on standard input alone")
 usage_reason usage.Encoding = Some (codes "a word is not UTF-8")
 usage_reason usage.Memory = Some (codes "memory was refused")
+
+-- the fault that is told: of the words after `password`, which may have a password among them, none is
+abbrev pub mistake_told : Option CommandName → Error → UsageFault
+mistake_told (Some Password) e = usage.Making
+mistake_told command e = usage.Grammar e
+
+abbrev pub fault_told : Option CommandName → UsageFault → UsageFault
+fault_told command (usage.Grammar e) = mistake_told command e
+fault_told command u = u

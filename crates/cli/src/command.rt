@@ -14,6 +14,7 @@ use crate::explain_command::AskedStatement;
 use crate::explain_words::read_explain;
 use crate::grammar::program_command;
 use crate::number::NumberOption;
+use crate::password_words::{VerifierOf, read_password};
 use crate::refusals::{OnRefusal, at_refusal};
 use crate::serve_clients::ManyClients;
 use crate::serve_words::read_serve;
@@ -62,6 +63,11 @@ pub enum Invocation<'a> {
     Journal {
         file: &'a str,
         on: bool,
+    },
+    /// `password`: prints the verifier of the password that stands on standard input, with `--new` a password
+    /// that is drawn and its verifier, and with `--mock` a verifier of nobody's password.
+    Password {
+        whose: VerifierOf,
     },
     /// `run FILE SCRIPT`: runs the file SCRIPT over the database in FILE. With `--explain` refusals are told
     /// of, and with `--stop` it ends at the first.
@@ -157,6 +163,8 @@ pub enum UsageFault<'a> {
     Name(&'a str),
     /// The word after FILE of `journal` is neither `on` nor `off`.
     Switch(&'a str),
+    /// The words after `password` are more than one of `--new` and `--mock`.
+    Making,
     /// A word is not UTF-8.
     Encoding,
     /// Memory was refused.
@@ -213,6 +221,10 @@ impl fmt::Display for UsageFault<'_> {
             UsageFault::Switch(word) => {
                 write!(f, "journal takes FILE on, or FILE off, not '{word}'")
             }
+            UsageFault::Making => write!(
+                f,
+                "password takes --new, or --mock, or neither; a password stands on standard input alone"
+            ),
             UsageFault::Encoding => write!(f, "a word is not UTF-8"),
             UsageFault::Memory => write!(f, "memory was refused"),
         }
@@ -220,9 +232,9 @@ impl fmt::Display for UsageFault<'_> {
 }
 
 /// The order that the words after the program's name give, as `clap` reads them: one of the commands
-/// `format`, `copy`, `dump`, `restore`, `journal`, `run`, `serve`, `check`, `describe` and `explain` with its words and options, each
-/// given once; or a flag for help or the version. Words that give none are refused: by `Grammar`, `Form`, `Serving`,
-/// `ServingClients`, `ServingAt`, `Number`, `Path`, `Folder`, `Options`, `Name` or `Switch`.
+/// `format`, `copy`, `dump`, `restore`, `journal`, `password`, `run`, `serve`, `check`, `describe` and `explain` with its words and
+/// options, each given once; or a flag for help or the version. Words that give none are refused: by `Grammar`, `Form`, `Serving`,
+/// `ServingClients`, `ServingAt`, `Number`, `Path`, `Folder`, `Options`, `Name`, `Switch` or `Making`.
 /// `Memory` may come of any words.
 pub fn read_command<'a>(
     alloc: Global,
@@ -267,6 +279,7 @@ fn read_given<'a>(name: &str, given: &ArgMatches<'a>) -> Result<Invocation<'a>, 
         "dump" => read_dump(given),
         "restore" => read_restore(given),
         "journal" => read_journal(given),
+        "password" => read_password(given),
         "run" => read_run(given),
         "serve" => read_serve(given),
         "check" => read_check(given),

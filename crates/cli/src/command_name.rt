@@ -6,7 +6,7 @@ ghost use Rattle.cli.specs.declared.command_name.CommandName.{CommandName as The
 
 use crate::texts::{
     CHECK_USAGE, COPY_USAGE, DESCRIBE_USAGE, DUMP_USAGE, EXPLAIN_USAGE, FORMAT_USAGE,
-    JOURNAL_USAGE, RESTORE_USAGE, RUN_USAGE, SERVE_USAGE, USAGE,
+    JOURNAL_USAGE, PASSWORD_USAGE, RESTORE_USAGE, RUN_USAGE, SERVE_USAGE, USAGE,
 };
 
 /// A command of the program.
@@ -17,6 +17,7 @@ pub enum CommandName {
     Dump,
     Restore,
     Journal,
+    Password,
     Run,
     Serve,
     Check,
@@ -35,6 +36,7 @@ pub fn command_named(name: &str) -> Option<CommandName>
         "dump" => Some(CommandName::Dump),
         "restore" => Some(CommandName::Restore),
         "journal" => Some(CommandName::Journal),
+        "password" => Some(CommandName::Password),
         "run" => Some(CommandName::Run),
         "serve" => Some(CommandName::Serve),
         "check" => Some(CommandName::Check),
@@ -54,6 +56,7 @@ pub(crate) fn usage_of(command: Option<CommandName>) -> &'static str
         Some(CommandName::Dump) => DUMP_USAGE,
         Some(CommandName::Restore) => RESTORE_USAGE,
         Some(CommandName::Journal) => JOURNAL_USAGE,
+        Some(CommandName::Password) => PASSWORD_USAGE,
         Some(CommandName::Run) => RUN_USAGE,
         Some(CommandName::Serve) => SERVE_USAGE,
         Some(CommandName::Check) => CHECK_USAGE,

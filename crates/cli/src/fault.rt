@@ -57,6 +57,10 @@ pub enum CommandFault {
     ScriptUnread(SystemCause),
     /// The script is not UTF-8 from this byte of this line on, both counted from 1.
     ScriptNotUtf8 { line: usize, byte: usize },
+    /// No password stands on standard input, in one line.
+    NoPassword,
+    /// Standard input has more than one line, and a password is asked for.
+    ManyLines,
     /// The database has no role of the name that was asked for.
     NoRole,
     /// The statement that is to be explained is refused before it reads a row, with this code.
@@ -98,6 +102,7 @@ impl fmt::Display for CommandFault {
             CommandFault::Net(_) => write!(f, "Net"),
             CommandFault::ScriptUnread(_) => write!(f, "Script"),
             CommandFault::ScriptNotUtf8 { line: _, byte: _ } => write!(f, "Script"),
+            CommandFault::NoPassword | CommandFault::ManyLines => write!(f, "Password"),
             CommandFault::NoRole => write!(f, "NoRole"),
             CommandFault::StatementRefused(_) | CommandFault::NotOverRows => write!(f, "Statement"),
             CommandFault::FirstFormat => write!(f, "Format"),
@@ -181,6 +186,11 @@ impl fmt::Display for Reason {
             CommandFault::ScriptNotUtf8 { line, byte } => {
                 write!(f, "line {line}, byte {byte}: not UTF-8")
             }
+            CommandFault::NoPassword => write!(
+                f,
+                "a password has 1 to 1,024 characters of ASCII, from the space to the tilde"
+            ),
+            CommandFault::ManyLines => write!(f, "it has more than the line of a password"),
             CommandFault::NoRole => write!(f, "no role of the database has this name"),
             CommandFault::StatementRefused(state) => {
                 let (code, meaning) = (state.code(), refusal_meaning(state));

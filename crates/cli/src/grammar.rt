@@ -5,6 +5,7 @@ ghost use Rattle.clap.specs.Words.{new_app};
 ghost use Rattle.cli.specs.CommandGrammar.{HasBelow, IsArg, IsCommand, word_rule, option_rule, format_app, copy_app, journal_app, run_app, serve_app, check_app, describe_app, explain_app, flag_rule, bare_app, program_app};
 
 use crate::dump_words::{dump_command, restore_command};
+use crate::password_words::password_command;
 use crate::texts::{USAGE, VERSION_NUMBER};
 use clap::{Arg, ArgAction, Command};
 use std::alloc::{AllocError, Global};
@@ -22,6 +23,7 @@ pub(crate) fn program_command<'a>(alloc: Global) -> Result<Command<'a>, AllocErr
     let command = with_below(command, journal_command(alloc))?;
     let command = with_below(command, dump_command(alloc))?;
     let command = with_below(command, restore_command(alloc))?;
+    let command = with_below(command, password_command(alloc))?;
     with_below(command, explain_command(alloc))
 }
 

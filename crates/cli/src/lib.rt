@@ -29,6 +29,8 @@ pub mod in_memory;
 mod journal_command;
 pub mod number;
 mod opened;
+pub mod password_command;
+pub mod password_words;
 mod place_options;
 pub mod place_words;
 mod printing;

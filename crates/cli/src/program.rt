@@ -18,6 +18,7 @@ use crate::file_restores::check_as_dump;
 use crate::format::format_file;
 use crate::journal_command::switch;
 use crate::opened::CommandEnd;
+use crate::password_command::make_verifier;
 use crate::printing::{print_for, print_text};
 use crate::run::check_file;
 use crate::runs::{run_over_file, run_read_in_memory};
@@ -76,6 +77,9 @@ const CHECKED: &str = "ok CHECK\n";
 /// `journal` gives a database a journal or takes it away, and the database stays the same at every
 /// moment. A file of format 1 cannot have one: the fault is `FirstFormat`.
 ///
+/// `password` opens no file: it reads standard input, and prints a verifier of a password. Where none stands there the fault is
+/// `NoPassword` or `ManyLines`.
+///
 /// `describe` writes nothing to the file. Where the database has no role of the name that is asked
 /// for, the fault is `NoRole`. So it is of `explain`, which writes nothing either; where the statement is
 /// refused before it reads a row, or is none over rows, the fault is `Statement`.
@@ -127,6 +131,7 @@ pub fn perform<'a, Y: System, X: EventHandler + Drop, K: TakesText, E: Write>(
             journal,
         } => restore(system, alloc, *dump, *new, *pages, *journal, out, err),
         Invocation::Journal { file, on } => switch(system, alloc, *file, *on, out, err),
+        Invocation::Password { whose } => make_verifier(system, alloc, *whose, out, err),
         Invocation::Run {
             file,
             script,

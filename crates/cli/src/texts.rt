@@ -16,6 +16,7 @@ pub const USAGE: &str = "guarddb format FILE --pages N --admin NAME [--journal]
        guarddb dump FILE OUT
        guarddb restore DUMP NEW --pages N [--journal]
        guarddb journal FILE on|off
+       guarddb password [--new|--mock]
        guarddb < SCRIPT";
 
 /// How `format` is called.
@@ -32,6 +33,9 @@ pub const RESTORE_USAGE: &str = "guarddb restore DUMP NEW --pages N [--journal]"
 
 /// How `journal` is called.
 pub const JOURNAL_USAGE: &str = "guarddb journal FILE on|off";
+
+/// How `password` is called.
+pub const PASSWORD_USAGE: &str = "guarddb password [--new|--mock]";
 
 /// How `run` is called.
 pub const RUN_USAGE: &str = "guarddb run FILE SCRIPT [--stop|--explain]
@@ -71,6 +75,7 @@ Usage: guarddb format FILE --pages N --admin NAME [--journal]
        guarddb dump FILE OUT
        guarddb restore DUMP NEW --pages N [--journal]
        guarddb journal FILE on|off
+       guarddb password [--new|--mock]
        guarddb < SCRIPT
 
 Commands:
@@ -154,6 +159,12 @@ Commands:
           Gives the database in FILE a journal, or takes its journal away: the database stays
           the same. With a journal small commits are quicker, and no older guarddb opens FILE
           Example: guarddb journal shop.db on
+  password [--new|--mock]
+          Prints the verifier of the password that stands on standard input, in one line of 1 to
+          1,024 characters of ASCII, from the space to the tilde: a table of passwords keeps it,
+          as serve --at says. With --new draws a password, and prints it and its verifier. With
+          --mock prints a verifier that nobody has the password of
+          Example: guarddb password < password.txt
   (none)  Runs the script on standard input over an empty database in memory, whose one
           role is the superuser root
           Example: printf 'open s root\\ns: SELECT 1 + 2\\n' | guarddb

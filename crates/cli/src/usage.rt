@@ -5,7 +5,7 @@ ghost use Rattle.std.specs.Io.KnownBytes.{Appends};
 ghost use Rattle.std.specs.IoError.{error_kind};
 ghost use Rattle.std.specs.declared.io.ErrorKind.TheVariants.{OutOfMemory};
 ghost use Rattle.sector_device.specs.SystemCause.{cause_of};
-ghost use Rattle.cli.specs.Usage.{usage_reason};
+ghost use Rattle.cli.specs.Usage.{fault_told, mistake_told, usage_reason};
 ghost use Rattle.cli.specs.Ending.{Exits, HasTold};
 ghost use Rattle.cli.specs.CommandNames.{usage_for};
 ghost use Rattle.cli.specs.Program.{usage_message, usage_status, usage_text};
@@ -14,6 +14,7 @@ use crate::command::UsageFault;
 use crate::command_name::{CommandName, usage_of};
 use crate::ending::{Ending, Exit, Subject, exit_with};
 use crate::fault::CommandFault;
+use clap::error::Error;
 use sector_device::SystemCause;
 use std::io;
 use std::io::Write;
@@ -41,8 +42,8 @@ pub fn report_fault<E: Write>(error: &io::Error, about: Subject<'_>, err: &mut E
 }
 
 /// Tells on `err` what is wrong with the words and how the command is called that they begin with, or the
-/// program where they begin with none; the exit status is 2. Where memory was refused that is told in its
-/// place; the status is 1.
+/// program where they begin with none; the exit status is 2. Of words after `password` none is told, since a
+/// password may be among them. Where memory was refused that is told in its place; the status is 1.
 pub fn report_usage<E: Write>(
     fault: UsageFault<'_>,
     command: Option<CommandName>,
@@ -56,9 +57,30 @@ pub fn report_usage<E: Write>(
         let about = Subject::Named("the command line");
         return exit_with(Ending::Fault(CommandFault::Memory), about, err);
     }
+    let told = fault_told(command, fault);
     Exit {
         status: 2,
-        told: write_usage(&fault, usage_of(command), err).is_ok(),
+        told: write_usage(&told, usage_of(command), err).is_ok(),
+    }
+}
+
+// The fault that is told.
+fn fault_told(command: Option<CommandName>, fault: UsageFault<'_>) -> UsageFault<'_>
+    ensures { result ≡ fault_told command fault.entry }
+{
+    match fault {
+        UsageFault::Grammar(error) => mistake_told(command, error),
+        fault => fault,
+    }
+}
+
+// The fault that is told where words do not fit the grammar.
+fn mistake_told<'a>(command: Option<CommandName>, error: Error) -> UsageFault<'a>
+    ensures { result ≡ mistake_told command error }
+{
+    match command {
+        Some(CommandName::Password) => UsageFault::Making,
+        _ => UsageFault::Grammar(error),
     }
 }
 

@@ -182,6 +182,7 @@ fn are_told_to_database(system: &RealSystem<'_, HostRuntime>, order: &Invocation
             script: _,
             on_refusal: _,
         }
+        | Invocation::Password { whose: _ }
         | Invocation::Help
         | Invocation::Version => false,
     }

@@ -1,5 +1,5 @@
 -- The system of a machine: no contract knows what it does, so it is called faithful by none.
-use Rattle.std.specs.Prelude.{ℕ, None, false}
+use Rattle.std.specs.Prelude.{ℕ, [], None, false}
 use Rattle.systems.specs.Systems.{SystemState, Absent}
 
 -- of what it names nothing is said
@@ -11,5 +11,7 @@ unsaid failures = record {
   is_named = λ path. false;
   left = λ path device. ⊥;
   listeners = λ place. Absent;
+  input = [];
+  draws = λ n. [];
   failures = failures;
 }

@@ -8,7 +8,7 @@ use crate::new_files::{is_there, make_file, remove_name, rename_new};
 use crate::progress::PrintedProgress;
 use crate::real_listener::RealListener;
 use crate::socket::remove_made;
-use crate::streams::{Outputs, StandardStreams};
+use crate::streams::{Outputs, StandardStreams, read_up_to};
 use polled_sockets::listeners::PolledStream;
 use polled_sockets::streams::SocketChannel;
 use sector_device::{FileDevice, FileFault, SystemCause, SystemFile, WriteProtected};
@@ -19,7 +19,9 @@ use std::random::RandomSource;
 use std::rt::Files;
 use std::time::{Clock, Duration};
 use std::{fs, io};
-use systems::{Access, ListenPlace, OpenPathFault, SocketAccess, System, TextFault};
+use systems::{
+    Access, Draw, InputFault, ListenPlace, OpenPathFault, SocketAccess, System, TextFault,
+};
 use wire::system_listener::SystemListener;
 
 /// The files, the ports and the sockets of a machine. No contract can know what they do, so none
@@ -65,6 +67,7 @@ impl<
     'r,
     R: Files<File = File>
         + Net<Listener = TcpListener, Stream = TcpStream>
+        + Input
         + Eprint
         + Clock
         + RandomSource
@@ -107,6 +110,29 @@ impl<
                     Err(TextFault::Device(SystemCause::of(&error)))
                 }
             },
+        }
+    }
+
+    fn read_input(&mut self, alloc: Global, most: u64) -> Result<Vec<u8>, InputFault> {
+        match read_up_to(alloc, self.rt.reader(), most) {
+            Ok(read) => Ok(read),
+            Err(error) => match error.kind() {
+                io::ErrorKind::OutOfMemory => Err(InputFault::Memory),
+                _ => {
+                    self.failures = self.failures.saturating_add(1);
+                    Err(InputFault::Device(SystemCause::of(&error)))
+                }
+            },
+        }
+    }
+
+    fn draw(&mut self) -> Option<[u8; 32]> {
+        match SystemDraw::begin(self.rt).draw() {
+            Some(drawn) => Some(drawn),
+            None => {
+                self.failures = self.failures.saturating_add(1);
+                None
+            }
         }
     }
 

@@ -1,6 +1,7 @@
 //! Connections of the system, and what stands for standard streams that are closed.
 
 use crate::file_id::{FileId, plain_file_behind};
+use std::alloc::Global;
 use std::fs::{File, Metadata};
 use std::io;
 use std::io::{Read, Write};
@@ -64,6 +65,17 @@ impl StandardStreams {
             _third: File::open(rt, NULL_DEVICE)?,
         })
     }
+}
+
+/// The bytes that a reader gives up to its end, so many of them at most.
+pub(crate) fn read_up_to<S: Read + Drop>(
+    alloc: Global,
+    reader: S,
+    most: u64,
+) -> io::Result<Vec<u8>> {
+    let mut read = Vec::new(alloc);
+    reader.take(most).read_to_end(&mut read)?;
+    Ok(read)
 }
 
 /// The names under which the system has what standard output and standard error go to.

@@ -1,5 +1,5 @@
 -- A system in memory, as its callers see it.
-use Rattle.std.specs.Prelude.{◌==◌, ◌≡◌, if◌then◌else◌, ℕ, List, Option, Some, None}
+use Rattle.std.specs.Prelude.{◌==◌, ◌≡◌, if◌then◌else◌, ℕ, List, [], replicate, Option, Some, None}
 use Rattle.systems.specs.declared.entries.NamedContent.{NamedContent}
 use Rattle.systems.specs.declared.listener.MemListener.{MemListener}
 use Rattle.systems.specs.Places.{ThePlace, ThePort, TheSocket}
@@ -25,7 +25,7 @@ LeavesThere Open device = ⊥
 LeavesThere Reading device = ⊥
 LeavesThere Taken device = ⊥
 
--- what its entries name, with a listener at a port
+-- what its entries name, with a listener at a port; nothing is on its standard input, and it draws zeros
 abbrev pub memory_state : {D : Type 0} → List (NamedContent D) → ℕ → Option MemListener → ℕ → SystemState D MemListener
 memory_state entries port listener failures = record {
   faithful = Unit {0};
@@ -34,5 +34,7 @@ memory_state entries port listener failures = record {
   is_named = λ path. is_something (content_of entries path);
   left = λ path device. LeavesThere (device_in (content_of entries path)) device;
   listeners = listener_at port listener;
+  input = [];
+  draws = λ n. replicate 32 0;
   failures = failures;
 }

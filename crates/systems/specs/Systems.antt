@@ -1,5 +1,5 @@
 -- What a system is to a program: what its paths and its places name.
-use Rattle.std.specs.Prelude.{◌≡◌, ◌≢◌, ◌<◌, ◌⊎◌, ◌*◌, ◌^◌, ◌-◌, ℕ, Bool, true, false, List, replicate, Option, Some}
+use Rattle.std.specs.Prelude.{◌≡◌, ◌≢◌, ◌<◌, ◌⊎◌, ◌+◌, ◌*◌, ◌^◌, ◌-◌, ℕ, Bool, true, false, List, replicate, Option, Some}
 use Rattle.storage_sizes.specs.Sizes.{sector_size}
 use Rattle.sector_device.specs.Device.{DeviceState}
 use Rattle.systems.specs.declared.access.Access.{Access}
@@ -31,6 +31,10 @@ pub record SystemState (D L : Type 0) : Type 1 where
   pub left : List ℕ → D → Type 0
   -- the listener of each place
   pub listeners : ThePlace → At L
+  -- what stands on standard input, from here to its end
+  pub input : List ℕ
+  -- what it draws from now on, one draw after the other
+  pub draws : ℕ → List ℕ
   -- how often a call of it has failed, up to 2 ^ 64 - 1
   pub failures : ℕ
 
@@ -156,6 +160,17 @@ LeavesAll old new = (path : List ℕ) → LeavesNoMore path old new
 -- at no path but this one
 abbrev pub LeavesOthers : {D L : Type 0} → List ℕ → SystemState D L → SystemState D L → Type 0
 LeavesOthers changed old new = (path : List ℕ) → path ≢ changed → LeavesNoMore path old new
+
+-- ---- what is drawn
+
+-- these bytes were drawn, which came next; those behind them come next now
+pub record Draws {D L : Type 0} (old new : SystemState D L) (drawn : List ℕ) : Type 0 where
+  pub next : drawn ≡ old.draws 0
+  pub rest : (n : ℕ) → new.draws n ≡ old.draws (n + 1)
+
+-- none were: the same come next
+abbrev pub DrawsNone : {D L : Type 0} → SystemState D L → SystemState D L → Type 0
+DrawsNone old new = (n : ℕ) → new.draws n ≡ old.draws n
 
 -- ---- new devices
 

@@ -17,6 +17,17 @@ pub enum TextFault {
     Device(SystemCause),
 }
 
+/// Why standard input was not read.
+#[derive(Clone, Copy, Debug, PartialEq, Eq, Error)]
+pub enum InputFault {
+    /// An allocation failed.
+    #[error("out of memory")]
+    Memory,
+    /// The system refused, or failed, for this cause.
+    #[error("the system failed")]
+    Device(SystemCause),
+}
+
 /// Why a device was not opened.
 #[derive(Clone, Copy, Debug, PartialEq, Eq, Error)]
 pub enum OpenPathFault {

@@ -14,7 +14,7 @@ mod system;
 pub use access::Access;
 pub use draw::{Draw, ZeroDraw};
 pub use entries::{Content, NamedContent};
-pub use fault::{OpenPathFault, TextFault};
+pub use fault::{InputFault, OpenPathFault, TextFault};
 pub use listener::{MemListener, MemReader};
 pub use memory::{MemSystem, memory_is_faithful};
 pub use place::{ListenPlace, SocketAccess};

@@ -8,7 +8,7 @@ use crate::draw::ZeroDraw;
 use crate::entries::{
     Content, NamedContent, add, add_removed, exchange, find_content, is_named, is_open, rename_open,
 };
-use crate::fault::{OpenPathFault, TextFault};
+use crate::fault::{InputFault, OpenPathFault, TextFault};
 use crate::listener::MemListener;
 use crate::place::{ListenPlace, SocketAccess};
 use crate::system::System;
@@ -19,7 +19,8 @@ use std::time::Duration;
 
 /// What its entries name, the first of each name, and a listener at a port. Somebody else listens at
 /// every other place. Its calls fail where a text is asked for that is a device, and where a place is
-/// asked for that is not free; these failures are counted.
+/// asked for that is not free; these failures are counted. Its standard input is empty, and it draws
+/// zeros, which everybody foretells.
 ///
 /// It is a `System` of devices that keep their history and have room for a journal.
 #[derive(Drop)]
@@ -104,6 +105,14 @@ impl System for MemSystem<WriteProtected<HistoryDevice>> {
                 Err(TextFault::Device(SystemCause::Other))
             }
         }
+    }
+
+    fn read_input(&mut self, alloc: Global, _most: u64) -> Result<Vec<u8>, InputFault> {
+        Ok(Vec::new(alloc))
+    }
+
+    fn draw(&mut self) -> Option<[u8; 32]> {
+        Some([0; 32])
     }
 
     fn has_name(&mut self, path: &str) -> Result<bool, SystemCause> {

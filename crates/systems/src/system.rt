@@ -1,13 +1,13 @@
 //! What names the files and the places of a program: those of a machine, or a few in memory.
 
-ghost use Rattle.std.specs.Prelude.{◌≡◌, ◌≢◌, None, ◌≤◌, ◌*◌, ℕ, List, IfOk, IfErr, OnOk, OnErr};
+ghost use Rattle.std.specs.Prelude.{◌≡◌, ◌≢◌, None, ◌≤◌, ◌*◌, ℕ, List, IfOk, IfErr, IfSome, OnOk, OnErr, take};
 ghost use Rattle.channels.specs.Channels.{KeepsAll};
 ghost use Rattle.systems.specs.Places.{ThePlace, the_place, IsOfKind, IsBoundFor};
-ghost use Rattle.systems.specs.Systems.{At, Absent, SystemState, HasDevice, IsHeldFrom, IsOpen, IsOpenFor, IsReadable, IsReading, MayOpen, IsNamed, IsUnnamed, HasText, Hears, IsBound, Rose, IsSame, IsSameBut, IsSameButAt, IsSameButBoth, HoldsZeros, LeavesAll, LeavesAlso, LeavesNoMore, LeavesOthers};
+ghost use Rattle.systems.specs.Systems.{At, Absent, SystemState, HasDevice, IsHeldFrom, IsOpen, IsOpenFor, IsReadable, IsReading, MayOpen, IsNamed, IsUnnamed, HasText, Hears, IsBound, Rose, IsSame, IsSameBut, IsSameButAt, IsSameButBoth, Draws, DrawsNone, HoldsZeros, LeavesAll, LeavesAlso, LeavesNoMore, LeavesOthers};
 
 use crate::access::Access;
 use crate::draw::Draw;
-use crate::fault::{OpenPathFault, TextFault};
+use crate::fault::{InputFault, OpenPathFault, TextFault};
 use crate::place::{ListenPlace, SocketAccess};
 use channels::attend::Attend;
 use channels::channel::Channel;
@@ -64,6 +64,29 @@ pub trait System {
             (λ fault. fault ≡ TextFault.Missing → IsUnnamed (state self.old) path.now) }
         ensures cause { IfErr result (λ fault. fault ≢ TextFault.Missing
             → fault ≢ TextFault.Memory → Rose (state self.old).failures (state self.new).failures) }
+        ensures same { (state self.old).faithful → IsSame (state self.old) (state self.new) }
+        ensures left { (state self.old).faithful → LeavesAll (state self.old) (state self.new) };
+
+    /// Reads the bytes that stand on standard input, so many of them at most.
+    ///
+    /// `Memory`: an allocation failed. `Device`: the system does not read it.
+    fn read_input(&mut self, alloc: Global, most: u64) -> Result<Vec<u8>, InputFault>
+        ensures counts { (state self.old).failures ≤ (state self.new).failures }
+        ensures read { (state self.old).faithful
+            → IfOk result (λ read. read.items ≡ take most (state self.old).input) }
+        ensures cause { IfErr result (λ fault. fault ≢ InputFault.Memory
+            → Rose (state self.old).failures (state self.new).failures) }
+        ensures same { (state self.old).faithful → IsSame (state self.old) (state self.new) }
+        ensures draws { (state self.old).faithful → DrawsNone (state self.old) (state self.new) }
+        ensures left { (state self.old).faithful → LeavesAll (state self.old) (state self.new) };
+
+    /// 32 bytes, drawn anew, which are not known before. That nobody foretells them, and that they do not come
+    /// again, no contract can say. `None`: the system draws none.
+    fn draw(&mut self) -> Option<[u8; 32]>
+        ensures counts { (state self.old).failures ≤ (state self.new).failures }
+        ensures drawn { (state self.old).faithful
+            → IfSome result (λ drawn. Draws (state self.old) (state self.new) drawn) }
+        ensures cause { result ≡ None → Rose (state self.old).failures (state self.new).failures }
         ensures same { (state self.old).faithful → IsSame (state self.old) (state self.new) }
         ensures left { (state self.old).faithful → LeavesAll (state self.old) (state self.new) };
 

@@ -1,6 +1,6 @@
 use Rattle.std.proofs.lemmas.Result.{IfOk-weaker}
 use Rattle.clap.specs.Words.{with_subcommand}
-use Rattle.cli.specs.CommandGrammar.{IsCommand, bare_app, format_app, run_app, serve_app, check_app, copy_app, describe_app, explain_app, journal_app, dump_app, restore_app}
+use Rattle.cli.specs.CommandGrammar.{IsCommand, bare_app, format_app, run_app, serve_app, check_app, copy_app, describe_app, explain_app, journal_app, dump_app, restore_app, password_app}
 use Rattle.cli.proofs.BuiltCommands.{with_one_below}
 use Rattle.cli.proofs.grammar.program_command.Goals as goal
 
@@ -24,4 +24,6 @@ returns c =
     let dumps : IsCommand (with_subcommand eight dump_app.top) c.in_ok-command-8.command = with_one_below eight dump_app c.in_ok-command-7.command c.dump_command.result c.in_ok-command-8.command journals c.dump_command.ensures c.in_ok-command-8.ensures in
     let nine = with_subcommand eight dump_app.top in
     let restores : IsCommand (with_subcommand nine restore_app.top) c.in_ok-command-9.command = with_one_below nine restore_app c.in_ok-command-8.command c.restore_command.result c.in_ok-command-9.command dumps c.restore_command.ensures c.in_ok-command-9.ensures in
-    IfOk-weaker c.with_below-10.result _ _ (λ command h. with_one_below (with_subcommand nine restore_app.top) explain_app c.in_ok-command-9.command c.explain_command.result command restores c.explain_command.ensures h) c.with_below-10.ensures
+    let ten = with_subcommand nine restore_app.top in
+    let passwords : IsCommand (with_subcommand ten password_app.top) c.in_ok-command-10.command = with_one_below ten password_app c.in_ok-command-9.command c.password_command.result c.in_ok-command-10.command restores c.password_command.ensures c.in_ok-command-10.ensures in
+    IfOk-weaker c.with_below-11.result _ _ (λ command h. with_one_below (with_subcommand ten password_app.top) explain_app c.in_ok-command-10.command c.explain_command.result command passwords c.explain_command.ensures h) c.with_below-11.ensures

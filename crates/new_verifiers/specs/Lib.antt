@@ -1,0 +1,2 @@
+pub mod PasswordLines
+pub mod Passwords
