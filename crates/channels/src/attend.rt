@@ -22,7 +22,8 @@ pub enum Taken<C> {
 
 /// Who comes to a server, and a hint who of those that came may have something to do.
 ///
-/// Clients are numbered in the order of their coming. Of the hint nothing is promised.
+/// Clients are numbered in the order of their coming, and the places where they may come from 0 on. Of
+/// the hint nothing is promised.
 pub trait Attend<C: Channel> {
     /// The bytes that the client of each number sends, where an impl names them.
     ghost coming: { Self → ℕ → Option (List ℕ) };
@@ -30,14 +31,21 @@ pub trait Attend<C: Channel> {
     /// The bytes that had gone out to each client that was let go, where an impl names them.
     ghost closed: { Self → ℕ → Option (List ℕ) };
 
-    /// Takes the connection that comes next, of the client of this number.
-    fn take(&mut self, client: u32) -> Taken<C>
-        ensures came { HasCome C.Channel (coming self.old client) result }
+    /// A place where the client of this number may come, another each time where several have somebody.
+    /// `None`: nobody comes for now. Nothing is promised of it.
+    fn place(&mut self, client: u32) -> Option<usize>
         ensures coming { KeepsAll (coming self.old) (coming self.new) }
         ensures closed { KeepsAll (closed self.old) (closed self.new) };
 
-    /// Tells the connection that comes next these bytes, and closes it: it is no client.
-    fn turn_away(&mut self, bytes: &[u8]) -> Taken<()>
+    /// Takes the connection that comes next at a place, of the client of this number. `Nobody`: none has
+    /// come there.
+    fn take(&mut self, client: u32, place: usize) -> Taken<C>
+        ensures came { HasCome C.Channel (coming self.old client) place result }
+        ensures coming { KeepsAll (coming self.old) (coming self.new) }
+        ensures closed { KeepsAll (closed self.old) (closed self.new) };
+
+    /// Tells the connection that comes next at a place these bytes, and closes it: it is no client.
+    fn turn_away(&mut self, place: usize, bytes: &[u8]) -> Taken<()>
         ensures coming { KeepsAll (coming self.old) (coming self.new) }
         ensures closed { KeepsAll (closed self.old) (closed self.new) };
 

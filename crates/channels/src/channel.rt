@@ -39,18 +39,23 @@ pub trait Channel {
     /// How many calls have failed, up to 2^64 - 1.
     ghost failures: { Self → ℕ };
 
+    /// At which of the places of a server it came: always the same one.
+    ghost place: { Self → ℕ };
+
     /// Reads what has come into the front of a buffer. Nothing comes into an empty one.
     fn receive(&mut self, buffer: &mut [u8]) -> Received
         ensures bytes { IsReceived (remaining self.old) (remaining self.new) result buffer.new }
         ensures bound { ReceivesAtMost result (length buffer.new) }
         ensures size { length buffer.new ≡ length buffer.old }
-        ensures taken { taken self.new ≡ taken self.old };
+        ensures taken { taken self.new ≡ taken self.old }
+        ensures place { place self.new ≡ place self.old };
 
     /// Takes bytes from the front of some, and none of an empty slice.
     fn send(&mut self, bytes: &[u8]) -> Sent
         ensures bytes { IsSent (taken self.old) (taken self.new) result bytes.now }
         ensures bound { SendsAtMost result (length bytes.now) }
-        ensures remaining { remaining self.new ≡ remaining self.old };
+        ensures remaining { remaining self.new ≡ remaining self.old }
+        ensures place { place self.new ≡ place self.old };
 
     /// Whether no byte comes any more.
     fn has_ended(&self) -> bool

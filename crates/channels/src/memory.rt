@@ -21,6 +21,7 @@ pub enum Gone {
 /// A connection in memory: the bytes that it gives in pieces, and those that it has taken.
 #[derive(Drop)]
 pub struct MemChannel {
+    place: usize,
     input: Vec<u8>,
     read: usize,
     // How many bytes it gives and takes at once, at most.
@@ -31,14 +32,20 @@ pub struct MemChannel {
 }
 
 impl MemChannel {
-    /// A connection that gives these bytes, in pieces of so many at most.
-    pub fn new(alloc: Global, input: &[u8], piece: usize) -> Result<MemChannel, AllocError>
-        ensures { IfOk result (λ channel. HasJustCome ⟦<MemChannel as Channel>⟧ (Some input.now) channel) }
+    /// A connection at a place that gives these bytes, in pieces of so many at most.
+    pub fn new(
+        alloc: Global,
+        place: usize,
+        input: &[u8],
+        piece: usize,
+    ) -> Result<MemChannel, AllocError>
+        ensures { IfOk result (λ channel. HasJustCome ⟦<MemChannel as Channel>⟧ (Some input.now) place channel) }
     {
         let mut bytes = Vec::new(alloc);
         bytes.extend_from_slice(input)?;
         let room = Box::new(alloc, Gone::Nobody)?;
         Ok(MemChannel {
+            place,
             input: bytes,
             read: 0,
             piece,
@@ -67,6 +74,8 @@ impl Channel for MemChannel {
     ghost taken = { λ c. Some c.taken.items };
 
     ghost failures = { λ c. c.failures };
+
+    ghost place = { λ c. c.place };
 
     fn receive(&mut self, buffer: &mut [u8]) -> Received {
         let rest = behind(&self.input, self.read);
@@ -105,10 +114,12 @@ impl Channel for MemChannel {
     }
 }
 
-/// Who comes in memory, and those that were let go.
+/// Who comes to one place in memory, and those that were let go.
 #[derive(Drop)]
 pub struct MemAttend {
     alloc: Global,
+    // Where they come.
+    at: usize,
     // What each client sends.
     inputs: Vec<Vec<u8>>,
     piece: usize,
@@ -117,10 +128,11 @@ pub struct MemAttend {
 }
 
 impl MemAttend {
-    /// Clients that send these bytes, in pieces of so many at most.
+    /// Clients that come to the first place and send these bytes, in pieces of so many at most.
     pub fn new(alloc: Global, inputs: Vec<Vec<u8>>, piece: usize) -> MemAttend {
         MemAttend {
             alloc,
+            at: 0,
             inputs,
             piece,
             closed: Gone::Nobody,
@@ -136,17 +148,28 @@ impl Attend<MemChannel> for MemAttend {
 
     ghost closed = { λ a c. went_out a.closed c };
 
-    fn take(&mut self, client: u32) -> Taken<MemChannel> {
+    fn place(&mut self, client: u32) -> Option<usize> {
+        if (client as usize) < self.inputs.len() {
+            Some(self.at)
+        } else {
+            None
+        }
+    }
+
+    fn take(&mut self, client: u32, place: usize) -> Taken<MemChannel> {
+        if place != self.at {
+            return Taken::Nobody;
+        }
         let Some(input) = self.inputs.get(client as usize) else {
             return Taken::Nobody;
         };
-        match MemChannel::new(self.alloc, input, self.piece) {
+        match MemChannel::new(self.alloc, place, input, self.piece) {
             Ok(channel) => Taken::Came(channel),
             Err(_) => Taken::Later,
         }
     }
 
-    fn turn_away(&mut self, _bytes: &[u8]) -> Taken<()> {
+    fn turn_away(&mut self, _place: usize, _bytes: &[u8]) -> Taken<()> {
         Taken::Nobody
     }
 
@@ -168,6 +191,7 @@ impl Attend<MemChannel> for MemAttend {
 
     fn close(&mut self, client: u32, channel: MemChannel) {
         let MemChannel {
+            place: _,
             input: _,
             read: _,
             piece: _,

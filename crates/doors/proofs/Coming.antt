@@ -1,5 +1,5 @@
 -- Clients that come where each conversation stands at one door.
-use Rattle.std.proofs.Common.{◌≡◌, ℕ, List, [], sym, subst}
+use Rattle.std.proofs.Common.{◌≡◌, ℕ, List, sym, subst}
 use Rattle.talks.specs.Wants.{Learnt}
 use Rattle.talks.specs.Conversations.{ClientState, Conversation, Continues, Heard, IsAwaited, IsNew, Passes, awaited, gone, there}
 use Rattle.talks.specs.declared.talk.Talk.{Ghosts}

@@ -104,6 +104,8 @@ impl<T: Talk> Talk for DoorTalk<T> {
 
     ghost learns = { λ t reply said u. SaysThen T.Talk t.door (T.learns t.talk reply) said u.talk × (u.door ≡ t.door) };
 
+    ghost comes_as = { λ t. T.comes_as t.talk };
+
     ghost front_more = { λ t bytes more n is. T.front_more t.talk bytes more n is };
 
     ghost bad_more = { λ t bytes more is. T.bad_more t.talk bytes more is };
@@ -114,6 +116,10 @@ impl<T: Talk> Talk for DoorTalk<T> {
         } else {
             &self.nothing
         }
+    }
+
+    fn comes_as(&self) -> Option<&str> {
+        self.talk.comes_as()
     }
 
     fn front(&self, bytes: &[u8]) -> MessageFront {

@@ -3,4 +3,5 @@
 
 pub mod door;
 pub mod door_talk;
+pub mod entry_talk;
 pub mod laws;

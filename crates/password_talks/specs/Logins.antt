@@ -28,6 +28,11 @@ abbrev pub is_admitted : LoginStage → Bool
 is_admitted (stage.Admitted role text) = true
 is_admitted _ = false
 
+-- the role whose password it was
+abbrev pub shown_role : LoginStage → Option (List ℕ)
+shown_role (stage.Admitted role text) = Some role
+shown_role _ = None
+
 -- nothing was heard
 abbrev pub is_silent : LoginStage → Bool
 is_silent stage.Silent = true

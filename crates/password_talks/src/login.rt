@@ -1,10 +1,11 @@
 //! The exchange of a conversation: its client shows a password, or is refused.
 
 ghost use Rattle.std.specs.Prelude.{◌≡◌, ◌++◌, ℕ, List, IfOk, OnErr, OnOk};
+ghost use Rattle.std.specs.Option.{option_map};
 ghost use Rattle.talks.specs.declared.want.Want.{Want as TheWant};
 ghost use Rattle.password_talks.specs.EarlyFrames.{early_frame, ends};
 ghost use Rattle.password_talks.specs.Views.{viewed_frame};
-ghost use Rattle.password_talks.specs.Logins.{HearsAt, IsBadFrame, RefusesLogin, IsUnsaid, LearnsAt, StandsSo, is_admitted, is_silent, verifier_of};
+ghost use Rattle.password_talks.specs.Logins.{HearsAt, IsBadFrame, RefusesLogin, IsUnsaid, LearnsAt, StandsSo, is_admitted, is_silent, shown_role, verifier_of};
 ghost use Rattle.password_talks.specs.LookUps.{is_as_shown, refusal};
 ghost use Rattle.password_talks.specs.declared.stage.LoginStage.{LoginStage as TheStage};
 
@@ -72,6 +73,16 @@ impl Login {
         ensures { result ≡ is_admitted self.now.stage }
     {
         matches!(&self.stage, LoginStage::Admitted { role: _, text: _ })
+    }
+
+    /// The role whose password was shown, if one was.
+    pub fn shown_role(&self) -> Option<&str>
+        ensures { option_map (λ role. role.now) result ≡ shown_role self.now.stage }
+    {
+        match &self.stage {
+            LoginStage::Admitted { role, text: _ } => Some(role.as_str()),
+            _ => None,
+        }
     }
 
     /// What it wants; once the password was shown, its verifier.

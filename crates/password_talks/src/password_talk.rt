@@ -78,7 +78,7 @@ impl<T: Talk> PasswordTalk<T> {
 impl<T: Talk> Talk for PasswordTalk<T> {
     ghost use Rattle.std.specs.Prelude.{◌≡◌, ◌++◌, false};
     ghost use Rattle.password_talks.specs.declared.stage.LoginStage.{LoginStage as TheStage};
-    ghost use Rattle.password_talks.specs.Logins.{is_admitted};
+    ghost use Rattle.password_talks.specs.Logins.{is_admitted, shown_role};
     ghost use Rattle.password_talks.specs.PasswordTalks.{HearsMessage, LearnsReply, RejectsMessage, front_at, wanted};
     ghost use Rattle.password_talks.specs.FrontLaws.{front_more_if, bad_more_if};
 
@@ -94,6 +94,8 @@ impl<T: Talk> Talk for PasswordTalk<T> {
 
     ghost learns = { λ t reply said u. LearnsReply T.Talk t reply said u };
 
+    ghost comes_as = { λ t. shown_role t.login.stage };
+
     ghost front_more = { λ t bytes more n is. front_more_if (is_admitted t.login.stage) (T.front t.talk bytes) (T.front t.talk (bytes ++ more)) bytes more n (λ it. T.front_more t.talk bytes more n it) is };
 
     ghost bad_more = { λ t bytes more is. bad_more_if (is_admitted t.login.stage) (T.front t.talk bytes) (T.front t.talk (bytes ++ more)) bytes more (λ it. T.bad_more t.talk bytes more it) is };
@@ -104,6 +106,10 @@ impl<T: Talk> Talk for PasswordTalk<T> {
         } else {
             self.login.want()
         }
+    }
+
+    fn comes_as(&self) -> Option<&str> {
+        self.login.shown_role()
     }
 
     fn front(&self, bytes: &[u8]) -> MessageFront {

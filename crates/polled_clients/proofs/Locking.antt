@@ -1,8 +1,8 @@
 -- Who holds the writer lock that others want, as it is told of.
-use Rattle.std.proofs.Common.{◌≡◌, ◌∙◌, ◌==◌, ◌&&◌, ◌||◌, inl, inr, ℕ, Bool, true, false, not, Option, Some, None, is_some, is_none, if◌then◌else◌, refl, ap, sym, subst}
+use Rattle.std.proofs.Common.{◌≡◌, ◌≢◌, ◌∙◌, ◌==◌, ◌&&◌, ◌||◌, inl, inr, ℕ, Bool, true, false, not, Option, Some, None, is_some, is_none, if◌then◌else◌, refl, ap, sym, subst}
 use Rattle.std.proofs.lemmas.Bool.{eqb-true, eqb-false}
 use Rattle.std.specs.declared.time.Duration.{Duration}
-use Rattle.talks.specs.Clients.{CutsOff, IsStillServed, is_client, contending, contended, unless_client, forgotten}
+use Rattle.talks.specs.Clients.{CutsOff, is_client, contending, contended, unless_client, forgotten}
 use Rattle.polled_clients.specs.declared.lock_watch.HoldTime.{HoldTime}
 use Rattle.polled_clients.specs.declared.lock_watch.HoldTime.TheVariants.{New, Since, Over}
 use Rattle.polled_clients.specs.declared.lock_watch.WantedHolder.{WantedHolder}
@@ -17,8 +17,11 @@ the_client : (c : ℕ) (o : Option ℕ) → is_client c o ≡ true → o ≡ Som
 the_client c None is = cc
 the_client c (Some d) is = ap Some (eqb-true d c is)
 
-pub is_served : (c : ℕ) (x : LockWatch) → is_client c x.cut_off ≡ false → IsStillServed c (contention_of x)
-is_served c x is = no_client c x.cut_off is
+pub is_uncut : (c : ℕ) (x : LockWatch) → is_client c x.cut_off ≡ false → (contention_of x).cut_off ≢ Some c
+is_uncut c x is = no_client c x.cut_off is
+
+pub was_expelled : (c : ℕ) (x : LockWatch) → is_client c x.expelled ≡ true → (contention_of x).expelled ≡ Some c
+was_expelled c x is = the_client c x.expelled is
 
 pub was_cut_off : (c : ℕ) (x : LockWatch) → is_client c x.cut_off ≡ true → (contention_of x).cut_off ≡ Some c
 was_cut_off c x is = the_client c x.cut_off is
@@ -78,5 +81,5 @@ without_if false c h is = refl
 without : (c : ℕ) (h : Option WantedHolder) → client_held (without_holder c h) ≡ unless_client c (client_held h)
 without c h = rw (same_holding c h) (without_if (is_holding c h) c h refl)
 
-pub forgets : (c : ℕ) (x y : LockWatch) → y.holder ≡ without_holder c x.holder → y.cut_off ≡ unless_client c x.cut_off → y.limit ≡ x.limit → contention_of y ≡ forgotten c (contention_of x)
-forgets c x y holder cut limit = rw (holder, cut, limit, without c x.holder) refl
+pub forgets : (c : ℕ) (x y : LockWatch) → y.holder ≡ without_holder c x.holder → y.cut_off ≡ unless_client c x.cut_off → y.expelled ≡ unless_client c x.expelled → y.limit ≡ x.limit → contention_of y ≡ forgotten c (contention_of x)
+forgets c x y holder cut expelled limit = rw (holder, cut, expelled, limit, without c x.holder) refl

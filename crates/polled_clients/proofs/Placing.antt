@@ -209,7 +209,7 @@ module _ {T C : Type 0} (t : Ghosts T) (k : ChannelGhosts C) where
   need_if order need.Nothing (Some x) closed coming has = tt
   need_if order need.Step (Some x) closed coming has = has
   need_if order need.Question (Some x) closed coming has = has
-  need_if order (need.Left w) (Some x) closed coming has = (has.0, (w, has.0, has.1.0), has.1.1, has.1.2)
+  need_if order (need.Left w) (Some x) closed coming has = (has.0, (w, has.0, has.1.0), has.1.1, has.1.2, has.1.4)
 
   pub need_at : (order : EndOrder) (came c : ℕ) (v : Need) (p : Option (Peer T C)) (closed coming : NamedBytes) → c < came → HasNeedHere t k order v p → HasNeedAt t order v (state_at k came c p closed coming)
   need_at order came c v p closed coming less has = subst (λ (b : Bool). HasNeedAt t order v (at_if b p closed coming)) (sym (lt-ltb c came less)) (need_if order v p closed coming has)

@@ -106,6 +106,7 @@ module _ {T : Type 0} (k : Ghosts T) where
   cause_kept end_cause.Memory x o is = is
   cause_kept end_cause.Stopped x o is = is
   cause_kept end_cause.HeldTheLock x o is = is
+  cause_kept end_cause.RoleDropped x o is = is
 
 -- no bytes came, for whatever reason
 pub none_came : (old new : Option (List ℕ)) (r : Received) (buffer : List ℕ) → (r ≡ reads.Nothing) ⊎ ((r ≡ reads.End) ⊎ (r ≡ reads.Failed)) → IsReceived old new r buffer → Keeps old new

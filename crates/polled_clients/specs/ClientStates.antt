@@ -1,5 +1,5 @@
 -- Where each client is.
-use Rattle.std.specs.Prelude.{◌≡◌, ◌≢◌, ℕ, Bool, IfSome, true, false, List, [], ◌∷◌, Option, Some, None, nat_eq, nat_lt, if◌then◌else◌}
+use Rattle.std.specs.Prelude.{◌≡◌, ◌≢◌, ◌<◌, ◌⊎◌, ℕ, Bool, IfSome, true, false, List, [], ◌∷◌, Option, Some, None, nat_eq, nat_lt, if◌then◌else◌}
 use Rattle.channels.specs.declared.channel.Channel.{Ghosts as ChannelGhosts}
 use Rattle.channels.specs.declared.attend.Attend.{Ghosts as AttendGhosts}
 use Rattle.channels.specs.Channels.{NamedBytes}
@@ -8,9 +8,11 @@ use Rattle.talks.specs.declared.talk.Talk.{Ghosts}
 use Rattle.talks.specs.declared.want.Want.{Want}
 use Rattle.talks.specs.declared.clients.EndCause.TheVariants as end_cause
 use Rattle.talks.specs.declared.want.Reply.{Reply}
-use Rattle.talks.specs.Wants.{Learnt, learnt, WantsStep, WantsQuestion}
+use Rattle.talks.specs.Wants.{Learnt, learnt, WantsStep, WantsQuestion, HasLostRole}
 use Rattle.talks.specs.Conversations.{ClientState, awaited, there, gone, wanted, ending}
-use Rattle.talks.specs.Clients.{IsLeaving}
+use Rattle.talks.specs.Clients.{Contention, IsLeaving, EndsAs, LeavesNobody}
+use Rattle.talks.specs.declared.clients.Next.{Next}
+use Rattle.talks.specs.declared.clients.Next.TheVariants as next
 use Rattle.polled_clients.specs.Peers.{conversation_of, Goes, HasNeed}
 use Rattle.polled_clients.specs.declared.peer.Peer.{Peer}
 use Rattle.polled_clients.specs.declared.need.EndOrder.{EndOrder}
@@ -55,6 +57,15 @@ module _ {T : Type 0} (t : Ghosts T) where
   HasNeedAt order need.Step p = (w : Want) × (wanted t p ≡ Some w) × WantsStep w × (order.cut_off ≡ false)
   HasNeedAt order need.Question p = (w : Want) × (wanted t p ≡ Some w) × WantsQuestion w × (order.cut_off ≡ false)
   HasNeedAt order (need.Left w) p = (ending p ≡ Some w) × IsLeaving t p × (w ≡ end_cause.Stopped → order.stopped ≡ true) × (w ≡ end_cause.HeldTheLock → order.cut_off ≡ true)
+      × (w ≡ end_cause.RoleDropped → order.expelled ≡ true)
+
+  -- what was found to do, before it is looked who has lost its role
+  abbrev pub IsLooked : Bool → (ℕ → ClientState T) → List ℕ → Contention → Option ℕ → ℕ → ℕ → Next → Type 0
+  IsLooked stopped at waiting x expected refusals looks (next.Step client) = (w : Want) × (wanted t (at client) ≡ Some w) × WantsStep w × (x.cut_off ≢ Some client)
+  IsLooked stopped at waiting x expected refusals looks (next.Question client) = (w : Want) × (wanted t (at client) ≡ Some w) × WantsQuestion w × (x.cut_off ≢ Some client)
+  IsLooked stopped at waiting x expected refusals looks (next.Left client w) = (ending (at client) ≡ Some w) × IsLeaving t (at client)
+      × (w ≡ end_cause.Stopped → stopped ≡ true) × (w ≡ end_cause.HeldTheLock → x.cut_off ≡ Some client) × (w ≡ end_cause.RoleDropped → x.expelled ≡ Some client)
+  IsLooked stopped at waiting x expected refusals looks (next.Ended e) = EndsAs stopped at expected refusals looks e × (LeavesNobody e → waiting ≡ [])
 
 -- a session was opened for a client that is there
 abbrev pub has_session : {T C : Type 0} → Option (Peer T C) → Bool
@@ -75,3 +86,8 @@ IsSomeWaited (Some p) = p.has_waited ≡ true
 abbrev pub HasWaited : {D T C : Type 0} → Option D → Option (Peer T C) → Type 0
 HasWaited None p = Unit {0}
 HasWaited (Some d) p = IsSomeWaited p
+
+-- a client that is there has lost its role: that of a session that it has open, or the one that it has shown to come as
+abbrev pub HasLostItsRole : {T C : Type 0} → Ghosts T → (ℕ → ℕ → List ℕ → Type 0) → (List ℕ → Type 0) → ℕ → ℕ → Option (Peer T C) → Type 0
+HasLostItsRole t Has Lacks came c None = ⊥
+HasLostItsRole t Has Lacks came c (Some p) = (c < came) × (HasLostRole (Has c) Lacks ⊎ ((role : List ℕ) × (t.comes_as p.talk ≡ Some role) × Lacks role))

@@ -14,7 +14,7 @@ client_held (Some h) = Some h.client
 
 -- the same, as it is told of
 abbrev pub contention_of : LockWatch → Contention
-contention_of x = record { holder = client_held x.holder; cut_off = x.cut_off; is_limited = is_some x.limit }
+contention_of x = record { holder = client_held x.holder; cut_off = x.cut_off; is_limited = is_some x.limit; expelled = x.expelled }
 
 abbrev pub is_holding : ℕ → Option WantedHolder → Bool
 is_holding c None = false

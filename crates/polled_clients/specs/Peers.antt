@@ -39,7 +39,7 @@ module _ {T C : Type 0} (t : Ghosts T) (k : ChannelGhosts C) where
   -- its connection is to end for this
   abbrev pub MayEnd : EndOrder → Peer T C → EndCause → Type 0
   MayEnd order x w = HasCause t w (conversation_of k x) × (w ≡ end_cause.Stopped → order.stopped ≡ true) × (w ≡ end_cause.HeldTheLock → order.cut_off ≡ true)
-      × (w ≡ end_cause.Limit → has_passed_limit x ≡ true)
+      × (w ≡ end_cause.Limit → has_passed_limit x ≡ true) × (w ≡ end_cause.RoleDropped → order.expelled ≡ true)
 
   -- what a client has to do with the machine is so
   abbrev pub HasNeed : EndOrder → Need → Peer T C → Type 0

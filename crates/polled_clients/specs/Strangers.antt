@@ -26,6 +26,10 @@ abbrev pub with_stranger : Option Duration → Stranger → List Stranger → Li
 with_stranger None s queue = queue
 with_stranger (Some limit) s queue = queue ++ s ∷ []
 
+-- at a place that has no strangers it is none
+abbrev pub with_guest : Bool → Option Duration → Stranger → List Stranger → List Stranger
+with_guest is_guest limit s queue = if is_guest then with_stranger limit s queue else queue
+
 abbrev pub without_stranger : ℕ → List Stranger → List Stranger
 without_stranger c queue = filter (λ s. not (s.client == c)) queue
 

@@ -1,15 +1,16 @@
 //! Clients of a machine over connections of which no call waits: whose turn it is, and who waits.
 
-ghost use Rattle.std.specs.Prelude.{◌≡◌, ◌≢◌, ℕ, List, [], ◌∷◌, Option, Some, None, IfSome, IfOk, is_some, nat_eq, true};
+ghost use Rattle.std.specs.Prelude.{◌≡◌, ◌≢◌, ℕ, Bool, List, [], ◌∷◌, Option, Some, None, IfSome, IfOk, is_some, nat_eq, true};
 ghost use Rattle.channels.specs.Channels.{NamedBytes};
 ghost use Rattle.talks.specs.Wants.{FitsWant, learnt, own};
 ghost use Rattle.talks.specs.Conversations.{Passes, IsGone, awaited, gone, wanted};
-ghost use Rattle.talks.specs.Clients.{CutsOff, is_client, IsNext, IsLeaving, Moved, NoneGoes, EndsAs};
+ghost use Rattle.talks.specs.Clients.{CutsOff, CutsOffOrExpels, is_client, IsNext, ExpelsLost, IsLeaving, Moved, NoneGoes, EndsAs};
 ghost use Rattle.talks.specs.declared.want.Want.{Want as TheWant};
 ghost use Rattle.indexmap.specs.IndexMap.{get};
-ghost use Rattle.polled_clients.specs.ClientStates.{states, HasNeedAt, HasWaited};
+ghost use Rattle.polled_clients.specs.ClientStates.{states, HasNeedAt, HasWaited, IsLooked};
 ghost use Rattle.polled_clients.specs.LockWatches.{contention_of};
 
+use crate::arrivals::count_without;
 use crate::lock_watch::{LockWatch, is_lock_refusal, note_holder_look};
 use crate::need::{EndOrder, Need, Pick};
 use crate::peer::Peer;
@@ -27,15 +28,28 @@ use talks::machine::Machine;
 use talks::talk::Talk;
 use talks::want::{Reply, Want};
 
-/// What makes a conversation for each client that comes.
+/// What makes a conversation for each client that comes, by the place where it comes.
 pub trait TalkMaker<T: Talk> {
+    /// The conversations that it makes for the place of each number.
+    ghost makes_at: { Self → ℕ → T → Type 0 };
+
     /// The conversations that it makes.
     ghost makes: { Self → T → Type 0 };
 
-    /// A conversation that has heard nothing.
-    fn make(&self) -> Result<T, AllocError>
+    /// At the place of each number one is a stranger until a session is opened for it.
+    ghost has_strangers: { Self → ℕ → Bool };
+
+    /// A conversation for this place that has heard nothing.
+    fn make(&self, place: usize) -> Result<T, AllocError>
         ensures starts { IfOk result (λ talk. T.starts talk) }
-        ensures made { IfOk result (λ talk. makes self.now talk) };
+        ensures made { IfOk result (λ talk. makes_at self.now place talk) };
+
+    /// Whether one who comes to this place is a stranger there until a session is opened for it.
+    fn has_strangers(&self, place: usize) -> bool
+        ensures { result ≡ has_strangers self.now place };
+
+    /// Each is made for some place.
+    ghost made_at: { (maker : Self) (place : ℕ) (talk : T) → makes_at maker place talk → makes maker talk };
 }
 
 /// How many clients are served, and how long they may take.
@@ -45,6 +59,8 @@ pub struct ClientLimits {
     pub connections: u32,
     /// How many are there at once, at most. One more is told so, and closed.
     pub at_once: usize,
+    /// How many of them came to places that have strangers, at most. So others find room whoever comes there.
+    pub guests: usize,
     /// How long an event may wait for the writer lock. Without it none does.
     pub wait: Option<Duration>,
     /// How long one may be silent while it is waited for, a second at least. Without it for ever.
@@ -67,13 +83,15 @@ pub struct PolledClients<T, C, A, F> {
     pub(crate) attend: A,
     pub(crate) maker: F,
     pub(crate) limits: ClientLimits,
-    // What one is told who comes while as many are there as may be.
-    pub(crate) refusal: Vec<u8>,
+    // What one is told who comes to the place of each number while as many are there as may be.
+    pub(crate) refusal: Vec<Vec<u8>>,
     pub(crate) peers: IndexMap<u32, Peer<T, C>>,
     pub(crate) came: u32,
     waiting: Vec<u32>,
     pub(crate) lock: LockWatch,
     pub(crate) strangers: Strangers,
+    // How many are there that came to places that have strangers.
+    pub(crate) guests: usize,
     pub(crate) turns: Turns,
     pub(crate) time: Duration,
     pub(crate) refusals: u64,
@@ -81,20 +99,22 @@ pub struct PolledClients<T, C, A, F> {
 }
 
 impl<T: Talk + Drop, C: Channel + Drop, A: Attend<C>, F: TalkMaker<T>> PolledClients<T, C, A, F> {
-    /// Nobody has come. `refusal` is what one is told who comes while as many are there as may be.
+    /// Nobody has come. `refusal` is what one is told who comes to the place of each number while as many
+    /// are there as may be.
     pub fn new(
         alloc: Global,
         attend: A,
         maker: F,
         limits: ClientLimits,
-        refusal: Vec<u8>,
+        refusal: Vec<Vec<u8>>,
     ) -> PolledClients<T, C, A, F>
         ensures maker { result.maker ≡ maker }
         ensures at { (c : ℕ) → states C.Channel A.Attend result c ≡ awaited (A.coming attend c) }
         ensures waiting { result.waiting.items ≡ [] }
-        ensures contention { contention_of result.lock ≡ record { holder = None; cut_off = None; is_limited = is_some limits.block } }
+        ensures contention { contention_of result.lock ≡ record { holder = None; cut_off = None; is_limited = is_some limits.block; expelled = None } }
         ensures expected { result.limits.connections ≡ limits.connections }
         ensures strangers { (result.strangers.queue.items ≡ []) × (result.strangers.limit ≡ limits.login) }
+        ensures guests { result.guests ≡ 0 }
         ensures refusals { result.refusals ≡ 0 }
         ensures looks { result.looks ≡ 0 }
     {
@@ -109,6 +129,7 @@ impl<T: Talk + Drop, C: Channel + Drop, A: Attend<C>, F: TalkMaker<T>> PolledCli
             waiting: Vec::new(alloc),
             lock: LockWatch::new(limits.block),
             strangers: Strangers::new(alloc, limits.login),
+            guests: 0,
             turns: Turns::new(alloc),
             time: Duration::ZERO,
             refusals: 0,
@@ -125,6 +146,23 @@ impl<T: Talk + Drop, C: Channel + Drop, A: Attend<C>, F: TalkMaker<T>> PolledCli
         self.attend
     }
 
+    // Looks for something to do, and does one thing. Who has lost its role goes before anything is served,
+    // and before it is waited for others.
+    fn look_for<M: Machine>(&mut self, machine: &M) -> Option<Next>
+        ensures moved { Moved T.Talk (F.makes self.old.maker) (states C.Channel A.Attend self.old) (states C.Channel A.Attend self.new) }
+        ensures maker { self.new.maker ≡ self.old.maker }
+        ensures waiting { self.new.waiting.items ≡ self.old.waiting.items }
+        ensures limits { self.new.limits ≡ self.old.limits }
+        ensures looks { self.new.looks ≡ self.old.looks }
+        ensures contention { CutsOffOrExpels (contention_of self.old.lock) (contention_of self.new.lock) }
+        ensures expels { M.IsSound machine.now → ExpelsLost T.Talk (F.makes self.old.maker) (M.Has machine.now) (M.LacksRole machine.now) (states C.Channel A.Attend self.old) (states C.Channel A.Attend self.new) self.old.lock.expelled self.new.lock.expelled }
+        ensures next { IfSome result (λ n. IsNext T.Talk (M.stopped machine.now) (M.MayHaveDropped machine.now) (M.Has machine.now) (M.LacksRole machine.now) (states C.Channel A.Attend self.new) self.new.waiting.items (contention_of self.new.lock) (Some self.new.limits.connections) self.new.refusals self.new.looks n) }
+    {
+        self.expel_lost(machine);
+        let next = self.look(machine.has_stopped())?;
+        self.unless_lost(machine, next)
+    }
+
     // Looks for something to do, and does one thing.
     fn look(&mut self, stopped: bool) -> Option<Next>
         ensures moved { Moved T.Talk (F.makes self.old.maker) (states C.Channel A.Attend self.old) (states C.Channel A.Attend self.new) }
@@ -133,7 +171,7 @@ impl<T: Talk + Drop, C: Channel + Drop, A: Attend<C>, F: TalkMaker<T>> PolledCli
         ensures limits { self.new.limits ≡ self.old.limits }
         ensures looks { self.new.looks ≡ self.old.looks }
         ensures contention { CutsOff (contention_of self.old.lock) (contention_of self.new.lock) }
-        ensures next { IfSome result (λ n. IsNext T.Talk stopped (states C.Channel A.Attend self.new) self.new.waiting.items (contention_of self.new.lock) (Some self.new.limits.connections) self.new.refusals self.new.looks n) }
+        ensures next { IfSome result (λ n. IsLooked T.Talk stopped (states C.Channel A.Attend self.new) self.new.waiting.items (contention_of self.new.lock) (Some self.new.limits.connections) self.new.refusals self.new.looks n) }
     {
         if let Some(finish) = self.finish(stopped) {
             return Some(Next::Ended(finish));
@@ -185,7 +223,7 @@ impl<T: Talk + Drop, C: Channel + Drop, A: Attend<C>, F: TalkMaker<T>> PolledCli
         ensures limits { self.new.limits ≡ self.old.limits }
         ensures looks { self.new.looks ≡ self.old.looks }
         ensures lock { self.new.lock ≡ self.old.lock }
-        ensures next { IfSome result (λ n. IsNext T.Talk stopped (states C.Channel A.Attend self.new) self.new.waiting.items (contention_of self.new.lock) (Some self.new.limits.connections) self.new.refusals self.new.looks n) }
+        ensures next { IfSome result (λ n. IsLooked T.Talk stopped (states C.Channel A.Attend self.new) self.new.waiting.items (contention_of self.new.lock) (Some self.new.limits.connections) self.new.refusals self.new.looks n) }
     {
         let client = pick.client;
         match self.turn(pick, stopped) {
@@ -210,7 +248,7 @@ impl<T: Talk + Drop, C: Channel + Drop, A: Attend<C>, F: TalkMaker<T>> PolledCli
         ensures limits { self.new.limits ≡ self.old.limits }
         ensures looks { self.new.looks ≡ self.old.looks }
         ensures lock { self.new.lock ≡ self.old.lock }
-        ensures need { HasNeedAt T.Talk (record { stopped = stopped; cut_off = is_client pick.client self.new.lock.cut_off }) result (states C.Channel A.Attend self.new pick.client) }
+        ensures need { HasNeedAt T.Talk (record { stopped = stopped; cut_off = is_client pick.client self.new.lock.cut_off; expelled = is_client pick.client self.new.lock.expelled }) result (states C.Channel A.Attend self.new pick.client) }
     {
         if pick.client >= self.came {
             return Need::Nothing;
@@ -218,6 +256,7 @@ impl<T: Talk + Drop, C: Channel + Drop, A: Attend<C>, F: TalkMaker<T>> PolledCli
         let order = EndOrder {
             stopped,
             cut_off: self.lock.is_cut_off(pick.client),
+            expelled: self.lock.is_expelled(pick.client),
         };
         take_turn(&mut self.peers, pick, order, self.time)
     }
@@ -372,10 +411,10 @@ impl<T: Talk + Drop, C: Channel + Drop, A: Attend<C>, F: TalkMaker<T>> ServedCli
 
     ghost has_waited = { λ x c. HasWaited x.limits.wait (get nat_eq x.peers c) };
 
-    fn next(&mut self, stopped: bool) -> Next {
+    fn next<M: Machine>(&mut self, machine: &M) -> Next {
         'looking: while self.looks < u64::MAX {
             self.looks += 1;
-            if let Some(next) = self.look(stopped) {
+            if let Some(next) = self.look_for(machine) {
                 return next;
             }
         }
@@ -423,6 +462,7 @@ impl<T: Talk + Drop, C: Channel + Drop, A: Attend<C>, F: TalkMaker<T>> ServedCli
         self.strangers.take_out(client);
         self.turns.note_change();
         let peer = self.peers.swap_remove(&client).unwrap();
+        self.guests = count_without(self.guests, peer.is_guest);
         self.attend.close(client, peer.into_channel());
     }
 }

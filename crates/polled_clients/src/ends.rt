@@ -29,6 +29,9 @@ impl<T: Talk, C: Channel> Peer<T, C> {
         if self.has_cause(EndCause::HeldTheLock, order) {
             return Some(EndCause::HeldTheLock);
         }
+        if self.has_cause(EndCause::RoleDropped, order) {
+            return Some(EndCause::RoleDropped);
+        }
         if self.has_cause(EndCause::Limit, order) {
             return Some(EndCause::Limit);
         }
@@ -55,6 +58,7 @@ impl<T: Talk, C: Channel> Peer<T, C> {
             EndCause::Memory => is_out_of_memory(self.talk.want()),
             EndCause::Stopped => order.stopped,
             EndCause::HeldTheLock => order.cut_off,
+            EndCause::RoleDropped => order.expelled,
         }
     }
 

@@ -8,6 +8,7 @@ pub mod held;
 pub mod limits;
 pub mod lock_watch;
 pub mod looks;
+mod losing;
 pub mod need;
 pub mod peer;
 pub mod peers;

@@ -30,23 +30,26 @@ pub struct WantedHolder {
     pub time: HoldTime,
 }
 
-/// Who holds the writer lock that others want, and who was cut off for that.
+/// Who holds the writer lock that others want, and who was cut off for that; and who goes since its role
+/// was dropped.
 #[derive(Clone, Copy)]
 pub struct LockWatch {
     pub holder: Option<WantedHolder>,
     pub cut_off: Option<u32>,
     pub limit: Option<Duration>,
+    pub expelled: Option<u32>,
 }
 
 impl LockWatch {
     /// Nobody holds it. One may hold it for so long once another wants it, where that is limited.
     pub fn new(limit: Option<Duration>) -> LockWatch
-        ensures { result ≡ record { holder = None; cut_off = None; limit = limit } }
+        ensures { result ≡ record { holder = None; cut_off = None; limit = limit; expelled = None } }
     {
         LockWatch {
             holder: None,
             cut_off: None,
             limit,
+            expelled: None,
         }
     }
 
@@ -92,16 +95,21 @@ impl LockWatch {
     {
         self.holder = without_holder(self.holder, client);
         self.cut_off = without_client(self.cut_off, client);
+        self.expelled = without_client(self.expelled, client);
     }
 
     /// Whether a client was cut off.
     pub fn is_cut_off(&self, client: u32) -> bool
         ensures { result ≡ is_client client self.now.cut_off }
     {
-        match self.cut_off {
-            Some(other) => other == client,
-            None => false,
-        }
+        is_client(self.cut_off, client)
+    }
+
+    /// Whether a client goes since its role was dropped.
+    pub fn is_expelled(&self, client: u32) -> bool
+        ensures { result ≡ is_client client self.now.expelled }
+    {
+        is_client(self.expelled, client)
     }
 
     /// When it is time to look again, if ever: as soon as may be, where it was not looked at yet.
@@ -182,16 +190,26 @@ fn without_holder(holder: Option<WantedHolder>, client: u32) -> Option<WantedHol
     holder
 }
 
-// Who was cut off, unless it is this client.
-fn without_client(cut_off: Option<u32>, client: u32) -> Option<u32>
-    ensures { result ≡ unless_client client cut_off }
+// Whether it is this client.
+fn is_client(one: Option<u32>, client: u32) -> bool
+    ensures { result ≡ is_client client one }
 {
-    match cut_off {
+    match one {
+        Some(other) => other == client,
+        None => false,
+    }
+}
+
+// Who it is, unless it is this client.
+fn without_client(one: Option<u32>, client: u32) -> Option<u32>
+    ensures { result ≡ unless_client client one }
+{
+    match one {
         Some(other) => {
             if other == client {
                 return None;
             }
-            cut_off
+            one
         }
         None => None,
     }

@@ -22,11 +22,13 @@ pub enum Need {
     Left(EndCause),
 }
 
-/// What ends the connection of a client from outside: the machine has stopped, or it was cut off.
+/// What ends the connection of a client from outside: the machine has stopped, it was cut off, or it goes
+/// since its role was dropped.
 #[derive(Clone, Copy)]
 pub struct EndOrder {
     pub stopped: bool,
     pub cut_off: bool,
+    pub expelled: bool,
 }
 
 impl EndOrder {
@@ -35,6 +37,7 @@ impl EndOrder {
         EndOrder {
             stopped: false,
             cut_off: false,
+            expelled: false,
         }
     }
 }

@@ -41,6 +41,8 @@ pub struct Peer<T, C> {
     heard: usize,
     pub(crate) queue: SendQueue,
     pub(crate) limited: bool,
+    // Whether it came to a place that has strangers.
+    pub(crate) is_guest: bool,
     pub(crate) end_cause: Option<EndCause>,
     // Whether the last read found that nothing has come.
     pub(crate) is_quiet: bool,
@@ -65,12 +67,20 @@ pub struct Peer<T, C> {
 }
 
 impl<T: Talk, C: Channel> Peer<T, C> {
-    /// A client that has just come. `limited` tells whether a limit may end it.
-    pub fn new(alloc: Global, talk: T, channel: C, limited: bool, now: Duration) -> Peer<T, C>
-        ensures fresh { (bytes : Option (List ℕ)) → T.starts talk → HasJustCome C.Channel bytes channel
+    /// A client that has just come. `limited`: a limit may end it. `is_guest`: its place has strangers.
+    pub fn new(
+        alloc: Global,
+        talk: T,
+        channel: C,
+        limited: bool,
+        is_guest: bool,
+        now: Duration,
+    ) -> Peer<T, C>
+        ensures fresh { (bytes : Option (List ℕ)) (place : ℕ) → T.starts talk → HasJustCome C.Channel bytes place channel
             → IsNew T.Talk (λ t. t ≡ talk) bytes (conversation_of C.Channel result) }
         ensures session { result.has_session ≡ false }
         ensures stays { result.is_turned_out ≡ false }
+        ensures guest { result.is_guest ≡ is_guest }
     {
         Peer {
             talk,
@@ -79,6 +89,7 @@ impl<T: Talk, C: Channel> Peer<T, C> {
             heard: 0,
             queue: SendQueue::new(alloc),
             limited,
+            is_guest,
             end_cause: None,
             is_quiet: false,
             is_blocked: false,

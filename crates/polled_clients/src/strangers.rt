@@ -3,7 +3,7 @@
 ghost use Rattle.std.specs.Prelude.{◌≡◌, [], OnOk, OnErr, nat_eq, if◌then◌else◌};
 ghost use Rattle.indexmap.specs.IndexMap.{get};
 ghost use Rattle.polled_clients.specs.ClientStates.{has_session};
-ghost use Rattle.polled_clients.specs.Strangers.{is_granted, opens_session, with_stranger, without_stranger, who_ends};
+ghost use Rattle.polled_clients.specs.Strangers.{is_granted, opens_session, with_guest, without_stranger, who_ends};
 
 use crate::lock_watch::is_over;
 use crate::peer::Peer;
@@ -51,14 +51,15 @@ impl Strangers {
         }
     }
 
-    /// A client comes at this moment. The only error is that an allocation failed.
-    pub fn come(&mut self, client: u32, now: Duration) -> Result<(), AllocError>
-        ensures ok { OnOk result (self.new.queue.items ≡ with_stranger self.old.limit (record { client = client; came = now }) self.old.queue.items) }
+    /// A client comes at this moment, to a place that has strangers, or to another. The only error is
+    /// that an allocation failed.
+    pub fn come(&mut self, client: u32, now: Duration, is_guest: bool) -> Result<(), AllocError>
+        ensures ok { OnOk result (self.new.queue.items ≡ with_guest is_guest self.old.limit (record { client = client; came = now }) self.old.queue.items) }
         ensures err { OnErr result (self.new.queue.items ≡ self.old.queue.items) }
         ensures limit { self.new.limit ≡ self.old.limit }
         ensures asked { self.new.asked ≡ self.old.asked }
     {
-        if self.limit.is_none() {
+        if !is_guest || self.limit.is_none() {
             return Ok(());
         }
         self.queue.push(Stranger { client, came: now })?;

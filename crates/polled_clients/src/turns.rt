@@ -85,6 +85,11 @@ impl Turns {
         self.leaving = Some(client);
     }
 
+    /// Whether somebody goes before anything else is done.
+    pub fn is_somebody_leaving(&self) -> bool {
+        self.leaving.is_some()
+    }
+
     /// The writer lock may have come free.
     pub fn note_change(&mut self) {
         self.has_changed = true;
@@ -192,15 +197,16 @@ impl Turns {
     }
 }
 
-/// Makes room for so many, and a conversation.
+/// Makes room for so many, and a conversation for a place.
 pub fn prepare<T: Talk, F: TalkMaker<T>>(
     turns: &mut Turns,
     maker: &F,
+    place: usize,
     count: usize,
 ) -> Result<T, AllocError>
     ensures starts { IfOk result (λ talk. T.starts talk) }
-    ensures made { IfOk result (λ talk. F.makes maker.now talk) }
+    ensures made { IfOk result (λ talk. F.makes_at maker.now place talk) }
 {
     turns.make_room(count)?;
-    maker.make()
+    maker.make(place)
 }

@@ -1,6 +1,7 @@
-//! Who comes to a port or to a socket, and who of those that came may have something to do.
+//! Who comes to the ports and the sockets of a server, and who of those that came may have something to
+//! do.
 
-ghost use Rattle.std.specs.Prelude.{◌≤◌};
+ghost use Rattle.std.specs.Prelude.{◌≡◌, ◌≤◌, IfOk, IfSome};
 ghost use Rattle.std.specs.Duration.{as_nanos};
 
 use crate::listeners::{PolledListener, PolledStream};
@@ -13,8 +14,9 @@ use std::net::Net;
 use std::time::{Clock, Duration, Instant};
 use std::{io, thread};
 
-/// The token of what connections come to. No client has this number.
-const LISTENER: usize = usize::MAX;
+/// The token of what connections come to at the first place; those of the others follow. No client has
+/// such a number.
+const LISTENER: usize = 1 << 32;
 
 /// How many events are taken of the system at once, at most.
 const EVENTS: usize = 256;
@@ -31,8 +33,16 @@ const ENFILE: i32 = 23;
 /// The error of Linux where the system has no memory for a socket.
 const ENOBUFS: i32 = 105;
 
-/// The connections that come to a port or to a socket, and the events of the system that tell of them.
-/// What comes no contract knows.
+// A place, and whether somebody may have come there.
+#[derive(Drop)]
+struct PolledPlace {
+    listener: PolledListener,
+    may_come: bool,
+}
+
+/// The connections that come to the places of a server, and the events of the system that tell of them.
+/// What comes no contract knows; each connection that is taken at a place is one that the listener with
+/// the number of that place has taken.
 ///
 /// The system tells of a connection only where something has changed: bytes have come, it takes bytes
 /// again, it has ended or failed. So it has to be asked for bytes until it answers that there are
@@ -42,7 +52,9 @@ const ENOBUFS: i32 = 105;
 #[derive(Drop)]
 pub struct SocketAttend<'r, R> {
     rt: &'r R,
-    listener: PolledListener,
+    places: Vec<PolledPlace>,
+    // Which of them is asked next.
+    next: usize,
     poll: Poll,
     events: Events,
     // How many of the events are not told yet: the last ones.
@@ -53,20 +65,29 @@ pub struct SocketAttend<'r, R> {
 }
 
 impl<'r, R: Net + Clock> SocketAttend<'r, R> {
-    /// The connections that come to a listener. An error: the system gives no events of it, memory is
+    /// The connections that come to listeners. An error: the system gives no events of one, memory is
     /// refused, or there is no time.
     pub fn new(
         rt: &'r R,
         alloc: Global,
-        mut listener: PolledListener,
+        listeners: Vec<PolledListener>,
     ) -> io::Result<SocketAttend<'r, R>> {
         let poll = Poll::new(rt)?;
         let events = Events::with_capacity(alloc, EVENTS)?;
-        listener.register(poll.registry(), Token(LISTENER))?;
+        let mut places = Vec::new(alloc);
+        for mut listener in listeners {
+            let token = LISTENER.saturating_add(listener.place);
+            listener.register(poll.registry(), Token(token))?;
+            places.push(PolledPlace {
+                listener,
+                may_come: true,
+            })?;
+        }
         let began = Instant::now(rt)?;
         Ok(SocketAttend {
             rt,
-            listener,
+            places,
+            next: 0,
             poll,
             events,
             untold: 0,
@@ -75,8 +96,47 @@ impl<'r, R: Net + Clock> SocketAttend<'r, R> {
         })
     }
 
+    // The listener with the number of a place, where somebody may have come there.
+    fn listener_at(&self, place: usize) -> Option<&PolledListener>
+        ensures { IfSome result (λ listener. listener.now.place ≡ place) }
+    {
+        let found = self.places.get(place)?;
+        if found.listener.place != place || !found.may_come {
+            return None;
+        }
+        Some(&found.listener)
+    }
+
+    // Takes the connection that comes next at a place. `WouldBlock`: none has come.
+    fn accept_at(&self, place: usize) -> io::Result<PolledStream>
+        ensures { IfOk result (λ stream. ⟦<PolledStream as DuplexStream>⟧.place stream ≡ place) }
+    {
+        match self.listener_at(place) {
+            Some(listener) => listener.accept_now(),
+            None => Err(io::Error::from(ErrorKind::WouldBlock)),
+        }
+    }
+
+    // Nobody comes there until the system tells so.
+    fn note_nobody(&mut self, place: usize) {
+        if let Some(found) = self.places.get_mut(place) {
+            found.may_come = false;
+        }
+    }
+
+    // Why no connection was taken at a place.
+    fn missed(&mut self, place: usize, error: &io::Error) -> Miss {
+        let miss = miss_of(error);
+        if let Miss::Nobody = miss {
+            self.note_nobody(place);
+        }
+        miss
+    }
+
     // Has the system tell of a connection under this number. An error is one of the system.
-    fn register(&self, stream: &mut PolledStream, client: u32) -> io::Result<()> {
+    fn register(&self, stream: &mut PolledStream, client: u32) -> io::Result<()>
+        ensures { ⟦<PolledStream as DuplexStream>⟧.place stream.new ≡ ⟦<PolledStream as DuplexStream>⟧.place stream.old }
+    {
         stream.register(self.poll.registry(), Token(client as usize))
     }
 
@@ -93,13 +153,17 @@ impl<'r, R: Net + Clock> SocketAttend<'r, R> {
         let told = self.events.iter().len().saturating_sub(self.untold);
         let mut comes = false;
         for event in self.events.iter().skip(told) {
-            match u32::try_from(event.token().0) {
+            let token = event.token().0;
+            match u32::try_from(token) {
                 Ok(client) => {
                     if clients.push(client).is_err() {
                         return comes;
                     }
                 }
-                Err(_) => comes = true,
+                Err(_) => {
+                    comes = true;
+                    note_comer(&mut self.places, token);
+                }
             }
             self.untold = self.untold.saturating_sub(1);
         }
@@ -132,13 +196,26 @@ impl<R: Net + Clock> Attend<SocketChannel<PolledStream>> for SocketAttend<'_, R>
 
     ghost closed = { λ a c. None };
 
-    fn take(&mut self, client: u32) -> Taken<SocketChannel<PolledStream>> {
-        match self.listener.accept_now() {
+    // Each place is asked in its turn, so that many who come to one keep nobody from another.
+    fn place(&mut self, _client: u32) -> Option<usize> {
+        for _ in 0..self.places.len() {
+            let place = self.next;
+            let next = place.saturating_add(1);
+            self.next = if next < self.places.len() { next } else { 0 };
+            if self.listener_at(place).is_some() {
+                return Some(place);
+            }
+        }
+        None
+    }
+
+    fn take(&mut self, client: u32, place: usize) -> Taken<SocketChannel<PolledStream>> {
+        match self.accept_at(place) {
             Ok(mut stream) => match self.register(&mut stream, client) {
                 Ok(()) => Taken::Came(SocketChannel::new(stream)),
                 Err(_) => Taken::Later,
             },
-            Err(error) => match miss_of(&error) {
+            Err(error) => match self.missed(place, &error) {
                 Miss::Nobody => Taken::Nobody,
                 Miss::Later => Taken::Later,
                 Miss::Failed => Taken::Failed,
@@ -146,14 +223,14 @@ impl<R: Net + Clock> Attend<SocketChannel<PolledStream>> for SocketAttend<'_, R>
         }
     }
 
-    fn turn_away(&mut self, bytes: &[u8]) -> Taken<()> {
-        match self.listener.accept_now() {
+    fn turn_away(&mut self, place: usize, bytes: &[u8]) -> Taken<()> {
+        match self.accept_at(place) {
             Ok(mut stream) => {
                 // Where they are not taken, it is closed without a word.
                 let _ = stream.write_now(bytes);
                 Taken::Came(())
             }
-            Err(error) => match miss_of(&error) {
+            Err(error) => match self.missed(place, &error) {
                 Miss::Nobody => Taken::Nobody,
                 Miss::Later => Taken::Later,
                 Miss::Failed => Taken::Failed,
@@ -185,7 +262,15 @@ impl<R: Net + Clock> Attend<SocketChannel<PolledStream>> for SocketAttend<'_, R>
     }
 }
 
+// Somebody may have come to the place of this token.
+fn note_comer(places: &mut Vec<PolledPlace>, token: usize) {
+    if let Some(found) = places.get_mut(token.saturating_sub(LISTENER)) {
+        found.may_come = true;
+    }
+}
+
 // Why no connection was taken.
+#[derive(Clone, Copy)]
 enum Miss {
     // None has come.
     Nobody,

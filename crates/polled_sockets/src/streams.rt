@@ -17,19 +17,24 @@ pub trait DuplexStream {
     /// The bytes that it has taken, where an impl names them.
     ghost taken: { Self → Option (List ℕ) };
 
+    /// At which of the places of a server it came: always the same one.
+    ghost place: { Self → ℕ };
+
     /// Reads what has come into the front of a buffer, and answers how many bytes: none only at the
     /// end of its bytes or into an empty buffer. `WouldBlock`: nothing has come yet.
     fn read_now(&mut self, buffer: &mut [u8]) -> io::Result<usize>
         ensures bound { ReadsAtMost result buffer.new }
         ensures bytes { ReadConsumes (remaining self.old) (remaining self.new) result buffer.new }
         ensures size { length buffer.new ≡ length buffer.old }
-        ensures taken { taken self.new ≡ taken self.old };
+        ensures taken { taken self.new ≡ taken self.old }
+        ensures place { place self.new ≡ place self.old };
 
     /// Takes bytes from the front of some, and answers how many. `WouldBlock`: none can be taken yet.
     fn write_now(&mut self, bytes: &[u8]) -> io::Result<usize>
         ensures bound { WritesAtMost result bytes.now }
         ensures bytes { WriteAppends (taken self.old) (taken self.new) result bytes.now }
-        ensures remaining { remaining self.new ≡ remaining self.old };
+        ensures remaining { remaining self.new ≡ remaining self.old }
+        ensures place { place self.new ≡ place self.old };
 }
 
 /// A stream as a channel. It has failed once a call of it has, but for one that would wait.
@@ -47,6 +52,7 @@ impl<S: DuplexStream> SocketChannel<S> {
         ensures remaining { ⟦<SocketChannel<S> as Channel>⟧.remaining result ≡ S.remaining stream }
         ensures taken { ⟦<SocketChannel<S> as Channel>⟧.taken result ≡ S.taken stream }
         ensures failures { ⟦<SocketChannel<S> as Channel>⟧.failures result ≡ 0 }
+        ensures place { ⟦<SocketChannel<S> as Channel>⟧.place result ≡ S.place stream }
     {
         SocketChannel {
             stream,
@@ -64,6 +70,8 @@ impl<S: DuplexStream> Channel for SocketChannel<S> {
     ghost taken = { λ c. S.taken c.stream };
 
     ghost failures = { λ c. if c.has_failed then 1 else 0 };
+
+    ghost place = { λ c. S.place c.stream };
 
     fn receive(&mut self, buffer: &mut [u8]) -> Received {
         if buffer.is_empty() {

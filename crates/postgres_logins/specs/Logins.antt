@@ -29,6 +29,11 @@ abbrev pub is_admitted : SaslStage → Bool
 is_admitted (stage.Admitted n text) = true
 is_admitted _ = false
 
+-- the role whose password it was
+abbrev pub shown_role : SaslStage → Option (List ℕ)
+shown_role (stage.Admitted n text) = Some n.role
+shown_role _ = None
+
 -- a verifier is looked up for the exchange
 abbrev pub is_looking : SaslStage → Bool
 is_looking (stage.Begun n) = true

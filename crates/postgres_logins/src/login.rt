@@ -7,7 +7,7 @@ ghost use Rattle.talks.specs.declared.want.Want.{Want as TheWant};
 ghost use Rattle.password_talks.specs.LookUps.{is_as_shown, refusal};
 ghost use Rattle.password_talks.specs.Logins.{verifier_of};
 ghost use Rattle.postgres_logins.specs.EntryMessages.{entry_front};
-ghost use Rattle.postgres_logins.specs.Logins.{HearsIn, HearsEncryption, HearsInitial, HearsLast, HearsPacket, HearsRequest, SendsAway, SaidNothing, LearnsIn, RefusesClient, StandsAs, is_admitted, newcomer, shown_in, start_in};
+ghost use Rattle.postgres_logins.specs.Logins.{HearsIn, HearsEncryption, HearsInitial, HearsLast, HearsPacket, HearsRequest, SendsAway, SaidNothing, LearnsIn, RefusesClient, StandsAs, is_admitted, newcomer, shown_in, shown_role, start_in};
 ghost use Rattle.postgres_logins.specs.Sayings.{failure_said, refusal_said};
 ghost use Rattle.postgres_logins.specs.declared.stage.SaslStage.{SaslStage as TheStage};
 
@@ -78,6 +78,16 @@ impl SaslLogin {
                 text: _
             }
         )
+    }
+
+    /// The role whose password was shown, if one was.
+    pub fn shown_role(&self) -> Option<&str>
+        ensures { option_map (λ role. role.now) result ≡ shown_role self.now.stage }
+    {
+        match &self.stage {
+            SaslStage::Admitted { newcomer, text: _ } => Some(newcomer.role.as_str()),
+            _ => None,
+        }
     }
 
     /// The StartupMessage of a client that was let in, as it came.

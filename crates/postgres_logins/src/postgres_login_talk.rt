@@ -133,7 +133,7 @@ fn takes<T: Talk>(talk: &T, start: &[u8]) -> bool
 impl<T: Talk> Talk for PostgresLoginTalk<T> {
     ghost use Rattle.std.specs.Prelude.{◌≡◌, ◌++◌, false};
     ghost use Rattle.postgres_logins.specs.declared.stage.SaslStage.{SaslStage as TheStage};
-    ghost use Rattle.postgres_logins.specs.Logins.{is_admitted};
+    ghost use Rattle.postgres_logins.specs.Logins.{is_admitted, shown_role};
     ghost use Rattle.postgres_logins.specs.PostgresLoginTalks.{HearsMessage, LearnsReply, RejectsMessage, front_at, wanted};
     ghost use Rattle.postgres_logins.specs.FrontLaws.{front_more_if, bad_more_if};
 
@@ -149,6 +149,8 @@ impl<T: Talk> Talk for PostgresLoginTalk<T> {
 
     ghost learns = { λ t reply said u. LearnsReply T.Talk t reply said u };
 
+    ghost comes_as = { λ t. shown_role t.login.stage };
+
     ghost front_more = { λ t bytes more n is. front_more_if (is_admitted t.login.stage) t.login.stage (T.front t.talk bytes) (T.front t.talk (bytes ++ more)) bytes more n (λ it. T.front_more t.talk bytes more n it) is };
 
     ghost bad_more = { λ t bytes more is. bad_more_if (is_admitted t.login.stage) t.login.stage (T.front t.talk bytes) (T.front t.talk (bytes ++ more)) bytes more (λ it. T.bad_more t.talk bytes more it) is };
@@ -159,6 +161,10 @@ impl<T: Talk> Talk for PostgresLoginTalk<T> {
         } else {
             self.login.want()
         }
+    }
+
+    fn comes_as(&self) -> Option<&str> {
+        self.login.shown_role()
     }
 
     fn front(&self, bytes: &[u8]) -> MessageFront {

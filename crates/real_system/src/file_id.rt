@@ -6,7 +6,7 @@ use std::rt::Files;
 
 /// Which file it is: its device, and its number there.
 #[derive(Clone, Copy, PartialEq, Eq)]
-pub(crate) struct FileId {
+pub struct FileId {
     device: u64,
     number: u64,
 }

@@ -10,6 +10,7 @@ mod new_files;
 mod progress;
 mod real;
 mod real_listener;
+mod several;
 mod socket;
 mod streams;
 

@@ -3,6 +3,7 @@
 ghost use Rattle.std.specs.Prelude.{IfOk};
 ghost use Rattle.systems.specs.Places.{the_place, IsOfKind};
 
+use crate::several::OneListener;
 use crate::socket::{bind_in_folder, bind_socket};
 use crate::streams::SystemStream;
 use polled_sockets::listeners::PolledListener;
@@ -23,11 +24,14 @@ pub enum PlaceListener {
     Socket(UnixListener),
     /// The socket of a folder, and the path of its file.
     PostgresFolder(UnixListener, String),
+    /// Several places.
+    Each(Vec<OneListener>),
 }
 
 impl PlaceListener {
     /// Binds a place, and answers which one that is: of port 0 the port that the system chose. The file
-    /// of a socket lets those connect that `access` says. An error is one of the system.
+    /// of a socket lets those connect that `access` says. An error is one of the system; several places
+    /// are not bound here.
     pub(crate) fn bind<'p, R: Files<File = File> + Net<Listener = TcpListener, Stream = TcpStream>>(
         rt: &R,
         alloc: Global,
@@ -51,6 +55,7 @@ impl PlaceListener {
                 let (listener, path) = bind_in_folder(rt, alloc, folder, access)?;
                 Ok((PlaceListener::PostgresFolder(listener, path), place))
             }
+            ListenPlace::Each(_) => Err(io::Error::from(io::ErrorKind::Unsupported)),
         }
     }
 }
@@ -59,20 +64,37 @@ impl PlaceListener {
     /// The path of the socket's file, where it is that of a folder.
     pub(crate) fn path_in_folder(&self) -> Option<&str> {
         match self {
-            PlaceListener::Port(_) | PlaceListener::Socket(_) => None,
+            PlaceListener::Port(_) | PlaceListener::Socket(_) | PlaceListener::Each(_) => None,
             PlaceListener::PostgresFolder(_, path) => Some(path.as_str()),
         }
     }
 
-    /// Another handle of the place, which is asked for connections and does not wait for one. From
-    /// then on this one does not wait, either. An error is one of the system.
-    pub(crate) fn polled(&self) -> io::Result<PolledListener> {
+    /// Several places, where it is these.
+    pub(crate) fn each(&self) -> Option<&Vec<OneListener>> {
         match self {
-            PlaceListener::Port(listener) => PolledListener::of_port(listener.try_clone()?),
+            PlaceListener::Each(places) => Some(places),
+            _ => None,
+        }
+    }
+
+    /// Other handles of the places, which are asked for connections and do not wait for one, each as the
+    /// place of its number. From then on these do not wait, either. An error is one of the system.
+    pub(crate) fn polled(&self, alloc: Global) -> io::Result<Vec<PolledListener>> {
+        let mut polled = Vec::new(alloc);
+        match self {
+            PlaceListener::Port(listener) => {
+                polled.push(PolledListener::of_port(0, listener.try_clone()?)?)?;
+            }
             PlaceListener::Socket(listener) | PlaceListener::PostgresFolder(listener, _) => {
-                PolledListener::of_socket(listener.try_clone()?)
+                polled.push(PolledListener::of_socket(0, listener.try_clone()?)?)?;
+            }
+            PlaceListener::Each(places) => {
+                for index in 0..places.len() {
+                    polled.push(places[index].polled(index)?)?;
+                }
             }
         }
+        Ok(polled)
     }
 }
 
@@ -89,6 +111,8 @@ impl Accept for PlaceListener {
                 let (reader, writer) = listener.accept_within(idle)?;
                 Ok((SystemStream::Socket(reader), SystemStream::Socket(writer)))
             }
+            // Several places give many connections at once, and never one after the other.
+            PlaceListener::Each(_) => Err(io::Error::from(io::ErrorKind::Unsupported)),
         }
     }
 }

@@ -7,6 +7,7 @@ use crate::listening::PlaceListener;
 use crate::new_files::{is_there, make_file, remove_name, rename_new};
 use crate::progress::PrintedProgress;
 use crate::real_listener::RealListener;
+use crate::several::{Unbound, bind_each, remove_files};
 use crate::socket::remove_made;
 use crate::streams::{Outputs, StandardStreams, read_up_to};
 use polled_sockets::listeners::PolledStream;
@@ -39,6 +40,8 @@ pub struct RealSystem<'r, R> {
     outputs: Outputs,
     // The file of the socket that was bound last.
     made: Option<FileId>,
+    // Which of several places was not bound, when that failed last.
+    refused: usize,
     failures: u64,
 }
 
@@ -53,6 +56,7 @@ impl<'r, R: Files<File = File>> RealSystem<'r, R> {
             _streams: streams,
             outputs: Outputs::find(rt),
             made: None,
+            refused: 0,
             failures: 0,
         })
     }
@@ -216,6 +220,20 @@ impl<
         access: SocketAccess,
         idle: Option<Duration>,
     ) -> Result<(RealListener<'r, R>, ListenPlace<'p>), SystemCause> {
+        if let ListenPlace::Each(places) = place {
+            return match bind_each(self.rt, self.alloc, places) {
+                Ok(listeners) => {
+                    let listener = PlaceListener::Each(listeners);
+                    let waiting = SystemListener::new(self.rt, self.alloc, listener, idle);
+                    Ok((RealListener::new(waiting), place))
+                }
+                Err(Unbound { index, error }) => {
+                    self.refused = index;
+                    self.failures = self.failures.saturating_add(1);
+                    Err(SystemCause::of(&error))
+                }
+            };
+        }
         match PlaceListener::bind(self.rt, self.alloc, place, access) {
             Ok((listener, bound)) => {
                 if let ListenPlace::Socket(path) = place {
@@ -234,7 +252,14 @@ impl<
         }
     }
 
+    fn refused_place(&self) -> usize {
+        self.refused
+    }
+
     fn unbind(&mut self, place: ListenPlace<'_>, listener: RealListener<'r, R>) {
+        if let Some(places) = listener.each() {
+            remove_files(self.rt, places);
+        }
         if let ListenPlace::Socket(path) = place {
             remove_made(self.rt, path, self.made);
         }

@@ -2,6 +2,7 @@
 //! at once.
 
 use crate::listening::PlaceListener;
+use crate::several::OneListener;
 use crate::streams::SystemStream;
 use channels::attend::{Attend, Taken};
 use polled_sockets::listeners::PolledStream;
@@ -39,11 +40,16 @@ impl<'r, R: Net + Clock> RealListener<'r, R> {
         self.waiting.listener().path_in_folder()
     }
 
+    /// Several places, where it listens at these.
+    pub(crate) fn each(&self) -> Option<&Vec<OneListener>> {
+        self.waiting.listener().each()
+    }
+
     /// Has the system tell who comes, and who of those that came may have something to do. An error
     /// is one of the system.
     pub(crate) fn poll(&mut self, rt: &'r R, alloc: Global) -> io::Result<()> {
-        let listener = self.waiting.listener().polled()?;
-        self.polled = Some(SocketAttend::new(rt, alloc, listener)?);
+        let listeners = self.waiting.listener().polled(alloc)?;
+        self.polled = Some(SocketAttend::new(rt, alloc, listeners)?);
         Ok(())
     }
 }
@@ -83,16 +89,23 @@ impl<R: Net + Clock> Attend<SocketChannel<PolledStream>> for RealListener<'_, R>
     ghost closed = { λ a c. None };
 
     // Nobody comes to a place that is not polled.
-    fn take(&mut self, client: u32) -> Taken<SocketChannel<PolledStream>> {
+    fn place(&mut self, client: u32) -> Option<usize> {
         match &mut self.polled {
-            Some(polled) => polled.take(client),
+            Some(polled) => polled.place(client),
+            None => None,
+        }
+    }
+
+    fn take(&mut self, client: u32, place: usize) -> Taken<SocketChannel<PolledStream>> {
+        match &mut self.polled {
+            Some(polled) => polled.take(client, place),
             None => Taken::Failed,
         }
     }
 
-    fn turn_away(&mut self, bytes: &[u8]) -> Taken<()> {
+    fn turn_away(&mut self, place: usize, bytes: &[u8]) -> Taken<()> {
         match &mut self.polled {
-            Some(polled) => polled.turn_away(bytes),
+            Some(polled) => polled.turn_away(place, bytes),
             None => Taken::Failed,
         }
     }

@@ -64,6 +64,7 @@ module _ {S X : Type 0} (Reads : ReadingRelation) (state : S → StoreState) (se
     stopped = λ is. absurd (false_is_not_true server.stopped runs is);
     running = λ is. absurd (false_is_not_true server.stopped runs is);
     steps = memory_steps e runs may;
+    dropped = λ told. refl;
   }
 
   pub refuses : (w : Want) → WantsStep w → MayLackMemory state server c w → TakesStep Reads state c w (reply.Answer (Refused OutOfMemory)) server server

@@ -8,3 +8,5 @@ pub mod ServedLaws
 pub mod Machines
 pub mod Admitted
 pub mod RowsApart
+pub mod RoleLaws
+pub mod Roles

@@ -1,6 +1,8 @@
 -- A server as a machine of many clients.
+use Rattle.std.specs.Prelude.{◌≡◌, true}
 use Rattle.store.specs.Store.{StoreState}
 use Rattle.abstract_database.specs.Runs.{ReadingRelation}
+use Rattle.server.specs.Dropped.{lacks_role}
 use Rattle.talks.specs.declared.machine.Machine.{Ghosts}
 use Rattle.served_machine.specs.declared.machine.ServedMachine.{ServedMachine}
 use Rattle.served_machine.specs.Sessions.{HasOwnSession, IsSoundServer}
@@ -23,4 +25,6 @@ machine_of Reads state = record {
   AsksForNone = λ m c w. LeavesLock Reads state m.server c w;
   IsHeldBy = λ m c. IsHolder state m.server c;
   MayLackMemory = λ m c w. MayLack state m.server c w;
+  LacksRole = λ m role. lacks_role m.server role ≡ true;
+  MayHaveDropped = λ m. m.server.may_have_dropped ≡ true;
 }

@@ -17,6 +17,7 @@ use Rattle.server.specs.declared.server.Server.{Server}
 use Rattle.server.specs.Standing.{Represents}
 use Rattle.server.specs.Runs.{Steps}
 use Rattle.server.specs.Clients.{ClosesNext}
+use Rattle.server.specs.Dropped.{KeepsDefinitions}
 use Rattle.server.specs.LookUps.{Found, LooksVerifierUp, LeavesMachine, FindsKept}
 use Rattle.talks.specs.declared.want.Want.{Want}
 use Rattle.talks.specs.declared.want.Want.TheVariants as want
@@ -25,7 +26,7 @@ use Rattle.talks.specs.declared.want.Reply.TheVariants as reply
 use Rattle.talks.specs.declared.want.SessionEntry.{SessionEntry}
 use Rattle.talks.specs.declared.want.BlockStanding.{BlockStanding}
 use Rattle.talks.specs.declared.want.BlockStanding.TheVariants as standing
-use Rattle.served_machine.specs.Entries.{admits}
+use Rattle.served_machine.specs.Entries.{is_way_of, admits}
 
 -- ---- steps
 
@@ -35,6 +36,7 @@ pub record TakesEvent {S X : Type 0} (Reads : ReadingRelation) (state : S → St
   pub stopped : old.stopped ≡ true → (a ≡ Refused IoError) × (new ≡ old)
   pub running : new.stopped ≡ true → a ≡ Refused IoError
   pub steps : Steps Reads state c old e a new
+  pub dropped : KeepsDefinitions old new
 
 -- so asked for, a session for this role may be opened wherever the server stands, or nowhere
 abbrev pub IsLetIn : {S X : Type 0} → (S → StoreState) → Server S X → SessionEntry → TheName → Type 0
@@ -43,12 +45,12 @@ IsLetIn state server entry login = (w : At) → Represents state server w → ad
 abbrev pub IsTurnedAway : {S X : Type 0} → (S → StoreState) → Server S X → SessionEntry → TheName → Type 0
 IsTurnedAway state server entry login = (w : At) → Represents state server w → admits w.standing.machine.committed entry login ≡ false
 
--- what a client is answered that asks for a session: a server that has stopped refuses it; whom the place does not admit is turned away; memory for
--- the role's name is refused; or the server takes the event that opens it, of whom the place admits
+-- what a client is answered that asks for a session: a server that has stopped refuses it; whom the place does not admit is turned away; memory is
+-- refused, to one who comes by a way for that role; or the server takes the event that opens it, of whom the place admits
 pub data OpensFor {S X : Type 0} (Reads : ReadingRelation) (state : S → StoreState) (c n : ℕ) (login : TheName) (entry : SessionEntry) (a : Answer) (old new : Server S X) : Type 0 where
   has_stopped : old.stopped ≡ true → a ≡ Refused IoError → new ≡ old → OpensFor Reads state c n login entry a old new
   turns_away : old.stopped ≡ false → IsTurnedAway state old entry login → a ≡ Refused InvalidAuthorization → new ≡ old → OpensFor Reads state c n login entry a old new
-  lacks_memory : old.stopped ≡ false → IsLetIn state old entry login → a ≡ Refused OutOfMemory → new ≡ old → OpensFor Reads state c n login entry a old new
+  lacks_memory : old.stopped ≡ false → is_way_of entry.way login ≡ true → a ≡ Refused OutOfMemory → new ≡ old → OpensFor Reads state c n login entry a old new
   takes : old.stopped ≡ false → IsLetIn state old entry login → n < 2 ^ 32 → TakesEvent Reads state c (event.Open n login) a old new → OpensFor Reads state c n login entry a old new
 
 -- a step that a client wants; the event that opens a session comes only with how it is asked for

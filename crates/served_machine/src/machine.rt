@@ -1,10 +1,10 @@
 //! A server, asked by many clients.
 
-ghost use Rattle.std.specs.Prelude.{◌≡◌, Option, Some, None, true, false};
+ghost use Rattle.std.specs.Prelude.{◌≡◌, Option, Some, None, IfOk, OnErr, true, false};
 ghost use Rattle.abstract_database.specs.Runs.{At};
 ghost use Rattle.server.specs.Standing.{Represents};
-ghost use Rattle.served_machine.specs.Entries.{admits};
-ghost use Rattle.served_machine.specs.Served.{OpensFor, IsStandingOf};
+ghost use Rattle.served_machine.specs.Entries.{is_way_of, admits};
+ghost use Rattle.served_machine.specs.Served.{OpensFor, IsLetIn, IsStandingOf};
 ghost use Rattle.served_machine.specs.Locks.{is_held_by_another};
 
 use crate::entry::is_way_of;
@@ -51,13 +51,21 @@ impl<S: Store, X: EventHandler> ServedMachine<S, X> {
         server
     }
 
-    // Whether a session may be opened for the role of this name, so asked for.
-    fn admits(&self, login: &Text, entry: &SessionEntry) -> bool
-        ensures { self.now.server.stopped ≡ false → (w : At) → Represents S.state self.now.server w
-            → result ≡ admits w.standing.machine.committed entry.now login.now }
+    // Whether a session may be opened for the role of this name, so asked for. The only error is that an
+    // allocation failed, where it was looked what the role may become: its way of entry is for it.
+    fn admits(&self, login: &Text, entry: &SessionEntry) -> Result<bool, AllocError>
+        ensures ok { self.now.server.stopped ≡ false → (w : At) → Represents S.state self.now.server w
+            → IfOk result (λ admits_it. admits_it ≡ admits w.standing.machine.committed entry.now login.now) }
+        ensures err { OnErr result (is_way_of entry.now.way login.now ≡ true) }
     {
-        is_way_of(&entry.way, login.as_str())
-            && !(entry.no_superuser && self.server.is_superuser(login.as_str()))
+        if !is_way_of(&entry.way, login.as_str()) {
+            return Ok(false);
+        }
+        if !entry.no_superuser {
+            return Ok(true);
+        }
+        let may_become = self.server.may_become_superuser(login.as_str())?;
+        Ok(!may_become)
     }
 
     // Opens a session of a client, if it is admitted, so asked for.
@@ -67,9 +75,25 @@ impl<S: Store, X: EventHandler> ServedMachine<S, X> {
         if self.server.has_stopped() {
             return Answer::Refused(SqlState::IoError);
         }
-        if !self.admits(login, entry) {
-            return Answer::Refused(SqlState::InvalidAuthorization);
+        match self.admits(login, entry) {
+            Ok(true) => self.open_admitted(client, session, login, entry),
+            Ok(false) => Answer::Refused(SqlState::InvalidAuthorization),
+            Err(_) => Answer::Refused(SqlState::OutOfMemory),
         }
+    }
+
+    // Opens a session of a client whom the place admits.
+    fn open_admitted(
+        &mut self,
+        client: u32,
+        session: u32,
+        login: &Text,
+        entry: &SessionEntry,
+    ) -> Answer
+        requires running { self.old.server.stopped ≡ false }
+        requires admitted { IsLetIn S.state self.old.server entry.now login.now }
+        ensures { OpensFor X.Reads S.state client session login.now entry.now result self.old.server self.new.server }
+    {
         match login.try_copy(self.alloc) {
             Ok(login) => self.server.step(client, &Event::Open { session, login }),
             Err(_) => Answer::Refused(SqlState::OutOfMemory),
@@ -104,6 +128,9 @@ impl<S: Store, X: EventHandler> Machine for ServedMachine<S, X> {
     ghost use Rattle.served_machine.specs.Sessions.{HasOwnSession, IsSoundServer};
     ghost use Rattle.served_machine.specs.Served.{TakesStep, TellsClient, ClosesOne};
     ghost use Rattle.served_machine.specs.Locks.{LocksOut, LetsIn, TakesLock, LeavesLock, IsHolder, MayLackMemory};
+    ghost use Rattle.std.specs.Prelude.{◌≡◌, true};
+    ghost use Rattle.server.specs.Dropped.{lacks_role};
+    ghost use Rattle.served_machine.specs.RoleLaws.{lacks_running, steps_roles, closes_roles};
     ghost use Rattle.served_machine.specs.ServedLaws.{steps_sound, tells_sound, closes_sound, steps_open, tells_open, closes_open, steps_stopped, tells_stopped, closes_stopped};
 
     ghost Steps = { λ old c w r new. TakesStep X.Reads S.state c w r old.server new.server };
@@ -132,6 +159,10 @@ impl<S: Store, X: EventHandler> Machine for ServedMachine<S, X> {
 
     ghost MayLackMemory = { λ m c w. MayLackMemory S.state m.server c w };
 
+    ghost LacksRole = { λ m role. lacks_role m.server role ≡ true };
+
+    ghost MayHaveDropped = { λ m. m.server.may_have_dropped ≡ true };
+
     ghost steps_sound = { λ old new c w r made sound. steps_sound X.Reads S.state old.server new.server c w r made sound };
 
     ghost tells_sound = { λ old new c w r told sound. tells_sound X.Reads S.state old.server new.server c w r told sound };
@@ -149,6 +180,12 @@ impl<S: Store, X: EventHandler> Machine for ServedMachine<S, X> {
     ghost tells_stopped = { λ old new c w r told is. tells_stopped X.Reads S.state old.server new.server c w r told is };
 
     ghost closes_stopped = { λ old new c made is. closes_stopped X.Reads S.state old.server new.server c made is };
+
+    ghost lacks_running = { λ m role lacks. lacks_running S.state m.server role lacks };
+
+    ghost steps_roles = { λ old new c w r role sound made lacks. steps_roles X.Reads S.state old.server new.server role c w r made lacks };
+
+    ghost closes_roles = { λ old new c role sound made lacks told. closes_roles X.Reads S.state old.server new.server role c sound made lacks told };
 
     fn has_stopped(&self) -> bool {
         self.server.has_stopped()
@@ -202,6 +239,18 @@ impl<S: Store, X: EventHandler> Machine for ServedMachine<S, X> {
             Want::Event(event) => self.server.asks_for_lock(client, event),
             _ => Ok(false),
         }
+    }
+
+    fn may_have_dropped(&self) -> bool {
+        self.server.may_have_dropped()
+    }
+
+    fn lacks_role(&self, role: &str) -> bool {
+        self.server.lacks_role(role)
+    }
+
+    fn has_lost_role(&self, client: u32) -> bool {
+        self.server.has_lost_role(client)
     }
 
     fn close_next(&mut self, client: u32) -> bool {

@@ -259,32 +259,47 @@ module _ {T : Type 0} (t : TalkGhosts T) (Alike : T → T → Type 0) (speaks : 
   one_client (awaited b) (gone p) (there z) to_there is is_there here it of = absurd is_there
   one_client (awaited b) (gone p) (gone s) to_there is is_there here it of = absurd is_there
 
+-- ---- all of them
+
+-- where each of them wants the same
+pub asked_so : (S Z X Y T C D : Type 0) (Reads : ReadingRelation) (state : S → StoreState) (state_there : Z → StoreState) (t : TalkGhosts T) (k : ClientsGhosts C T) (j : ClientsGhosts D T)
+    (a : ClientsOfTenant) (place place_there : ℕ → ℕ) → IsOneToOne place → IsOneToOne place_there →
+    (old : ServedMachine S X) (before : C) (us : List Turn) (new : ServedMachine S X) (after : C) (took : TakesTurns (machine_of Reads state) t k old before us new after) →
+    (old_there : ServedMachine Z Y) (before_there : D) (us_there : List Turn) (new_there : ServedMachine Z Y) (after_there : D) (took_there : TakesTurns (machine_of Reads state_there) t j old_there before_there us_there new_there after_there) →
+    ((c d : ℕ) → place c ≡ place_there d → a.clients (place c) ≡ true → AreWantedAlike (own_learnt c us) (own_learnt d us_there)) →
+    AreFronts (own_services a place (services_of Reads state t k old before us new after took)) (own_services a place_there (services_of Reads state_there t j old_there before_there us_there new_there after_there took_there)) →
+    AskAlike place place_there (own_exchanges a place (exchanges_of Reads state t k old before us new after took)) (own_exchanges a place_there (exchanges_of Reads state_there t j old_there before_there us_there new_there after_there took_there))
+asked_so S Z X Y T C D Reads state state_there t k j a place place_there apart apart_there old before us new after took old_there before_there us_there new_there after_there took_there same fronts =
+    subst (λ (l : List Exchange). AskAlike place place_there l (own_exchanges a place_there theirs_all)) (sym (ap (own_exchanges a place) mine.exchanges ∙ exchanges_own a place mine.items))
+    (subst (λ (l : List Exchange). AskAlike place place_there (map exchange_of (own_items a place mine.items)) l) (sym (ap (own_exchanges a place_there) theirs.exchanges ∙ exchanges_own a place_there theirs.items))
+    (in_one_order a place place_there apart apart_there (own_items a place mine.items) (own_items a place_there theirs.items) (all_own a place place_there apart apart_there mine.items) in_order wants))
+  where
+    theirs_all : List Exchange
+    theirs_all = exchanges_of Reads state_there t j old_there before_there us_there new_there after_there took_there
+
+    mine : ComesTo Reads state t k old before us new after took
+    mine = comes_to Reads state t k old before us new after took
+
+    theirs : ComesTo Reads state_there t j old_there before_there us_there new_there after_there took_there
+    theirs = comes_to Reads state_there t j old_there before_there us_there new_there after_there took_there
+
+    in_order : AreFronts (map (placed_service a place) (own_items a place mine.items)) (map (placed_service a place_there) (own_items a place_there theirs.items))
+    in_order =
+        subst (λ (l : List Service). AreFronts l (map (placed_service a place_there) (own_items a place_there theirs.items))) (ap (own_services a place) mine.services ∙ services_own a place mine.items)
+        (subst (λ (l : List Service). AreFronts (own_services a place (services_of Reads state t k old before us new after took)) l) (ap (own_services a place_there) theirs.services ∙ services_own a place_there theirs.items) fronts)
+
+    wants : WantAlike a place place_there apart apart_there (own_items a place mine.items) (own_items a place_there theirs.items)
+    wants c d at_one own =
+        subst (λ (l : List Learnt). AreWantedAlike l (learnt_by d (own_items a place_there theirs.items))) (mine.learns c ∙ sym (learnt_own a place c own mine.items))
+        (subst (λ (l : List Learnt). AreWantedAlike (own_learnt c us) l) (theirs.learns d ∙ sym (learnt_own a place_there d (ap a.clients (sym at_one) ∙ own) theirs.items)) (same c d at_one own))
+
 module _ (S Z X Y T C D : Type 0) (Reads : ReadingRelation) (state : S → StoreState) (state_there : Z → StoreState) (t : TalkGhosts T) (k : ClientsGhosts C T) (j : ClientsGhosts D T) (Alike : T → T → Type 0)
     (front_more : (x : T) (bytes more : List ℕ) (n : ℕ) → t.front x bytes ≡ Whole n → (n ≤ length bytes) × (t.front x (bytes ++ more) ≡ Whole n))
     (bad_more : (x : T) (bytes more : List ℕ) → t.front x bytes ≡ Bad → t.front x (bytes ++ more) ≡ Bad) where
   pub asked_alike : clients_ask_alike S Z X Y T C D Reads state state_there t k j Alike
   asked_alike speaks a place place_there apart apart_there old before us new after took old_there before_there us_there new_there after_there took_there begin come fronts =
-      subst (λ (l : List Exchange). AskAlike place place_there l (own_exchanges a place_there theirs_all)) (sym (ap (own_exchanges a place) mine.exchanges ∙ exchanges_own a place mine.items))
-      (subst (λ (l : List Exchange). AskAlike place place_there (map exchange_of (own_items a place mine.items)) l) (sym (ap (own_exchanges a place_there) theirs.exchanges ∙ exchanges_own a place_there theirs.items))
-      (in_one_order a place place_there apart apart_there (own_items a place mine.items) (own_items a place_there theirs.items) (all_own a place place_there apart apart_there mine.items) in_order wants))
-    where
-      theirs_all : List Exchange
-      theirs_all = exchanges_of Reads state_there t j old_there before_there us_there new_there after_there took_there
-
-      mine : ComesTo Reads state t k old before us new after took
-      mine = comes_to Reads state t k old before us new after took
-
-      theirs : ComesTo Reads state_there t j old_there before_there us_there new_there after_there took_there
-      theirs = comes_to Reads state_there t j old_there before_there us_there new_there after_there took_there
-
-      in_order : AreFronts (map (placed_service a place) (own_items a place mine.items)) (map (placed_service a place_there) (own_items a place_there theirs.items))
-      in_order =
-          subst (λ (l : List Service). AreFronts l (map (placed_service a place_there) (own_items a place_there theirs.items))) (ap (own_services a place) mine.services ∙ services_own a place mine.items)
-          (subst (λ (l : List Service). AreFronts (own_services a place (services_of Reads state t k old before us new after took)) l) (ap (own_services a place_there) theirs.services ∙ services_own a place_there theirs.items) fronts)
-
-      wants : WantAlike a place place_there apart apart_there (own_items a place mine.items) (own_items a place_there theirs.items)
-      wants c d at_one own =
-          let it = come c d at_one own in
-          subst (λ (l : List Learnt). AreWantedAlike l (learnt_by d (own_items a place_there theirs.items))) (mine.learns c ∙ sym (learnt_own a place c own mine.items))
-          (subst (λ (l : List Learnt). AreWantedAlike (own_learnt c us) l) (theirs.learns d ∙ sym (learnt_own a place_there d (ap a.clients (sym at_one) ∙ own) theirs.items))
-          (one_client t Alike speaks front_more bad_more (k.makes (k.maker before)) (j.makes (j.maker before_there)) begin (own_learnt c us) (own_learnt d us_there) _ _ _ _ it.awaited it.awaited_there it.passes it.passes_there it.bytes))
+      asked_so S Z X Y T C D Reads state state_there t k j a place place_there apart apart_there old before us new after took old_there before_there us_there new_there after_there took_there
+      (λ c d at_one own.
+      let it = come c d at_one own in
+      one_client t Alike speaks front_more bad_more (k.makes (k.maker before)) (j.makes (j.maker before_there)) begin (own_learnt c us) (own_learnt d us_there) _ _ _ _ it.awaited it.awaited_there it.passes it.passes_there it.bytes)
+      fronts

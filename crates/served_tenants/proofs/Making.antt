@@ -64,7 +64,7 @@ module _ {S X : Type 0} (Reads : ReadingRelation) (state : S → StoreState) whe
   opens c n login entry a old new w (opening.turns_away runs away refused is) sound here =
       stays old new w c (want.Open n login entry) (reply.Answer a) is sound here (a, refl, turns_away (here.stopped ∙ runs) (away w here) refused refl)
   opens c n login entry a old new w (opening.lacks_memory runs admitted refused is) sound here =
-      stays old new w c (want.Open n login entry) (reply.Answer a) is sound here (a, refl, lacks_memory (here.stopped ∙ runs) (admitted w here) refused refl)
+      stays old new w c (want.Open n login entry) (reply.Answer a) is sound here (a, refl, lacks_memory (here.stopped ∙ runs) admitted refused refl)
   opens c n login entry a old new w (opening.takes runs admitted small made) sound here =
       let led = carried c (event.Open n login) a old new w made.history made.steps sound here in
       (led.0, led.1, led.2, (a, refl, takes (here.stopped ∙ runs) (admitted w here) led.3))

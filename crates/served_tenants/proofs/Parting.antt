@@ -13,7 +13,7 @@ use Rattle.abstract_database.specs.Database.{Database}
 use Rattle.abstract_database.specs.Descriptions.{description, IsDescription}
 use Rattle.abstract_database.specs.Lists.{TheName}
 use Rattle.abstract_database.specs.Machine.{Machine, Session, number_in, session_of, Event as MachineEvent, opens, executes, Reading, Transition, transition}
-use Rattle.abstract_database.specs.Roles.{is_superuser}
+use Rattle.server.specs.Superusers.{may_become_superuser}
 use Rattle.abstract_database.specs.Runs.{TheText, ReadingRelation, MayRead, At}
 use Rattle.abstract_database.proofs.ListLemmas.{bytes_same, same_bytes}
 use Rattle.database_laws.specs.HiddenRuns.{SameApparentRowsForPairs, AreSound, AreOneRefusal}
@@ -188,7 +188,7 @@ module _ (Reads : ReadingRelation) (once : ReadsOnce Reads) (a : ClientsOfTenant
       -- ---- sessions that are asked for
 
       admits_same : (login : TheName) (entry : SessionEntry) → admits m.committed entry login ≡ admits k.committed entry login
-      admits_same login entry = ap (λ (b : Bool). is_way_of entry.way login && not (entry.no_superuser && b)) (ap (λ (db : Database). is_superuser db login) st.committed.definitions)
+      admits_same login entry = ap (λ (b : Bool). is_way_of entry.way login && not (entry.no_superuser && b)) (ap (λ (db : Database). may_become_superuser db login) st.committed.definitions)
 
       stops_both : m.stopped ≡ true → k.stopped ≡ false → ⊥
       stops_both was runs = let contrary : true ≡ false = sym was ∙ st.stopped ∙ runs in cc
@@ -212,10 +212,12 @@ module _ (Reads : ReadingRelation) (once : ReadsOnce Reads) (a : ClientsOfTenant
       opened n login entry p q r s is is_there its (has_stopped was e same) (takes runs admitted it) = absurd (stops_both was runs)
       opened n login entry p q r s is is_there its (turns_away runs away e same) (has_stopped was f same_k) = absurd (stops_both_there runs was)
       opened n login entry p q r s is is_there its (turns_away runs away e same) (turns_away runs_k away_k f same_k) = refused_both (want.Open n login entry) p q (Refused InvalidAuthorization) r s is is_there e f same same_k
-      opened n login entry p q r s is is_there its (turns_away runs away e same) (lacks_memory runs_k admitted f same_k) = absurd (one_way login entry true away admitted)
+      opened n login entry p q r s is is_there its (turns_away runs away e same) (lacks_memory runs_k admitted f same_k) =
+          parts (for_memory (inr (is_there ∙ ap (λ (y : Answer). reply.Answer y) f)) (λ one. let never : ◌≡◌ {A = Answer} (Refused InvalidAuthorization) (Refused OutOfMemory) = sym e ∙ answered_in p q (sym is ∙ one ∙ is_there) ∙ f in cc))
       opened n login entry p q r s is is_there its (turns_away runs away e same) (takes runs_k admitted it) = absurd (one_way login entry true away admitted)
       opened n login entry p q r s is is_there its (lacks_memory runs admitted e same) (has_stopped was f same_k) = absurd (stops_both_there runs was)
-      opened n login entry p q r s is is_there its (lacks_memory runs admitted e same) (turns_away runs_k away f same_k) = absurd (one_way login entry false admitted away)
+      opened n login entry p q r s is is_there its (lacks_memory runs admitted e same) (turns_away runs_k away f same_k) =
+          parts (for_memory (inl (is ∙ ap (λ (y : Answer). reply.Answer y) e)) (λ one. let never : ◌≡◌ {A = Answer} (Refused OutOfMemory) (Refused InvalidAuthorization) = sym e ∙ answered_in p q (sym is ∙ one ∙ is_there) ∙ f in cc))
       opened n login entry p q r s is is_there its (lacks_memory runs admitted e same) (lacks_memory runs_k admitted_k f same_k) = refused_both (want.Open n login entry) p q (Refused OutOfMemory) r s is is_there e f same same_k
       opened n login entry p q r s is is_there its (lacks_memory runs admitted e same) (takes runs_k admitted_k it) = at (one_refusal_or_not (Refused OutOfMemory) q) where
         at : AreOneRefusal (Refused OutOfMemory) q ⊎ (AreOneRefusal (Refused OutOfMemory) q → ⊥) → Ends (want.Open n login entry) r s

@@ -24,7 +24,7 @@ use Rattle.talks.specs.declared.talk.Talk.{Ghosts as TalkGhosts}
 use Rattle.talks.specs.declared.clients.ServedClients.{Ghosts as ClientsGhosts}
 use Rattle.talks.specs.Turns.{Exchange, Turn, steps, asks, waits, leaves, ends, TakesTurn, TakesTurns}
 use Rattle.served_machine.specs.declared.machine.ServedMachine.{ServedMachine}
-use Rattle.served_machine.specs.Entries.{admits}
+use Rattle.served_machine.specs.Entries.{is_way_of, admits}
 use Rattle.served_machine.specs.Machines.{machine_of}
 use Rattle.served_machine.specs.Served.{standing_of}
 
@@ -38,12 +38,12 @@ unsaid from to P = Unit {0}
 abbrev pub CarriesOutAt : ReadingRelation → At → ℕ → Event → Answer → At → Type 0
 CarriesOutAt Reads w c e a next = Happens Reads unsaid w (event_of c e) a next
 
--- A session is asked for. The server has stopped; or it is not asked, since the place turns the role away or memory for its name is refused; or
--- it takes the event
+-- A session is asked for. The server has stopped; or it is not asked, since the place turns the role away or memory is refused, to one who
+-- comes by a way for that role; or it takes the event
 pub data OpensSessionAt (Reads : ReadingRelation) (w : At) (c n : ℕ) (login : TheName) (entry : SessionEntry) (a : Answer) (next : At) : Type 0 where
   has_stopped : w.standing.machine.stopped ≡ true → a ≡ Refused IoError → next ≡ w → OpensSessionAt Reads w c n login entry a next
   turns_away : w.standing.machine.stopped ≡ false → admits w.standing.machine.committed entry login ≡ false → a ≡ Refused InvalidAuthorization → next ≡ w → OpensSessionAt Reads w c n login entry a next
-  lacks_memory : w.standing.machine.stopped ≡ false → admits w.standing.machine.committed entry login ≡ true → a ≡ Refused OutOfMemory → next ≡ w → OpensSessionAt Reads w c n login entry a next
+  lacks_memory : w.standing.machine.stopped ≡ false → is_way_of entry.way login ≡ true → a ≡ Refused OutOfMemory → next ≡ w → OpensSessionAt Reads w c n login entry a next
   takes : w.standing.machine.stopped ≡ false → admits w.standing.machine.committed entry login ≡ true → CarriesOutAt Reads w c (event.Open n login) a next → OpensSessionAt Reads w c n login entry a next
 
 -- what a client wants is done where the server stands, and this is the reply: an event is carried out, which opens no session, or a session is asked

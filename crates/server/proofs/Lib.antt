@@ -9,3 +9,5 @@ pub mod Opening
 pub mod Staying
 pub mod Leaving
 pub mod LookingUp
+pub mod Superusers
+pub mod Dropping

@@ -31,3 +31,5 @@ pub record ClosesNext {S X : Type 0} (Reads : ReadingRelation) (state : S → St
   pub first : IsFirstOpen state client session old
   pub answer : Answer
   pub steps : Steps Reads state client old (event.Close session) answer new
+  -- it is told as before whether a role may have been dropped
+  pub dropped : new.may_have_dropped ≡ old.may_have_dropped

@@ -11,4 +11,5 @@ over_store store server = record {
   writer = server.writer;
   sessions = server.sessions;
   stopped = server.stopped;
+  may_have_dropped = server.may_have_dropped;
 }

@@ -9,3 +9,5 @@ pub mod Clients
 pub mod Attempts
 pub mod Exchanged
 pub mod LookUps
+pub mod Superusers
+pub mod Dropped

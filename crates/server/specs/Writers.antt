@@ -1,5 +1,5 @@
 -- What the holder of the writer lock sees.
-use Rattle.std.specs.Prelude.{Option, Some, None}
+use Rattle.std.specs.Prelude.{Bool, false, Option, Some, None, is_some}
 use Rattle.store.specs.Records.{Records}
 use Rattle.stored_database.specs.Definitions.{Definitions}
 use Rattle.transactions.specs.Views.{applied_all}
@@ -19,3 +19,8 @@ records_under (Some writer) records = applied_all writer.lists records
 abbrev pub definitions_under : Option Writer → Definitions → Definitions
 definitions_under None d = d
 definitions_under (Some writer) d = definitions_or writer.catalogue d
+
+-- it is held, and its session has changed them
+abbrev pub changes_definitions : Option Writer → Bool
+changes_definitions None = false
+changes_definitions (Some writer) = is_some writer.catalogue

@@ -6,6 +6,7 @@ mod changing;
 pub mod decide;
 pub mod decision;
 pub mod execute;
+mod locking;
 pub mod look_ups;
 pub mod numbers;
 mod questions;

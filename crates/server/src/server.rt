@@ -1,28 +1,25 @@
 //! A server: a store, the writer lock, and the sessions that are open over them.
 
-ghost use Rattle.std.specs.Prelude.{◌≡◌, ◌++◌, ◌+◌, length, List, Option, Some, None, Err, OnOk, OnErr, IfErr, slice_get, true, false};
+ghost use Rattle.std.specs.Prelude.{◌≡◌, ◌++◌, ◌+◌, length, List, Option, Some, None, Err, OnOk, OnErr, slice_get, true, false};
 ghost use Rattle.std.specs.Option.{option_map};
 ghost use Rattle.sql_types.specs.declared.answer.Answer.{Answer as TheAnswer};
 ghost use Rattle.storage_sizes.specs.declared.record_format.RecordFormat.TheVariants.{V2};
 ghost use Rattle.store.specs.Store.{KeepsHistory};
 ghost use Rattle.abstract_database.specs.Machine.{own_number, own_sessions};
-ghost use Rattle.server.specs.Writers.{definitions_under};
+ghost use Rattle.server.specs.Dropped.{KeepsDefinitions};
 ghost use Rattle.abstract_database.specs.Database.{Database};
 ghost use Rattle.abstract_database.specs.Runs.{At};
-ghost use Rattle.stored_database.specs.Definitions.{Definitions};
 ghost use Rattle.stored_database.specs.Records.{Shows};
 ghost use Rattle.server.specs.Standing.{event_of, Represents, at_start};
 ghost use Rattle.server.specs.Runs.{Steps, Runs};
-ghost use Rattle.server.specs.Decisions.{Attempts, Carries, CommitsLists, store_fault_of};
+ghost use Rattle.server.specs.Decisions.{Attempts, Carries, store_fault_of};
 ghost use Rattle.server.specs.Attempts.{answer_to, after_attempt};
 ghost use Rattle.server.specs.Exchanged.{over_store};
-ghost use Rattle.server.specs.declared.decision.SessionChange.{SessionChange as TheChange};
-ghost use Rattle.server.specs.declared.writer.Writer.{Writer as TheWriter};
 ghost use Rattle.server.specs.declared.decision.Decision.TheVariants as decisions;
 
 use crate::changing::change_sessions;
 use crate::decide::{Context, EventHandler};
-use crate::decision::{Decision, SessionChange};
+use crate::decision::Decision;
 use crate::numbers::own_at;
 use crate::session::Session;
 use crate::writer::Writer;
@@ -37,14 +34,13 @@ use sql_types::state::SqlState;
 use std::alloc::{AllocError, Global};
 use std::mem;
 use store::{Batch, Fault, Store, StoreFault};
-use transactions::joined_changes;
 
 /// The client of scripts, and of connections that are served one after the other.
 pub const ONLY_CLIENT: u32 = 0;
 
 /// A server over a store, whose events are decided by `X`: the definitions of the committed
 /// database, the writer lock where a session holds it, and the sessions in the order of their
-/// opening.
+/// opening; and whether the last step may have changed those definitions, as one that dropped a role has.
 pub struct Server<S, X> {
     pub(crate) alloc: Global,
     pub(crate) store: S,
@@ -53,6 +49,7 @@ pub struct Server<S, X> {
     pub(crate) writer: Option<Writer>,
     pub(crate) sessions: IndexMap<u64, Session>,
     pub(crate) stopped: bool,
+    pub(crate) may_have_dropped: bool,
 }
 
 // Written and not derived: where a value is dropped this is one call, and not its parts one by one.
@@ -66,6 +63,7 @@ impl<S: Drop, X: Drop> Drop for Server<S, X> {
             writer: _,
             sessions: _,
             stopped: _,
+            may_have_dropped: _,
         } = self;
     }
 }
@@ -85,6 +83,7 @@ impl<S, X> Server<S, X> {
             writer,
             sessions,
             stopped,
+            may_have_dropped,
         } = self;
         let exchanged = Server {
             alloc,
@@ -94,6 +93,7 @@ impl<S, X> Server<S, X> {
             writer,
             sessions,
             stopped,
+            may_have_dropped,
         };
         (store, exchanged)
     }
@@ -118,6 +118,7 @@ impl<S: Store, X: EventHandler> Server<S, X> {
             writer: None,
             sessions: IndexMap::new(alloc),
             stopped: false,
+            may_have_dropped: false,
         }
     }
 
@@ -143,6 +144,7 @@ impl<S: Store, X: EventHandler> Server<S, X> {
             writer: _,
             sessions: _,
             stopped: _,
+            may_have_dropped: _,
         } = self;
         store
     }
@@ -175,10 +177,12 @@ impl<S: Store, X: EventHandler> Server<S, X> {
             → (result ≡ Answer.Refused SqlState.IoError) × (self.new ≡ self.old) }
         ensures running { self.new.stopped ≡ true → result ≡ Answer.Refused SqlState.IoError }
         ensures steps { Steps X.Reads S.state client self.old event.now result self.new }
+        ensures dropped { KeepsDefinitions self.old self.new }
     {
         if self.stopped {
             return Answer::Refused(SqlState::IoError);
         }
+        self.may_have_dropped = false;
         let attempted = self.attempt(client, event);
         self.answer_of(attempted)
     }
@@ -236,6 +240,7 @@ impl<S: Store, X: EventHandler> Server<S, X> {
         ensures history { KeepsHistory (S.state self.old.store) (S.state self.new.store) }
         ensures running { self.new.stopped ≡ self.old.stopped }
         ensures attempts { Attempts X.Reads S.state self.old self.new (event_of client event.now) result }
+        ensures dropped { KeepsDefinitions self.old self.new }
     {
         let context = Context {
             catalogue: &self.catalogue,
@@ -256,6 +261,7 @@ impl<S: Store, X: EventHandler> Server<S, X> {
         ensures history { KeepsHistory (S.state self.old.store) (S.state self.new.store) }
         ensures running { self.new.stopped ≡ self.old.stopped }
         ensures carries { Carries X.Reads S.state self.old self.new decision result }
+        ensures dropped { KeepsDefinitions self.old self.new }
     {
         match decision {
             Decision::Answer(answer, change) => {
@@ -285,6 +291,7 @@ impl<S: Store, X: EventHandler> Server<S, X> {
         ensures running { self.new.stopped ≡ self.old.stopped }
         ensures carries { Carries X.Reads S.state self.old self.new
             (decisions.Open answer number session) result }
+        ensures dropped { KeepsDefinitions self.old self.new }
     {
         match self.sessions.insert(number, session) {
             Ok(_) => Ok(answer),
@@ -297,6 +304,7 @@ impl<S: Store, X: EventHandler> Server<S, X> {
         ensures history { KeepsHistory (S.state self.old.store) (S.state self.new.store) }
         ensures running { self.new.stopped ≡ self.old.stopped }
         ensures carries { Carries X.Reads S.state self.old self.new (decisions.Commit effect) result }
+        ensures dropped { KeepsDefinitions self.old self.new }
     {
         let Effect {
             answer,
@@ -315,6 +323,7 @@ impl<S: Store, X: EventHandler> Server<S, X> {
         ensures running { self.new.stopped ≡ self.old.stopped }
         ensures carries { Carries X.Reads S.state self.old self.new
             (decisions.Commit (record { answer = answer; changes = changes.old; schema = None })) result }
+        ensures dropped { KeepsDefinitions self.old self.new }
     {
         match self.store.commit(changes) {
             Ok(()) => Ok(answer),
@@ -334,7 +343,9 @@ impl<S: Store, X: EventHandler> Server<S, X> {
         ensures running { self.new.stopped ≡ self.old.stopped }
         ensures carries { Carries X.Reads S.state self.old self.new (decisions.Commit
             (record { answer = answer; changes = changes.old; schema = Some change })) result }
+        ensures dropped { KeepsDefinitions self.old self.new }
     {
+        self.may_have_dropped = true;
         let before = mem::replace(&mut self.catalogue, Catalogue::none(self.alloc));
         match Staged::new(before, change) {
             Ok(staged) => self.commit_staged(answer, changes, staged),
@@ -358,6 +369,7 @@ impl<S: Store, X: EventHandler> Server<S, X> {
         ensures carries { Carries X.Reads S.state (record self.old { catalogue = staged.before })
             self.new (decisions.Commit
             (record { answer = answer; changes = changes.old; schema = Some staged.change })) result }
+        ensures dropped { self.new.may_have_dropped ≡ self.old.may_have_dropped }
     {
         match self.store.commit(changes) {
             Ok(()) => {
@@ -368,122 +380,6 @@ impl<S: Store, X: EventHandler> Server<S, X> {
                 self.catalogue = staged.give_up();
                 Err(fault)
             }
-        }
-    }
-
-    // Adds the changes of a statement to the writer lock.
-    fn hold(&mut self, session: u64, effect: Effect) -> Result<Answer, StoreFault>
-        ensures store { self.new.store ≡ self.old.store }
-        ensures running { self.new.stopped ≡ self.old.stopped }
-        ensures carries { Carries X.Reads S.state self.old self.new (decisions.Hold session effect) result }
-    {
-        match self.writer.take() {
-            None => self.hold_first(session, effect),
-            Some(writer) => self.hold_more(session, effect, writer),
-        }
-    }
-
-    // Takes the writer lock with the changes of a statement.
-    fn hold_first(&mut self, session: u64, effect: Effect) -> Result<Answer, StoreFault>
-        ensures store { self.new.store ≡ self.old.store }
-        ensures running { self.new.stopped ≡ self.old.stopped }
-        ensures carries { self.old.writer ≡ None
-            → Carries X.Reads S.state self.old self.new (decisions.Hold session effect) result }
-    {
-        let Effect {
-            answer,
-            changes,
-            schema,
-        } = effect;
-        let mut writer = Writer::new(self.alloc, session);
-        match writer.add(self.alloc, &self.catalogue, changes, schema) {
-            Ok(()) => {
-                self.writer = Some(writer);
-                Ok(answer)
-            }
-            Err(_) => Err(StoreFault::Memory),
-        }
-    }
-
-    // Puts this writer lock back with the changes of one more statement.
-    fn hold_more(
-        &mut self,
-        session: u64,
-        effect: Effect,
-        mut writer: Writer,
-    ) -> Result<Answer, StoreFault>
-        ensures store { self.new.store ≡ self.old.store }
-        ensures running { self.new.stopped ≡ self.old.stopped }
-        ensures carries { Carries X.Reads S.state (record self.old { writer = Some writer }) self.new
-            (decisions.Hold session effect) result }
-    {
-        let Effect {
-            answer,
-            changes,
-            schema,
-        } = effect;
-        match writer.add(self.alloc, &self.catalogue, changes, schema) {
-            Ok(()) => {
-                writer.session = session;
-                self.writer = Some(writer);
-                Ok(answer)
-            }
-            Err(_) => {
-                self.writer = Some(writer);
-                Err(StoreFault::Memory)
-            }
-        }
-    }
-
-    // Commits what the writer lock holds, and gives the writer lock up.
-    fn commit_writer(&mut self, answer: Answer, change: SessionChange) -> Result<Answer, StoreFault>
-        ensures history { KeepsHistory (S.state self.old.store) (S.state self.new.store) }
-        ensures running { self.new.stopped ≡ self.old.stopped }
-        ensures carries { Carries X.Reads S.state self.old self.new
-            (decisions.CommitWriter answer change) result }
-    {
-        match self.commit_held() {
-            Ok(()) => {
-                self.free_lock();
-                change_sessions(&mut self.sessions, change);
-                Ok(answer)
-            }
-            Err(fault) => Err(fault),
-        }
-    }
-
-    // Commits what the writer lock holds, if there is one. The writer lock stays, with its definitions, and after a fault
-    // with its changes.
-    fn commit_held(&mut self) -> Result<(), StoreFault>
-        ensures history { KeepsHistory (S.state self.old.store) (S.state self.new.store) }
-        ensures kept { self.new ≡ record self.old { store = self.new.store; writer = self.new.writer } }
-        ensures definitions { (d : Definitions)
-            → definitions_under self.new.writer d ≡ definitions_under self.old.writer d }
-        ensures ok { OnOk result ((writer : TheWriter) → self.old.writer ≡ Some writer
-            → CommitsLists writer.lists (S.state self.old.store) (S.state self.new.store)) }
-        ensures err { IfErr result (λ fault. (answer : TheAnswer) (change : TheChange)
-            → Carries X.Reads S.state self.old self.new
-            (decisions.CommitWriter answer change) (Err fault)) }
-    {
-        let Some(mut writer) = self.writer.take() else {
-            return Ok(());
-        };
-        // For the proof: lists of changes that are joined change the same.
-        joined_changes();
-        let result = writer.lists.commit_to(&mut self.store);
-        self.writer = Some(writer);
-        result
-    }
-
-    // The changes under the writer lock are committed: its definitions are those of the database, and it is free.
-    fn free_lock(&mut self)
-        ensures { self.new ≡ record self.old {
-          writer = None;
-          catalogue = definitions_under self.old.writer self.old.catalogue;
-        } }
-    {
-        if let Some(writer) = self.writer.take() {
-            writer.end(&mut self.catalogue);
         }
     }
 }

@@ -2,7 +2,7 @@
 use Rattle.std.specs.Prelude.{◌==◌, ◌≡◌, if◌then◌else◌, ℕ, List, [], replicate, Option, Some, None}
 use Rattle.systems.specs.declared.entries.NamedContent.{NamedContent}
 use Rattle.systems.specs.declared.listener.MemListener.{MemListener}
-use Rattle.systems.specs.Places.{ThePlace, ThePort, TheSocket}
+use Rattle.systems.specs.Places.{ThePlace, ThePort, TheSocket, TheEach}
 use Rattle.systems.specs.Systems.{At, Absent, Free, Shared, Open, Reading, Taken, SystemState}
 use Rattle.systems.specs.Entries.{content_of, device_in, text_in, is_something}
 
@@ -15,6 +15,7 @@ listener_in (Some listener) = Free listener
 abbrev pub listener_at : ℕ → Option MemListener → ThePlace → At MemListener
 listener_at port listener (ThePort asked) = if asked == port then listener_in listener else Taken
 listener_at port listener (TheSocket path) = Taken
+listener_at port listener (TheEach places) = Taken
 
 -- a stop leaves the device that nobody has open to write it; of one that is open nothing is said
 abbrev pub LeavesThere : {D : Type 0} → At D → D → Type 0

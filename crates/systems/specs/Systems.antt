@@ -4,7 +4,7 @@ use Rattle.storage_sizes.specs.Sizes.{sector_size}
 use Rattle.sector_device.specs.Device.{DeviceState}
 use Rattle.systems.specs.declared.access.Access.{Access}
 use Rattle.systems.specs.declared.access.Access.TheVariants.{Read, Write}
-use Rattle.systems.specs.Places.{ThePlace, TheSocket}
+use Rattle.systems.specs.Places.{IsPlaceApart, ThePlace, TheSocket}
 
 -- What is at a path, or at a place: none; this one, which nobody has open; this one, which others have open to read it; one that this
 -- program has open; one that it has open to read it; or one that somebody else has open. Places are not shared, and not read
@@ -135,13 +135,13 @@ pub record IsSameButBoth {D L : Type 0} (one other : List ℕ) (old new : System
   pub names : (path : List ℕ) → path ≢ one → path ≢ other → new.is_named path ≡ old.is_named path
   pub listeners : (place : ThePlace) → new.listeners place ≡ old.listeners place
 
--- all is as it was but for what this place hears and, of a socket, whether its file is there: so no device and no text has changed at any path
+-- all is as it was but for what this place and its parts hear and, of a socket, whether its file is there: so no device and no text has changed at any path
 pub record IsSameButAt {D L : Type 0} (changed : ThePlace) (old new : SystemState D L) : Type 0 where
   pub faithful : old.faithful → new.faithful
   pub devices : (path : List ℕ) → new.devices path ≡ old.devices path
   pub texts : (path : List ℕ) → new.texts path ≡ old.texts path
-  pub names : (path : List ℕ) → TheSocket path ≢ changed → new.is_named path ≡ old.is_named path
-  pub listeners : (place : ThePlace) → place ≢ changed → new.listeners place ≡ old.listeners place
+  pub names : (path : List ℕ) → IsPlaceApart (TheSocket path) changed → new.is_named path ≡ old.is_named path
+  pub listeners : (place : ThePlace) → IsPlaceApart place changed → new.listeners place ≡ old.listeners place
 
 -- ---- what a stop leaves
 

@@ -17,6 +17,6 @@ pub use entries::{Content, NamedContent};
 pub use fault::{InputFault, OpenPathFault, TextFault};
 pub use listener::{MemListener, MemReader};
 pub use memory::{MemSystem, memory_is_faithful};
-pub use place::{ListenPlace, SocketAccess};
+pub use place::{ListenPlace, OnePlace, SocketAccess};
 pub use sector_device::{FileFault, SystemCause};
 pub use system::System;

@@ -103,12 +103,16 @@ impl Attend<MemChannel> for MemListener {
 
     ghost closed = { λ listener. ⟦<MemAttend as Attend<MemChannel>>⟧.closed listener.polled };
 
-    fn take(&mut self, client: u32) -> Taken<MemChannel> {
-        self.polled.take(client)
+    fn place(&mut self, client: u32) -> Option<usize> {
+        self.polled.place(client)
     }
 
-    fn turn_away(&mut self, bytes: &[u8]) -> Taken<()> {
-        self.polled.turn_away(bytes)
+    fn take(&mut self, client: u32, place: usize) -> Taken<MemChannel> {
+        self.polled.take(client, place)
+    }
+
+    fn turn_away(&mut self, place: usize, bytes: &[u8]) -> Taken<()> {
+        self.polled.turn_away(place, bytes)
     }
 
     fn wait(&mut self, clients: &mut Vec<u32>, within: Option<Duration>) -> bool {

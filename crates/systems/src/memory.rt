@@ -230,7 +230,7 @@ impl System for MemSystem<WriteProtected<HistoryDevice>> {
     ) -> Result<(MemListener, ListenPlace<'p>), SystemCause> {
         let is_here = match place {
             ListenPlace::Port(port) => port == 0 || port == self.port,
-            ListenPlace::Socket(_) | ListenPlace::PostgresFolder(_) => false,
+            ListenPlace::Socket(_) | ListenPlace::PostgresFolder(_) | ListenPlace::Each(_) => false,
         };
         if is_here {
             if let Some(listener) = self.listener.take() {
@@ -239,6 +239,11 @@ impl System for MemSystem<WriteProtected<HistoryDevice>> {
         }
         self.failures = self.failures.saturating_add(1);
         Err(SystemCause::AddressInUse)
+    }
+
+    // It says so of the first alone.
+    fn refused_place(&self) -> usize {
+        0
     }
 
     fn unbind(&mut self, place: ListenPlace<'_>, listener: MemListener) {

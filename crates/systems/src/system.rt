@@ -218,8 +218,9 @@ pub trait System {
             → LeavesAlso to.now device (state self.old) (state self.new) };
 
     /// Binds a place, and answers who listens there and which place that is. The file of a socket lets
-    /// those connect that `access` says, from the moment that it listens. A connection may be idle for
-    /// so long. An error: the system does not bind it.
+    /// those connect that `access` says, from the moment that it listens; of several places each says that
+    /// itself. A connection may be idle for so long. An error: the system does not bind it; of several
+    /// places none is bound then, and nothing is left of those that were.
     fn bind<'p>(
         &mut self,
         place: ListenPlace<'p>,
@@ -240,6 +241,9 @@ pub trait System {
         ensures kept { (state self.old).faithful
             → OnErr result (IsSame (state self.old) (state self.new)) }
         ensures left { (state self.old).faithful → LeavesAll (state self.old) (state self.new) };
+
+    /// Which of several places was not bound, when that failed last, from 0 on. Nothing is promised of it.
+    fn refused_place(&self) -> usize;
 
     /// Unbinds a place that was bound, with who listens there as it was left. The file of a socket is
     /// taken away, if it is still the one that was made.

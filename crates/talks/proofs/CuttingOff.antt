@@ -5,7 +5,7 @@ use Rattle.talks.specs.declared.talk.Talk.{Ghosts as TalkGhosts}
 use Rattle.talks.specs.declared.machine.Machine.{Ghosts as MachineGhosts}
 use Rattle.talks.specs.declared.clients.ServedClients.{Ghosts as ClientsGhosts}
 use Rattle.talks.specs.Wants.{refuses_lock}
-use Rattle.talks.specs.Clients.{Contention, CutsOff, is_client, contending, unless_client, forgotten}
+use Rattle.talks.specs.Clients.{Contention, CutsOffOrExpels, is_client, contending, unless_client, forgotten}
 use Rattle.talks.specs.Turns.{Turn, Exchange, steps, asks, waits, leaves, ends, LetsGoHolder, HolderWasLetGo, TakesTurn, TakesTurns, Contends, ContendsAll, ContendsIn, IsRefusedLock, StillHolds, WasCutOff}
 
 -- ---- who is told of
@@ -45,13 +45,13 @@ who_contends (Some h) d w old c is = let it = by_holder (is_client h old) w h c 
 
 -- ---- one call
 
-goes_cut : (a b : Contention) (c : ℕ) → CutsOff a b → b.cut_off ≡ Some c → (a.cut_off ≡ Some c) ⊎ ((a.is_limited ≡ true) × (a.holder ≡ Some c))
+goes_cut : (a b : Contention) (c : ℕ) → CutsOffOrExpels a b → b.cut_off ≡ Some c → (a.cut_off ≡ Some c) ⊎ ((a.is_limited ≡ true) × (a.holder ≡ Some c))
 goes_cut a b c (inl same) is = inl (subst (λ (x : Contention). x.cut_off ≡ Some c) same is)
 goes_cut a b c (inr it) is =
     let one : Some it.1.0 ≡ Some c = subst (λ (x : Contention). x.cut_off ≡ Some c) it.1.2 is in
     inr (it.0, it.1.1 ∙ one)
 
-goes_same : (a b : Contention) → CutsOff a b → (b.holder ≡ a.holder) × (b.is_limited ≡ a.is_limited)
+goes_same : (a b : Contention) → CutsOffOrExpels a b → (b.holder ≡ a.holder) × (b.is_limited ≡ a.is_limited)
 goes_same a b (inl same) = (ap (λ (x : Contention). x.holder) same, ap (λ (x : Contention). x.is_limited) same)
 goes_same a b (inr it) = (ap (λ (x : Contention). x.holder) it.1.2, ap (λ (x : Contention). x.is_limited) it.1.2)
 

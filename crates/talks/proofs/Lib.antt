@@ -3,3 +3,4 @@ pub mod CuttingOff
 pub mod Passing
 pub mod Sessions
 pub mod Turning
+pub mod Dropping

@@ -30,11 +30,11 @@ module _ {M T C : Type 0} (m : MachineGhosts M) (t : TalkGhosts T) (k : ClientsG
     (tells_open : (old new : M) (c : ℕ) (w : Want) (r : Reply) (d n : ℕ) (login : List ℕ) → m.IsSound old → m.Tells old c w r new → m.Has new d n login → m.Has old d n login)
     (closes_open : (old new : M) (c d n : ℕ) (login : List ℕ) → m.IsSound old → m.Closes old c new → m.Has new d n login → m.Has old d n login) where
   -- what the machine rests on holds after a turn as before
-  sound_after_steps : (clients : C) (old : M) (ds : List Exchange) (new : M) → Steps m t k clients old ds new → m.IsSound old → m.IsSound new
+  pub sound_after_steps : (clients : C) (old : M) (ds : List Exchange) (new : M) → Steps m t k clients old ds new → m.IsSound old → m.IsSound new
   sound_after_steps clients old [] new made sound = subst m.IsSound (sym made) sound
   sound_after_steps clients old (d ∷ ds) new made sound = sound_after_steps clients made.0 ds new made.5 (steps_sound old made.0 d.client d.want d.reply made.4 sound)
 
-  sound_after : (old : M) (before : C) (turn : Turn) (new : M) (after : C) → TakesTurn m t k old before turn new after → m.IsSound old → m.IsSound new
+  pub sound_after : (old : M) (before : C) (turn : Turn) (new : M) (after : C) → TakesTurn m t k old before turn new after → m.IsSound old → m.IsSound new
   sound_after old before (steps d ds) new after took sound = sound_after_steps before old (d ∷ ds) new took.0 sound
   sound_after old before (asks d) new after took sound = tells_sound old new d.client d.want d.reply took.2 sound
   sound_after old before (waits client w) new after took sound = subst m.IsSound (sym took.2) sound

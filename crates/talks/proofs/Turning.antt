@@ -1,5 +1,5 @@
 -- One turn after the other.
-use Rattle.std.proofs.Common.{◌≡◌, ◌∙◌, ◌⊎◌, ◌≤◌, ◌+◌, ℕ, true, zero, suc, List, [], ◌∷◌, ◌++◌, length, Option, Some, None, refl, sym, subst, arith, inl, inr}
+use Rattle.std.proofs.Common.{◌≡◌, ◌∙◌, ◌⊎◌, ◌≤◌, ◌+◌, ℕ, true, zero, suc, List, [], ◌∷◌, ◌++◌, length, Option, Some, None, refl, ap, sym, subst, arith, inl, inr}
 use Rattle.talks.specs.declared.talk.Talk.{Ghosts as TalkGhosts}
 use Rattle.talks.specs.declared.talk.MessageFront.TheVariants.{Whole, Bad}
 use Rattle.talks.specs.declared.machine.Machine.{Ghosts as MachineGhosts}
@@ -7,7 +7,7 @@ use Rattle.talks.specs.declared.clients.ServedClients.{Ghosts as ClientsGhosts}
 use Rattle.talks.specs.declared.want.Want.{Want}
 use Rattle.talks.specs.declared.want.Reply.{Reply}
 use Rattle.talks.specs.Conversations.{IsGone, Passes}
-use Rattle.talks.specs.Clients.{Contention, CutsOff}
+use Rattle.talks.specs.Clients.{Contention, CutsOff, CutsOffOrExpels}
 use Rattle.talks.specs.Turns.{Turn, leaves, Exchange, own_learnt, learnt_in, WasLetGo, TakesTurn, TakesTurns, Goes, Moves}
 use Rattle.talks.proofs.Passing.{passes_stay, passes_on}
 
@@ -25,9 +25,18 @@ cut_more : (a d : Contention) (c : ℕ) → CutsOff (record a { cut_off = Some c
 cut_more a d c (inl same) it = inr (it.0, (it.1.0, it.1.1, same ∙ it.1.2))
 cut_more a d c (inr next) it = inr (next.0, (next.1.0, next.1.1, next.1.2))
 
-pub cut_on : (a b d : Contention) → CutsOff a b → CutsOff b d → CutsOff a d
+cut_on : (a b d : Contention) → CutsOff a b → CutsOff b d → CutsOff a d
 cut_on a b d (inl same) next = cut_kept a b d same next
 cut_on a b d (inr it) next = cut_more a d it.1.0 (subst (λ (x : Contention). CutsOff x d) it.1.2 next) (it.0, (it.1.0, it.1.1, refl))
+
+-- whoever goes
+cut_beside : (e : Option ℕ) (a b : Contention) → CutsOff a b → CutsOff (record a { expelled = e }) (record b { expelled = e })
+cut_beside e a b (inl same) = inl (ap (λ (x : Contention). record x { expelled = e }) same)
+cut_beside e a b (inr it) = inr (it.0, (it.1.0, it.1.1, ap (λ (x : Contention). record x { expelled = e }) it.1.2))
+
+pub cut_or_expelled_on : (a b d : Contention) → CutsOffOrExpels a b → CutsOffOrExpels b d → CutsOffOrExpels a d
+cut_or_expelled_on a b d first next =
+    cut_on a (record b { expelled = a.expelled }) (record d { expelled = a.expelled }) first (cut_beside a.expelled b (record d { expelled = b.expelled }) next)
 
 module _ {M T C : Type 0} (m : MachineGhosts M) (t : TalkGhosts T) (k : ClientsGhosts C T)
     (front_more : (s : T) (bytes more : List ℕ) (n : ℕ) → t.front s bytes ≡ Whole n → (n ≤ length bytes) × (t.front s (bytes ++ more) ≡ Whole n))
@@ -44,7 +53,7 @@ module _ {M T C : Type 0} (m : MachineGhosts M) (t : TalkGhosts T) (k : ClientsG
       gone = λ c is. first.moved.gone c (next.moved.gone c is);
     };
     waiting = next.waiting ∙ first.waiting;
-    contention = cut_on (k.contention a) (k.contention b) (k.contention d) first.contention next.contention;
+    contention = cut_or_expelled_on (k.contention a) (k.contention b) (k.contention d) first.contention next.contention;
     maker = next.maker ∙ first.maker;
     expected = next.expected ∙ first.expected;
   }

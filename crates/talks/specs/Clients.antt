@@ -1,7 +1,7 @@
 -- What the calls of clients do.
 use Rattle.std.specs.Prelude.{◌≡◌, ◌≢◌, ◌⊎◌, ◌<◌, ◌≤◌, ◌-◌, ◌^◌, ◌==◌, ◌&&◌, ◌||◌, ℕ, Bool, true, false, not, if◌then◌else◌, List, [], ◌∷◌, filter, Option, Some, None}
-use Rattle.talks.specs.Wants.{WantsStep, WantsQuestion}
-use Rattle.talks.specs.Conversations.{ClientState, awaited, there, gone, IsGone, IsAwaited, wanted, ending, HasEnded, Passes}
+use Rattle.talks.specs.Wants.{WantsStep, WantsQuestion, HasLostRole}
+use Rattle.talks.specs.Conversations.{ClientState, awaited, there, gone, IsGone, IsThere, IsAwaited, wanted, ending, comes_as, HasEnded, Passes}
 use Rattle.talks.specs.declared.want.Want.{Want}
 use Rattle.talks.specs.declared.want.Want.TheVariants as want
 use Rattle.talks.specs.declared.talk.Talk.{Ghosts}
@@ -26,7 +26,7 @@ abbrev pub is_behind : ℕ → List ℕ → Bool
 is_behind c [] = false
 is_behind c (d ∷ ds) = not (d == c)
 
--- ---- who holds the writer lock that others want
+-- ---- who holds the writer lock that others want, and who goes for what it has lost
 
 pub record Contention : Type 0 where
   -- who holds it, for which a step of another was held back or refused since it does
@@ -35,6 +35,8 @@ pub record Contention : Type 0 where
   pub cut_off : Option ℕ
   -- that is limited
   pub is_limited : Bool
+  -- who goes since its role was dropped, before anything else is done
+  pub expelled : Option ℕ
 
 abbrev pub is_client : ℕ → Option ℕ → Bool
 is_client c None = false
@@ -53,15 +55,19 @@ abbrev pub unless_client : ℕ → Option ℕ → Option ℕ
 unless_client c o = if is_client c o then None else o
 
 abbrev pub forgotten : ℕ → Contention → Contention
-forgotten c x = record x { holder = unless_client c x.holder; cut_off = unless_client c x.cut_off }
+forgotten c x = record x { holder = unless_client c x.holder; cut_off = unless_client c x.cut_off; expelled = unless_client c x.expelled }
 
 -- nobody more was cut off; or that holder was, where that is limited
 abbrev pub CutsOff : Contention → Contention → Type 0
 CutsOff old new = (new ≡ old) ⊎ ((old.is_limited ≡ true) × ((c : ℕ) × (old.holder ≡ Some c) × (new ≡ record old { cut_off = Some c })))
 
--- this client was not
+-- the same, but for who goes since its role was dropped
+abbrev pub CutsOffOrExpels : Contention → Contention → Type 0
+CutsOffOrExpels old new = CutsOff old (record new { expelled = old.expelled })
+
+-- this client was not cut off, and nobody goes for what it has lost
 abbrev pub IsStillServed : ℕ → Contention → Type 0
-IsStillServed c x = x.cut_off ≢ Some c
+IsStillServed c x = (x.cut_off ≢ Some c) × (x.expelled ≡ None)
 
 -- ---- who is there
 
@@ -109,10 +115,23 @@ module _ {T : Type 0} (k : Ghosts T) where
     pub passed : (c : ℕ) → Passes k made (old c) [] (new c)
     pub gone : NoneGoes old new
 
+  -- a client has lost its role: that of a session that it has open, or the one that it has shown to come as
+  abbrev pub HasLost : (ℕ → ℕ → List ℕ → Type 0) → (List ℕ → Type 0) → (ℕ → ClientState T) → ℕ → Type 0
+  HasLost Has Lacks at c = HasLostRole (Has c) Lacks ⊎ ((role : List ℕ) × (comes_as k (at c) ≡ Some role) × Lacks role)
+
+  -- nobody who is there has, if a role may have been dropped
+  abbrev pub NoneHasLost : Type 0 → (ℕ → ℕ → List ℕ → Type 0) → (List ℕ → Type 0) → (ℕ → ClientState T) → Type 0
+  NoneHasLost Dropped Has Lacks at = Dropped → (c : ℕ) → IsThere (at c) → HasLost Has Lacks at c → ⊥
+
+  -- one goes who had lost its role meanwhile, where none did; or who did goes on
+  abbrev pub ExpelsLost : (T → Type 0) → (ℕ → ℕ → List ℕ → Type 0) → (List ℕ → Type 0) → (ℕ → ClientState T) → (ℕ → ClientState T) → Option ℕ → Option ℕ → Type 0
+  ExpelsLost made Has Lacks old new before after = (after ≡ before)
+      ⊎ ((before ≡ None) × ((c : ℕ) × (after ≡ Some c) × ((mid : ℕ → ClientState T) × Moved made old mid × Moved made mid new × HasLost Has Lacks mid c)))
+
   -- what is to be done next
-  abbrev pub IsNext : Bool → (ℕ → ClientState T) → List ℕ → Contention → Option ℕ → ℕ → ℕ → Next → Type 0
-  IsNext stopped at waiting x expected refusals looks (next.Step client) = (w : Want) × (wanted k (at client) ≡ Some w) × WantsStep w × IsStillServed client x
-  IsNext stopped at waiting x expected refusals looks (next.Question client) = (w : Want) × (wanted k (at client) ≡ Some w) × WantsQuestion w × IsStillServed client x
-  IsNext stopped at waiting x expected refusals looks (next.Left client w) = (ending (at client) ≡ Some w) × IsLeaving (at client)
-      × (w ≡ end_cause.Stopped → stopped ≡ true) × (w ≡ end_cause.HeldTheLock → x.cut_off ≡ Some client)
-  IsNext stopped at waiting x expected refusals looks (next.Ended e) = EndsAs stopped at expected refusals looks e × (LeavesNobody e → waiting ≡ [])
+  abbrev pub IsNext : Bool → Type 0 → (ℕ → ℕ → List ℕ → Type 0) → (List ℕ → Type 0) → (ℕ → ClientState T) → List ℕ → Contention → Option ℕ → ℕ → ℕ → Next → Type 0
+  IsNext stopped Dropped Has Lacks at waiting x expected refusals looks (next.Step client) = (w : Want) × (wanted k (at client) ≡ Some w) × WantsStep w × IsStillServed client x × NoneHasLost Dropped Has Lacks at
+  IsNext stopped Dropped Has Lacks at waiting x expected refusals looks (next.Question client) = (w : Want) × (wanted k (at client) ≡ Some w) × WantsQuestion w × IsStillServed client x × NoneHasLost Dropped Has Lacks at
+  IsNext stopped Dropped Has Lacks at waiting x expected refusals looks (next.Left client w) = (ending (at client) ≡ Some w) × IsLeaving (at client)
+      × (w ≡ end_cause.Stopped → stopped ≡ true) × (w ≡ end_cause.HeldTheLock → x.cut_off ≡ Some client) × (w ≡ end_cause.RoleDropped → x.expelled ≡ Some client)
+  IsNext stopped Dropped Has Lacks at waiting x expected refusals looks (next.Ended e) = EndsAs stopped at expected refusals looks e × (LeavesNobody e → waiting ≡ [])

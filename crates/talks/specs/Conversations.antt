@@ -61,6 +61,11 @@ IsGone (awaited bytes) = ⊥
 IsGone (there x) = ⊥
 IsGone (gone sent) = Unit {0}
 
+abbrev pub IsThere : {T : Type 0} → ClientState T → Type 0
+IsThere (awaited bytes) = ⊥
+IsThere (there x) = Unit {0}
+IsThere (gone sent) = ⊥
+
 abbrev pub IsAwaited : {T : Type 0} → ClientState T → Type 0
 IsAwaited (awaited bytes) = Unit {0}
 IsAwaited (there x) = ⊥
@@ -89,6 +94,12 @@ module _ {T : Type 0} (k : Ghosts T) where
   wanted (there x) = unless_ended x.end_cause (k.wants x.talk)
   wanted (gone sent) = None
 
+  -- the role of which a client has shown that it comes as that
+  abbrev pub comes_as : ClientState T → Option (List ℕ)
+  comes_as (awaited bytes) = None
+  comes_as (there x) = k.comes_as x.talk
+  comes_as (gone sent) = None
+
   -- some bytes came and were heard, this was learnt, and just that was said which the protocol says to all this
   abbrev pub Continues : Conversation T → List Learnt → Conversation T → Type 0
   Continues x xs y = (came : List ℕ) × (said : List ℕ)
@@ -108,7 +119,7 @@ module _ {T : Type 0} (k : Ghosts T) where
     pub failures : x.failures ≡ 0
     pub end_cause : x.end_cause ≡ None
 
-  -- each end has its cause; that of Stopped is the machine's, and that of HeldTheLock what the client has held
+  -- each end has its cause; that of Stopped is the machine's, that of HeldTheLock what the client has held, and that of RoleDropped what it has lost
   abbrev pub HasCause : EndCause → Conversation T → Type 0
   HasCause end_cause.Input x = (k.wants x.talk ≡ want.Message) × (k.front x.talk x.held ≡ Nothing) × IsAtEnd x.remaining × (x.unsent ≡ [])
   HasCause end_cause.Finished x = WantsEnd (k.wants x.talk) × (x.unsent ≡ [])
@@ -117,6 +128,7 @@ module _ {T : Type 0} (k : Ghosts T) where
   HasCause end_cause.Memory x = k.wants x.talk ≡ want.OutOfMemory
   HasCause end_cause.Stopped x = Unit {0}
   HasCause end_cause.HeldTheLock x = Unit {0}
+  HasCause end_cause.RoleDropped x = Unit {0}
 
   -- the connection has ended, with its cause
   abbrev pub HasEnded : Conversation T → Type 0

@@ -8,8 +8,8 @@ use Rattle.talks.specs.declared.clients.ServedClients.{Ghosts as ClientsGhosts}
 use Rattle.talks.specs.declared.clients.EndCause.{EndCause}
 use Rattle.talks.specs.declared.clients.EndCause.TheVariants as end_cause
 use Rattle.talks.specs.Wants.{Learnt, learnt, own, WantsStep, WantsQuestion, OpensSession, RefusesMemory, refuses_lock}
-use Rattle.talks.specs.Conversations.{IsGone, wanted, ending, Passes}
-use Rattle.talks.specs.Clients.{Contention, CutsOff, IsStillServed, contended, forgotten, without, is_behind, IsPutLast, IsLeaving, Moved}
+use Rattle.talks.specs.Conversations.{IsGone, IsThere, wanted, ending, Passes}
+use Rattle.talks.specs.Clients.{Contention, CutsOffOrExpels, IsStillServed, contended, forgotten, without, is_behind, IsPutLast, IsLeaving, NoneHasLost, Moved}
 
 -- what a client wanted of the machine, and what it was told of that
 pub record Exchange : Type 0 where
@@ -75,6 +75,19 @@ abbrev pub HolderWasLetGo : ℕ → List Turn → Type 0
 HolderWasLetGo c [] = ⊥
 HolderWasLetGo c (t ∷ turns) = LetsGoHolder c t ⊎ HolderWasLetGo c turns
 
+-- something is done in a turn for a client that is served
+abbrev pub IsOfService : Turn → Type 0
+IsOfService (steps d ds) = Unit {0}
+IsOfService (asks d) = Unit {0}
+IsOfService (waits client w) = Unit {0}
+IsOfService (leaves client) = ⊥
+IsOfService (ends client w) = ⊥
+
+-- in one of these
+abbrev pub ServesSomebody : List Turn → Type 0
+ServesSomebody [] = ⊥
+ServesSomebody (t ∷ turns) = IsOfService t ⊎ ServesSomebody turns
+
 -- ---- the course of a client
 
 abbrev pub IsAmong : ℕ → List Exchange → Type 0
@@ -120,11 +133,12 @@ module _ {M T C : Type 0} (m : MachineGhosts M) (t : TalkGhosts T) (k : ClientsG
   abbrev pub MustWait : M → C → ℕ → Want → Type 0
   MustWait machine clients c w = m.IsLockedOut machine c w ⊎ (m.AsksForLock machine c w × (is_behind c (k.waiting clients) ≡ true))
 
-  -- the machine made these steps, in this order, each of which its client wants and may have, or is refused for memory
+  -- the machine made these steps, in this order, each of which its client wants and may have, or is refused for memory; one that may have dropped a
+  -- role is the last
   abbrev pub Steps : C → M → List Exchange → M → Type 0
   Steps clients old [] new = new ≡ old
   Steps clients old (d ∷ ds) new = (mid : M) × Wants clients d.client d.want × WantsStep d.want × (MayGo old clients d.client d.want ⊎ RefusesMemory d.reply)
-      × m.Steps old d.client d.want d.reply mid × Steps clients mid ds new
+      × m.Steps old d.client d.want d.reply mid × Steps clients mid ds new × (m.MayHaveDropped mid → ds ≡ [])
 
   -- each conversation learnt its own, at this moment of the machine
   abbrev pub Learn : ℕ → C → List Exchange → C → Type 0
@@ -145,18 +159,22 @@ module _ {M T C : Type 0} (m : MachineGhosts M) (t : TalkGhosts T) (k : ClientsG
   abbrev pub HasNone : M → ℕ → Type 0
   HasNone machine c = (m.stopped machine ≡ true) ⊎ ((n : ℕ) (login : List ℕ) → m.Has machine c n login → ⊥)
 
+  -- nobody who is there has lost its role, if the machine's last step may have dropped one
+  abbrev pub HaveTheirRoles : M → C → Type 0
+  HaveTheirRoles machine clients = NoneHasLost t (m.MayHaveDropped machine) (m.Has machine) (m.LacksRole machine) (k.at clients)
+
   -- each conversation learnt while the machine stood where its step has led
   abbrev pub TakesTurn : M → C → Turn → M → C → Type 0
   TakesTurn old before (steps d ds) new after = Steps before old (d ∷ ds) new × Learn (m.moment new) before (d ∷ ds) after × (k.waiting after ≡ waiting_after (d ∷ ds) (k.waiting before))
-      × AreServed before (d ∷ ds)
+      × AreServed before (d ∷ ds) × HaveTheirRoles old before
   TakesTurn old before (asks d) new after = Wants before d.client d.want × WantsQuestion d.want × m.Tells old d.client d.want d.reply new × k.learns before (m.moment new) d.client d.reply after × (k.waiting after ≡ without d.client (k.waiting before))
-      × IsStillServed d.client (k.contention before)
+      × IsStillServed d.client (k.contention before) × HaveTheirRoles old before
   TakesTurn old before (waits c w) new after = Wants before c w × MustWait old before c w × (new ≡ old) × IsPutLast t (k.at after) c (k.waiting before) (k.waiting after)
-      × IsStillServed c (k.contention before)
+      × IsStillServed c (k.contention before) × HaveTheirRoles old before
   TakesTurn old before (leaves c) new after = IsLeaving t (k.at before c) × m.Closes old c new × (after ≡ before)
   TakesTurn old before (ends c w) new after = (ending (k.at before c) ≡ Some w) × IsLeaving t (k.at before c) × (w ≡ end_cause.Stopped → m.stopped old ≡ true)
       × HasNone old c × (new ≡ old) × IsGone (k.at after c) × (k.waiting after ≡ without c (k.waiting before))
-      × (w ≡ end_cause.HeldTheLock → (k.contention before).cut_off ≡ Some c)
+      × (w ≡ end_cause.HeldTheLock → (k.contention before).cut_off ≡ Some c) × (w ≡ end_cause.RoleDropped → (k.contention before).expelled ≡ Some c)
 
   -- this client was told of a step, or held back, and it was looked who holds the lock; `wants` tells that it was held back or refused for that
   abbrev pub Contends : M → ℕ → Bool → Contention → Contention → Type 0
@@ -174,12 +192,12 @@ module _ {M T C : Type 0} (m : MachineGhosts M) (t : TalkGhosts T) (k : ClientsG
   ContendsIn machine (leaves c) old new = new ≡ old
   ContendsIn machine (ends c w) old new = new ≡ forgotten c old
 
-  -- what clients do between turns: they come, are heard and sent to, and one may be cut off
+  -- what clients do between turns: they come, are heard and sent to, and one may be cut off, or go since its role was dropped
   pub record Goes (before after : C) : Type 0 where
     pub moved : Moved t (k.makes (k.maker before)) (k.at before) (k.at after)
     pub maker : k.maker after ≡ k.maker before
     pub waiting : k.waiting after ≡ k.waiting before
-    pub contention : CutsOff (k.contention before) (k.contention after)
+    pub contention : CutsOffOrExpels (k.contention before) (k.contention after)
     pub expected : k.expected after ≡ k.expected before
 
   -- in a turn each client learnt its own, nobody went who was not let go, and nobody was cut off
@@ -246,3 +264,9 @@ module _ {M T C : Type 0} (m : MachineGhosts M) (t : TalkGhosts T) (k : ClientsG
   abbrev pub OpenedIn : (old : M) (before : C) (turns : List Turn) (new : M) (after : C) → TakesTurns old before turns new after → ℕ → ℕ → List ℕ → Type 0
   OpenedIn old before [] new after took c n login = ⊥
   OpenedIn old before (turn ∷ turns) new after took c n login = OpenedHere old took.0 turn took.1 took.2 took.4 c n login ⊎ OpenedIn took.1 took.2 turns new after took.6 c n login
+
+  -- ---- roles that are dropped
+
+  -- each session that is open is of a client that is there, or the machine has stopped
+  abbrev pub AreOfClients : M → C → Type 0
+  AreOfClients machine clients = (m.stopped machine ≡ true) ⊎ ((c n : ℕ) (login : List ℕ) → m.Has machine c n login → IsThere (k.at clients c))

@@ -69,3 +69,7 @@ abbrev pub TellsWhether : Type 0 → Type 0 → Type 0 → Result Bool AllocErro
 TellsWhether This That MayFail (Ok true) = This
 TellsWhether This That MayFail (Ok false) = That
 TellsWhether This That MayFail (Err error) = MayFail
+
+-- of the sessions that a client has, one is open for a role that is lacked
+abbrev pub HasLostRole : (ℕ → List ℕ → Type 0) → (List ℕ → Type 0) → Type 0
+HasLostRole Has Lacks = (n : ℕ) × ((login : List ℕ) × Has n login × Lacks login)

@@ -3,7 +3,7 @@
 ghost use Rattle.std.specs.Prelude.{◌≡◌, ◌≢◌, true, ℕ, List, [], Option, Some, Bool};
 ghost use Rattle.talks.specs.Wants.{FitsWant, learnt, own, refuses_lock};
 ghost use Rattle.talks.specs.Conversations.{ClientState, wanted, ending, IsGone, Passes};
-ghost use Rattle.talks.specs.Clients.{Contention, CutsOff, contended, forgotten, IsNext, NoneGoes, GoesAlone, IsPutLast, without, is_behind, EndsAs, IsLeaving, Moved};
+ghost use Rattle.talks.specs.Clients.{Contention, CutsOffOrExpels, contended, forgotten, IsNext, ExpelsLost, NoneGoes, GoesAlone, IsPutLast, without, is_behind, EndsAs, IsLeaving, Moved};
 ghost use Rattle.talks.specs.declared.want.Want.{Want as TheWant};
 ghost use Rattle.talks.specs.declared.want.Reply.{Reply as TheReply};
 
@@ -24,6 +24,8 @@ pub enum EndCause {
     Limit,
     /// It held the writer lock for as long as one may for which another's step was held back or refused.
     HeldTheLock,
+    /// Its role was dropped: that of a session that it had open, or the one that it had shown to come as.
+    RoleDropped,
     /// An allocation failed.
     Memory,
     /// The machine has stopped.
@@ -73,7 +75,8 @@ pub trait ServedClients<T: Talk> {
     /// Who waits for the writer lock, the first that came first.
     ghost waiting: { Self → List ℕ };
 
-    /// Who holds the writer lock that others want, and who was cut off for that.
+    /// Who holds the writer lock that others want, and who was cut off for that; and who goes since its role
+    /// was dropped.
     ghost contention: { Self → Contention };
 
     /// How many are to come, where that was said.
@@ -91,12 +94,15 @@ pub trait ServedClients<T: Talk> {
     /// A client has waited as long as it may.
     ghost has_waited: { Self → ℕ → Type 0 };
 
-    /// Waits until something is to be done, and gives it: clients come, are heard and sent to.
-    fn next(&mut self, stopped: bool) -> Next
-        ensures next { IsNext T.Talk stopped (at self.new) (waiting self.new) (contention self.new) (expected self.new) (refusals self.new) (looks self.new) result }
+    /// Waits until something is to be done, and gives it: clients come, are heard and sent to. Where the
+    /// machine's last step may have dropped a role, who has lost its role goes before anything is served. Of
+    /// several one goes first.
+    fn next<M: Machine>(&mut self, machine: &M) -> Next
+        ensures next { IsNext T.Talk (M.stopped machine.now) (M.MayHaveDropped machine.now) (M.Has machine.now) (M.LacksRole machine.now) (at self.new) (waiting self.new) (contention self.new) (expected self.new) (refusals self.new) (looks self.new) result }
         ensures moved { Moved T.Talk (makes (maker self.old)) (at self.old) (at self.new) }
         ensures waiting { waiting self.new ≡ waiting self.old }
-        ensures contention { CutsOff (contention self.old) (contention self.new) }
+        ensures contention { CutsOffOrExpels (contention self.old) (contention self.new) }
+        ensures expels { M.IsSound machine.now → ExpelsLost T.Talk (makes (maker self.old)) (M.Has machine.now) (M.LacksRole machine.now) (at self.old) (at self.new) (contention self.old).expelled (contention self.new).expelled }
         ensures maker { maker self.new ≡ maker self.old }
         ensures expected { expected self.new ≡ expected self.old };
 

@@ -1,9 +1,9 @@
 //! Laws of conversations, and of what was done for clients.
 
-ghost use Rattle.std.specs.Prelude.{◌≡◌, ◌++◌, ℕ, List, None, true};
+ghost use Rattle.std.specs.Prelude.{◌≡◌, ◌⊎◌, ◌++◌, ℕ, List, ◌∷◌, None, true};
 ghost use Rattle.talks.specs.Wants.{Learnt};
 ghost use Rattle.talks.specs.Conversations.{Heard};
-ghost use Rattle.talks.specs.Turns.{Turn, TakesTurns, OpenedIn, HolderWasLetGo, WasCutOff};
+ghost use Rattle.talks.specs.Turns.{Turn, Exchange, steps, TakesTurns, OpenedIn, HolderWasLetGo, WasCutOff, AreOfClients, ServesSomebody};
 
 use crate::clients::ServedClients;
 use crate::machine::Machine;
@@ -38,4 +38,25 @@ pub fn holders_are_cut_off<M: Machine, T: Talk, C: ServedClients<T>>()
         → HolderWasLetGo c turns
         → ((C.contention before).is_limited ≡ true)
         × WasCutOff M.Machine T.Talk C.ServedClients ⊥ c old before turns new after took }
+{}
+
+/// Each session that is open is of a client that is there, in every course of turns in which that was so
+/// at first, as it is where no session is open. A machine that has stopped keeps sessions.
+pub fn sessions_are_of_clients_there<M: Machine, T: Talk, C: ServedClients<T>>()
+    ensures { (old : M) (before : C) (turns : List Turn) (new : M) (after : C) → M.IsSound old
+        → TakesTurns M.Machine T.Talk C.ServedClients old before turns new after
+        → AreOfClients M.Machine T.Talk C.ServedClients old before
+        → AreOfClients M.Machine T.Talk C.ServedClients new after }
+{}
+
+/// No session outlives its role: of a role that a step has dropped, each session that is open once anybody
+/// was served after it was opened since, or the machine has stopped.
+pub fn no_session_outlives_its_role<M: Machine, T: Talk, C: ServedClients<T>>()
+    ensures { (old : M) (before : C) (d : Exchange) (ds : List Exchange) (turns : List Turn) (new : M)
+        (after : C) (role : List ℕ) → M.IsSound old
+        → AreOfClients M.Machine T.Talk C.ServedClients old before
+        → (took : TakesTurns M.Machine T.Talk C.ServedClients old before (steps d ds ∷ turns) new after)
+        → (M.LacksRole old role → ⊥) → M.LacksRole took.1 role → ServesSomebody turns
+        → (c n : ℕ) → M.Has new c n role → (M.stopped new ≡ true)
+        ⊎ OpenedIn M.Machine T.Talk C.ServedClients took.1 took.2 turns new after took.6 c n role }
 {}

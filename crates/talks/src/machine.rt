@@ -1,7 +1,7 @@
 //! What answers many conversations, one after the other.
 
 ghost use Rattle.std.specs.Prelude.{◌≡◌, ◌⊎◌, true, false, ℕ, List, Bool, Option};
-ghost use Rattle.talks.specs.Wants.{WantsStep, WantsQuestion, FitsWant, OpensSession, RefusesMemory, TellsWhether};
+ghost use Rattle.talks.specs.Wants.{WantsStep, WantsQuestion, FitsWant, OpensSession, RefusesMemory, TellsWhether, HasLostRole};
 ghost use Rattle.talks.specs.declared.want.Want.{Want as TheWant};
 ghost use Rattle.talks.specs.declared.want.Reply.{Reply as TheReply};
 
@@ -49,6 +49,12 @@ pub trait Machine {
     /// An allocation may fail where it is looked what a step needs.
     ghost MayLackMemory: { Self → ℕ → TheWant → Type 0 };
 
+    /// There is no role of this name.
+    ghost LacksRole: { Self → List ℕ → Type 0 };
+
+    /// Its last step may have dropped a role.
+    ghost MayHaveDropped: { Self → Type 0 };
+
     /// Whether it has stopped.
     fn has_stopped(&self) -> bool
         ensures { result ≡ stopped self.now };
@@ -89,6 +95,21 @@ pub trait Machine {
     fn asks_for_lock(&self, client: u32, want: &Want) -> Result<bool, AllocError>
         requires { WantsStep want.now }
         ensures { TellsWhether (AsksForLock self.now client want.now) (AsksForNone self.now client want.now) (MayLackMemory self.now client want.now) result };
+
+    /// Whether its last step may have dropped a role, in the committed database.
+    fn may_have_dropped(&self) -> bool
+        ensures { result ≡ false → MayHaveDropped self.now → ⊥ };
+
+    /// Whether there is no role of this name. A machine that has stopped lacks none.
+    fn lacks_role(&self, role: &str) -> bool
+        ensures lacks { result ≡ true → IsSound self.now → LacksRole self.now role.now }
+        ensures has { result ≡ false → LacksRole self.now role.now → ⊥ };
+
+    /// Whether a client has a session open for a role that is one no more. In a machine that has stopped
+    /// none has.
+    fn has_lost_role(&self, client: u32) -> bool
+        ensures lost { result ≡ true → IsSound self.now → HasLostRole (Has self.now client) (LacksRole self.now) }
+        ensures none { result ≡ false → HasLostRole (Has self.now client) (LacksRole self.now) → ⊥ };
 
     /// Closes the first session that a client has open, and tells whether there was one. A machine
     /// that has stopped closes none.
@@ -131,4 +152,16 @@ pub trait Machine {
 
     /// Nor do ends of sessions.
     ghost closes_stopped: { (old new : Self) (c : ℕ) → Closes old c new → stopped old ≡ true → stopped new ≡ true };
+
+    /// A machine that has stopped lacks no role.
+    ghost lacks_running: { (machine : Self) (role : List ℕ) → LacksRole machine role → stopped machine ≡ false };
+
+    /// A role that is lacked after a step was lacked before it, or the step may have dropped it.
+    ghost steps_roles: { (old new : Self) (c : ℕ) (w : TheWant) (r : TheReply) (role : List ℕ)
+        → IsSound old → Steps old c w r new → LacksRole new role → LacksRole old role ⊎ MayHaveDropped new };
+
+    /// The end of a session makes no role, and what may have been dropped before it still may.
+    ghost closes_roles: { (old new : Self) (c : ℕ) (role : List ℕ) → IsSound old → Closes old c new
+        → LacksRole old role → MayHaveDropped old
+        → (stopped new ≡ true) ⊎ (LacksRole new role × MayHaveDropped new) };
 }

@@ -4,7 +4,7 @@ ghost use Rattle.std.specs.Prelude.{◌≡◌, ◌≢◌, true, false, Option, S
 ghost use Rattle.talks.specs.Wants.{WantsStep, WantsQuestion, TellsWhether};
 ghost use Rattle.talks.specs.Conversations.{wanted, ending};
 ghost use Rattle.talks.specs.Clients.{IsLeaving, IsStillServed};
-ghost use Rattle.talks.specs.Turns.{Turn, TakesTurn, Moves, Goes, MayGo, MustWait, Wants};
+ghost use Rattle.talks.specs.Turns.{Turn, TakesTurn, Moves, Goes, MayGo, MustWait, Wants, HaveTheirRoles};
 ghost use Rattle.talks.specs.Serving.{ServesClients, EndedAs};
 ghost use Rattle.talks.specs.declared.want.Want.{Want as TheWant};
 
@@ -31,7 +31,7 @@ pub fn serve_clients<M: Machine, T: Talk, C: ServedClients<T>>(
     ensures { ServesClients M.Machine T.Talk C.ServedClients most machine.old clients.old result machine.new clients.new }
 {
     for _ in 0..most {
-        let next = clients.next(machine.has_stopped());
+        let next = clients.next(&*machine);
         match next {
             Next::Step { client } => take_step(machine, clients, client),
             Next::Question { client } => answer_question(machine, clients, client),
@@ -49,7 +49,7 @@ fn take_step<M: Machine, T: Talk, C: ServedClients<T>>(
     clients: &mut C,
     client: u32,
 )
-    requires { (w : TheWant) × Wants M.Machine T.Talk C.ServedClients clients.old client w × WantsStep w × IsStillServed client (C.contention clients.old) }
+    requires { (w : TheWant) × Wants M.Machine T.Talk C.ServedClients clients.old client w × WantsStep w × IsStillServed client (C.contention clients.old) × HaveTheirRoles M.Machine T.Talk C.ServedClients machine.old clients.old }
     ensures { (turn : Turn) × TakesTurn M.Machine T.Talk C.ServedClients machine.old clients.old turn machine.new clients.new
         × Moves M.Machine T.Talk C.ServedClients machine.new turn clients.old clients.new }
 {
@@ -66,7 +66,7 @@ fn make_step<M: Machine, T: Talk, C: ServedClients<T>>(
     clients: &mut C,
     client: u32,
 )
-    requires { (w : TheWant) × Wants M.Machine T.Talk C.ServedClients clients.old client w × WantsStep w × MayGo M.Machine T.Talk C.ServedClients machine.old clients.old client w × IsStillServed client (C.contention clients.old) }
+    requires { (w : TheWant) × Wants M.Machine T.Talk C.ServedClients clients.old client w × WantsStep w × MayGo M.Machine T.Talk C.ServedClients machine.old clients.old client w × IsStillServed client (C.contention clients.old) × HaveTheirRoles M.Machine T.Talk C.ServedClients machine.old clients.old }
     ensures { (turn : Turn) × TakesTurn M.Machine T.Talk C.ServedClients machine.old clients.old turn machine.new clients.new
         × Moves M.Machine T.Talk C.ServedClients machine.new turn clients.old clients.new }
 {
@@ -80,7 +80,7 @@ fn refuse_step<M: Machine, T: Talk, C: ServedClients<T>>(
     clients: &mut C,
     client: u32,
 )
-    requires { (w : TheWant) × Wants M.Machine T.Talk C.ServedClients clients.old client w × WantsStep w × M.MayLackMemory machine.old client w × IsStillServed client (C.contention clients.old) }
+    requires { (w : TheWant) × Wants M.Machine T.Talk C.ServedClients clients.old client w × WantsStep w × M.MayLackMemory machine.old client w × IsStillServed client (C.contention clients.old) × HaveTheirRoles M.Machine T.Talk C.ServedClients machine.old clients.old }
     ensures { (turn : Turn) × TakesTurn M.Machine T.Talk C.ServedClients machine.old clients.old turn machine.new clients.new
         × Moves M.Machine T.Talk C.ServedClients machine.new turn clients.old clients.new }
 {
@@ -119,7 +119,7 @@ fn answer_question<M: Machine, T: Talk, C: ServedClients<T>>(
     clients: &mut C,
     client: u32,
 )
-    requires { (w : TheWant) × Wants M.Machine T.Talk C.ServedClients clients.old client w × WantsQuestion w × IsStillServed client (C.contention clients.old) }
+    requires { (w : TheWant) × Wants M.Machine T.Talk C.ServedClients clients.old client w × WantsQuestion w × IsStillServed client (C.contention clients.old) × HaveTheirRoles M.Machine T.Talk C.ServedClients machine.old clients.old }
     ensures { (turn : Turn) × TakesTurn M.Machine T.Talk C.ServedClients machine.old clients.old turn machine.new clients.new
         × Moves M.Machine T.Talk C.ServedClients machine.new turn clients.old clients.new }
 {
@@ -138,6 +138,7 @@ fn leave<M: Machine, T: Talk, C: ServedClients<T>>(
     requires leaving { IsLeaving T.Talk (C.at clients.old client) }
     requires stopped { end_cause ≡ EndCause.Stopped → M.stopped machine.old ≡ true }
     requires cut_off { end_cause ≡ EndCause.HeldTheLock → (C.contention clients.old).cut_off ≡ Some client }
+    requires expelled { end_cause ≡ EndCause.RoleDropped → (C.contention clients.old).expelled ≡ Some client }
     ensures { (turn : Turn) × TakesTurn M.Machine T.Talk C.ServedClients machine.old clients.old turn machine.new clients.new
         × Moves M.Machine T.Talk C.ServedClients machine.new turn clients.old clients.new }
 {

@@ -1,7 +1,8 @@
 //! One conversation: a protocol, from the bytes of a client to what it wants of a machine, and what
 //! is said to the client.
 
-ghost use Rattle.std.specs.Prelude.{◌≡◌, ◌++◌, ◌≤◌, ℕ, List, length, OnOk, OnErr};
+ghost use Rattle.std.specs.Prelude.{◌≡◌, ◌++◌, ◌≤◌, ℕ, List, length, Option, OnOk, OnErr};
+ghost use Rattle.std.specs.Option.{option_map};
 ghost use Rattle.talks.specs.Wants.{FitsWant};
 ghost use Rattle.talks.specs.declared.talk.MessageFront.{MessageFront as TheFront};
 ghost use Rattle.talks.specs.declared.want.Want.{Want as TheWant};
@@ -41,9 +42,17 @@ pub trait Talk {
     /// What it says to what it learns, and how it stands then.
     ghost learns: { Self → TheReply → List ℕ → Self → Type 0 };
 
+    /// The role of which its client has shown that it comes as that, if it has.
+    ghost comes_as: { Self → Option (List ℕ) };
+
     /// What it wants, lent.
     fn want(&self) -> &Want
         ensures { result.now ≡ wants self.now };
+
+    /// The name of the role of which its client has shown that it comes as that, or `None` where it has
+    /// shown none.
+    fn comes_as(&self) -> Option<&str>
+        ensures { option_map (λ role. role.now) result ≡ comes_as self.now };
 
     /// What stands at the front of these bytes.
     fn front(&self, bytes: &[u8]) -> MessageFront

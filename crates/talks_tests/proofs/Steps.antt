@@ -119,6 +119,7 @@ module _ {T : Type 0} (k : Ghosts T) where
   cause_kept end_cause.Memory x o is = is
   cause_kept end_cause.Stopped x o is = is
   cause_kept end_cause.HeldTheLock x o is = is
+  cause_kept end_cause.RoleDropped x o is = is
 
   pub leaves : (x y : MemoryClient T) (w : EndCause) → y.stage ≡ stage.There → y.end_cause ≡ Some w → y.talk ≡ x.talk → y.held.items ≡ x.held.items → y.said.items ≡ x.said.items → HasCause k w (conversation_of x) → IsOwnCause w → HasWish k (wish.Left w) (state_of y)
   leaves x y w there is talk held said cause own =

@@ -85,18 +85,26 @@ module _ {T : Type 0} (k : Ghosts T) where
   is_gone : (x : MemoryClient T) → x.stage ≡ stage.Gone → IsGone (state_of x)
   is_gone x is = subst (λ (s : Stage). IsGone (state_at s x)) (sym is) tt
 
-  pub done : (stopped : Bool) (x : TwoClients T) (waiting : List ℕ) → x.first.stage ≡ stage.Gone → x.second.stage ≡ stage.Gone → waiting ≡ [] → IsNext k stopped (states x) waiting (contention_of x.contended) (Some 2) 0 x.looks (next.Ended finish.Done)
+  pub done : (stopped : Bool) (x : TwoClients T) (waiting : List ℕ) → x.first.stage ≡ stage.Gone → x.second.stage ≡ stage.Gone → waiting ≡ [] → IsNext k stopped ⊥ (λ c n login. ⊥) (λ role. ⊥) (states x) waiting (contention_of x.contended) (Some 2) 0 x.looks (next.Ended finish.Done)
   done stopped x waiting first second nobody = ((2, refl, came (state_of x.first) (state_of x.second) (is_gone x.first first) (is_gone x.second second)), (λ leaves. nobody))
 
   uncut : (c : ℕ) (holder : Option ℕ) → IsStillServed c (contention_of holder)
-  uncut c holder is = cc
+  uncut c holder = ((λ is. cc), refl)
+
+  -- where no role may have been dropped
+  pub none_dropped : (stopped : Bool) (Dropped : Type 0) (Has : ℕ → ℕ → List ℕ → Type 0) (Lacks : List ℕ → Type 0) (at : ℕ → ClientState T) (waiting : List ℕ) (holder : Option ℕ) (looks : ℕ) (n : Next) → (Dropped → ⊥)
+      → IsNext k stopped ⊥ (λ c n login. ⊥) (λ role. ⊥) at waiting (contention_of holder) (Some 2) 0 looks n → IsNext k stopped Dropped Has Lacks at waiting (contention_of holder) (Some 2) 0 looks n
+  none_dropped stopped Dropped Has Lacks at waiting holder looks (next.Step c) none is = (is.0, is.1, is.2, is.3, λ dropped. absurd (none dropped))
+  none_dropped stopped Dropped Has Lacks at waiting holder looks (next.Question c) none is = (is.0, is.1, is.2, is.3, λ dropped. absurd (none dropped))
+  none_dropped stopped Dropped Has Lacks at waiting holder looks (next.Left c w) none is = is
+  none_dropped stopped Dropped Has Lacks at waiting holder looks (next.Ended e) none is = is
 
   pub next_is : (stopped : Bool) (at : ℕ → ClientState T) (waiting : List ℕ) (holder : Option ℕ) (looks c : ℕ) (v : Wish) (r : Option Next) → NextOf c v r → HasWish k v (at c)
-      → IfSome r (λ n. IsNext k stopped at waiting (contention_of holder) (Some 2) 0 looks n)
+      → IfSome r (λ n. IsNext k stopped ⊥ (λ c n login. ⊥) (λ role. ⊥) at waiting (contention_of holder) (Some 2) 0 looks n)
   next_is stopped at waiting holder looks c wish.Nothing r is has = rw (is) tt
-  next_is stopped at waiting holder looks c wish.Step r is has = rw (is) (has.0, has.1, has.2, uncut c holder)
-  next_is stopped at waiting holder looks c wish.Question r is has = rw (is) (has.0, has.1, has.2, uncut c holder)
-  next_is stopped at waiting holder looks c (wish.Left w) r is has = rw (is) (has.0, has.1, (λ same. absurd (has.2.0 same)), (λ same. absurd (has.2.1 same)))
+  next_is stopped at waiting holder looks c wish.Step r is has = rw (is) (has.0, has.1, has.2, uncut c holder, λ dropped. absurd dropped)
+  next_is stopped at waiting holder looks c wish.Question r is has = rw (is) (has.0, has.1, has.2, uncut c holder, λ dropped. absurd dropped)
+  next_is stopped at waiting holder looks c (wish.Left w) r is has = rw (is) (has.0, has.1, (λ same. absurd (has.2.0 same)), (λ same. absurd (has.2.1 same)), (λ same. absurd (has.2.2 same)))
 
   module _ (front_more : (t : T) (bytes more : List ℕ) (n : ℕ) → k.front t bytes ≡ Whole n → (n ≤ length bytes) × (k.front t (bytes ++ more) ≡ Whole n))
       (bad_more : (t : T) (bytes more : List ℕ) → k.front t bytes ≡ Bad → k.front t (bytes ++ more) ≡ Bad) where

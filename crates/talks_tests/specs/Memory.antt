@@ -39,9 +39,9 @@ state_at stage.Gone line = gone (Some line.said.items)
 abbrev pub state_of : {T : Type 0} → MemoryClient T → ClientState T
 state_of line = state_at line.stage line
 
--- a cause that is neither the machine's nor the writer lock's
+-- a cause that is neither the machine's nor the writer lock's, nor that of a role
 abbrev pub IsOwnCause : EndCause → Type 0
-IsOwnCause w = (w ≡ end_cause.Stopped → ⊥) × (w ≡ end_cause.HeldTheLock → ⊥)
+IsOwnCause w = (w ≡ end_cause.Stopped → ⊥) × (w ≡ end_cause.HeldTheLock → ⊥) × (w ≡ end_cause.RoleDropped → ⊥)
 
 -- what a client has to do with the machine is so
 abbrev pub HasWish : {T : Type 0} → Ghosts T → Wish → ClientState T → Type 0

@@ -19,9 +19,9 @@ waiting_of queue.Second = 1 ∷ []
 waiting_of queue.FirstSecond = 0 ∷ 1 ∷ []
 waiting_of queue.SecondFirst = 1 ∷ 0 ∷ []
 
--- nobody is cut off
+-- nobody is cut off, and nobody goes since its role was dropped
 abbrev pub contention_of : Option ℕ → Contention
-contention_of holder = record { holder = holder; cut_off = None; is_limited = false }
+contention_of holder = record { holder = holder; cut_off = None; is_limited = false; expelled = None }
 
 -- the first at 0, the second at 1; no other is to come
 abbrev pub at_two : {T : Type 0} → ClientState T → ClientState T → ℕ → ClientState T

@@ -180,7 +180,7 @@ impl<T: BeginsAnew> TwoClients<T> {
         ensures waiting { self.new.queue ≡ self.old.queue }
         ensures contended { self.new.contended ≡ self.old.contended }
         ensures looks { self.new.looks ≡ self.old.looks }
-        ensures next { IfSome result (λ n. IsNext T.Talk stopped (states self.new) (waiting_of self.new.queue) (contention_of self.new.contended) (Some 2) 0 self.new.looks n) }
+        ensures next { IfSome result (λ n. IsNext T.Talk stopped ⊥ (λ c n login. ⊥) (λ role. ⊥) (states self.new) (waiting_of self.new.queue) (contention_of self.new.contended) (Some 2) 0 self.new.looks n) }
     {
         if self.is_done() {
             return Some(Next::Ended(Finish::Done));
@@ -197,7 +197,7 @@ impl<T: BeginsAnew> TwoClients<T> {
         ensures waiting { self.new.queue ≡ self.old.queue }
         ensures contended { self.new.contended ≡ self.old.contended }
         ensures looks { self.new.looks ≡ self.old.looks }
-        ensures next { IfSome result (λ n. IsNext T.Talk stopped (states self.new) (waiting_of self.new.queue) (contention_of self.new.contended) (Some 2) 0 self.new.looks n) }
+        ensures next { IfSome result (λ n. IsNext T.Talk stopped ⊥ (λ c n login. ⊥) (λ role. ⊥) (states self.new) (waiting_of self.new.queue) (contention_of self.new.contended) (Some 2) 0 self.new.looks n) }
     {
         self.second_was_last = false;
         next_of(0, self.first.attend())
@@ -208,7 +208,7 @@ impl<T: BeginsAnew> TwoClients<T> {
         ensures waiting { self.new.queue ≡ self.old.queue }
         ensures contended { self.new.contended ≡ self.old.contended }
         ensures looks { self.new.looks ≡ self.old.looks }
-        ensures next { IfSome result (λ n. IsNext T.Talk stopped (states self.new) (waiting_of self.new.queue) (contention_of self.new.contended) (Some 2) 0 self.new.looks n) }
+        ensures next { IfSome result (λ n. IsNext T.Talk stopped ⊥ (λ c n login. ⊥) (λ role. ⊥) (states self.new) (waiting_of self.new.queue) (contention_of self.new.contended) (Some 2) 0 self.new.looks n) }
     {
         self.second_was_last = true;
         next_of(1, self.second.attend())
@@ -240,10 +240,14 @@ impl<T: BeginsAnew> ServedClients<T> for TwoClients<T> {
 
     ghost has_waited = { λ x c. ⊥ };
 
-    fn next(&mut self, stopped: bool) -> Next {
+    fn next<M: Machine>(&mut self, machine: &M) -> Next {
         'looking: while self.looks < u64::MAX {
             self.looks += 1;
-            if let Some(next) = self.look(stopped) {
+            // Nobody is ended here for a role that was dropped: then nothing more is done.
+            if machine.may_have_dropped() {
+                continue 'looking;
+            }
+            if let Some(next) = self.look(machine.has_stopped()) {
                 return next;
             }
         }

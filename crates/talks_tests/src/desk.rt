@@ -191,6 +191,10 @@ impl Machine for Desk {
 
     ghost MayLackMemory = { λ m c w. Unit {0} };
 
+    ghost LacksRole = { λ m role. ⊥ };
+
+    ghost MayHaveDropped = { λ m. ⊥ };
+
     ghost steps_sound = { λ old new c w r made sound. sound };
 
     ghost tells_sound = { λ old new c w r told sound. sound };
@@ -208,6 +212,12 @@ impl Machine for Desk {
     ghost tells_stopped = { λ old new c w r made is. is };
 
     ghost closes_stopped = { λ old new c made is. is };
+
+    ghost lacks_running = { λ m role lacks. absurd lacks };
+
+    ghost steps_roles = { λ old new c w r role sound made lacks. absurd lacks };
+
+    ghost closes_roles = { λ old new c role sound made lacks dropped. absurd lacks };
 
     fn has_stopped(&self) -> bool {
         false
@@ -252,6 +262,18 @@ impl Machine for Desk {
 
     fn asks_for_lock(&self, _client: u32, want: &Want) -> Result<bool, AllocError> {
         Ok(asks(want) && self.lock.is_none())
+    }
+
+    fn may_have_dropped(&self) -> bool {
+        false
+    }
+
+    fn lacks_role(&self, _role: &str) -> bool {
+        false
+    }
+
+    fn has_lost_role(&self, _client: u32) -> bool {
+        false
     }
 
     fn close_next(&mut self, client: u32) -> bool {

@@ -55,7 +55,7 @@ impl BeginsAnew for Echo {
 }
 
 impl Talk for Echo {
-    ghost use Rattle.std.specs.Prelude.{◌≡◌, [], ◌∷◌, false};
+    ghost use Rattle.std.specs.Prelude.{◌≡◌, [], ◌∷◌, false, None};
     ghost use Rattle.talks_tests.specs.FrontLaws.{front_more, bad_more};
 
     ghost starts = { λ t. t.want ≡ TheWant.Message };
@@ -70,12 +70,18 @@ impl Talk for Echo {
 
     ghost learns = { λ t reply said u. (said ≡ said_of reply) × (u.want ≡ TheWant.Message) };
 
+    ghost comes_as = { λ t. None };
+
     ghost front_more = { λ t bytes more n is. front_more bytes more n is };
 
     ghost bad_more = { λ t bytes more is. bad_more bytes more is };
 
     fn want(&self) -> &Want {
         &self.want
+    }
+
+    fn comes_as(&self) -> Option<&str> {
+        None
     }
 
     fn front(&self, bytes: &[u8]) -> MessageFront {

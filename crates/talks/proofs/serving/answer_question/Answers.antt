@@ -17,6 +17,7 @@ returns g c =
         c.learn.ensures.learnt,
         c.learn.ensures.waiting,
         c.requires.3,
+        c.requires.4,
       ),
       record { passed = c.learn.ensures.passed w c.want.ensures; alone = λ d is. inl (c.learn.ensures.gone d is); contention = c.learn.ensures.contention; maker = c.learn.ensures.maker; expected = c.learn.ensures.expected },
     )

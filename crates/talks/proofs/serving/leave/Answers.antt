@@ -8,7 +8,7 @@ pub returns-then-not-close_next : goal.returns-then-not-close_next
 returns-then-not-close_next g c =
     let client = c.args.client in (
       ends client c.args.end_cause,
-      (c.requires.ending, c.requires.leaving, c.requires.stopped, c.close_next.ensures.none c.if-not-close_next.true, c.close_next.ensures.kept c.if-not-close_next.true, c.close.ensures.gone, c.close.ensures.waiting, c.requires.cut_off),
+      (c.requires.ending, c.requires.leaving, c.requires.stopped, c.close_next.ensures.none c.if-not-close_next.true, c.close_next.ensures.kept c.if-not-close_next.true, c.close.ensures.gone, c.close.ensures.waiting, c.requires.cut_off, c.requires.expelled),
       record {
         passed = c.close.ensures.passed;
         alone = λ e is. elim (eqb_tells client e) [ inl same ↦ inr same.1 | inr other ↦ inl (c.close.ensures.alone e (λ same. other.1 (sym same)) is) ];

@@ -23,10 +23,12 @@ returns g c =
           inl (same_want (MayGo g.M.Machine g.T.Talk g.C.ServedClients c.args.machine.now c.args.clients.now client) wants c.requires.0 w c.requires.1 c.want.ensures c.requires.3),
           c.step-reply.ensures.steps,
           refl,
+          λ dropped. refl,
         ),
         (c.learn.new.self, c.learn.ensures.learnt, refl),
         c.learn.ensures.waiting,
         (c.requires.4, tt),
+        c.requires.5,
       ),
       record {
         passed = λ e. subst (λ (xs : List Learnt). Passes g.T.Talk (g.C.ServedClients.makes (g.C.ServedClients.maker c.args.clients.now)) (at c.args.clients.now e) xs (at c.learn.new.self e)) (sym (append-nil (learnt_of e d))) (c.learn.ensures.passed w c.want.ensures e);

@@ -23,10 +23,12 @@ returns g c =
           inr c.refuse_for_memory-refusal.ensures.refused,
           c.refuse_for_memory-refusal.ensures.steps,
           refl,
+          λ dropped. refl,
         ),
         (c.learn.new.self, c.learn.ensures.learnt, refl),
         c.learn.ensures.waiting,
         (c.requires.4, tt),
+        c.requires.5,
       ),
       record {
         passed = λ e. subst (λ (xs : List Learnt). Passes g.T.Talk (g.C.ServedClients.makes (g.C.ServedClients.maker c.args.clients.now)) (at c.args.clients.now e) xs (at c.learn.new.self e)) (sym (append-nil (learnt_of e d))) (c.learn.ensures.passed w c.want.ensures e);

@@ -1,4 +1,4 @@
-use Rattle.std.proofs.Common.{arith, refl, sym, [], ◌∷◌, ◌++◌}
+use Rattle.std.proofs.Common.{arith, refl, [], ◌∷◌, ◌++◌}
 use Rattle.talks.proofs.Courses.{course}
 use Rattle.talks.proofs.Sessions.{closed}
 use Rattle.talks.proofs.Turning.{one_more, goes_none, turns_goes, turns_more, talked, went, expected_kept}
@@ -30,7 +30,7 @@ returns-in-Ended g c =
       went = went m t k met.front_more met.bad_more old new before after turns took;
       closed = closed m t k laws.steps_sound laws.tells_sound laws.closes_sound laws.steps_open laws.tells_open laws.closes_open laws.steps_stopped laws.tells_stopped laws.closes_stopped old before turns new after took;
       expected = expected_kept m t k met.front_more met.bad_more old new before after turns took;
-      ended = rw (sym c.has_stopped.ensures) it.next;
+      ended = it.next;
     }
 
 pub returns : goal.returns

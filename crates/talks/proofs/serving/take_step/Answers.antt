@@ -19,6 +19,7 @@ returns-in-Ok-false g c =
         refl,
         c.hold_back.ensures.waiting,
         c.requires.3,
+        c.requires.4,
       ),
       record { passed = c.hold_back.ensures.moved.passed; alone = λ e is. inl (c.hold_back.ensures.moved.gone e is); contention = c.hold_back.ensures.contention; maker = c.hold_back.ensures.maker; expected = c.hold_back.ensures.expected },
     )

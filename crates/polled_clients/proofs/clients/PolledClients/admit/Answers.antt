@@ -26,7 +26,7 @@ returns-then-is_ok-clause-moved g c =
     let comes : Moved g.T.Talk (g.F.TalkMaker.makes self.maker) (states g.C.Channel g.A.Attend self) with =
     subst (λ (n : ℕ). Moved g.T.Talk (g.F.TalkMaker.makes self.maker) (states g.C.Channel g.A.Attend self) (all g.T.Talk g.C.Channel n now closed coming)) one_more
     (one_came g.T.Talk g.C.Channel g.met.T.Talk.front_more g.met.T.Talk.bad_more (g.F.TalkMaker.makes c.args.self.now.maker) self.came (get nat_eq self.peers) now closed coming c.new-peer.result updates.1
-    (made_so g.T.Talk g.C.Channel (g.F.TalkMaker.makes self.maker) c.args.talk (coming self.came) (conversation_of g.C.Channel c.new-peer.result) c.requires.made (c.new-peer.ensures.fresh (coming self.came) c.requires.starts c.requires.fresh)) (λ n other. updates.2 n (ne_eqb self.came n (λ same. other (sym same))))) in
+    (made_so g.T.Talk g.C.Channel (g.F.TalkMaker.makes self.maker) c.args.talk (coming self.came) (conversation_of g.C.Channel c.new-peer.result) (g.met.F.TalkMaker.made_at self.maker (g.C.Channel.place c.args.channel) c.args.talk c.requires.made) (c.new-peer.ensures.fresh (coming self.came) c.args.place c.requires.starts c.requires.fresh)) (λ n other. updates.2 n (ne_eqb self.came n (λ same. other (sym same))))) in
     moved_on g.T.Talk g.C.Channel g.met.T.Talk.front_more g.met.T.Talk.bad_more (g.F.TalkMaker.makes self.maker) (states g.C.Channel g.A.Attend self) with (states g.C.Channel g.A.Attend c.welcome.new.self) comes c.welcome.ensures.moved
 
 pub returns-else-is_ok-clause-moved : goal.returns-else-is_ok-clause-moved

@@ -1,4 +1,4 @@
-use Rattle.std.proofs.Common.{sym, subst}
+use Rattle.std.proofs.Common.{ℕ, sym, subst}
 use Rattle.std.specs.Prelude.{nat_eq}
 use Rattle.channels.specs.Channels.{NamedBytes}
 use Rattle.channels.specs.Comings.{HasJustCome}
@@ -8,7 +8,10 @@ use Rattle.polled_clients.proofs.Placing.{moved_kept, moved_on}
 use Rattle.polled_clients.proofs.clients.PolledClients.take_with.Goals as goal
 
 pub admit-requires-clause-fresh : goal.admit-requires-clause-fresh
-admit-requires-clause-fresh g c = subst (λ (bytes : NamedBytes). HasJustCome g.C.Channel bytes c.in-Came.channel) (sym (c.take.ensures.coming c.args.self.now.came)) c.in-Came.ensures.came
+admit-requires-clause-fresh g c = subst (λ (bytes : NamedBytes). HasJustCome g.C.Channel bytes c.args.place c.in-Came.channel) (sym (c.take.ensures.coming c.args.self.now.came)) c.in-Came.ensures.came
+
+pub admit-requires-clause-made : goal.admit-requires-clause-made
+admit-requires-clause-made g c = subst (λ (place : ℕ). g.F.TalkMaker.makes_at c.args.self.now.maker place c.args.talk) (sym c.in-Came.ensures.came.place) c.requires.made
 
 pub returns-in-Came-clause-moved : goal.returns-in-Came-clause-moved
 returns-in-Came-clause-moved g c =

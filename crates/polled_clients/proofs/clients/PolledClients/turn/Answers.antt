@@ -1,6 +1,7 @@
 use Rattle.std.proofs.Common.{Bool, subst, arith}
 use Rattle.std.specs.Prelude.{nat_eq}
 use Rattle.indexmap.specs.IndexMap.{get}
+use Rattle.talks.specs.Clients.{is_client}
 use Rattle.polled_clients.specs.ClientStates.{states, state_at, HasNeedAt}
 use Rattle.polled_clients.specs.declared.need.EndOrder.{EndOrder}
 use Rattle.polled_clients.proofs.Placing.{moved_none, moved_one, need_at}
@@ -19,7 +20,9 @@ pub returns-clause-need : goal.returns-clause-need
 returns-clause-need g c =
     let self = c.args.self.now in
     let client = c.args.pick.client in
-    let order : Bool → EndOrder = λ b. record { stopped = c.args.stopped; cut_off = b } in
-    subst (λ (b : Bool). HasNeedAt g.T.Talk (order b) c.take_turn.result (state_at g.C.Channel self.came client (get nat_eq c.take_turn.new.peers client) (g.A.Attend.closed self.attend client) (g.A.Attend.coming self.attend client))) c.is_cut_off.ensures
-    (need_at g.T.Talk g.C.Channel (order c.is_cut_off.result) self.came client c.take_turn.result (get nat_eq c.take_turn.new.peers client) (g.A.Attend.closed self.attend client) (g.A.Attend.coming self.attend client) (omega arith)
-    c.take_turn.ensures.need)
+    let order : Bool → Bool → EndOrder = λ b d. record { stopped = c.args.stopped; cut_off = b; expelled = d } in
+    let here = state_at g.C.Channel self.came client (get nat_eq c.take_turn.new.peers client) (g.A.Attend.closed self.attend client) (g.A.Attend.coming self.attend client) in
+    subst (λ (d : Bool). HasNeedAt g.T.Talk (order (is_client client self.lock.cut_off) d) c.take_turn.result here) c.is_expelled.ensures
+    (subst (λ (b : Bool). HasNeedAt g.T.Talk (order b c.is_expelled.result) c.take_turn.result here) c.is_cut_off.ensures
+    (need_at g.T.Talk g.C.Channel (order c.is_cut_off.result c.is_expelled.result) self.came client c.take_turn.result (get nat_eq c.take_turn.new.peers client) (g.A.Attend.closed self.attend client) (g.A.Attend.coming self.attend client) (omega arith)
+    c.take_turn.ensures.need))

@@ -8,4 +8,5 @@ returns-in-Event-clause-steps g c =
       stopped = c.step.ensures.stopped;
       running = c.step.ensures.running;
       steps = c.step.ensures.steps;
+      dropped = c.step.ensures.dropped;
     })

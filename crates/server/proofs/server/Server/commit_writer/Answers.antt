@@ -1,4 +1,4 @@
-use Rattle.std.proofs.Common.{◌≡◌, sym, ◌∙◌, ap, subst, Option, Some, None}
+use Rattle.std.proofs.Common.{◌≡◌, sym, ◌∙◌, ap, subst, Option, Some, None, Err}
 use Rattle.store.specs.Records.{Records, applied}
 use Rattle.store.specs.Store.{stored}
 use Rattle.store.specs.Contents.{changed_by_batch}
@@ -6,7 +6,9 @@ use Rattle.stored_database.specs.Records.{Shows}
 use Rattle.server.specs.declared.writer.Writer.{Writer}
 use Rattle.server.specs.Writers.{definitions_or, definitions_under}
 use Rattle.server.specs.Decisions.{machine_at, after_change}
+use Rattle.server.specs.declared.decision.Decision.TheVariants as decisions
 use Rattle.server.proofs.Passing.{commit_done}
+use Rattle.server.proofs.Dropping.{carries_from, same_under}
 use Rattle.server.proofs.Carrying.{lock_is_held, lock_shows, works_unheld}
 use Rattle.server.proofs.server.Server.commit_writer.Goals as goal
 
@@ -40,4 +42,20 @@ returns-in-Ok-clause-carries g c sound runs db holder e w p =
     )
 
 pub returns-in-Err-clause-carries : goal.returns-in-Err-clause-carries
-returns-in-Err-clause-carries g c = c.in-Err.ensures.err c.args.answer c.args.change
+returns-in-Err-clause-carries g c =
+    carries_from g.X.EventHandler.Reads g.S.Map.state c.args.self.now c.changes_definitions-self.result c.commit_held.new.self (decisions.CommitWriter c.args.answer c.args.change) (Err c.in-Err.fault)
+    (c.in-Err.ensures.err c.args.answer c.args.change)
+
+-- ---- definitions
+
+pub returns-in-Ok-clause-dropped : goal.returns-in-Ok-clause-dropped
+returns-in-Ok-clause-dropped g c is =
+    let old = c.args.self.now in
+    let mid = c.commit_held.new.self in
+    let kept = c.commit_held.ensures.kept in
+    let ended = c.free_lock.ensures in
+    ap (λ z. z.catalogue) ended ∙ c.commit_held.ensures.definitions mid.catalogue ∙ ap (λ z. definitions_under old.writer z.catalogue) kept
+    ∙ same_under old.writer old.catalogue (sym c.changes_definitions-self.ensures ∙ sym (ap (λ z. z.may_have_dropped) ended ∙ ap (λ z. z.may_have_dropped) kept) ∙ is)
+
+pub returns-in-Err-clause-dropped : goal.returns-in-Err-clause-dropped
+returns-in-Err-clause-dropped g c is = ap (λ z. z.catalogue) c.commit_held.ensures.kept

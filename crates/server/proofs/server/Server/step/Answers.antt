@@ -1,5 +1,8 @@
+use Rattle.std.proofs.Common.{false, sym, subst}
 use Rattle.server.specs.Standing.{event_of}
+use Rattle.server.specs.Dropped.{KeepsDefinitions}
 use Rattle.server.proofs.Stepping.{stopped_steps, attempted_steps}
+use Rattle.server.proofs.Dropping.{steps_from, attempt_keeps}
 use Rattle.server.proofs.server.Server.step.Goals as goal
 
 pub returns-then-self-clause-steps : goal.returns-then-self-clause-steps
@@ -8,5 +11,11 @@ returns-then-self-clause-steps g c sound w at =
 
 pub returns-clause-steps : goal.returns-clause-steps
 returns-clause-steps g c =
-    attempted_steps g.X.EventHandler.Reads g.S.Map.state c.args.client c.args.self.now c.attempt-attempted.new.self c.answer_of.new.self c.args.event.now c.attempt-attempted.result c.answer_of.result
-    c.answer_of.ensures.answer c.answer_of.ensures.server (g.met.S.Map.only_now c.attempt-attempted.new.self.store) c.attempt-attempted.ensures.history c.if-self.false c.attempt-attempted.ensures.attempts
+    let old = c.args.self.now in
+    steps_from g.X.EventHandler.Reads g.S.Map.state old false c.args.client c.args.event.now c.answer_of.result c.answer_of.new.self
+    (attempted_steps g.X.EventHandler.Reads g.S.Map.state c.args.client (record old { may_have_dropped = false }) c.attempt-attempted.new.self c.answer_of.new.self c.args.event.now c.attempt-attempted.result c.answer_of.result
+    c.answer_of.ensures.answer c.answer_of.ensures.server (g.met.S.Map.only_now c.attempt-attempted.new.self.store) c.attempt-attempted.ensures.history c.if-self.false c.attempt-attempted.ensures.attempts)
+
+pub returns-clause-dropped : goal.returns-clause-dropped
+returns-clause-dropped g c =
+    subst (λ s. KeepsDefinitions c.args.self.now s) (sym c.answer_of.ensures.server) (attempt_keeps c.args.self.now c.attempt-attempted.new.self c.attempt-attempted.result c.attempt-attempted.ensures.dropped)
