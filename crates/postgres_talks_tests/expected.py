@@ -30,12 +30,12 @@ def execute(portal, most=0):
     return message(b'E', text(portal) + struct.pack('>I', most))
 
 
-def report(kind, severity, code, words):
-    return message(kind, b'S' + text(severity) + b'V' + text(severity) + b'C' + text(code) + b'M' + text(words) + b'\0')
+def report(kind, severity, code, words, place=None):
+    return message(kind, b'S' + text(severity) + b'V' + text(severity) + b'C' + text(code) + b'M' + text(words) + (b'P' + text(str(place)) if place else b'') + b'\0')
 
 
-def error(code, words):
-    return report(b'E', 'ERROR', code, words)
+def error(code, words, place=None):
+    return report(b'E', 'ERROR', code, words, place)
 
 
 def fatal(code, words):
@@ -88,31 +88,32 @@ LABELS = columns(('N', 20, 8), HEADS[1], ('user', 16, 1), HEADS[3])
 PARAMETER = 'SELECT a AS "$2", b, c AS user, d FROM t WHERE w = $1'
 PARAMETER_LABELS = columns(('$2', 20, 8), HEADS[1], ('user', 16, 1), HEADS[3])
 VERSION = row(b'PostgreSQL 15.0 (Guarddb)') + complete('SELECT 1')
+INSERT, UPDATE = 'INSERT INTO t VALUES (1)', 'UPDATE t SET x = 1'
 ROWS = [row(str(number).encode()) for number in range(1, 6)]
 
 # what a client sends behind the start, and what it is told
 PLAYED = [
     (query('SELECT 1') + LEAVE, ONE_ROW + IDLE),
-    (query('INSERT; ;UPDATE; WRONG') + query(';'),
-     complete('INSERT 0 2') + complete('UPDATE 3') + error('42601', 'syntax error') + IDLE + message(b'I') + IDLE),
-    (query('BEGIN; MEMORY; FOO') + query('COMMIT') + query('COMMIT'),
+    (query(f'{INSERT}; ;{UPDATE}; WRONG') + query(';'),
+     complete('INSERT 0 2') + complete('UPDATE 3') + error('42601', 'syntax error', len(f'{INSERT}; ;{UPDATE}; W')) + IDLE + message(b'I') + IDLE),
+    (query('BEGIN; DROP TABLE memory; DROP TABLE foo') + query('COMMIT') + query('COMMIT'),
      complete('BEGIN') + error('53200', 'out of memory') + FAILED + complete('ROLLBACK') + IDLE + NO_BLOCK + complete('COMMIT') + IDLE),
-    (query('INSERT; COMMIT; INSERT') + b'?',
+    (query(f'{INSERT}; COMMIT; {INSERT}') + b'?',
      complete('INSERT 0 2') + NO_BLOCK + complete('COMMIT') + complete('INSERT 0 2') + IDLE + BROKEN),
     (query('BEGIN') + query('select pg_catalog.version()') + query('SELECT x FROM t LEFT JOIN u ON a') + query('show datestyle') + query('end'),
      complete('BEGIN') + OPEN + columns(('version', 25, 0xFFFF)) + row(b'PostgreSQL 15.0 (Guarddb)') + complete('SELECT 1') + OPEN
      + error('0A000', 'word that PostgreSQL reserves is not supported') + FAILED + ABORTED + FAILED + complete('ROLLBACK') + IDLE),
     (query('BEGIN') + query('SELECT NULL::pg_catalog.text') + query('SELECT a FROM pg_catalog.pg_class') + query('COMMIT'),
      complete('BEGIN') + OPEN + CATALOGUE + OPEN + CATALOGUE + OPEN + complete('COMMIT') + IDLE),
-    (parse('a', 'INSERT') + bind('', 'a') + execute('') + parse('', 'UPDATE') + bind('', '') + execute('') + SYNC,
+    (parse('a', INSERT) + bind('', 'a') + execute('') + parse('', UPDATE) + bind('', '') + execute('') + SYNC,
      PARSED + BOUND + complete('INSERT 0 2') + PARSED + BOUND + complete('UPDATE 3') + IDLE),
-    (parse('a', 'INSERT') + bind('', 'a') + execute('') + parse('', 'WRONG') + bind('', '') + execute('') + parse('b', 'INSERT')
+    (parse('a', INSERT) + bind('', 'a') + execute('') + parse('', 'WRONG') + bind('', '') + execute('') + parse('b', INSERT)
      + query('SELECT 1') + SYNC + query('SELECT 1'),
-     PARSED + BOUND + complete('INSERT 0 2') + PARSED + BOUND + error('42601', 'syntax error') + IDLE + ONE_ROW + IDLE),
+     PARSED + BOUND + complete('INSERT 0 2') + PARSED + BOUND + error('42601', 'syntax error', 1) + IDLE + ONE_ROW + IDLE),
     (parse('a', 'BEGIN') + bind('', 'a') + execute('') + SYNC + bind('', 'a') + execute('x') + SYNC + message(b'C', b'Sa\0') + bind('', 'a') + SYNC,
      PARSED + BOUND + complete('BEGIN') + OPEN + BOUND + error('34000', 'portal does not exist') + FAILED
      + CLOSED + error('26000', 'prepared statement does not exist') + FAILED),
-    (query('DEVICE'), fatal('58030', 'device failed, and the server has stopped')),
+    (query('DROP TABLE device'), fatal('58030', 'device failed, and the server has stopped')),
     (message(b'D', b'S\0') + SYNC, error('26000', 'prepared statement does not exist') + IDLE),
     (query(''), message(b'I') + IDLE),
     (query('SELECT 0') + query('BEGIN; SELECT 2') + query('SELECT 1') + query('COMMIT'),
@@ -121,9 +122,9 @@ PLAYED = [
     (parse('a', 'SELECT 1') + describe(b'S', 'a') + bind('p', 'a') + describe(b'P', 'p') + execute('p') + SYNC + bind('', 'a') + execute('') + SYNC,
      PARSED + NONE + FOUR + BOUND + FOUR + ONE_ROW[len(FOUR):] + IDLE + BOUND + ONE_ROW[len(FOUR):] + IDLE),
     (parse('', 'SELECT 2') + describe(b'S', '') + bind('', '') + execute('') + SYNC, PARSED + NONE + columns(('number', 20, 8)) + BOUND + OTHER + IDLE),
-    (parse('a', 'INSERT') + describe(b'S', 'a') + bind('', 'a') + describe(b'P', '') + parse('b', 'show timezone') + describe(b'S', 'b')
-     + parse('c', 'WRONG') + describe(b'S', 'c') + parse('d', 'SELECT 3') + describe(b'S', 'd') + SYNC + describe(b'P', '') + SYNC,
-     PARSED + NONE + NO_DATA + BOUND + NO_DATA + PARSED + NONE + columns(('TimeZone', 25, 0xFFFF)) + PARSED + NONE + NO_DATA
+    (parse('a', INSERT) + describe(b'S', 'a') + bind('', 'a') + describe(b'P', '') + parse('b', 'show timezone') + describe(b'S', 'b')
+     + parse('c', 'WRONG') + describe(b'S', 'c') + SYNC + parse('d', 'SELECT 3') + describe(b'S', 'd') + SYNC + describe(b'P', '') + SYNC,
+     PARSED + NONE + NO_DATA + BOUND + NO_DATA + PARSED + NONE + columns(('TimeZone', 25, 0xFFFF)) + PARSED + error('42601', 'syntax error', 1) + IDLE
      + PARSED + error('42601', 'syntax error') + IDLE + error('34000', 'portal does not exist') + IDLE),
     (parse('a', 'SELECT 1') + bind('p', 'a', [1]) + describe(b'P', 'p') + execute('p') + bind('q', 'a', [0, 0, 1, 0]) + execute('q') + SYNC
      + bind('', 'a', [0, 1]) + execute('') + SYNC + bind('', 'a', [2]) + SYNC,
@@ -142,21 +143,21 @@ PLAYED = [
     (query('BEGIN') + parse('a', 'SELECT 5') + bind('p', 'a') + execute('p', 2) + SYNC + query('ROLLBACK') + query('BEGIN') + execute('p', 2) + SYNC,
      complete('BEGIN') + OPEN + PARSED + BOUND + ROWS[0] + ROWS[1] + SUSPENDED + OPEN + complete('ROLLBACK') + IDLE + complete('BEGIN') + OPEN
      + error('34000', 'portal does not exist') + FAILED),
-    (parse('a', 'INSERT') + SYNC + query('Discard  ALL') + bind('', 'a') + SYNC + parse('a', 'DISCARD ALL') + bind('', 'a') + execute('') + bind('', 'a') + SYNC
-     + query('BEGIN') + query('DISCARD ALL') + query('INSERT; DISCARD ALL') + query('ROLLBACK') + query('INSERT; DISCARD ALL'),
+    (parse('a', INSERT) + SYNC + query('Discard  ALL') + bind('', 'a') + SYNC + parse('a', 'DISCARD ALL') + bind('', 'a') + execute('') + bind('', 'a') + SYNC
+     + query('BEGIN') + query('DISCARD ALL') + query(f'{INSERT}; DISCARD ALL') + query('ROLLBACK') + query(f'{INSERT}; DISCARD ALL'),
      PARSED + IDLE + complete('DISCARD ALL') + IDLE + error('26000', 'prepared statement does not exist') + IDLE
      + PARSED + BOUND + complete('DISCARD ALL') + error('26000', 'prepared statement does not exist') + IDLE
      + complete('BEGIN') + OPEN + INSIDE + FAILED + ABORTED + FAILED + complete('ROLLBACK') + IDLE + complete('INSERT 0 2') + INSIDE + IDLE),
-    (query('begin read only') + query('SELECT 1; show datestyle; BEGIN') + query('INSERT') + query('COMMIT') + query('INSERT')
-     + parse('', 'START TRANSACTION READ ONLY') + bind('', '') + execute('') + parse('', 'SELECT 1') + bind('', '') + execute('') + parse('', 'UPDATE') + bind('', '') + execute('')
-     + SYNC + query('COMMIT') + query('BEGIN') + query('UPDATE'),
+    (query('begin read only') + query('SELECT 1; show datestyle; BEGIN') + query(INSERT) + query('COMMIT') + query(INSERT)
+     + parse('', 'START TRANSACTION READ ONLY') + bind('', '') + execute('') + parse('', 'SELECT 1') + bind('', '') + execute('') + parse('', UPDATE) + bind('', '') + execute('')
+     + SYNC + query('COMMIT') + query('BEGIN') + query(UPDATE),
      complete('BEGIN') + OPEN + ONE_ROW + columns(('DateStyle', 25, 0xFFFF)) + row(b'ISO, MDY') + complete('SHOW') + ACTIVE + complete('BEGIN') + OPEN
      + READS + FAILED + complete('ROLLBACK') + IDLE + complete('INSERT 0 2') + IDLE
      + PARSED + BOUND + complete('BEGIN') + PARSED + BOUND + ONE_ROW[len(FOUR):] + PARSED + BOUND + READS + FAILED
      + complete('ROLLBACK') + IDLE + complete('BEGIN') + OPEN + complete('UPDATE 3') + OPEN),
     (query(LABELLED) + query(f'SELECT 1 AS x; {LABELLED}') + query('SELECT 1') + query('SELECT -k AS k FROM t ORDER BY k'),
      LABELS + ONE_ROW[len(FOUR):] + IDLE + columns(('x', 20, 8), *HEADS[1:]) + ONE_ROW[len(FOUR):] + LABELS + ONE_ROW[len(FOUR):] + IDLE
-     + ONE_ROW + IDLE + error('42601', 'syntax error') + IDLE),
+     + ONE_ROW + IDLE + error('42601', 'syntax error', len('SELECT -k A')) + IDLE),
     (parse('a', LABELLED) + describe(b'S', 'a') + bind('p', 'a') + describe(b'P', 'p') + execute('p') + bind('', 'a') + execute('') + SYNC
      + parse('', 'SELECT 1') + describe(b'S', '') + SYNC,
      PARSED + NONE + LABELS + BOUND + LABELS + ONE_ROW[len(FOUR):] + BOUND + ONE_ROW[len(FOUR):] + IDLE + PARSED + NONE + FOUR + IDLE),

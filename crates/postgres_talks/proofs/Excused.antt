@@ -43,6 +43,7 @@ state_spares state.ConnectionNameInUse = refl
 
 pub text_spares : (f : TalkFault) → is_excused (fault_text f) ≡ spares f
 text_spares (fault.Refused s) = state_spares s
+text_spares (fault.SyntaxAt n) = refl
 text_spares fault.NotText = refl
 text_spares fault.OtherVersion = refl
 text_spares fault.Unsupported = refl

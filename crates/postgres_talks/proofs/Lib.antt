@@ -3,6 +3,7 @@ pub mod Hearing
 pub mod Playing
 pub mod Asking
 pub mod Slicing
+pub mod Characters
 pub mod Labelling
 pub mod Statements
 pub mod Excused

@@ -1,5 +1,5 @@
 -- What is bound is the statement of the written text.
-use Rattle.std.proofs.Common.{◌≡◌, ℕ, List, [], ◌∷◌, refl, Option, Result, Ok, Err}
+use Rattle.std.proofs.Common.{◌≡◌, ℕ, false, List, [], ◌∷◌, refl, Option, Result, Ok, Err}
 use Rattle.sql_types.specs.declared.value.Value.{Value}
 use Rattle.statement_parameters.specs.declared.fault.BindFault.{BindFault}
 use Rattle.statement_parameters.specs.declared.template.LabelledTemplate.{LabelledTemplate}
@@ -22,7 +22,7 @@ same_piece : (p q : StatementPiece) (r : Result StatementPiece TalkFault) → r 
 same_piece p q r e f = cc
 
 of_pieces : (text : List ℕ) (read : LabelledTemplate) (values : List Value) (p : StatementPiece) (bound : List ℕ) (ps : List StatementPiece) → IsWrittenWith text read.labels values bound
-    → ArePiecesOf bound ps → Ok p ≡ with_labels_of read.labels (only_piece ps) → IsWrittenStatement text read.labels values p
+    → ArePiecesOf false bound ps → Ok p ≡ with_labels_of read.labels (only_piece ps) → IsWrittenStatement text read.labels values p
 of_pieces text read values p bound [] written are e = absurd (cc)
 of_pieces text read values p bound (q ∷ []) written are e = record {
   bound = bound;
@@ -36,7 +36,7 @@ of_pieces text read values p bound (q ∷ r ∷ ps) written are e = absurd (cc)
 of_bound : KnownTexts → (text : List ℕ) (read : LabelledTemplate) (values : List Value) (p : StatementPiece) (o : Result (List ℕ) BindFault) → IsTemplateReading text (Ok read)
     → IsTemplateBinding read.template values o → IsPieceOfBound read.labels o (Ok p) → IsWrittenStatement text read.labels values p
 of_bound known text read values p (Err f) reads binding is = absurd (cc)
-of_bound known text read values p (Ok bound) reads binding is = of_pieces text read values p bound is.0 (known.written text read values bound reads binding) is.1 is.2
+of_bound known text read values p (Ok bound) reads binding is = of_pieces text read values p bound is.0 (known.written text read values bound reads binding.1) is.1 is.2
 
 pub statement : KnownTexts → (text : List ℕ) (read : LabelledTemplate) (types : List ParameterType) (values : List Value) (p : StatementPiece) → IsTemplateReading text (Ok read)
     → IsBoundByValues (record { template = read.template; labels = read.labels; types = types }) (Ok values) (Ok p) → IsWrittenStatement text read.labels values p

@@ -1,12 +1,13 @@
 -- What a client is told of an error: its code and its sentence.
-use Rattle.std.specs.Prelude.{ℕ, List, codes}
+use Rattle.std.specs.Prelude.{ℕ, List, codes, Option, Some, None}
 use Rattle.sql_types.specs.State.{state_code}
 use Rattle.postgres_texts.specs.Sentences.{refusal_text}
 use Rattle.postgres_talks.specs.declared.fault.TalkFault.{TalkFault}
-use Rattle.postgres_talks.specs.declared.fault.TalkFault.TheVariants.{Refused, NotText, OtherVersion, Unsupported, Internal, ReservedWord, Catalogue, SeveralStatements, UnknownStatement, UnknownPortal, StatementExists, PortalExists, OtherCount, OtherColumns, UnknownFormat, OtherFormats, UnknownParameter, IndeterminateType, UnknownType, InvalidText, InvalidBinary, OtherTokens, InsideBlock, OnlyReads}
+use Rattle.postgres_talks.specs.declared.fault.TalkFault.TheVariants.{Refused, SyntaxAt, NotText, OtherVersion, Unsupported, Internal, ReservedWord, Catalogue, SeveralStatements, UnknownStatement, UnknownPortal, StatementExists, PortalExists, OtherCount, OtherColumns, UnknownFormat, OtherFormats, UnknownParameter, IndeterminateType, UnknownType, InvalidText, InvalidBinary, OtherTokens, InsideBlock, OnlyReads}
 
 abbrev pub fault_code : TalkFault → List ℕ
 fault_code (Refused state) = state_code state
+fault_code (SyntaxAt n) = codes "42601"
 fault_code NotText = codes "22021"
 fault_code OtherVersion = codes "0A000"
 fault_code Unsupported = codes "0A000"
@@ -33,6 +34,7 @@ fault_code OnlyReads = codes "25006"
 
 abbrev pub fault_text : TalkFault → List ℕ
 fault_text (Refused state) = refusal_text state
+fault_text (SyntaxAt n) = codes "syntax error"
 fault_text NotText = codes "invalid byte sequence for encoding \"UTF8\""
 fault_text OtherVersion = codes "version of the protocol is not 3.0"
 fault_text Unsupported = codes "message is not supported"
@@ -56,3 +58,8 @@ fault_text InvalidBinary = codes "incorrect binary data format in a parameter"
 fault_text OtherTokens = codes "statement with its values has other tokens"
 fault_text InsideBlock = codes "DISCARD ALL cannot run inside a transaction block"
 fault_text OnlyReads = codes "cannot execute statement in a read-only transaction"
+
+-- the character of the client's text at which it stands, where that is told
+abbrev pub fault_position : TalkFault → Option ℕ
+fault_position (SyntaxAt n) = Some n
+fault_position f = None

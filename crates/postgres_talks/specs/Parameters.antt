@@ -1,5 +1,5 @@
 -- Statements with parameters: which types these have, and what values make of one (PostgreSQL 15 manual, 55.2.3, "Extended Query").
-use Rattle.std.specs.Prelude.{◌≡◌, ◌&&◌, ◌||◌, ◌==◌, ℕ, zero, suc, Bool, not, is_some, true, if◌then◌else◌, List, [], ◌∷◌, codes, length, max, slice_index, Option, Some, None, Result, Ok, Err}
+use Rattle.std.specs.Prelude.{◌≡◌, ◌&&◌, ◌||◌, ◌==◌, ℕ, zero, suc, Bool, not, is_some, true, false, if◌then◌else◌, List, [], ◌∷◌, codes, length, max, slice_index, Option, Some, None, Result, Ok, Err}
 use Rattle.std.specs.Option.{option_map}
 use Rattle.sql_types.specs.declared.state.SqlState.TheVariants.{NumericValueOutOfRange, ProgramLimitExceeded}
 use Rattle.sql_types.specs.declared.value.Value.{Value}
@@ -109,7 +109,7 @@ with_labels_of ls (Err f) = Err f
 
 abbrev pub IsPieceOfBound : List (Option (List ℕ)) → Result (List ℕ) BindFault → Result StatementPiece TalkFault → Type 0
 IsPieceOfBound ls (Err f) r = r ≡ Err (binding_fault f)
-IsPieceOfBound ls (Ok text) r = (pieces : List StatementPiece) × ArePiecesOf text pieces × (r ≡ with_labels_of ls (only_piece pieces))
+IsPieceOfBound ls (Ok text) r = (pieces : List StatementPiece) × ArePiecesOf false text pieces × (r ≡ with_labels_of ls (only_piece pieces))
 
 -- the text of the template with these values is the statement, whose columns have the labels of the template
 abbrev pub IsBoundByValues : TypedTemplate → Result (List Value) ValueFault → Result StatementPiece TalkFault → Type 0

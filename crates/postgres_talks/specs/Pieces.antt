@@ -1,5 +1,5 @@
 -- The statements of a text: what stands between semicolons.
-use Rattle.std.specs.Prelude.{◌≡◌, ℕ, suc, ◌-◌, ◌&&◌, ◌||◌, nat_lt, nat_eq, Bool, true, false, if◌then◌else◌, List, [], ◌∷◌, ◌++◌, codes, slice_range, Option, Some, None, Result, Ok, Err}
+use Rattle.std.specs.Prelude.{◌≡◌, ℕ, suc, ◌+◌, ◌-◌, ◌&&◌, ◌||◌, nat_lt, nat_le, nat_eq, Bool, true, false, if◌then◌else◌, List, [], ◌∷◌, ◌++◌, codes, fold, length, take, slice_range, Option, Some, None, Result, Ok, Err}
 use Rattle.std.specs.List.{flat_map, list_any, starts_with}
 use Rattle.std.specs.Str.{str_eq_ignore_ascii_case}
 use Rattle.sql_types.specs.declared.state.SqlState.{SqlState}
@@ -9,8 +9,9 @@ use Rattle.sql_lexer.specs.declared.token.Punctuation.TheVariants as punctuation
 use Rattle.sql_lexer.specs.declared.token.Reserved.TheVariants as reserved
 use Rattle.sql_lexer.specs.Lexeme.{Lexeme}
 use Rattle.sql_lexer.specs.Lexing.{Lexes}
-use Rattle.sql_lexer.specs.Slices.{text_between}
+use Rattle.sql_lexer.specs.Slices.{start_at, text_between}
 use Rattle.postgres_texts.specs.Reserved.{is_reserved}
+use Rattle.syntax_places.specs.SyntaxPlaces.{IsSyntaxPlace}
 use Rattle.select_labels.specs.declared.unlabelled.Unlabelled.{Unlabelled}
 use Rattle.select_labels.specs.Unlabelled.{IsWithoutLabels, may_have_labels}
 use Rattle.postgres_talks.specs.declared.fault.TalkFault.TheVariants as fault
@@ -141,30 +142,77 @@ pub record IsWholePiece (text : List ℕ) (p : StatementPiece) : Type 0 where
 abbrev pub IsLabelledPiece : Unlabelled → StatementPiece → Type 0
 IsLabelledPiece u p = (q : StatementPiece) × IsWholePiece u.text q × (p ≡ labelled u.labels q)
 
--- where there were none it stays as it is
-abbrev pub IsPieceWithout : Option Unlabelled → List ℕ → List Lexeme → StatementPiece → Type 0
-IsPieceWithout None slice ts p = p ≡ piece_of slice ts
-IsPieceWithout (Some u) slice ts p = IsLabelledPiece u p
+-- ---- where its syntax goes wrong
 
-abbrev pub IsPieceIf : Bool → List ℕ → List Lexeme → StatementPiece → Type 0
-IsPieceIf false slice ts p = p ≡ piece_of slice ts
-IsPieceIf true slice ts p = (u : Option Unlabelled) × IsWithoutLabels slice u × IsPieceWithout u slice ts p
+-- a byte that begins a character, and how many characters there are
+abbrev pub begins_character : ℕ → Bool
+begins_character b = nat_lt b 128 || nat_le 192 b
 
--- what a slice of a text is that has these tokens: by the slice without the labels of its columns
-abbrev pub IsPiece : List ℕ → List Lexeme → StatementPiece → Type 0
-IsPiece slice ts p = IsPieceIf (may_have_labels ts) slice ts p
+abbrev pub character_after : ℕ → ℕ → ℕ
+character_after n b = if begins_character b then n + 1 else n
 
--- ---- the statements of a text
+abbrev pub character_count : List ℕ → ℕ
+character_count bytes = fold character_after 0 bytes
 
--- a slice of a text, and its tokens
+-- characters are counted from 1 (PostgreSQL 15 manual, 55.8, field P), with those that stand before a text
+abbrev pub position_at : List ℕ → List ℕ → ℕ → ℕ
+position_at before text place = (character_count before + character_count (take place text)) + 1
+
+-- the statement of which the machine would be asked, if it would be
+abbrev pub asked_text : StatementPiece → Option (List ℕ)
+asked_text (piece.Statement text) = Some text
+asked_text (piece.Control text) = Some text
+asked_text (piece.Select t) = Some t.text
+asked_text p = None
+
+-- one whose syntax goes wrong has a fault there
+abbrev pub placed_in : List ℕ → List ℕ → Option ℕ → StatementPiece → StatementPiece
+placed_in before text (Some place) p = piece.Faulty (fault.SyntaxAt (position_at before text place))
+placed_in before text None p = p
+
+abbrev pub IsPlacedIn : Option (List ℕ) → List ℕ → StatementPiece → StatementPiece → Type 0
+IsPlacedIn None before q p = p ≡ q
+IsPlacedIn (Some text) before q p = (found : Option ℕ) × IsSyntaxPlace text found × (p ≡ placed_in before text found q)
+
+-- that is told of a text as its client wrote it, and no message is longer
+abbrev pub tells_place : Bool → List ℕ → Bool
+tells_place is_written before = is_written && nat_le (length before) 131072
+
+abbrev pub IsOwnIf : Bool → List ℕ → StatementPiece → StatementPiece → Type 0
+IsOwnIf true before q p = IsPlacedIn (asked_text q) before q p
+IsOwnIf false before q p = p ≡ q
+
+-- what it is by its own tokens
+abbrev pub IsOwnPiece : Bool → List ℕ → StatementPiece → StatementPiece → Type 0
+IsOwnPiece is_written before q p = IsOwnIf (tells_place is_written before) before q p
+
+-- ---- a slice of a text
+
+-- what stands before it, itself, and its tokens
 pub record TheSlice : Type 0 where
+  pub before : List ℕ
   pub text : List ℕ
   pub tokens : List Lexeme
+
+-- where there were no labels it stays as it is
+abbrev pub IsPieceWithout : Bool → Option Unlabelled → TheSlice → StatementPiece → Type 0
+IsPieceWithout is_written None s p = IsOwnPiece is_written s.before (piece_of s.text s.tokens) p
+IsPieceWithout is_written (Some u) s p = IsLabelledPiece u p
+
+abbrev pub IsPieceIf : Bool → Bool → TheSlice → StatementPiece → Type 0
+IsPieceIf is_written false s p = IsOwnPiece is_written s.before (piece_of s.text s.tokens) p
+IsPieceIf is_written true s p = (u : Option Unlabelled) × IsWithoutLabels s.text u × IsPieceWithout is_written u s p
+
+-- what a slice of a text is, which is as its client wrote it or not: by the slice without the labels of its columns
+abbrev pub IsPiece : Bool → TheSlice → StatementPiece → Type 0
+IsPiece is_written s p = IsPieceIf is_written (may_have_labels s.tokens) s p
+
+-- ---- the statements of a text
 
 -- from one token up to another, if there is one
 abbrev pub slice_between : List ℕ → List Lexeme → ℕ → ℕ → List TheSlice
 slice_between text ts first at =
-    if nat_lt first at then record { text = text_between text ts first (at - 1); tokens = slice_range ts first at } ∷ [] else []
+    if nat_lt first at then record { before = take (start_at ts first) text; text = text_between text ts first (at - 1); tokens = slice_range ts first at } ∷ [] else []
 
 -- what stands between semicolons from `first` on, where the tokens from `at` on are these
 abbrev pub slices_from : List ℕ → List Lexeme → ℕ → ℕ → List Lexeme → List TheSlice
@@ -174,26 +222,26 @@ slices_from text ts first at (t ∷ rest) =
     else slices_from text ts first (suc at) rest
 
 -- one for each slice
-abbrev pub ArePieces : List TheSlice → List StatementPiece → Type 0
-ArePieces [] [] = Unit {0}
-ArePieces (s ∷ ss) (p ∷ ps) = IsPiece s.text s.tokens p × ArePieces ss ps
-ArePieces ss ps = ⊥
+abbrev pub ArePieces : Bool → List TheSlice → List StatementPiece → Type 0
+ArePieces is_written [] [] = Unit {0}
+ArePieces is_written (s ∷ ss) (p ∷ ps) = IsPiece is_written s p × ArePieces is_written ss ps
+ArePieces is_written ss ps = ⊥
 
 -- those of these slices were put behind others
-abbrev pub PutsPieces : List TheSlice → List StatementPiece → List StatementPiece → Type 0
-PutsPieces ss old new = (ps : List StatementPiece) × ArePieces ss ps × (new ≡ old ++ ps)
+abbrev pub PutsPieces : Bool → List TheSlice → List StatementPiece → List StatementPiece → Type 0
+PutsPieces is_written ss old new = (ps : List StatementPiece) × ArePieces is_written ss ps × (new ≡ old ++ ps)
 
 -- a text without statements is one that is empty
-abbrev pub ArePiecesOrEmpty : List TheSlice → List StatementPiece → Type 0
-ArePiecesOrEmpty [] ps = ps ≡ piece.Empty ∷ []
-ArePiecesOrEmpty ss ps = ArePieces ss ps
+abbrev pub ArePiecesOrEmpty : Bool → List TheSlice → List StatementPiece → Type 0
+ArePiecesOrEmpty is_written [] ps = ps ≡ piece.Empty ∷ []
+ArePiecesOrEmpty is_written ss ps = ArePieces is_written ss ps
 
-abbrev pub ArePiecesBy : List ℕ → Result (List Lexeme) SqlState → List StatementPiece → Type 0
-ArePiecesBy text (Ok ts) ps = ArePiecesOrEmpty (slices_from text ts 0 0 ts) ps
-ArePiecesBy text (Err state) ps = ps ≡ faulty text ∷ []
+abbrev pub ArePiecesBy : Bool → List ℕ → Result (List Lexeme) SqlState → List StatementPiece → Type 0
+ArePiecesBy is_written text (Ok ts) ps = ArePiecesOrEmpty is_written (slices_from text ts 0 0 ts) ps
+ArePiecesBy is_written text (Err state) ps = ps ≡ faulty text ∷ []
 
--- these are the statements of a text
-pub record ArePiecesOf (text : List ℕ) (pieces : List StatementPiece) : Type 0 where
+-- these are the statements of a text, which is as its client wrote it or not
+pub record ArePiecesOf (is_written : Bool) (text : List ℕ) (pieces : List StatementPiece) : Type 0 where
   pub tokens : Result (List Lexeme) SqlState
   pub lexes : Lexes text tokens
-  pub pieces_are : ArePiecesBy text tokens pieces
+  pub pieces_are : ArePiecesBy is_written text tokens pieces

@@ -113,7 +113,7 @@ template_request name t ps = request.Fails mode.Batch fault.SeveralStatements
 -- what it is, with a sample of each type that is declared
 abbrev pub IsSampledParse : List ℕ → TypedTemplate → Option (List ℕ) → Request → Type 0
 IsSampledParse name t None r = r ≡ request.Fails mode.Batch (fault.Refused ProgramLimitExceeded)
-IsSampledParse name t (Some text) r = (pieces : List StatementPiece) × ArePiecesOf text pieces × (r ≡ template_request name t pieces)
+IsSampledParse name t (Some text) r = (pieces : List StatementPiece) × ArePiecesOf false text pieces × (r ≡ template_request name t pieces)
 
 abbrev pub IsTypedParse : List ℕ → LabelledTemplate → Option (List ParameterType) → Request → Type 0
 IsTypedParse name t None r = r ≡ request.Fails mode.Batch fault.UnknownType
@@ -131,7 +131,7 @@ IsTemplateParse (Some f) name t oids r = r ≡ request.Fails mode.Batch f
 IsTemplateParse None name t oids r = IsTypedParse name t (declared_types t.template oids) r
 
 abbrev pub IsPlainParse : List ℕ → List ℕ → Request → Type 0
-IsPlainParse name text r = (pieces : List StatementPiece) × ArePiecesOf text pieces × (r ≡ prepare_request name pieces)
+IsPlainParse name text r = (pieces : List StatementPiece) × ArePiecesOf true text pieces × (r ≡ prepare_request name pieces)
 
 -- a text without parameters is one of the language
 abbrev pub IsCountedParse : Bool → List ℕ → List ℕ → LabelledTemplate → List ℕ → Request → Type 0
@@ -169,7 +169,7 @@ IsBind ns p s b r = IsBindBy (are_format_codes b.results) (find s ns) p s b r
 
 -- what a message asks, where these statements were prepared
 abbrev pub IsAskedBy : List NamedPiece → TheMessage → Request → Type 0
-IsAskedBy ns (query text) r = (pieces : List StatementPiece) × ArePiecesOf text pieces × (r ≡ request.Statements pieces)
+IsAskedBy ns (query text) r = (pieces : List StatementPiece) × ArePiecesOf true text pieces × (r ≡ request.Statements pieces)
 IsAskedBy ns (parse name text oids) r = IsParse name text oids r
 IsAskedBy ns (bind p s b) r = IsBind ns p s b r
 IsAskedBy ns m r = r ≡ plain_request m

@@ -12,7 +12,7 @@ use Rattle.postgres_texts.specs.Sentences.{warning_text}
 use Rattle.talks.specs.declared.want.BlockStanding.{BlockStanding}
 use Rattle.talks.specs.declared.want.BlockStanding.TheVariants as standing
 use Rattle.postgres_talks.specs.declared.fault.TalkFault.{TalkFault}
-use Rattle.postgres_talks.specs.Faults.{fault_code, fault_text}
+use Rattle.postgres_talks.specs.Faults.{fault_code, fault_position, fault_text}
 
 pub data Saying : Type 0 where
   -- the byte N: the connection is not encrypted
@@ -44,7 +44,7 @@ pub record Puts (sayings : List Saying) (old new : List ℕ) : Type 0 where
 -- ---- messages of a few kinds
 
 abbrev pub report_of : Severity → TalkFault → TheReport
-report_of severity f = record { severity = severity; code = fault_code f; message = fault_text f; position = None }
+report_of severity f = record { severity = severity; code = fault_code f; message = fault_text f; position = fault_position f }
 
 -- a statement has failed
 abbrev pub error_said : TalkFault → Saying

@@ -1,5 +1,5 @@
 -- What values make of a written text with parameters, as the one statement that it is.
-use Rattle.std.specs.Prelude.{◌≡◌, ℕ, List, [], ◌∷◌, Option}
+use Rattle.std.specs.Prelude.{◌≡◌, ℕ, false, List, [], ◌∷◌, Option}
 use Rattle.sql_types.specs.declared.value.Value.{Value}
 use Rattle.statement_parameters.specs.Written.{IsWrittenWith}
 use Rattle.postgres_talks.specs.declared.piece.StatementPiece.{StatementPiece}
@@ -11,5 +11,5 @@ pub record IsWrittenStatement (text : List ℕ) (labels : List (Option (List ℕ
   pub bound : List ℕ
   pub written : IsWrittenWith text labels values bound
   pub statement : StatementPiece
-  pub is_of : ArePiecesOf bound (statement ∷ [])
+  pub is_of : ArePiecesOf false bound (statement ∷ [])
   pub is : p ≡ labelled labels statement

@@ -185,7 +185,7 @@ fn piece_of_bound(
 ) -> Result<Result<StatementPiece, TalkFault>, AllocError>
     ensures { IfOk result (λ piece. IsPieceOfBound labels.now (Ok text.now) piece) }
 {
-    let pieces = pieces_of(alloc, text.as_str())?;
+    let pieces = pieces_of(alloc, text.as_str(), false)?;
     let labels = labels.try_copy(alloc)?;
     Ok(with_labels_of(labels, only_piece(pieces)))
 }

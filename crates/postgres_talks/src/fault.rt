@@ -1,7 +1,7 @@
 //! What a client is told of as an error.
 
 ghost use Rattle.std.specs.Prelude.{◌≡◌};
-ghost use Rattle.postgres_talks.specs.Faults.{fault_code, fault_text};
+ghost use Rattle.postgres_talks.specs.Faults.{fault_code, fault_position, fault_text};
 
 use postgres_texts::sentences::refusal_text;
 use sql_types::state::SqlState;
@@ -11,6 +11,8 @@ use sql_types::state::SqlState;
 pub enum TalkFault {
     /// The machine's refusal of an event, or one that this code says as well.
     Refused(SqlState),
+    /// `42601`: a statement whose syntax goes wrong at this character of its message, counted from 1.
+    SyntaxAt(u32),
     /// `22021`: a name or a text of a message that is not UTF-8.
     NotText,
     /// `0A000`: another version of the protocol than 3.0.
@@ -66,6 +68,7 @@ impl TalkFault {
     {
         match self {
             TalkFault::Refused(state) => state.code(),
+            TalkFault::SyntaxAt(_) => "42601",
             TalkFault::NotText => "22021",
             TalkFault::OtherVersion => "0A000",
             TalkFault::Unsupported => "0A000",
@@ -91,12 +94,23 @@ impl TalkFault {
         }
     }
 
+    /// The character of the client's text at which it stands, if that is told.
+    pub fn position(self) -> Option<u32>
+        ensures { result ≡ fault_position self }
+    {
+        match self {
+            TalkFault::SyntaxAt(position) => Some(position),
+            _ => None,
+        }
+    }
+
     /// The sentence in English.
     pub fn text(self) -> &'static str
         ensures { result.now ≡ fault_text self }
     {
         match self {
             TalkFault::Refused(state) => refusal_text(state),
+            TalkFault::SyntaxAt(_) => "syntax error",
             TalkFault::NotText => "invalid byte sequence for encoding \"UTF8\"",
             TalkFault::OtherVersion => "version of the protocol is not 3.0",
             TalkFault::Unsupported => "message is not supported",

@@ -16,6 +16,7 @@ pub mod parameters;
 mod parsing;
 pub mod piece;
 mod pieces;
+mod placing;
 mod portals;
 pub mod postgres_talk;
 pub mod requests;

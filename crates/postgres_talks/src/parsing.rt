@@ -71,7 +71,7 @@ fn refused(fault: TalkFault) -> Request
 fn plain_parse(alloc: Global, name: &str, text: &str) -> Result<Request, AllocError>
     ensures { IfOk result (λ asked. IsPlainParse name.now text.now asked) }
 {
-    let pieces = pieces_of(alloc, text)?;
+    let pieces = pieces_of(alloc, text, true)?;
     prepare_request(alloc, name, pieces)
 }
 
@@ -210,7 +210,7 @@ fn sampled_parse(alloc: Global, name: &str, typed: TypedTemplate) -> Result<Requ
         ParameterKind::Text,
     )? {
         Some(text) => {
-            let pieces = pieces_of(alloc, text.as_str())?;
+            let pieces = pieces_of(alloc, text.as_str(), false)?;
             template_request(alloc, name, typed, pieces)
         }
         None => Ok(refused(TalkFault::Refused(SqlState::ProgramLimitExceeded))),

@@ -50,7 +50,7 @@ impl PostgresTalk {
 }
 
 impl Talk for PostgresTalk {
-    ghost use Rattle.std.specs.Prelude.{◌≡◌, ℕ};
+    ghost use Rattle.std.specs.Prelude.{◌≡◌, ℕ, None};
     ghost use Rattle.postgres_talks.specs.TalkLaws.{front_more, bad_more};
 
     ghost starts = { λ t. (process : ℕ) × (t.moment ≡ first_moment process) };
@@ -65,12 +65,18 @@ impl Talk for PostgresTalk {
 
     ghost learns = { λ t reply said u. Learns t.moment reply said u.moment };
 
+    ghost comes_as = { λ t. None };
+
     ghost front_more = { λ t bytes more n is. front_more t.moment.stage bytes more n is };
 
     ghost bad_more = { λ t bytes more is. bad_more t.moment.stage bytes more is };
 
     fn want(&self) -> &Want {
         &self.moment.want
+    }
+
+    fn comes_as(&self) -> Option<&str> {
+        None
     }
 
     fn front(&self, bytes: &[u8]) -> MessageFront {

@@ -178,7 +178,7 @@ fn asked_by(
     ensures { IfOk result (λ asked. IsAskedBy statements.now (viewed_message message.now) asked) }
 {
     match message {
-        FrontendMessage::Query(text) => Ok(Request::Statements(pieces_of(alloc, text)?)),
+        FrontendMessage::Query(text) => Ok(Request::Statements(pieces_of(alloc, text, true)?)),
         FrontendMessage::Parse(name, text, oids) => parse_request(alloc, name, text, oids),
         FrontendMessage::Bind(portal, statement, bound) => {
             bind_request(alloc, statements, portal, statement, bound)

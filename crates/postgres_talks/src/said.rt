@@ -90,7 +90,7 @@ impl Said {
             severity,
             code: fault.code(),
             message: fault.text(),
-            position: None,
+            position: fault.position(),
         }))
     }
 

@@ -75,13 +75,13 @@ impl PostgresDesk {
                 Ok(Answer::Rows(one_row(self.alloc)?))
             }
             "SELECT 5" => Ok(Answer::Rows(five_rows(self.alloc)?)),
-            "INSERT" => Ok(done(Tag::Insert, Some(2), None)),
-            "UPDATE" => Ok(done(Tag::Update, Some(3), None)),
+            "INSERT INTO t VALUES (1)" => Ok(done(Tag::Insert, Some(2), None)),
+            "UPDATE t SET x = 1" => Ok(done(Tag::Update, Some(3), None)),
             "INSERT   (-5)" => Ok(done(Tag::Insert, Some(1), None)),
             "RESET ROLE" => Ok(done(Tag::Reset, None, None)),
             "CREATE TABLE" => Ok(done(Tag::CreateTable, None, None)),
-            "MEMORY" => Ok(Answer::Refused(SqlState::OutOfMemory)),
-            "DEVICE" => Ok(Answer::Refused(SqlState::IoError)),
+            "DROP TABLE memory" => Ok(Answer::Refused(SqlState::OutOfMemory)),
+            "DROP TABLE device" => Ok(Answer::Refused(SqlState::IoError)),
             _ => Ok(self.refuse(SqlState::SyntaxError)),
         }
     }

@@ -1,6 +1,6 @@
 -- A text with values is what its definition says.
-use Rattle.std.proofs.Common.{◌≡◌, ◌∙◌, ◌≤◌, ◌++◌, ◌∷◌, [], ℕ, List, length, map, refl, sym, ap, subst, Option, Some, None, Bool, false, Result, Ok, Err, IsUtf8}
-use Rattle.std.specs.Prelude.{◌↔◌, IsTrue, slice_get, Vec, ◌-◌}
+use Rattle.std.proofs.Common.{◌≡◌, ◌∙◌, ◌≤◌, ◌++◌, ◌∷◌, [], ℕ, List, length, map, refl, sym, ap, subst, Option, Some, None, Bool, true, false, Result, Ok, Err}
+use Rattle.std.specs.Prelude.{◌↔◌, IsTrue, is_some, slice_get, Vec, ◌-◌}
 use Rattle.std.specs.declared.alloc.Global.{Global}
 use Rattle.std.specs.Option.{option_map}
 use Rattle.sql_types.specs.declared.state.SqlState.{SqlState}
@@ -72,42 +72,59 @@ of_made : (fs : List Fragment) (values : List Value) (made : List ℕ) (r : Resu
 of_made fs values made (Ok text) w short checked =
     let k = some_tokens (map literal_tokens values) fs made w in
     let c = checked k.0 k.1 in
-    record { written = w ∙ ap Some (sym c.0); fits = subst (λ (t : List ℕ). length t ≤ 65536) (sym c.0) short; expected = k.0; bound = k.1; has = c.1 }
+    (c.1, record { written = w ∙ ap Some (sym c.0); fits = subst (λ (t : List ℕ). length t ≤ 65536) (sym c.0) short; expected = k.0; bound = k.1; has = c.2 })
 of_made fs values made (Err fault.NoValue) w short checked =
     let k = some_tokens (map literal_tokens values) fs made w in absurd (checked k.0 k.1)
 of_made fs values made (Err fault.TooLong) w short checked =
     let k = some_tokens (map literal_tokens values) fs made w in absurd (checked k.0 k.1)
-of_made fs values made (Err fault.OtherTokens) w short checked =
-    λ text u b.
-    let e : made ≡ text = some_same (sym w ∙ b.written) in
-    checked b.expected b.bound (subst IsUtf8 (sym e) u) (subst (HasExactTokens b.expected) (sym e) b.has)
+of_made fs values made (Err fault.OtherTokens) w short checked = (made, w, short, λ b. checked b.1.expected b.1.bound b.0 b.1.has)
 
--- the literals and the parts are those of the values and of the template
-one_text : (ls ks : List (List (List ℕ))) (gs fs : List Fragment) → ls ≡ ks → gs ≡ fs → text_with ls gs ≡ text_with ks fs
-one_text ls ks gs fs e f = ap (λ (l : List (List (List ℕ))). text_with l gs) e ∙ ap (text_with ks) f
+-- a text that was made and compared, with the literals of the values
+pub is_binding : (fs : List Fragment) (values : List Value) (ls : List (List (List ℕ))) (m : Result (Vec ℕ Global) BindFault) (made : Vec ℕ Global) (r : Result (List ℕ) BindFault)
+    → IsMadeText (text_with ls fs) m → m ≡ Ok made → ((expected : List (List ℕ)) → tokens_with ls (parts_of fs) ≡ Some expected → IsCheckedText expected made.items r)
+    → ls ≡ map literal_tokens values → IsTemplateBinding fs values r
+is_binding fs values ls m made r wrote is checked e =
+    let w = subst (IsMadeText (text_with ls fs)) is wrote in
+    of_made fs values made.items r (ap (λ (l : List (List (List ℕ))). text_with l fs) (sym e) ∙ w.0) w.1
+    (λ expected k. checked expected (ap (λ (l : List (List (List ℕ))). tokens_with l (parts_of fs)) e ∙ k))
 
-same_tokens : (ls ks : List (List (List ℕ))) (gs fs : List Fragment) → ls ≡ ks → gs ≡ fs → tokens_with ls (parts_of gs) ≡ tokens_with ks (parts_of fs)
-same_tokens ls ks gs fs e f = ap (λ (l : List (List (List ℕ))). tokens_with l (parts_of gs)) e ∙ ap (λ (g : List Fragment). tokens_with ks (parts_of g)) f
+-- ---- each parameter has a literal, or one has none
 
--- a text that was made and compared
-pub is_binding : (fs gs hs : List Fragment) (values : List Value) (ls ks : List (List (List ℕ))) (m : Result (Vec ℕ Global) BindFault) (made : Vec ℕ Global) (r : Result (List ℕ) BindFault)
-    → ls ≡ map literal_tokens values → gs ≡ fs → ks ≡ map literal_tokens values → hs ≡ fs → IsMadeText (text_with ls gs) m → m ≡ Ok made
-    → ((expected : List (List ℕ)) → tokens_with ks (parts_of hs) ≡ Some expected → IsCheckedText expected made.items r) → IsTemplateBinding fs values r
-is_binding fs gs hs values ls ks m made r e f g h wrote is checked =
-    let w = subst (λ (o : Option (List ℕ)). IsMadeText o (Ok made)) (one_text ls (map literal_tokens values) gs fs e f) (subst (IsMadeText (text_with ls gs)) is wrote) in
-    of_made fs values made.items r w.0 w.1 (λ expected k. checked expected (same_tokens ks (map literal_tokens values) hs fs g h ∙ k))
+lacks : {X : Type 0} (o : Option X) → is_some o ≡ false → o ≡ None
+lacks None h = refl
+lacks (Some x) h = cc
 
-of_fault : (fs : List Fragment) (values : List Value) (why : BindFault) → IsMadeText (written_with values fs) (Err why) → IsTemplateBinding fs values (Err why)
-of_fault fs values fault.NoValue h = no_tokens (map literal_tokens values) fs h
-of_fault fs values fault.TooLong h = h
-of_fault fs values fault.OtherTokens h = absurd h
+written_so : (ls : List (List (List ℕ))) (fs : List Fragment) → is_some (tokens_with ls (parts_of fs)) ≡ true → (text : List ℕ) × (text_with ls fs ≡ Some text)
+written_so ls fs has = by (text_with ls fs) refl where
+  by : (o : Option (List ℕ)) → text_with ls fs ≡ o → (text : List ℕ) × (text_with ls fs ≡ Some text)
+  by None is = let wrong : false ≡ true = sym (ap is_some (no_tokens ls fs is)) ∙ has in absurd (cc)
+  by (Some text) is = (text, is)
+
+pub lacks_value : (fs : List Fragment) (values : List Value) (ls : List (List (List ℕ))) → is_some (tokens_with ls (parts_of fs)) ≡ false → ls ≡ map literal_tokens values → IsTemplateBinding fs values (Err fault.NoValue)
+lacks_value fs values ls none e = ap (λ (l : List (List (List ℕ))). tokens_with l (parts_of fs)) (sym e) ∙ lacks (tokens_with ls (parts_of fs)) none
+
+of_fault : (fs : List Fragment) (values : List Value) (ls : List (List (List ℕ))) (why : BindFault) → is_some (tokens_with ls (parts_of fs)) ≡ true → ls ≡ map literal_tokens values → IsMadeText (text_with ls fs) (Err why)
+    → IsTemplateBinding fs values (Err why)
+of_fault fs values ls fault.NoValue has e h = ap (λ (l : List (List (List ℕ))). tokens_with l (parts_of fs)) (sym e) ∙ no_tokens ls fs h
+of_fault fs values ls fault.TooLong has e h =
+    let w = written_so ls fs has in (w.0, ap (λ (l : List (List (List ℕ))). text_with l fs) (sym e) ∙ w.1, h w.0 w.1)
+of_fault fs values ls fault.OtherTokens has e h = absurd h
 
 -- a text that was not made
-pub is_refused : (fs gs : List Fragment) (values : List Value) (ls : List (List (List ℕ))) (m : Result (Vec ℕ Global) BindFault) (why : BindFault)
-    → ls ≡ map literal_tokens values → gs ≡ fs → IsMadeText (text_with ls gs) m → m ≡ Err why → IsTemplateBinding fs values (Err why)
-is_refused fs gs values ls m why e f wrote is =
-    of_fault fs values why
-    (subst (λ (o : Option (List ℕ)). IsMadeText o (Err why)) (one_text ls (map literal_tokens values) gs fs e f) (subst (IsMadeText (text_with ls gs)) is wrote))
+pub is_refused : (fs : List Fragment) (values : List Value) (ls : List (List (List ℕ))) (m : Result (Vec ℕ Global) BindFault) (why : BindFault)
+    → is_some (tokens_with ls (parts_of fs)) ≡ true → IsMadeText (text_with ls fs) m → m ≡ Err why → ls ≡ map literal_tokens values → IsTemplateBinding fs values (Err why)
+is_refused fs values ls m why has wrote is e = of_fault fs values ls why has e (subst (IsMadeText (text_with ls fs)) is wrote)
+
+-- all parts have what they need where the first has it and all others do
+
+pub first_there : {X : Type 0} (o k : Option (List X)) → is_some o ≡ true → is_some (appended o k) ≡ is_some k
+first_there None k h = absurd (cc)
+first_there (Some xs) None h = refl
+first_there (Some xs) (Some ys) h = refl
+
+pub first_missing : {X : Type 0} (o k : Option (List X)) → is_some o ≡ false → is_some (appended o k) ≡ false
+first_missing None k h = refl
+first_missing (Some xs) k h = absurd (cc)
 
 -- ---- the tokens of a text are those that it is to have, or they are not
 

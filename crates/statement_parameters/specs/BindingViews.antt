@@ -17,6 +17,6 @@ IsMadeText wanted (Err fault.TooLong) = (text : List ℕ) → wanted ≡ Some te
 IsMadeText wanted (Err fault.OtherTokens) = ⊥
 
 abbrev pub IsCheckedText : List (List ℕ) → List ℕ → Result (List ℕ) BindFault → Type 0
-IsCheckedText expected made (Ok text) = (text ≡ made) × HasExactTokens expected text
+IsCheckedText expected made (Ok text) = (text ≡ made) × IsUtf8 text × HasExactTokens expected text
 IsCheckedText expected made (Err fault.OtherTokens) = IsUtf8 made → ¬ (HasExactTokens expected made)
 IsCheckedText expected made (Err fault) = ⊥

@@ -42,14 +42,19 @@ pub record IsBoundText (template : List Fragment) (values : List Value) (text : 
 
 -- a text that is written so is longer
 abbrev pub IsTooLong : List Fragment → List Value → Type 0
-IsTooLong template values = (text : List ℕ) → written_with values template ≡ Some text → 65536 < length text
+IsTooLong template values = (text : List ℕ) × (written_with values template ≡ Some text) × (65536 < length text)
 
--- a text that is written so has other tokens
+-- the text is UTF-8, as it is to be, and has the tokens of the template with the values
+abbrev pub IsBoundAsText : List Fragment → List Value → List ℕ → Type 0
+IsBoundAsText template values text = IsUtf8 text × IsBoundText template values text
+
+-- a text that is written so is not too long, and is no such text
 abbrev pub HasOtherTokens : List Fragment → List Value → Type 0
-HasOtherTokens template values = (text : List ℕ) → IsUtf8 text → ¬ (IsBoundText template values text)
+HasOtherTokens template values = (text : List ℕ) × (written_with values template ≡ Some text) × (length text ≤ 65536) × ¬ (IsBoundAsText template values text)
 
+-- the text; or a parameter has no value, or the text is too long, or has other tokens, which are three different things
 abbrev pub IsTemplateBinding : List Fragment → List Value → Result (List ℕ) BindFault → Type 0
-IsTemplateBinding template values (Ok text) = IsBoundText template values text
+IsTemplateBinding template values (Ok text) = IsBoundAsText template values text
 IsTemplateBinding template values (Err fault.NoValue) = bound_tokens values (parts_of template) ≡ None
 IsTemplateBinding template values (Err fault.TooLong) = IsTooLong template values
 IsTemplateBinding template values (Err fault.OtherTokens) = HasOtherTokens template values

@@ -1,10 +1,11 @@
 //! A statement with values for its parameters.
 
-ghost use Rattle.std.specs.Prelude.{◌≡◌, ◌↔◌, ◌++◌, ◌<◌, List, ℕ, map, length, IfOk, IsTrue, Some, None, IsUtf8};
+ghost use Rattle.std.specs.Prelude.{◌≡◌, ◌↔◌, ◌++◌, ◌<◌, List, ℕ, map, length, is_some, IfOk, IsTrue, Some, None, IsUtf8};
+ghost use Rattle.sql_types.specs.declared.value.Value.{Value as TheValue};
 ghost use Rattle.statement_parameters.specs.Bindings.{IsTemplateBinding, fragment_text, text_with};
 ghost use Rattle.statement_parameters.specs.BindingViews.{IsCheckedText, IsMadeText, PutsPart};
 ghost use Rattle.statement_parameters.specs.Literals.{viewed_literal};
-ghost use Rattle.statement_parameters.specs.Parts.{HasExactTokens, tokens_with};
+ghost use Rattle.statement_parameters.specs.Parts.{HasExactTokens, literal_tokens, part_tokens, tokens_with};
 ghost use Rattle.statement_parameters.specs.Spans.{fragment_in, viewed_spans};
 ghost use Rattle.statement_parameters.specs.Templates.{parts_of};
 
@@ -24,7 +25,8 @@ use std::alloc::{AllocError, Global};
 const MAX_BOUND: usize = 65_536;
 
 /// A statement with values for its parameters: a text whose tokens are those of the written text, where each parameter is the tokens of
-/// one literal. The text is made, and its tokens are compared with those that it is to have.
+/// one literal. The text is made, and its tokens are compared with those that it is to have. Where a parameter has no value it is
+/// `NoValue`. Else it is `TooLong` where the text has over 65,536 bytes, and `OtherTokens` where it has other tokens.
 pub fn bound_text(
     alloc: Global,
     template: &Template,
@@ -33,9 +35,48 @@ pub fn bound_text(
     ensures { IfOk result (λ bound. IsTemplateBinding template.now values.now bound) }
 {
     let literals = literals_of(alloc, values)?;
-    match made_text(alloc, template.spans(), &literals)? {
-        Ok(made) => checked_text(alloc, made, template.spans(), &literals),
+    bound_with(alloc, template.spans(), &literals)
+}
+
+// A statement with literals for its parameters.
+fn bound_with(
+    alloc: Global,
+    parts: PartSpans<'_>,
+    literals: &[Literal],
+) -> Result<Result<Text, BindFault>, AllocError>
+    ensures { IfOk result (λ bound. (values : List TheValue) → map viewed_literal literals.now ≡ map literal_tokens values
+        → IsTemplateBinding (viewed_spans parts.entry) values bound) }
+{
+    if !have_literals(parts, literals) {
+        return Ok(Err(BindFault::NoValue));
+    }
+    match made_text(alloc, parts, literals)? {
+        Ok(made) => checked_text(alloc, made, parts, literals),
         Err(fault) => Ok(Err(fault)),
+    }
+}
+
+// Whether each parameter has a literal.
+fn have_literals(parts: PartSpans<'_>, literals: &[Literal]) -> bool
+    ensures { result ≡ is_some (tokens_with (map viewed_literal literals.now) (parts_of (viewed_spans parts.entry))) }
+{
+    let mut rest = parts.spans;
+    while let [span, after @ ..] = rest {
+        if !has_literal(span, literals) {
+            return false;
+        }
+        rest = after;
+    }
+    true
+}
+
+// Whether a part is a token, or a parameter that has a literal.
+fn has_literal(span: &PartSpan, literals: &[Literal]) -> bool
+    ensures { (text : List ℕ) → result ≡ is_some (part_tokens (map viewed_literal literals.now) (fragment_in text span.now).part) }
+{
+    match span.parameter {
+        Some(number) => literal_at(literals, number).is_some(),
+        None => true,
     }
 }
 

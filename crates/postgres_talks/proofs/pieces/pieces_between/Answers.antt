@@ -12,12 +12,12 @@ loop-rest-preserved c =
     elim c.if-is_semicolon.branch [
       | then-is_semicolon+in_ok-put_piece w ↦ record {
         place = place;
-        pieces = rw (w.pieces-is, w.first-is) (slice_put all c.args.text.now (lexemes c.args.tokens.now) c.loop-rest.rest.now _ _ c.loop-rest.first c.loop-rest.at c.is_semicolon.result c.loop-rest.pieces _
+        pieces = rw (w.pieces-is, w.first-is) (slice_put c.args.is_written all c.args.text.now (lexemes c.args.tokens.now) c.loop-rest.rest.now _ _ c.loop-rest.first c.loop-rest.at c.is_semicolon.result c.loop-rest.pieces _
             c.in-len1-up.len_at_least (take_rest c.loop-rest.rest.now 1) c.loop-rest.invariant.pieces c.is_semicolon.ensures w.if-is_semicolon.true w.in_ok-put_piece.ensures);
       }
       | else-is_semicolon w ↦ record {
         place = place;
-        pieces = rw (w.pieces-is, w.first-is) (slice_more all c.args.text.now (lexemes c.args.tokens.now) c.loop-rest.rest.now _ _ c.loop-rest.first c.loop-rest.at c.is_semicolon.result c.loop-rest.pieces
+        pieces = rw (w.pieces-is, w.first-is) (slice_more c.args.is_written all c.args.text.now (lexemes c.args.tokens.now) c.loop-rest.rest.now _ _ c.loop-rest.first c.loop-rest.at c.is_semicolon.result c.loop-rest.pieces
             c.in-len1-up.len_at_least (take_rest c.loop-rest.rest.now 1) c.loop-rest.invariant.pieces c.is_semicolon.ensures w.if-is_semicolon.false);
       }
     ]

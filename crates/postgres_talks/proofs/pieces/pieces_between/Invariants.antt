@@ -8,8 +8,8 @@ use Rattle.postgres_talks.proofs.pieces.pieces_between.Given as goal
 abbrev pub invariant-loop-rest : goal.invariant-loop-rest
 invariant-loop-rest l = record {
   place : l.at + length l.rest ≡ length l.tokens;
-  pieces : (qs : List StatementPiece) → ArePieces (slices_from l.text (lexemes l.tokens) l.first l.at (lexemes l.rest)) qs
-      → ArePieces (slices_from l.text (lexemes l.tokens) 0 0 (lexemes l.tokens)) (l.pieces ++ qs);
+  pieces : (qs : List StatementPiece) → ArePieces l.is_written (slices_from l.text (lexemes l.tokens) l.first l.at (lexemes l.rest)) qs
+      → ArePieces l.is_written (slices_from l.text (lexemes l.tokens) 0 0 (lexemes l.tokens)) (l.pieces ++ qs);
 }
 
 abbrev pub decreases-loop-rest : goal.decreases-loop-rest

@@ -1,0 +1,3 @@
+mod Spellings
+mod Searching
+pub mod OnePlace
