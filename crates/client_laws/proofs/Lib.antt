@@ -5,3 +5,4 @@ pub mod Stores
 pub mod Told
 pub mod TwoRuns
 pub mod Bytes
+pub mod StoresApart

@@ -2,6 +2,7 @@
 
 ghost use Rattle.client_laws.specs.Clients.{what_clients_are_told, places_change_no_answer, patterns_determine_clients_answers, what_stores_tell_clients, own_clients_have_places};
 ghost use Rattle.client_laws.specs.TwoRuns.{TwoRunsMeetThePremises, ClientsPartAtSelect};
+ghost use Rattle.client_laws.specs.StoresApart.{RunsOverStoresMeetThePremises, StoresPartAtSelect, BytesPartAtSelect};
 
 use database_laws::runs::{Reader, Stopping};
 
@@ -38,4 +39,14 @@ pub fn own_clients_have_places()
 pub fn clients_have_other_numbers_in_each_run()
     ensures alike { TwoRunsMeetThePremises }
     ensures apart { ClientsPartAtSelect }
+{}
+
+/// Over stores, too, two runs meet the premises, and two break the laws: those of `stores_tell_clients_what_they_see`, and of
+/// `clients_get_the_same_bytes`. In the first two each of two tenants has two clients. All log in as one role, and set the
+/// role of their tenant; one begins a block and writes in it. Each client of the one tenant gets the same bytes to the end.
+/// Over the second two the tenant's own rows differ: they part at a SELECT.
+pub fn clients_of_stores_part_at_a_select()
+    ensures alike { RunsOverStoresMeetThePremises }
+    ensures apart { StoresPartAtSelect }
+    ensures bytes { BytesPartAtSelect }
 {}

@@ -17,7 +17,7 @@ use Rattle.served_lives.specs.SaidLives.{lives_say_the_same}
 
 module _ {S X T C : Type 0} (Reads : ReadingRelation) (state : S → StoreState) (t : TalkGhosts T) (k : ClientsGhosts C T) where
   -- what a client learns of its turns is a front of what it would learn of all that was done
-  learnt_first : (c : ℕ) (old : ServedMachine S X) (before : C) (us : List Turn) (new : ServedMachine S X) (after : C) (took : TakesTurns (machine_of Reads state) t k old before us new after) → IsCourse c us →
+  pub learnt_first : (c : ℕ) (old : ServedMachine S X) (before : C) (us : List Turn) (new : ServedMachine S X) (after : C) (took : TakesTurns (machine_of Reads state) t k old before us new after) → IsCourse c us →
       (untold done : List Exchange) → exchanges_of Reads state t k old before us new after took ++ untold ≡ done → (more : List Learnt) × (own_learnt c us ++ more ≡ learnt_of_all c done)
   learnt_first c old before us new after took course untold done first =
       let mine = learnt_so Reads state t k c old before us new after took course in (

@@ -63,7 +63,7 @@ named_apart i j c d own own_too same = by (nat_eq c j) (nat_eq d j) refl refl sa
 placed_apart : (i j : ℕ) → IsOneToOne (placed i j)
 placed_apart i j = (have_places (are_own i j) (named j) (named_apart i j)).0
 
-apart : ArePlacedApart
+pub apart : ArePlacedApart
 apart = record { one = placed_apart 0 2; one_next = placed_apart 1 0; other = placed_apart 5 4; other_next = placed_apart 0 3 }
 
 same_rows : (db : Database) → SameApparentRowsForPairs by_ann db db

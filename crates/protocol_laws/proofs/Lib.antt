@@ -1,0 +1,12 @@
+pub mod OnePiece
+pub mod OneBinding
+pub mod OneRequest
+pub mod PostgresOnce
+pub mod OneExchange
+pub mod OneLogin
+pub mod PasswordsOnce
+pub mod OneSaslLogin
+pub mod LoginsOnce
+pub mod TalkGhosts
+pub mod Begun
+pub mod ToldBeginnings
