@@ -1,0 +1,4 @@
+pub mod Wanting
+pub mod Hearing
+pub mod Asking
+pub mod Fronts
