@@ -1,5 +1,5 @@
--- Which roles have power over the whole database.
-use Rattle.std.specs.Prelude.{◌≡◌, Bool, not, ◌&&◌, ◌||◌, List, map, filter, bytes_eq}
+-- Which powers each role has over the whole database.
+use Rattle.std.specs.Prelude.{◌≡◌, Bool, not, ◌&&◌, List, map, filter, bytes_eq}
 use Rattle.sql_ast.specs.declared.role.Role.{Role}
 use Rattle.sql_ast.specs.declared.role.Membership.{Membership}
 use Rattle.abstract_database.specs.Lists.{TheName}
@@ -9,13 +9,9 @@ use Rattle.abstract_database.specs.Whole.{Each}
 use Rattle.table_access.specs.declared.powers.RolePowers.{RolePowers}
 use Rattle.table_access.specs.Accesses.{IsActedAs}
 
--- a superuser, or a role that row security does not concern
-abbrev pub is_strong : Role → Bool
-is_strong role = role.attributes.superuser || role.attributes.bypass_rls
-
--- by SET ROLE a role that is no superuser comes to another one that is strong; a superuser may set each role
+-- by SET ROLE a role that is no superuser comes to another one; a superuser may set each role
 abbrev pub comes_to : List Membership → Role → Role → Bool
-comes_to ms role other = not role.attributes.superuser && not (bytes_eq role.name other.name) && is_in ms role.name other.name && is_strong other
+comes_to ms role other = not role.attributes.superuser && not (bytes_eq role.name other.name) && is_in ms role.name other.name
 
 abbrev pub is_owned_by : TheName → TableOf → Bool
 is_owned_by owner t = bytes_eq t.owner owner
@@ -24,11 +20,11 @@ is_owned_by owner t = bytes_eq t.owner owner
 abbrev pub definitions_in : Database → List TableOf
 definitions_in db = map (λ t. t.definition) db.tables
 
--- the tables of which a role is the owner, and the strong roles that it comes to
+-- the tables of which a role is the owner, and the roles that it comes to
 pub record HasPowers (db : Database) (x : RolePowers) : Type 0 where
   pub owns : map (λ t. t.now.definition) x.owns.items ≡ filter (is_owned_by x.role.now.name) (definitions_in db)
-  pub strong : map (λ y. y.role.now) x.strong.items ≡ filter (comes_to db.memberships x.role.now) db.roles
-  pub memberships : Each (IsActedAs db.memberships x.role.now.name) x.strong.items
+  pub others : map (λ y. y.role.now) x.others.items ≡ filter (comes_to db.memberships x.role.now) db.roles
+  pub memberships : Each (IsActedAs db.memberships x.role.now.name) x.others.items
 
 -- each role of the database
 pub record ArePowers (db : Database) (xs : List RolePowers) : Type 0 where

@@ -1,5 +1,5 @@
 //! Who may do what with a table: each role by itself and by SET ROLE, by which grants and memberships, and under which policies.
-//! And which roles have power over the whole database, or come to it by SET ROLE.
+//! And which powers each role has over the whole database, and as which roles it may act there.
 #![tactic(auto)]
 
 pub mod acting;

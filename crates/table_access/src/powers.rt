@@ -1,12 +1,12 @@
-//! Which roles have power over the whole database.
+//! Which powers each role has over the whole database.
 
-ghost use Rattle.std.specs.Prelude.{◌≡◌, ◌&&◌, ◌||◌, not, map, filter, bytes_eq, IfOk};
+ghost use Rattle.std.specs.Prelude.{◌≡◌, ◌&&◌, not, map, filter, bytes_eq, IfOk};
 ghost use Rattle.abstract_database.specs.Lists.{has_name};
 ghost use Rattle.abstract_database.specs.Whole.{Each};
 ghost use Rattle.stored_database.specs.Definitions.{TableDefinition as DefinedTable, database_of};
 ghost use Rattle.descriptions.specs.Descriptions.{AreItsRoles};
 ghost use Rattle.table_access.specs.Accesses.{AreAllOf, IsActedAs};
-ghost use Rattle.table_access.specs.Powers.{is_strong, comes_to, is_owned_by, HasPowers, ArePowers};
+ghost use Rattle.table_access.specs.Powers.{comes_to, is_owned_by, HasPowers, ArePowers};
 
 use crate::acting::{SettableRole, acting_role};
 use crate::ways::all_memberships;
@@ -25,9 +25,9 @@ pub struct RolePowers<'a> {
     pub role: &'a Role,
     /// The tables of which it is the owner itself, in the order of their names.
     pub owns: Vec<&'a TableDefinition>,
-    /// The roles that it may set and that are superusers or have BYPASSRLS, in the order of their names, each with the memberships
-    /// by which it may. None for a superuser, which may set each role.
-    pub strong: Vec<SettableRole<'a>>,
+    /// The roles that it may set, in the order of their names, each with the memberships by which it may. None for a superuser, which
+    /// may set each role.
+    pub others: Vec<SettableRole<'a>>,
 }
 
 /// For each role, in the order of names, what power it has over the whole database: by its attributes, by the tables that it
@@ -58,13 +58,13 @@ fn role_powers<'a>(
     ensures powers { IfOk result (HasPowers (database_of catalogue.now)) }
 {
     let roles = closure(alloc, catalogue.memberships(), &role.name)?;
-    let strong = strong_roles(alloc, catalogue, all, role, &roles)?;
+    let others = other_roles(alloc, catalogue, all, role, &roles)?;
     let owns = tables_of(alloc, catalogue.tables(), &role.name)?;
-    Ok(RolePowers { role, owns, strong })
+    Ok(RolePowers { role, owns, others })
 }
 
-/// The strong roles that a role, which is in these, comes to.
-fn strong_roles<'a>(
+/// The other roles that a role, which is in these, may set.
+fn other_roles<'a>(
     alloc: Global,
     catalogue: &'a Catalogue,
     all: &[MembershipDescription<'a>],
@@ -73,7 +73,7 @@ fn strong_roles<'a>(
 ) -> Result<Vec<SettableRole<'a>>, AllocError>
     requires all { AreAllOf catalogue.now.memberships all.now }
     requires roles { AreItsRoles catalogue.now.memberships role.now.name roles.now }
-    ensures strong { IfOk result (λ found. map (λ y. y.role.now) found.items
+    ensures others { IfOk result (λ found. map (λ y. y.role.now) found.items
         ≡ filter (comes_to catalogue.now.memberships role.now) catalogue.now.roles) }
     ensures memberships { IfOk result (λ found.
         Each (IsActedAs catalogue.now.memberships role.now.name) found.items) }
@@ -88,21 +88,12 @@ fn strong_roles<'a>(
     Ok(found)
 }
 
-/// Whether a role, which is in these, comes to another one that is strong.
+/// Whether a role, which is in these, comes to another one by SET ROLE.
 fn comes_to(role: &Role, roles: &RoleSet<'_>, other: &Role) -> bool
     ensures { result ≡ (not role.now.attributes.superuser && not (bytes_eq role.now.name other.now.name)
-        && has_name other.now.name roles.now && is_strong other.now) }
+        && has_name other.now.name roles.now) }
 {
-    !role.attributes.superuser
-        && role.name != other.name
-        && roles.contains(&other.name)
-        && is_strong(other)
-}
-
-fn is_strong(role: &Role) -> bool
-    ensures { result ≡ is_strong role.now }
-{
-    role.attributes.superuser || role.attributes.bypass_rls
+    !role.attributes.superuser && role.name != other.name && roles.contains(&other.name)
 }
 
 /// The tables of which a role is the owner.

@@ -14,6 +14,6 @@ returns-clause-powers c =
     let name = c.args.role.now.name in
     record {
       owns = c.in_ok-owns.ensures ∙ ap (filter (is_owned_by name)) (ap (map (λ (t : TableDefinition). t.definition)) c.tables.ensures.tables ∙ same_definitions c.args.catalogue.now.tables);
-      strong = c.in_ok-strong.ensures.strong;
-      memberships = c.in_ok-strong.ensures.memberships;
+      others = c.in_ok-others.ensures.others;
+      memberships = c.in_ok-others.ensures.memberships;
     }

@@ -1,0 +1,12 @@
+use Rattle.std.proofs.Common.{◌≡◌, ◌++◌, length, map}
+use Rattle.std.specs.List.{flat_map}
+use Rattle.access_texts.specs.Access.{access_rows}
+use Rattle.section_texts.specs.Sections.{row_of}
+use Rattle.access_texts.proofs.access.access_section.Given as goal
+
+-- what was found, and what is left adds, are all
+abbrev pub invariant-loop-rest : goal.invariant-loop-rest
+invariant-loop-rest l = map (λ r. row_of r.items) l.rows.items ++ flat_map access_rows l.rest ≡ flat_map access_rows l.tables
+
+abbrev pub decreases-loop-rest : goal.decreases-loop-rest
+decreases-loop-rest l = length l.rest

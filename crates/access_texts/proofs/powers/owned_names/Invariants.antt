@@ -1,0 +1,10 @@
+use Rattle.std.proofs.Common.{◌≡◌, ◌++◌, length, map}
+use Rattle.access_texts.specs.Powers.{owned_names}
+use Rattle.access_texts.proofs.powers.owned_names.Given as goal
+
+-- what was found, and what is left adds, are all
+abbrev pub invariant-loop-rest : goal.invariant-loop-rest
+invariant-loop-rest l = map (λ n. n.now) l.names.items ++ owned_names l.rest ≡ owned_names l.tables
+
+abbrev pub decreases-loop-rest : goal.decreases-loop-rest
+decreases-loop-rest l = length l.rest

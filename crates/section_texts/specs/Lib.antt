@@ -1,0 +1,5 @@
+pub mod Sections
+pub mod Cells
+pub mod Columns
+pub mod Json
+pub mod LineTexts
