@@ -4,6 +4,7 @@
         ann.ask('INSERT INTO t VALUES (1, NULL)')       # Done(tag='INSERT', count=1, warning=None)
         ann.ask('SELECT k, x FROM t')                   # [['1', None]], whose `columns` are ['k', 'x']
         ann.ask('SELECT k, x FROM t', int, int)         # [[1, None]]
+        ann.describe('SELECT * FROM t')                 # [Column(name='k', type='int8'), ..], at a place of --at
         ann.ask('DELETE FROM t WHERE k = ? OR x = ?', values=(7, "it's"))   # each ? stands for a value
         ann.ask('DROP TABLE other')                     # raises Refused, whose code is '42P01'
         ann.ask('DROP other')                           # raises Refused, whose text shows where the syntax goes wrong
@@ -38,6 +39,7 @@ from guarddb_scram import BadServer
 
 OPEN, STATEMENT, CLOSE, ANSWER = 1, 2, 3, 4     # the kinds of frames
 FIRST, MESSAGE, LAST = 5, 6, 7                  # those of an exchange in which a password is shown
+QUESTION = 8                                    # that of a question, which a place of --at takes
 MAX_TEXT = 131067                               # bytes that one frame carries
 MAX_NAME = 63                                   # bytes of a name
 HEAD = struct.Struct('>IBI')                    # the length of what follows it, the kind, the session
@@ -66,9 +68,12 @@ LEAST, GREATEST = -2 ** 63, 2 ** 63 - 1         # of BIGINT
 ENDED = 'the server ended the connection'
 NOT_KNOWN = 'it is not known whether the event was carried out'
 LABEL = 0                                       # the number under which a password is shown
+BAD_FRAME = '08P01'
+NOT_ASKED = 'this place answers no such question, and ended the connection'
 NOT_SHOWN = {'28000': 'password refused', '08P01': 'password refused, since this place asks for none'}
 Done = collections.namedtuple('Done', 'tag count warning')      # such as ('INSERT', 3, None), ('GRANT', None, '01007')
 Code = collections.namedtuple('Code', 'name meaning')
+Column = collections.namedtuple('Column', 'name type')          # of an answer, such as ('k', 'int8')
 
 # The codes of refusals and warnings. The names are those of the PostgreSQL manual, appendix A, and 08002's that of SQL:2016.
 CODES = {code: Code(name, meaning) for code, name, meaning in (line.split(None, 2) for line in '''
@@ -154,16 +159,17 @@ def described(code):
     return '{} {}: {}'.format(code, *CODES[code]) if code in CODES else code
 
 
-def connect(place, wait=0, timeout=TIMEOUT, tables=None, user=None, password=None):
+def connect(place, wait=0, timeout=TIMEOUT, tables=None, user=None, password=None, names=False):
     """A connection to a server: at a port, an int, or at the path of a socket, a str. It is tried again for `wait` seconds. An answer
     that does not come within `timeout` seconds is a TimeoutError, and None is no limit. `tables`, as `guarddb_layout.tables` gives
-    them, are for the columns of `SELECT *`.
+    them, are for the columns of `SELECT *`. With `names` the server is asked for those that `tables` do not tell. Only a place of `--at`
+    answers that: another one takes the question for a bad frame, and ends the connection.
 
     At a place that asks for passwords `user` is the role whose `password` is shown, before anything else is sent. A PasswordRefused
     where it is not that role's, and where the place asks for none; a BadServer where the server does not show that it keeps the
     password's verifier. A ValueError for what is no role's name or no password; a TypeError where one of both is not given."""
     check_login(user, password)
-    connection = connected(place, wait, timeout, tables)
+    connection = connected(place, wait, timeout, tables, names)
     if user is not None:
         connection.show(user, password)
     return connection
@@ -178,7 +184,7 @@ def check_login(user, password):
         guarddb_scram.checked(password)
 
 
-def connected(place, wait, timeout, tables):
+def connected(place, wait, timeout, tables, names=False):
     """A connection over which nothing was sent."""
     is_port, end = isinstance(place, int), time.monotonic() + wait
     while True:
@@ -186,7 +192,7 @@ def connected(place, wait, timeout, tables):
         stream.settimeout(timeout)
         try:
             stream.connect(('127.0.0.1', place) if is_port else place)
-            return Connection(stream, tables)
+            return Connection(stream, tables, names)
         except BaseException as fault:
             stream.close()
             if not isinstance(fault, (ConnectionRefusedError, FileNotFoundError, BlockingIOError)) or time.monotonic() >= end:
@@ -222,10 +228,10 @@ class ClosedAtItsEnd:
 
 class Connection(ClosedAtItsEnd):
     """A connection. Its end closes the sessions that are open, and rolls their blocks back."""
-    def __init__(self, stream, tables=None):
+    def __init__(self, stream, tables=None, names=False):
         if stream.family == socket.AF_INET:
             stream.setsockopt(socket.IPPROTO_TCP, socket.TCP_NODELAY, 1)
-        self.socket, self.input, self.tables = stream, stream.makefile('rb'), tables
+        self.socket, self.input, self.tables, self.names = stream, stream.makefile('rb'), tables, names
         self.numbers = itertools.count(1)                   # of sessions
         self.turn, self.thread = threading.Lock(), None     # of the event that is under way, and whose it is
         self.end = None                                     # why the connection is closed
@@ -330,15 +336,15 @@ def no_answer(fault, timeout, is_left=NOT_KNOWN):
 
 class Rows(list):
     """The rows of an answer, each a list of fields."""
-    def __init__(self, rows, statement=None, tables=None):
+    def __init__(self, rows, statement=None, tables=None, told=None):
         super().__init__(rows)
-        self.statement, self.tables = statement, tables
+        self.statement, self.tables, self.told = statement, tables, told
 
     @property
     def columns(self):
         """The names of the columns: those that the statement names, each other one by its text, and those of `*` by the tables of the
-        connection. None where they are not known."""
-        names = self.statement and guarddb_layout.columns(self.statement, self.tables)
+        connection, or as the server was asked for them. None where they are not known."""
+        names = self.told or self.statement and guarddb_layout.columns(self.statement, self.tables)
         return None if names and self and len(names) != len(self[0]) else names
 
 
@@ -355,12 +361,36 @@ class Session(ClosedAtItsEnd):
         text = statement if values is None else filled(statement, values)
         for told in taken_for_aliases(text):
             warnings.warn(told, TakenForAlias, stacklevel=2)
+        told = self.names_of(text)
         answer = self.connection.exchange(STATEMENT, self.number, text)
         try:
             answer = read_answer(answer, types)
         except Refused as refused:
             raise Refused(refused.code, text) from None
-        return Rows(answer, text, self.connection.tables) if isinstance(answer, list) else answer
+        return Rows(answer, text, self.connection.tables, told) if isinstance(answer, list) else answer
+
+    def describe(self, statement, values=None):
+        """The columns of the rows that a statement would answer, a list of Column; none where it answers no rows. Their types are int8,
+        text and bool. A Refused where it would be refused whatever the rows are. Nothing is done for it, and no block fails by it. Only
+        a place of `--at` answers that: another one ends the connection, which is a ConnectionError."""
+        text = statement if values is None else filled(statement, values)
+        try:
+            return [Column(*row) for row in read_answer(self.connection.exchange(QUESTION, self.number, text))]
+        except Refused as refused:
+            if refused.code != BAD_FRAME:
+                raise Refused(refused.code, text) from None
+        self.connection.close(NOT_ASKED)
+        raise ConnectionError(NOT_ASKED)
+
+    def names_of(self, text):
+        """The names of the columns of a `SELECT *`, as the server tells them, where it is to be asked for them and `tables` do not tell
+        them; else None."""
+        if not self.connection.names or not guarddb_layout.is_star(text) or guarddb_layout.columns(text, self.connection.tables):
+            return None
+        try:
+            return [column.name for column in self.describe(text)]
+        except Refused:         # as the statement itself is
+            return None
 
     def transaction(self, work, tries=10, pause=0.02):
         """Runs work(self) in a block, commits it, and gives what work gives. What work raises ends the block by a ROLLBACK. Where

@@ -4,7 +4,8 @@
     guarddb_layout.columns('SELECT * FROM notes', tables)       # ['k', 'tenant', 'note']
     guarddb_layout.columns('SELECT n.k, 1 + 2 FROM notes n')    # ['k', '1 + 2']
 
-An answer has no names of columns. Those of a SELECT's list stand in the statement, and those of `SELECT *` in the tables.
+An answer has no names of columns. Those of a SELECT's list stand in the statement, and those of `SELECT *` in the tables. A place of
+`--at` tells them, too, where it is asked: `guarddb.connect(5433, names=True)`.
 """
 import json
 import re
@@ -92,10 +93,20 @@ def item_name(item, statement):
     return APART.sub(lambda found: found[1] or ' ', statement[item[0][1]:item[-1][2]])
 
 
+def is_all(items):
+    """Whether the items of a SELECT's list are `*`."""
+    return [[word for word, _, _ in item] for item in items] == [['*']]
+
+
+def is_star(statement):
+    """Whether a statement is a `SELECT *`."""
+    return is_all(listed(words_of(statement))[0])
+
+
 def columns(statement, tables=None):
     """The names of the columns of a SELECT's answer; None for another statement, and for `*` of a table that is not in `tables`."""
     items, behind = listed(words_of(statement))
-    if [[word for word, _, _ in item] for item in items] != [['*']]:
+    if not is_all(items):
         return [item_name(item, statement) for item in items if item] or None
     found = [(tables or {}).get(name) for name in tables_named(behind)]
     return [name for names in found for name in names] if found and None not in found else None

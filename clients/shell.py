@@ -84,6 +84,7 @@ class Shell:
         self.sessions, self.names, self.output, self.variables = {}, set(), Output(form), Variables()
         self.text = self.quote = self.last = ''     # the text typed so far, the quote that is open in it, and the last statement
         self.expanded, self.is_timed = 'auto', False
+        self.told = None        # the names of the columns of the last answer, where the server was asked for them
 
     # -- sessions
 
@@ -239,6 +240,7 @@ class Shell:
         opened = self.current
         if not opened:
             raise Fault(REFUSED, NO_SESSION)
+        self.told = self.answered(opened.session.names_of, statement)
         text = self.answered(opened.session.connection.exchange, guarddb.STATEMENT, opened.session.number, statement)
         try:
             answer = self.answered(guarddb.read_answer, text)
@@ -266,7 +268,7 @@ class Shell:
             if answer:
                 self.output.put(text.partition('\n')[2][:-1])
         elif self.output.form == 'csv':
-            lines = csv_lines(answer, self.fitting(answer, columns(statement, self.tables())), self.output.null or '')
+            lines = csv_lines(answer, self.fitting(answer, self.told or columns(statement, self.tables())), self.output.null or '')
             if lines:
                 self.output.put('\n'.join(lines))
         else:
@@ -278,9 +280,9 @@ class Shell:
         return None if rows and names and len(names) != len(rows[0]) else names
 
     def heads(self, statement):
-        """The heads of the columns of a SELECT: those of `*` stand in the description of the file."""
+        """The heads of the columns of a SELECT: those of `*` stand in the description of the file, or the server has told them."""
         found = heads(statement)
-        return found or [*map(shown, columns(statement, self.tables()) or [])] or None
+        return found or [*map(shown, self.told or columns(statement, self.tables()) or [])] or None
 
     def laid_out(self, rows, names):
         null = 'NULL' if self.output.null is None else self.output.null
@@ -605,6 +607,7 @@ def read_words():
     forms = words.add_mutually_exclusive_group()
     forms.add_argument('-A', action='store_true', help='prints rows alone, as the server writes them, with tabs')
     forms.add_argument('--csv', dest='form', action='store_const', const='csv', default='aligned', help='prints rows alone, as CSV')
+    words.add_argument('--names', action='store_true', help="asks for the names of the columns of SELECT *, at a server's place of --at")
     words.add_argument('--timeout', metavar='SECONDS', type=seconds, help='how long to wait for an answer; without it, for ever')
     words.add_argument('--program', metavar='PATH', default=program(), help='the program that serves a file')
     return words.parse_intermixed_args()        # ROLE may stand behind options
@@ -643,7 +646,7 @@ def run_given(shell, given):
 
 def run_shell(given):
     is_interactive = not given.runs and sys.stdin.isatty() and sys.stdout.isatty()
-    place = Place(given.place, given.program, given.timeout, Passwords(os.environ))
+    place = Place(given.place, given.program, given.timeout, Passwords(os.environ), given.names)
     shell = Shell(place, is_interactive, given.A, given.form)
     try:
         run_given(shell, given)

@@ -103,9 +103,9 @@ def new_folder():
 
 class Place:
     """The place of a server: a port, a socket, or a file, for which a server of one connection is started here. A server that is not
-    started here may ask for the password of a role."""
-    def __init__(self, name, program, timeout, passwords=None):
-        self.name, self.program, self.timeout, self.passwords = name, program, timeout, passwords
+    started here may ask for the password of a role, and be asked for the names of columns, with `names`."""
+    def __init__(self, name, program, timeout, passwords=None, names=False):
+        self.name, self.program, self.timeout, self.passwords, self.names = name, program, timeout, passwords, names
         self.user = None        # the role whose password was shown
         self.server = self.folder = self.messages = None
         self.begun = ''         # of a message that is not yet there to its end
@@ -130,7 +130,8 @@ class Place:
         password = self.passwords and self.passwords.find(self.name, role)
         self.user = role if password else None
         try:
-            return guarddb.connect(int(self.name) if self.is_port else self.name, timeout=self.timeout, user=self.user, password=password)
+            return guarddb.connect(int(self.name) if self.is_port else self.name, timeout=self.timeout, user=self.user, password=password,
+                                   names=self.names)
         except guarddb.Refused as refusal:
             self.passwords.forget(role)
             raise Fault(REFUSED, f'ERROR:  {refusal}') from None

@@ -46,9 +46,6 @@ LAWS = {
 # What no command calls yet, each with what it is for.
 COMING = {
     'scram::Mock::of_verifier': 'a server that keeps the secret of its mocks in its table of passwords',
-    'table_access::access_to': 'a word of `describe` that tells who may do what with a table',
-    'table_access::powers': 'a word of `describe` that tells which roles have power over the whole database',
-    'line_differences::differences': 'a word of `describe` that compares a database with an older copy of it',
     'server::Server::step_read': 'a statement that was described before it runs',
     'postgres_texts::ends_session': "settings that a client of PostgreSQL's protocol sets, and faults that end its session",
     'postgres_texts::SessionSetting::named': 'the same',

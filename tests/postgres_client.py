@@ -152,6 +152,8 @@ class AtServer(unittest.TestCase):
         try:
             told = server.stderr.readline()
             self.assertEqual(told, f'guarddb: listening on {f"127.0.0.1:{port}" if port else self.socket}\n')
+            if port and not behind:
+                self.assertEqual(server.stderr.readline(), f'guarddb: no passwords are asked for at 127.0.0.1:{port}\n')
             yield server
             if '--connections' not in words:
                 server.send_signal(signal.SIGTERM)

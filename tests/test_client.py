@@ -803,16 +803,16 @@ class Page(OverADatabase):
 class Protocol(OverADatabase):
     """The examples of docs/protocol.md."""
 
-    def blocks(self):
+    def blocks(self, behind=''):
         with open(os.path.join(TOP, 'docs', 'protocol.md'), encoding='utf-8') as file:
-            return re.findall(r'```\n(.*?)```', file.read(), re.S)
+            return re.findall(r'```\n(.*?)```', file.read().partition(behind)[2] if behind else file.read(), re.S)
 
     def hexadecimal(self, line):
         return bytes.fromhex(re.match(r'[<> ]*((?:[0-9A-F]{2} {0,2})*)', line + ' ')[1].replace(' ', ''))
 
     def test_the_conversation(self):
         sides, side = {'>': b'', '<': b''}, None
-        for line in '\n'.join(block for block in self.blocks() if block[0] == '>').split('\n'):
+        for line in '\n'.join(block for block in self.blocks('\n## A conversation by the byte\n') if block[0] == '>').split('\n'):
             side = line[0] if line[:1] in sides else side
             if line:
                 self.assertTrue(self.hexadecimal(line), line)

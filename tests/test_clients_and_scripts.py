@@ -11,6 +11,7 @@ import glob
 import itertools
 import os
 import random
+import re
 import shutil
 import subprocess
 import sys
@@ -30,6 +31,7 @@ OTHERS = 15             # clients beside those of a script
 SESSIONS = 200          # a script of more sessions has them at one client, whose limit is the limit of scripts
 EVENTS = 600            # of the random scripts, where no other number is said
 STEP = 4                # of the scripts one in so many is tried
+ROLE = re.compile(r'(CREATE|DROP) ROLE (\w+)')
 
 
 def events(text):
@@ -129,14 +131,31 @@ class ScriptsOverClients(unittest.TestCase):
         self.assertEqual(faults, [])
 
     def compare(self, name, script, expected, clients, chosen):
-        """Asks the events of a script, each session's at a client that is chosen for it."""
-        there, homes, numbers = [self.connect() for _ in range(clients)], {}, {}
+        """
+        Asks the events of a script, each session's at a client that is chosen for it. A client ends that has a session of a role which is
+        dropped: the events of its sessions, which the script alone is refused, are left out then, up to where such a role is made again.
+        """
+        there, homes, numbers, logins, dropped, ended = [self.connect() for _ in range(clients)], {}, {}, {}, set(), set()
         try:
             for place, ((session, kind, text), answer) in enumerate(zip(events(script), expected)):
                 home = homes.setdefault(session, chosen(session))
                 number = numbers.setdefault(session, len(numbers) + 1)
-                got = there[home].exchange(kind, number, text)
+                role = ROLE.match(text)
+                if ended and role and role[1] == 'CREATE' and role[2] in dropped:
+                    return
+                if home in ended:
+                    continue
+                try:
+                    got = there[home].exchange(kind, number, text)
+                except ConnectionError:
+                    self.assertTrue(logins[home] & dropped, f'{name}, event {place + 1}: {session}: {text}')
+                    ended.add(home)
+                    continue
                 self.assertEqual(got, answer, f'{name}, event {place + 1}: {session}: {text}')
+                if role and role[1] == 'DROP' and answer.startswith('ok'):
+                    dropped.add(role[2])
+                if kind == guarddb.OPEN and answer.startswith('ok'):
+                    logins.setdefault(home, set()).add(text)
                 if kind == guarddb.CLOSE:
                     del homes[session]
         finally:

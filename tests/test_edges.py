@@ -454,8 +454,8 @@ class Pages(InAFolder):
             os.symlink(os.path.join(TOP, name), self.path(name))
         os.symlink(PROGRAM, self.path('guarddb'))
         first, second = self.commands()
-        self.assertEqual([words[1] for words in first], ['--unproved', 'format', 'run', 'check', 'describe', 'explain', 'copy', 'dump', 'restore',
-                                                      'password', 'clients/shell.py', 'serve'])
+        self.assertEqual([words[1] for words in first], ['--unproved', 'format', 'run', 'check', 'describe', 'describe', 'explain', 'copy', 'dump',
+                                                      'restore', 'password', 'clients/shell.py', 'serve'])
         for words in first[1:-1]:
             self.ends_well(words, '\\q\n')
         server = subprocess.Popen(first[-1], cwd=self.folder, stdout=subprocess.DEVNULL, stderr=subprocess.PIPE)

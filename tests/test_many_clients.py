@@ -365,6 +365,82 @@ class ManyClients(unittest.TestCase):
             self.assertEqual(silent.input.read(), b'')
             silent.close()
 
+    def is_over(self, connection):
+        """Its connection ends, whatever it does."""
+        try:
+            self.assertEqual(connection.input.read(), b'')
+        except ConnectionResetError:
+            pass                        # it had sent something that nobody reads
+        connection.close()
+
+    @contextlib.contextmanager
+    def dropping(self):
+        """A server, a superuser's session of one client, and a client that has sessions for carl and for u2."""
+        with self.served('--clients', 8, end=signal.SIGTERM) as place, self.connect(place) as connection, connection.open('root') as root:
+            root.ask('CREATE ROLE carl LOGIN')
+            root.ask('GRANT SELECT ON t TO PUBLIC')
+            root.ask('GRANT SELECT ON free TO PUBLIC')
+            carls = self.connect(place)
+            yield place, root, carls, carls.open('carl'), carls.open('u2')
+
+    def test_a_role_that_is_dropped(self):
+        """All who have a session for it end, also who is silent; the others go on. Made again it begins with none."""
+        with self.dropping() as (place, root, carls, carl, second), self.connect(place) as other, other.open('u2') as its, self.connect(place) as none:
+            silent = self.connect(place)
+            silent.open('carl').ask('BEGIN')
+            self.assertEqual(list(carl.ask('SELECT current_user, x FROM free')), [])
+            root.ask('DROP ROLE carl')
+            self.is_over(silent)
+            self.is_over(carls)
+            root.ask('CREATE ROLE carl SUPERUSER LOGIN')
+            self.assertEqual(list(its.ask('SELECT x FROM t')), [['of u2']])
+            with none.open('carl') as made:
+                self.assertEqual(list(made.ask('SELECT x FROM t WHERE k = 0 AND o = \'u1\'')), [['of u1']])
+
+    def test_a_role_that_is_dropped_and_made_again_at_once(self):
+        """Nothing that its old client sends is carried out, also where both statements came ahead in one piece."""
+        with self.dropping() as (place, root, carls, carl, second):
+            for statement in ('DROP ROLE carl', 'CREATE ROLE carl SUPERUSER LOGIN'):
+                root.connection.socket.sendall(frame(guarddb.STATEMENT, root.number, statement))
+            with contextlib.suppress(OSError):
+                carls.socket.sendall(frame(guarddb.STATEMENT, carl.number, 'INSERT INTO free VALUES (9, 9)') * 20)
+            expected = spelled(root.number, 'ok DROP ROLE\n') + spelled(root.number, 'ok CREATE ROLE\n')
+            self.assertEqual(root.connection.input.read(len(expected)), expected)
+            self.is_told_no_insert(carls)
+            self.assertEqual(list(root.ask('SELECT k FROM free')), [])
+
+    def is_told_no_insert(self, connection):
+        told = b''
+        with contextlib.suppress(ConnectionResetError):
+            told = connection.input.read()
+        self.assertNotIn(b'ok INSERT', told)
+        connection.close()
+
+    def test_a_role_that_is_dropped_in_a_block(self):
+        """Who came as it goes on until the COMMIT, and for good after a ROLLBACK and where DROP ROLE is refused."""
+        with self.dropping() as (place, root, carls, carl, second):
+            for end in ('ROLLBACK', 'COMMIT'):
+                for session, role, code in ((second, 'carl', '42501'), (root, 'nobody', '42704'), (root, 'u1', '2BP01')):
+                    with self.assertRaises(guarddb.Refused) as refused:
+                        session.ask(f'DROP ROLE {role}')
+                    self.assertEqual(refused.exception.code, code)
+                root.ask('BEGIN')
+                root.ask('DROP ROLE carl')
+                self.assertEqual(list(carl.ask('SELECT current_user, current_user FROM t')), [])
+                root.ask(end)
+                if end == 'ROLLBACK':
+                    self.assertEqual(list(carl.ask('SELECT current_user, current_user FROM t')), [])
+                    self.assertEqual(list(second.ask('SELECT x FROM t')), [['of u2']])
+            self.is_over(carls)
+
+    def test_a_client_that_drops_its_own_role(self):
+        """Its answer goes out first."""
+        with self.dropping() as (place, root, carls, carl, second):
+            own = carls.open('root')
+            own.ask('DROP ROLE carl')
+            self.is_over(carls)
+            self.assertEqual(list(root.ask('SELECT k FROM free')), [])
+
     def test_many_that_write(self):
         """Each own row is there after it was answered, also where the server is killed then."""
         kept = []

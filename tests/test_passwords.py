@@ -650,19 +650,27 @@ class Changes(AtPlace):
             root.ask(self.update('bob', 'bob' + SECRET))        # the same password, by another verifier
             self.assertEqual(client.ask(LAST, 1, last.encode()), (ANSWER, 1, REFUSED))
 
+    def is_over(self, connection):
+        self.assertEqual(connection.input.read(), b'')
+        connection.close()
+
     def test_a_role_that_is_dropped(self):
-        """An old session acts for a role that is made again, and a row that stays is its password."""
-        with self.served(), self.connect('root') as connection, connection.open('root') as root, self.connect('bob') as bobs, bobs.open('bob') as bob:
+        """Who has a session for it or has shown its password ends. A row that stays is the password of a role that is made again."""
+        with self.served(), self.connect('root') as connection, connection.open('root') as root, self.connect('ann') as anns, anns.open('ann') as ann:
+            bobs, shown = self.connect('bob'), self.connect('bob')
+            bobs.open('bob')
             root.ask('DROP ROLE bob')
-            self.refuses('28000', bob.ask, 'SELECT 1')
+            self.is_over(bobs)
+            self.is_over(shown)
             self.assertFalse(self.takes('bob', 'bob' + SECRET))
             root.ask('CREATE ROLE bob LOGIN')
-            self.assertEqual(bob.ask('SELECT session_user'), [['bob']])
             self.assertTrue(self.takes('bob', 'bob' + SECRET))
+            later = self.connect('bob')
             for statement in ('BEGIN', "DELETE FROM logins WHERE role = 'bob'", 'DROP ROLE bob', 'COMMIT', 'CREATE ROLE bob LOGIN'):
                 root.ask(statement)
+            self.is_over(later)
             self.assertFalse(self.takes('bob', 'bob' + SECRET))
-            self.refuses('28000', bobs.open, 'bob')
+            self.assertEqual(list(ann.ask('SELECT session_user')), [['ann']])
 
     def test_a_server_that_is_killed(self):
         """Each change that was acknowledged stays, and the one under way is made whole or not at all."""

@@ -29,6 +29,11 @@ def memory_of(process):
     return tuple(int(told[name].split()[0]) << 10 for name in ('VmRSS', 'VmHWM'))
 
 
+def positions(messages):
+    """Where the errors among them stand, or None."""
+    return [fields(body).get('P') for kind, body in messages if kind == b'E']
+
+
 def column_names(body):
     """The names of the columns of a RowDescription: behind each stand 18 bytes (55.7)."""
     names, rest = [], body[2:]
@@ -124,6 +129,29 @@ class Blocks(AtServer):
                     self.assertEqual((codes(told), told[-1]), (['25P02'], (b'Z', b'E')))
                     self.assertEqual(client.ask('COMMIT'), [(b'C', b'ROLLBACK\0'), (b'Z', b'I')])
                     self.assertEqual(kinds(client.ask('SELECT k FROM t WHERE k > 2')), b'TCZ')
+
+    def test_where_syntax_goes_wrong(self):
+        """The place is told in characters of the client's text, from 1 (55.8). PostgreSQL 15.18 tells the same ones."""
+        places = [('SELEC', 1), ('SELEC k FROM t', 1), ('SELECT k FROM t WHRE k', 22), ('SELECT k FROM t WHERE', 22), ('SELECT k, FROM t', 11),
+                  ('SELECT k FROM t\n WHERE k = = 1', 28), ('SELECT (1', 10), ('SELECT 1 1', 10), ("SELECT 'é€' + FROM t", 15), ("SELECT 'é€'; SELECT 1 + FROM t", 25),
+                  ('SELECT 1; SELEC 2', 11), ('SELECT 1 ; SELECT k FROM t WHERE', 33), ('INSERT INTO t VALUES (7, )', 26), ('INSERT INTO t VALUES (7, NULL', 30),
+                  ('DELETE t', 8), ('CREATE TABLE u (k BIGINT PRIMARY KEY', 37), ('SELECT k FROM t ORDER k', 23), ('GRANT SELECT t TO bob', 14),
+                  ('SELECT k FROM t WHERE (k = 1', 29), ('DROP t', 6), ('BEGIN; SELEC', 8)]
+        with self.served('--clients', 1), Client(self.socket, 'root') as client:
+            for text, place in places:
+                with self.subTest(text):
+                    told = client.ask(text)
+                    self.assertEqual((codes(told), positions(told)), (['42601'], [str(place)]))
+                    client.ask('ROLLBACK')
+            for messages, wanted in [((parse('SELECT k FROM t WHERE', 'a'), describe(b'S', 'a')), ['22']), ((parse("SELECT 'é' 1"), bind(), execute()), ['12'])]:
+                told = client.ask(*messages, SYNC)
+                self.assertEqual((codes(told), positions(told)), (['42601'], wanted))
+            # none is told of a text that is not as it was written, of a long one, and of other errors
+            for messages in [('SELECT k AS a FROM t WHERE',), (parse('SELECT k + FROM t WHERE k = $1'), SYNC), ("SELECT 'a", ), ('SELECT ' + '1 + ' * 600 + 'FROM t',)]:
+                told = client.ask(*messages)
+                self.assertEqual((codes(told), positions(told)), (['42601'], [None]))
+            for text in ('SELECT zz FROM t', 'SELECT 1 / 0', 'SELECT left FROM t'):
+                self.assertEqual(positions(client.ask(text)), [None])
 
     def test_a_client_that_leaves_a_block(self):
         """What it did is taken back, and the next one may write."""

@@ -4,6 +4,7 @@
 The program is the one in the environment variable GUARDDB. What psql is to print is what PostgreSQL's manual says: the tags of commands in
 55.7 (CommandComplete), the codes of errors in appendix A. Where psql, pgbench or a driver of Python is not installed, the tests that take it are skipped.
 """
+import contextlib
 import os
 import pty
 import select
@@ -15,7 +16,7 @@ import termios
 import time
 import unittest
 
-from postgres_client import AtServer, Client, codes, kinds
+from postgres_client import FLUSH, SYNC, AtServer, Client, bind, codes, execute, kinds, parse, query
 from program import PATIENCE, PROGRAM, free_port, run
 
 PSQL, PGBENCH = shutil.which('psql'), shutil.which('pgbench')
@@ -93,6 +94,15 @@ class Psql(AtPsql):
         with self.served('--clients', 5):
             status, printed, said = self.psql('SELECT nobody FROM t;\nSELECT 1 / 0;\nSELEC 1;\nSELECT 5;\n')
             self.assertEqual((status, printed, self.said(said)), (0, '5\n', ['42703', '22012', '42601']))
+
+    def test_where_syntax_goes_wrong(self):
+        """The line is shown, and below it a caret."""
+        with self.served('--clients', 5):
+            for text, line, before in [('SELECT k FROM t WHERE k = = 1;', 'SELECT k FROM t WHERE k = = 1;', 26), ("SELECT 'é' +\nFROM t;", 'FROM t;', 0)]:
+                with self.subTest(text):
+                    status, printed, said = self.psql(text, given=('-v', 'VERBOSITY=default'))
+                    head, shown, caret = said.splitlines()
+                    self.assertEqual((head.split(':')[-1].strip(), shown.split(': ', 1)[1], caret), ('syntax error', line, ' ' * (shown.index(': ') + 2 + before) + '^'))
 
     def test_tags_and_a_transaction(self):
         with self.served('--clients', 5):
@@ -399,6 +409,92 @@ class OtherDrivers(AtServer):
                              ["[1, 'one', True] [2, None, False]", '1', '[3, "it\'s"]', '["\'; --", False]', "['AS z', 1]", "b'a' b'b'", '[None]'])
 
 
+class DroppedRoles(AtServer):
+    """The clients of a role that is dropped end without a message, and before anything else is done."""
+
+    @contextlib.contextmanager
+    def dropping(self, port=None, behind=''):
+        """A superuser at a server where the roles carl and dan may come, too."""
+        with self.served('--clients', 8, port=port, behind=behind), self.client('root', port) as root:
+            for text in ('CREATE ROLE carl LOGIN', 'CREATE ROLE dan LOGIN', 'GRANT SELECT ON t TO PUBLIC'):
+                self.assertEqual(codes(root.ask(text)), [])
+            yield root
+
+    def client(self, user, port=None):
+        return Client(port or self.socket, user)
+
+    def is_over(self, client):
+        self.assertEqual(client.rest(), [])
+
+    def reads(self, client):
+        self.assertEqual(kinds(client.ask('SELECT k FROM t')), b'TDDCZ')
+
+    def test_a_role_that_is_dropped(self):
+        """Also who is silent in a block, and in the middle of an extended query. The others go on, and the role made again begins with nobody."""
+        for port in (None, free_port()):
+            with self.subTest(port), self.dropping(port) as root, contextlib.ExitStack() as stack:
+                busy, silent, halfway, other = (stack.enter_context(self.client(user, port)) for user in ('carl', 'carl', 'carl', 'dan'))
+                self.reads(busy)
+                self.assertEqual(kinds(silent.ask('BEGIN')), b'CZ')
+                halfway.send(parse('SELECT k FROM t'), bind(), FLUSH)
+                self.assertEqual(kinds(halfway.until(b'2')), b'12')
+                self.assertEqual(kinds(root.ask('DROP ROLE carl')), b'CZ')
+                for client in (busy, silent, halfway):
+                    self.is_over(client)
+                self.assertEqual(kinds(root.ask('CREATE ROLE carl LOGIN')), b'CZ')
+                self.reads(other)
+                with self.client('carl', port) as made:
+                    self.reads(made)
+                self.assertEqual(kinds(root.ask('DROP ROLE carl')), b'CZ')
+                self.assertEqual(kinds(root.ask('DROP ROLE dan')), b'CZ')
+                self.is_over(other)
+
+    def test_a_role_that_is_made_again_at_once(self):
+        """Nothing that its old client sends is carried out for the new one, also where both statements came in one piece."""
+        with self.dropping() as root, self.client('carl') as carl:
+            root.send(query('DROP ROLE carl'), query('CREATE ROLE carl SUPERUSER LOGIN'))
+            with contextlib.suppress(OSError):
+                carl.send(*[query("INSERT INTO t VALUES (9, 'nine')")] * 20)
+            self.assertEqual([kinds(root.until(b'Z')) for _ in range(2)], [b'CZ'] * 2)
+            self.assertNotIn(b'C', kinds(carl.rest()))
+            self.assertEqual(kinds(root.ask('SELECT k FROM t WHERE k = 9')), b'TCZ')
+
+    def test_a_role_that_is_dropped_in_a_block(self):
+        """Who came as it goes on until the COMMIT, and for good after a ROLLBACK and where DROP ROLE is refused."""
+        with self.dropping() as root, self.client('carl') as carl, self.client('dan') as dan:
+            self.assertEqual([codes(client.ask(f'DROP ROLE {role}')) for client, role in ((dan, 'carl'), (root, 'nobody'), (root, 'bob'))], [['42501'], ['42704'], ['2BP01']])
+            for end in ('ROLLBACK', 'COMMIT'):
+                self.assertEqual([kinds(root.ask(text)) for text in ('BEGIN', 'DROP ROLE carl')], [b'CZ'] * 2)
+                self.reads(carl)
+                self.assertEqual(kinds(root.ask(end)), b'CZ')
+                if end == 'ROLLBACK':
+                    self.reads(carl)
+            self.is_over(carl)
+            self.reads(dan)
+
+    def test_texts_of_several_statements(self):
+        """One text that drops a role and makes it again in one block ends its clients, too; so does one behind which nobody asks again."""
+        with self.dropping() as root, self.client('carl') as carl, self.client('dan') as dan:
+            self.assertEqual(kinds(root.ask('DROP ROLE dan; CREATE ROLE eve LOGIN')), b'CCZ')
+            self.is_over(dan)
+            root.send(parse('DROP ROLE carl'), bind(), execute(), SYNC)
+            self.assertEqual(kinds(root.until(b'Z')), b'12CZ')
+            self.is_over(carl)
+
+    def test_who_is_in_a_block_leaves_nothing(self):
+        """What the client of a dropped role has written is not there, and its writer lock is free."""
+        with self.dropping() as root, self.client('carl') as carl:
+            self.assertEqual(kinds(root.ask('CREATE TABLE open_to_all (k BIGINT PRIMARY KEY)')), b'CZ')
+            self.assertEqual(kinds(root.ask('GRANT INSERT, SELECT ON open_to_all TO PUBLIC')), b'CZ')
+            self.assertEqual([kinds(root.ask(text)) for text in ('BEGIN', 'DROP ROLE carl')], [b'CZ'] * 2)
+            self.assertEqual(kinds(carl.ask('BEGIN')), b'CZ')
+            self.assertEqual(codes(carl.ask('INSERT INTO open_to_all VALUES (1)')), ['55P03'])
+            self.assertEqual(kinds(root.ask('COMMIT')), b'CZ')
+            self.is_over(carl)
+            self.assertEqual(kinds(root.ask('INSERT INTO open_to_all VALUES (2)')), b'CZ')
+            self.assertEqual(kinds(root.ask('SELECT k FROM open_to_all')), b'TDCZ')
+
+
 class Places(AtServer):
     def test_the_file_of_the_socket(self):
         with self.served('--clients', 3, '--connections', 1):
@@ -425,6 +521,8 @@ class Places(AtServer):
             with self.subTest(kind):
                 server = subprocess.Popen([PROGRAM, 'serve', self.path, '--at', f'{kind}:{where}', '--clients', '2', '--connections', '1'], stderr=subprocess.PIPE, text=True)
                 server.stderr.readline()
+                if kind == 'port':
+                    self.assertEqual(server.stderr.readline(), f'guarddb: no passwords are asked for at 127.0.0.1:{where}\n')
                 with guarddb.connect(where, wait=PATIENCE, timeout=PATIENCE) as connection:
                     self.assertEqual(connection.open('root').ask('SELECT 1'), [['1']])
                 self.assertEqual(server.communicate(timeout=PATIENCE)[1], 'guarddb: done\n')

@@ -82,8 +82,9 @@ module _ (words : TheWords) (name : TheWord) (rows : List Row) (fits : fault_of 
   order_asks (order.Serve file port connections idle) has = (has.0, has.1, has.2, gives_of _ has.3, has.4, has.5, has.6)
   order_asks (order.ServeSocket file socket connections idle) has = (has.0, has.1, gives_of _ has.2, has.3, has.4, has.5)
   order_asks (order.ServeClients file place many) has = (has.0, has.1, gives_of _ has.2, has.3, has.4)
+  order_asks (order.ServePlaces file places many) has = (has.0, has.1, has.2, gives_of _ has.3, has.4, has.5)
   order_asks (order.Check file) has = gives_of _ has
-  order_asks (order.Describe file role json) has = (gives_of _ has.0, has.1)
+  order_asks (order.Describe file asked json) has = (gives_of _ has.0, has.1)
   order_asks (order.Explain file asked) has = gives_of _ has
   order_asks order.Help has = absurd has
   order_asks order.Version has = absurd has
@@ -101,9 +102,12 @@ module _ (words : TheWords) (name : TheWord) (rows : List Row) (fits : fault_of 
   order_refuses (usage.Name named) unfit = (unfit.0, gives_of _ unfit.1, unfit.2, unfit.3)
   order_refuses (usage.Switch word) unfit = (unfit.0, gives_of _ unfit.1, unfit.2, unfit.3)
   order_refuses usage.Making unfit = gives_of _ unfit
+  order_refuses usage.Describing unfit = (unfit.0, gives_of _ unfit.1, unfit.2)
   order_refuses (usage.Grammar e) unfit = absurd unfit
   order_refuses usage.Encoding unfit = absurd unfit
-  order_refuses usage.Memory unfit = absurd unfit
+  order_refuses (usage.Place wrong) unfit = (unfit.0, gives_of _ unfit.1, unfit.2, unfit.3)
+  order_refuses usage.Places none = (fits, λ given gives. none given (given_as given gives))
+  order_refuses usage.Memory unfit = tt
 
 -- ---- errors
 
@@ -124,8 +128,9 @@ asks_by words e (Ok (order.RunMemory admin script on)) kinds read = absurd read
 asks_by words e (Ok (order.Serve file port connections idle)) kinds read = absurd read
 asks_by words e (Ok (order.ServeSocket file socket connections idle)) kinds read = absurd read
 asks_by words e (Ok (order.ServeClients file place many)) kinds read = absurd read
+asks_by words e (Ok (order.ServePlaces file places many)) kinds read = absurd read
 asks_by words e (Ok (order.Check file)) kinds read = absurd read
-asks_by words e (Ok (order.Describe file role json)) kinds read = absurd read
+asks_by words e (Ok (order.Describe file asked json)) kinds read = absurd read
 asks_by words e (Ok (order.Explain file asked)) kinds read = absurd read
 asks_by words e (Err u) kinds read = tt
 
@@ -144,7 +149,10 @@ refuses_by words e (Err (usage.Options behind)) kinds read = absurd read
 refuses_by words e (Err (usage.Name name)) kinds read = absurd read
 refuses_by words e (Err (usage.Switch word)) kinds read = absurd read
 refuses_by words e (Err usage.Making) kinds read = absurd read
+refuses_by words e (Err usage.Describing) kinds read = absurd read
 refuses_by words e (Err usage.Encoding) kinds read = absurd read
+refuses_by words e (Err (usage.Place wrong)) kinds read = absurd read
+refuses_by words e (Err usage.Places) kinds read = absurd read
 refuses_by words e (Err usage.Memory) kinds read = tt
 
 -- an error of the parse is read as what the words ask for, or are refused for

@@ -33,9 +33,12 @@ module _ (word file : TheWord) (options : Option TheWord) (counts : GivenCounts)
   no_count_so kind (usage.Options words) none = absurd none
   no_count_so kind (usage.Name name) none = absurd none
   no_count_so kind (usage.Switch named) none = absurd none
+  no_count_so kind usage.Describing none = absurd none
   no_count_so kind (usage.Grammar e) none = absurd none
   no_count_so kind usage.Making none = absurd none
   no_count_so kind usage.Encoding none = absurd none
+  no_count_so kind (usage.Place wrong) none = absurd none
+  no_count_so kind usage.Places none = absurd none
   no_count_so kind usage.Memory none = absurd none
 
   no_path_so : (u : UsageFault) → IsNoPath word u → IsUnfit (λ g. g ≡ ServeClients file (At kinds.Socket word options) counts) u
@@ -49,9 +52,12 @@ module _ (word file : TheWord) (options : Option TheWord) (counts : GivenCounts)
   no_path_so (usage.Options words) none = absurd none
   no_path_so (usage.Name name) none = absurd none
   no_path_so (usage.Switch named) none = absurd none
+  no_path_so usage.Describing none = absurd none
   no_path_so (usage.Grammar e) none = absurd none
   no_path_so usage.Making none = absurd none
   no_path_so usage.Encoding none = absurd none
+  no_path_so (usage.Place wrong) none = absurd none
+  no_path_so usage.Places none = absurd none
   no_path_so usage.Memory none = absurd none
 
   no_folder_so : (u : UsageFault) → IsNoFolder word u → IsUnfit (λ g. g ≡ ServeClients file (At kinds.PostgresFolder word options) counts) u
@@ -65,9 +71,12 @@ module _ (word file : TheWord) (options : Option TheWord) (counts : GivenCounts)
   no_folder_so (usage.Options words) none = absurd none
   no_folder_so (usage.Name name) none = absurd none
   no_folder_so (usage.Switch named) none = absurd none
+  no_folder_so usage.Describing none = absurd none
   no_folder_so (usage.Grammar e) none = absurd none
   no_folder_so usage.Making none = absurd none
   no_folder_so usage.Encoding none = absurd none
+  no_folder_so (usage.Place wrong) none = absurd none
+  no_folder_so usage.Places none = absurd none
   no_folder_so usage.Memory none = absurd none
 
   -- a word that names no place of its kind is unfit
@@ -91,9 +100,12 @@ module _ (word file : TheWord) (options : Option TheWord) (counts : GivenCounts)
   no_options_so kind (usage.Folder folder) none = absurd none
   no_options_so kind (usage.Name name) none = absurd none
   no_options_so kind (usage.Switch named) none = absurd none
+  no_options_so kind usage.Describing none = absurd none
   no_options_so kind (usage.Grammar e) none = absurd none
   no_options_so kind usage.Making none = absurd none
   no_options_so kind usage.Encoding none = absurd none
+  no_options_so kind (usage.Place wrong) none = absurd none
+  no_options_so kind usage.Places none = absurd none
   no_options_so kind usage.Memory none = absurd none
 
   -- a word that names no place of its kind, or does not say whom it lets in, is unfit

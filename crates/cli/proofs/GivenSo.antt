@@ -25,8 +25,9 @@ module _ (G : Given → Type 0) (words : Given) (gives : G words) where
   ordered_so (order.Serve file port connections idle) has = (has.0, has.1, has.2, so _ has.3, has.4, has.5, has.6)
   ordered_so (order.ServeSocket file socket connections idle) has = (has.0, has.1, so _ has.2, has.3, has.4, has.5)
   ordered_so (order.ServeClients file place many) has = (has.0, has.1, so _ has.2, has.3, has.4)
+  ordered_so (order.ServePlaces file places many) has = (has.0, has.1, has.2, so _ has.3, has.4, has.5)
   ordered_so (order.Check file) has = so _ has
-  ordered_so (order.Describe file role json) has = (so _ has.0, has.1)
+  ordered_so (order.Describe file asked json) has = (so _ has.0, has.1)
   ordered_so (order.Explain file asked) has = so _ has
   ordered_so order.Help has = absurd has
   ordered_so order.Version has = absurd has
@@ -43,9 +44,12 @@ module _ (G : Given → Type 0) (words : Given) (gives : G words) where
   unfit_so (usage.Name named) unfit = (unfit.0, so _ unfit.1, unfit.2, unfit.3)
   unfit_so (usage.Switch word) unfit = (unfit.0, so _ unfit.1, unfit.2, unfit.3)
   unfit_so usage.Making unfit = so _ unfit
+  unfit_so usage.Describing unfit = (unfit.0, so _ unfit.1, unfit.2)
   unfit_so (usage.Grammar e) unfit = absurd unfit
   unfit_so usage.Encoding unfit = absurd unfit
-  unfit_so usage.Memory unfit = absurd unfit
+  unfit_so (usage.Place word) unfit = (unfit.0, so _ unfit.1, unfit.2, unfit.3)
+  unfit_so usage.Places none = absurd (none words refl)
+  unfit_so usage.Memory unfit = tt
 
 -- what holds of a fault holds where it is handed on
 pub handed_on : {T : Type 0} (P : UsageFault → Type 0) (r : Result T UsageFault) (u : UsageFault) → IsErrAnd r (λ y. y ≡ u) → P u → IfErr r P
@@ -66,6 +70,9 @@ no_number_so option given word is (usage.Options words) none = absurd none
 no_number_so option given word is (usage.Name name) none = absurd none
 no_number_so option given word is (usage.Switch named) none = absurd none
 no_number_so option given word is usage.Making none = absurd none
+no_number_so option given word is usage.Describing none = absurd none
 no_number_so option given word is (usage.Grammar e) none = absurd none
 no_number_so option given word is usage.Encoding none = absurd none
+no_number_so option given word is (usage.Place wrong) none = absurd none
+no_number_so option given word is usage.Places none = absurd none
 no_number_so option given word is usage.Memory none = absurd none

@@ -1,14 +1,16 @@
 -- What a getter gives, and which words a command has.
-use Rattle.std.proofs.Common.{◌≡◌, ◌∙◌, ap, subst, sym, refl, ℕ, Bool, true, false, List, Option, Some, None, codes, option_map, is_some, slice_index, arith}
-use Rattle.std.specs.Prelude.{◌↔◌, IsTrue}
+use Rattle.std.proofs.Common.{◌≡◌, ◌≤◌, ◌∙◌, ⊎_elim, ap, subst, sym, refl, ℕ, Bool, true, false, List, [], ◌∷◌, length, map, Option, Some, None, codes, option_map, is_some, slice_index, arith}
+use Rattle.std.specs.Prelude.{◌↔◌, IsTrue, option_and_then, slice_get}
+use Rattle.std.specs.List.{find}
+use Rattle.std.specs.Str.{bytes_eq}
 use Rattle.std.specs.Borrow.{Bor}
-use Rattle.clap.specs.Words.{Row, first_of, first_value, one_of, one_text, rows_of}
-use Rattle.clap.proofs.WalkLemmas.{first_value-rows, one_text-rows}
+use Rattle.clap.specs.Words.{Row, all_of, first_of, first_value, matched_of, one_of, one_text, raw_values, rows_of}
+use Rattle.clap.proofs.WalkLemmas.{first_value-rows, one_text-rows, raw_values-rows}
 use Rattle.clap.specs.declared.parser.matches.Found.{Found}
 use Rattle.sql_types.specs.Name.{IsName}
 use Rattle.std.specs.Option.{unwrap_or}
 use Rattle.cli.specs.PlaceWords.{NoPlaceWord, place_word, with_options}
-use Rattle.cli.specs.CommandLine.{TheWord, Given, Format, Copy, Dump, Restore, Journal, Password, Run, RunMemory, Serve, ServeSocket, ServeClients, GivenPlace, AtPort, AtSocket, At, GivenCounts, Check, Describe, Explain, HasPlaceWord, HasWords, GivesAs, IsFlag, IsRoleName, lent_word}
+use Rattle.cli.specs.CommandLine.{TheWord, Given, Format, Copy, Dump, Restore, Journal, Password, Run, RunMemory, Serve, ServeSocket, ServeClients, GivenPlace, AtPort, AtSocket, At, AtEach, GivenCounts, BarsSuperusers, Check, Describe, Explain, HasPlaceWord, HasWords, GivesAs, IsFlag, IsRoleName, IsSeveral, lent_word, lent_words}
 
 module _ (f : Found) (id : List ℕ) (r : Option (Bor (List ℕ))) (got : option_map (λ s. s.now) r ≡ first_value f id) where
   -- what a getter gives is the word that the rows have
@@ -60,29 +62,86 @@ pub no_place : (rows : List Row) (place : GivenPlace) → first_of (codes "port"
 no_place rows (AtPort port) no_port no_socket no_at has = not_both _ port no_port has.0
 no_place rows (AtSocket socket) no_port no_socket no_at has = not_both _ socket no_socket has.1
 no_place rows (At kind rest options) no_port no_socket no_at has = not_both _ (with_options (place_word kind rest) options) no_at has.2
+no_place rows (AtEach first others) no_port no_socket no_at has = not_both _ first no_at has.2
 
 pub two_places : (rows : List Row) (place : GivenPlace) (port : TheWord) → first_of (codes "port") rows ≡ Some port → (first_of (codes "socket") rows ≡ None → ⊥) → HasPlaceWord rows place → ⊥
 two_places rows (AtPort other) port has_port has_socket has = has_socket has.1
 two_places rows (AtSocket socket) port has_port has_socket has = not_both _ port has.0 has_port
 two_places rows (At kind rest options) port has_port has_socket has = not_both _ port has.0 has_port
+two_places rows (AtEach first others) port has_port has_socket has = not_both _ port has.0 has_port
+
+-- ---- one word of `--at`, or several
+
+same_words : (x y : List TheWord) → Some x ≡ Some y → x ≡ y
+same_words x y is = ap (λ (o : Option (List TheWord)). unwrap_or o x) is
+
+same_first : (a b : TheWord) (xs ys : List TheWord) → a ∷ xs ≡ b ∷ ys → a ≡ b
+same_first a b xs ys is = cc
+
+-- one word alone, that does not say that no superuser is admitted, is not several
+pub not_several : (words : List TheWord) (word : TheWord) → words ≡ word ∷ [] → (BarsSuperusers word → ⊥) → IsSeveral words → ⊥
+not_several words word is plain several =
+    ⊎_elim (λ two. let one : length words ≡ 1 = ap length is in omega (arith, two, one))
+    (λ barred. plain (subst BarsSuperusers (same_first barred.0 word [] [] (sym barred.1 ∙ is)) barred.2)) several
 
 -- what `--at` names is its place alone
-pub only_at : (rows : List Row) (place : GivenPlace) (word : TheWord) → first_of (codes "at") rows ≡ Some word → NoPlaceWord word → HasPlaceWord rows place → ⊥
-only_at rows (AtPort port) word has_at none has = not_both _ word has.2 has_at
-only_at rows (AtSocket socket) word has_at none has = not_both _ word has.2 has_at
-only_at rows (At kind rest options) word has_at none has =
+pub only_at : (rows : List Row) (place : GivenPlace) (word : TheWord) → first_of (codes "at") rows ≡ Some word → all_of (codes "at") rows ≡ Some (word ∷ []) → (BarsSuperusers word → ⊥) → NoPlaceWord word → HasPlaceWord rows place → ⊥
+only_at rows (AtPort port) word has_at alone plain none has = not_both _ word has.2 has_at
+only_at rows (AtSocket socket) word has_at alone plain none has = not_both _ word has.2 has_at
+only_at rows (At kind rest options) word has_at alone plain none has =
     none kind rest options (same_some word (with_options (place_word kind rest) options) (sym has_at ∙ has.2)) has.3
+only_at rows (AtEach first others) word has_at alone plain none has =
+    not_several (first ∷ others) word (same_words (first ∷ others) (word ∷ []) (sym has.3 ∙ alone)) plain has.4
+
+-- words that are several are no word alone, and are eight at most
+pub too_many : (rows : List Row) (place : GivenPlace) (word : TheWord) (words : List TheWord) → first_of (codes "at") rows ≡ Some word → all_of (codes "at") rows ≡ Some words → IsSeveral words → (length words ≤ 8 → ⊥) → HasPlaceWord rows place → ⊥
+too_many rows (AtPort port) word words has_at all several many has = not_both _ word has.2 has_at
+too_many rows (AtSocket socket) word words has_at all several many has = not_both _ word has.2 has_at
+too_many rows (At kind rest options) word words has_at all several many has =
+    let alone = with_options (place_word kind rest) options in
+    not_several words alone (same_words words (alone ∷ []) (sym all ∙ has.4)) has.5 several
+too_many rows (AtEach first others) word words has_at all several many has =
+    many (subst (λ (ws : List TheWord). length ws ≤ 8) (sym (same_words words (first ∷ others) (sym all ∙ has.3))) has.5)
+
+-- ---- all words of an option
+
+-- the first is the first of all
+first_in_all : (id : List ℕ) (rows : List Row) → first_of id rows ≡ option_and_then (λ (ws : List (List ℕ)). slice_get ws 0) (all_of id rows)
+first_in_all id rows = go (find (λ (r : Row). bytes_eq r.id id) rows)
+  where
+    go : (o : Option Row) → option_and_then (λ (r : Row). slice_get r.values 0) o ≡ option_and_then (λ (ws : List (List ℕ)). slice_get ws 0) (option_map (λ (r : Row). r.values) o)
+    go None = refl
+    go (Some r) = refl
+
+pub first_given : (id : List ℕ) (rows : List Row) (word : TheWord) (words : List TheWord) → all_of id rows ≡ Some (word ∷ words) → first_of id rows ≡ Some word
+first_given id rows word words is = first_in_all id rows ∙ ap (option_and_then (λ (ws : List (List ℕ)). slice_get ws 0)) is
+
+pub none_given : (id : List ℕ) (rows : List Row) → all_of id rows ≡ None → first_of id rows ≡ None
+none_given id rows is = first_in_all id rows ∙ ap (option_and_then (λ (ws : List (List ℕ)). slice_get ws 0)) is
+
+pub empty_given : (id : List ℕ) (rows : List Row) → all_of id rows ≡ Some [] → first_of id rows ≡ None
+empty_given id rows is = first_in_all id rows ∙ ap (option_and_then (λ (ws : List (List ℕ)). slice_get ws 0)) is
+
+module _ (f : Found) (id : List ℕ) (r : Option (Bor (List (Bor (List ℕ))))) (got : option_map (λ s. map (λ v. v.now) s.now) r ≡ option_map raw_values (matched_of f id)) where
+  -- what a getter of all words gives is what the rows have
+  pub got_words : (words : Bor (List (Bor (List ℕ)))) → r ≡ Some words → all_of id (rows_of f) ≡ Some (lent_words words.now)
+  got_words words is = sym (raw_values-rows f id) ∙ sym got ∙ ap (option_map (λ s. map (λ v. v.now) s.now)) is
+
+  pub got_no_words : r ≡ None → all_of id (rows_of f) ≡ None
+  got_no_words is = sym (raw_values-rows f id) ∙ sym got ∙ ap (option_map (λ s. map (λ v. v.now) s.now)) is
 
 -- beside it there is neither a port nor a socket
 pub no_port_beside : (rows : List Row) (place : GivenPlace) (word : TheWord) → first_of (codes "at") rows ≡ Some word → (first_of (codes "port") rows ≡ None → ⊥) → HasPlaceWord rows place → ⊥
 no_port_beside rows (AtPort port) word has_at given has = not_both _ word has.2 has_at
 no_port_beside rows (AtSocket socket) word has_at given has = not_both _ word has.2 has_at
 no_port_beside rows (At kind rest options) word has_at given has = given has.0
+no_port_beside rows (AtEach first others) word has_at given has = given has.0
 
 pub no_socket_beside : (rows : List Row) (place : GivenPlace) (word : TheWord) → first_of (codes "at") rows ≡ Some word → (first_of (codes "socket") rows ≡ None → ⊥) → HasPlaceWord rows place → ⊥
 no_socket_beside rows (AtPort port) word has_at given has = not_both _ word has.2 has_at
 no_socket_beside rows (AtSocket socket) word has_at given has = not_both _ word has.2 has_at
 no_socket_beside rows (At kind rest options) word has_at given has = given has.1
+no_socket_beside rows (AtEach first others) word has_at given has = given has.1
 
 -- what a getter gives of a flag is whether it is given
 pub flag_so : (f : Found) (id : List ℕ) (given : Bool) → (one_text f id ≡ None → given ≡ false) → (one_text f id ≡ Some (codes "true") → given ≡ true) → (one_text f id ≡ Some (codes "false") → given ≡ false)
@@ -129,7 +188,7 @@ no_format rows lacks (Serve file port connections idle) gives = other_name _ _ g
 no_format rows lacks (ServeSocket file socket connections idle) gives = other_name _ _ gives.named (λ e. omega (arith, e))
 no_format rows lacks (ServeClients file place counts) gives = other_name _ _ gives.named (λ e. omega (arith, e))
 no_format rows lacks (Check file) gives = other_name _ _ gives.named (λ e. omega (arith, e))
-no_format rows lacks (Describe file role json) gives = other_name _ _ gives.named (λ e. omega (arith, e))
+no_format rows lacks (Describe file role table since powers json) gives = other_name _ _ gives.named (λ e. omega (arith, e))
 no_format rows lacks (Explain file role statement session json) gives = other_name _ _ gives.named (λ e. omega (arith, e))
 
 pub no_run : (rows : List Row) → ((file script : TheWord) (stop explain : Bool) → HasWords rows (Run file script stop explain) → ⊥) → ((admin script : TheWord) (stop explain : Bool) → HasWords rows (RunMemory admin script stop explain) → ⊥) → (given : Given) → GivesAs (codes "run") rows given → ⊥
@@ -145,7 +204,7 @@ no_run rows fewer lacks (Serve file port connections idle) gives = other_name _ 
 no_run rows fewer lacks (ServeSocket file socket connections idle) gives = other_name _ _ gives.named (λ e. omega (arith, e))
 no_run rows fewer lacks (ServeClients file place counts) gives = other_name _ _ gives.named (λ e. omega (arith, e))
 no_run rows fewer lacks (Check file) gives = other_name _ _ gives.named (λ e. omega (arith, e))
-no_run rows fewer lacks (Describe file role json) gives = other_name _ _ gives.named (λ e. omega (arith, e))
+no_run rows fewer lacks (Describe file role table since powers json) gives = other_name _ _ gives.named (λ e. omega (arith, e))
 no_run rows fewer lacks (Explain file role statement session json) gives = other_name _ _ gives.named (λ e. omega (arith, e))
 
 pub no_serve : (rows : List Row) → ((file port connections : TheWord) (idle : Option TheWord) → HasWords rows (Serve file port connections idle) → ⊥) → ((file socket connections : TheWord) (idle : Option TheWord) → HasWords rows (ServeSocket file socket connections idle) → ⊥) → ((file : TheWord) (place : GivenPlace) (counts : GivenCounts) → HasWords rows (ServeClients file place counts) → ⊥) → (given : Given) → GivesAs (codes "serve") rows given → ⊥
@@ -161,7 +220,7 @@ no_serve rows port socket many (Serve file number connections idle) gives = port
 no_serve rows port socket many (ServeSocket file path connections idle) gives = socket file path connections idle gives.words
 no_serve rows port socket many (ServeClients file place counts) gives = many file place counts gives.words
 no_serve rows port socket many (Check file) gives = other_name _ _ gives.named (λ e. omega (arith, e))
-no_serve rows port socket many (Describe file role json) gives = other_name _ _ gives.named (λ e. omega (arith, e))
+no_serve rows port socket many (Describe file role table since powers json) gives = other_name _ _ gives.named (λ e. omega (arith, e))
 no_serve rows port socket many (Explain file role statement session json) gives = other_name _ _ gives.named (λ e. omega (arith, e))
 
 pub no_check : (rows : List Row) → ((file : TheWord) → HasWords rows (Check file) → ⊥) → (given : Given) → GivesAs (codes "check") rows given → ⊥
@@ -177,10 +236,10 @@ no_check rows lacks (Serve file port connections idle) gives = other_name _ _ gi
 no_check rows lacks (ServeSocket file socket connections idle) gives = other_name _ _ gives.named (λ e. omega (arith, e))
 no_check rows lacks (ServeClients file place counts) gives = other_name _ _ gives.named (λ e. omega (arith, e))
 no_check rows lacks (Check file) gives = lacks file gives.words
-no_check rows lacks (Describe file role json) gives = other_name _ _ gives.named (λ e. omega (arith, e))
+no_check rows lacks (Describe file role table since powers json) gives = other_name _ _ gives.named (λ e. omega (arith, e))
 no_check rows lacks (Explain file role statement session json) gives = other_name _ _ gives.named (λ e. omega (arith, e))
 
-pub no_describe : (rows : List Row) → ((file : TheWord) (role : Option TheWord) (json : Bool) → HasWords rows (Describe file role json) → ⊥) → (given : Given) → GivesAs (codes "describe") rows given → ⊥
+pub no_describe : (rows : List Row) → ((file : TheWord) (role table since : Option TheWord) (powers json : Bool) → HasWords rows (Describe file role table since powers json) → ⊥) → (given : Given) → GivesAs (codes "describe") rows given → ⊥
 no_describe rows lacks (Format file pages admin journal) gives = other_name _ _ gives.named (λ e. omega (arith, e))
 no_describe rows lacks (Copy file new pages journal) gives = other_name _ _ gives.named (λ e. omega (arith, e))
 no_describe rows lacks (Dump file out) gives = other_second _ _ gives.named (λ e. omega (arith, e))
@@ -193,7 +252,7 @@ no_describe rows lacks (Serve file port connections idle) gives = other_name _ _
 no_describe rows lacks (ServeSocket file socket connections idle) gives = other_name _ _ gives.named (λ e. omega (arith, e))
 no_describe rows lacks (ServeClients file place counts) gives = other_name _ _ gives.named (λ e. omega (arith, e))
 no_describe rows lacks (Check file) gives = other_name _ _ gives.named (λ e. omega (arith, e))
-no_describe rows lacks (Describe file role json) gives = lacks file role json gives.words
+no_describe rows lacks (Describe file role table since powers json) gives = lacks file role table since powers json gives.words
 no_describe rows lacks (Explain file role statement session json) gives = other_name _ _ gives.named (λ e. omega (arith, e))
 
 pub no_copy : (rows : List Row) → ((file new pages : TheWord) (journal : Bool) → HasWords rows (Copy file new pages journal) → ⊥) → (given : Given) → GivesAs (codes "copy") rows given → ⊥
@@ -209,7 +268,7 @@ no_copy rows lacks (Serve file port connections idle) gives = other_name _ _ giv
 no_copy rows lacks (ServeSocket file socket connections idle) gives = other_name _ _ gives.named (λ e. omega (arith, e))
 no_copy rows lacks (ServeClients file place counts) gives = other_name _ _ gives.named (λ e. omega (arith, e))
 no_copy rows lacks (Check file) gives = other_second _ _ gives.named (λ e. omega (arith, e))
-no_copy rows lacks (Describe file role json) gives = other_name _ _ gives.named (λ e. omega (arith, e))
+no_copy rows lacks (Describe file role table since powers json) gives = other_name _ _ gives.named (λ e. omega (arith, e))
 no_copy rows lacks (Explain file role statement session json) gives = other_name _ _ gives.named (λ e. omega (arith, e))
 
 pub no_journal : (rows : List Row) → ((file state : TheWord) → HasWords rows (Journal file state) → ⊥) → (given : Given) → GivesAs (codes "journal") rows given → ⊥
@@ -225,7 +284,7 @@ no_journal rows lacks (Serve file port connections idle) gives = other_name _ _ 
 no_journal rows lacks (ServeSocket file socket connections idle) gives = other_name _ _ gives.named (λ e. omega (arith, e))
 no_journal rows lacks (ServeClients file place counts) gives = other_name _ _ gives.named (λ e. omega (arith, e))
 no_journal rows lacks (Check file) gives = other_name _ _ gives.named (λ e. omega (arith, e))
-no_journal rows lacks (Describe file role json) gives = other_name _ _ gives.named (λ e. omega (arith, e))
+no_journal rows lacks (Describe file role table since powers json) gives = other_name _ _ gives.named (λ e. omega (arith, e))
 no_journal rows lacks (Explain file role statement session json) gives = other_name _ _ gives.named (λ e. omega (arith, e))
 
 pub no_explain : (rows : List Row) → ((file role statement : TheWord) (session : Option TheWord) (json : Bool) → HasWords rows (Explain file role statement session json) → ⊥) → (given : Given) → GivesAs (codes "explain") rows given → ⊥
@@ -241,7 +300,7 @@ no_explain rows lacks (Serve file port connections idle) gives = other_name _ _ 
 no_explain rows lacks (ServeSocket file socket connections idle) gives = other_name _ _ gives.named (λ e. omega (arith, e))
 no_explain rows lacks (ServeClients file place counts) gives = other_name _ _ gives.named (λ e. omega (arith, e))
 no_explain rows lacks (Check file) gives = other_name _ _ gives.named (λ e. omega (arith, e))
-no_explain rows lacks (Describe file role json) gives = other_name _ _ gives.named (λ e. omega (arith, e))
+no_explain rows lacks (Describe file role table since powers json) gives = other_name _ _ gives.named (λ e. omega (arith, e))
 no_explain rows lacks (Explain file role statement session json) gives = lacks file role statement session json gives.words
 
 pub no_dump : (rows : List Row) → ((file out : TheWord) → HasWords rows (Dump file out) → ⊥) → (given : Given) → GivesAs (codes "dump") rows given → ⊥
@@ -257,7 +316,7 @@ no_dump rows lacks (Serve file port connections idle) gives = other_name _ _ giv
 no_dump rows lacks (ServeSocket file socket connections idle) gives = other_name _ _ gives.named (λ e. omega (arith, e))
 no_dump rows lacks (ServeClients file place counts) gives = other_name _ _ gives.named (λ e. omega (arith, e))
 no_dump rows lacks (Check file) gives = other_name _ _ gives.named (λ e. omega (arith, e))
-no_dump rows lacks (Describe file role json) gives = other_second _ _ gives.named (λ e. omega (arith, e))
+no_dump rows lacks (Describe file role table since powers json) gives = other_second _ _ gives.named (λ e. omega (arith, e))
 no_dump rows lacks (Explain file role statement session json) gives = other_name _ _ gives.named (λ e. omega (arith, e))
 
 pub no_restore : (rows : List Row) → ((dump new pages : TheWord) (journal : Bool) → HasWords rows (Restore dump new pages journal) → ⊥) → (given : Given) → GivesAs (codes "restore") rows given → ⊥
@@ -273,5 +332,5 @@ no_restore rows lacks (Serve file port connections idle) gives = other_name _ _ 
 no_restore rows lacks (ServeSocket file socket connections idle) gives = other_name _ _ gives.named (λ e. omega (arith, e))
 no_restore rows lacks (ServeClients file place counts) gives = other_name _ _ gives.named (λ e. omega (arith, e))
 no_restore rows lacks (Check file) gives = other_name _ _ gives.named (λ e. omega (arith, e))
-no_restore rows lacks (Describe file role json) gives = other_name _ _ gives.named (λ e. omega (arith, e))
+no_restore rows lacks (Describe file role table since powers json) gives = other_name _ _ gives.named (λ e. omega (arith, e))
 no_restore rows lacks (Explain file role statement session json) gives = other_name _ _ gives.named (λ e. omega (arith, e))

@@ -4,6 +4,7 @@ pub mod GivenSo
 pub mod GivenWords
 pub mod GivenPlaces
 pub mod PlaceCommas
+mod SeveralWords
 mod Blank
 pub mod Changes
 mod Copied
@@ -12,10 +13,12 @@ mod Dumped
 mod Restored
 mod Served
 mod ServedClients
+mod CrowdedSaid
 mod ServingOrders
 mod OnlyRead
 mod Switched
 mod Taken
+mod ToldPlaces
 mod Earlier
 mod ExplainedEarlier
 mod RefusedRuns

@@ -50,7 +50,7 @@ bound_between old mid polled new place bound listener ended kind asked heard ope
 
 -- ---- at a place that was bound
 
-module _ {D L X C T P : Type 0} (g : Ghosts D) (a : AttendGhosts L C) (t : TalkGhosts T) (p : ClientsGhosts P T) (Reads : ReadingRelation) (Made : T → Type 0) (many : ManyClients) (server : Server (DeviceStore D g) X) (listener polled : L) (coming : KeepsAll (a.coming listener) (a.coming polled))
+module _ {D L X C T P : Type 0} (g : Ghosts D) (a : AttendGhosts L C) (t : TalkGhosts T) (p : ClientsGhosts P T) (Reads : ReadingRelation) (open_told : List ℕ) (Made : T → Type 0) (many : ManyClients) (server : Server (DeviceStore D g) X) (listener polled : L) (coming : KeepsAll (a.coming listener) (a.coming polled))
     (closed : KeepsAll (a.closed listener) (a.closed polled)) where
   -- who comes to a listener that is polled is who came to it before
   served_from : (end : ServeEnd) (left : D) (ended : L) → ServesComing g a t p Reads Made many server polled end left ended → ServesComing g a t p Reads Made many server listener end left ended
@@ -72,7 +72,7 @@ module _ {D L X C T P : Type 0} (g : Ghosts D) (a : AttendGhosts L C) (t : TalkG
   none_from left ended it = record { left_is = it.left_is; coming = λ c. it.coming c ∙ coming c; closed = λ c. it.closed c ∙ closed c }
 
   pub clients_served_at : (old new : SystemState D L) (place bound : ListenPlace) (before after : Known) (ended : L) (left : D) → IsBoundBetween old place bound listener ended new → (result : Result ServeEnd CommandFault)
-      → ServesClientsOn g a t p Reads bound Made many server polled before result left ended after → ServesClientsAt g a t p Reads old place Made many server before result left new after
+      → ServesClientsOn g a t p Reads bound open_told Made many server polled before result left ended after → ServesClientsAt g a t p Reads old place open_told Made many server before result left new after
   clients_served_at old new place bound before after ended left between (Ok end) it = record { bound = bound; listener = listener; ended = ended; between = between; told = it.0; serves = served_from end left ended it.1 }
   clients_served_at old new place bound before after ended left between (Err Output) it = record { bound = bound; listener = listener; ended = ended; between = between; none = none_from left ended it }
   clients_served_at old new place bound before after ended left between (Err Memory) it = (record { bound = bound; listener = listener; ended = ended; between = between; none = none_from left ended it.0 }, it.1)
@@ -106,10 +106,10 @@ module _ {D L X C T P : Type 0} (g : Ghosts D) (a : AttendGhosts L C) (t : TalkG
 
 -- ---- once the database was opened
 
-module _ (X : Type 0) {D L C T P : Type 0} (g : Ghosts D) (a : AttendGhosts L C) (t : TalkGhosts T) (p : ClientsGhosts P T) (Reads : ReadingRelation) (old mid end new : SystemState D L) (path : List ℕ) (place : ListenPlace) (Made : T → Type 0) (many : ManyClients) (told : Bool) (before noted after : Known)
+module _ (X : Type 0) {D L C T P : Type 0} (g : Ghosts D) (a : AttendGhosts L C) (t : TalkGhosts T) (p : ClientsGhosts P T) (Reads : ReadingRelation) (old mid end new : SystemState D L) (path : List ℕ) (place : ListenPlace) (open_told : List ℕ) (Made : T → Type 0) (many : ManyClients) (told : Bool) (before noted after : Known)
     (opened : Opened D X g) (at : IsOpenedAt g old path opened mid) (renewed : old.faithful → IsSynced (state_under opened.server)) (tells : TellsMigration opened.was_migrated path told before noted) where
   -- the device, where the place was not bound
-  left_changed : (left : D) → IsUnboundAt g a t p Reads mid place Made many opened.server noted left end after → (end.faithful → IsOpen end path → HasDevice new path left) → (end.faithful → IsSameBut path end new)
+  left_changed : (left : D) → IsUnboundAt g a t p Reads mid place open_told Made many opened.server noted left end after → (end.faithful → IsOpen end path → HasDevice new path left) → (end.faithful → IsSameBut path end new)
       → old.faithful → ChangesDevice g old path at.device (device_under opened.server) new
   left_changed left none closed closing is =
       let at_mid = (at.others is).faithful is in
@@ -118,7 +118,7 @@ module _ (X : Type 0) {D L C T P : Type 0} (g : Ghosts D) (a : AttendGhosts L C)
       (closed_again g path at.device left old end new (at.named is) (same.devices path ∙ at.is_open is) (but_then_same path old mid end (at.others is) same) closed closing is)
 
   none_served : (left : D) (heard : Known) → TellsMigration opened.was_migrated path told before heard → (end.faithful → IsOpen end path → HasDevice new path left) → (end.faithful → IsSameBut path end new)
-      → AreNotServedAt g a t p Reads mid place Made many opened.server noted left end → AreNotServedOver X g a t p Reads old path place Made many told before heard new
+      → AreNotServedAt g a t p Reads mid place open_told Made many opened.server noted left end → AreNotServedOver X g a t p Reads old path place open_told Made many told before heard new
   none_served left heard migrated closed closing it = record {
     file = record { device = at.device; opened = opened; is_opened = at.is_opened; tells = migrated };
     bound = it.bound;
@@ -135,7 +135,7 @@ module _ (X : Type 0) {D L C T P : Type 0} (g : Ghosts D) (a : AttendGhosts L C)
   silent_tells silent = subst (λ (known : Known). TellsMigration opened.was_migrated path told before known) (sym silent) tells
 
   pub clients_served_so : (result : Result ServeEnd CommandFault) (left : D) → (end.faithful → IsOpen end path → HasDevice new path left) → (end.faithful → IsSameBut path end new) → end.failures ≤ new.failures
-      → ServesClientsAt g a t p Reads mid place Made many opened.server noted result left end after → ServesAllAs X g a t p Reads old path place Made many told before result new after
+      → ServesClientsAt g a t p Reads mid place open_told Made many opened.server noted result left end after → ServesAllAs X g a t p Reads old path place open_told Made many told before result new after
   clients_served_so (Ok finish) left closed closing counts it = record {
     noted = noted;
     file = record { device = at.device; opened = opened; is_opened = at.is_opened; tells = tells };

@@ -1,7 +1,7 @@
 -- The grammar of the command line, as `clap` knows it.
 use Rattle.std.specs.Prelude.{◌≡◌, ℕ, Bool, true, false, List, codes, Some, Result, Ok}
 use Rattle.clap.specs.Words.{AddsSubcommand, App, Rule, app_of, new_app, new_rule, rule_of, with_rule, with_subcommand}
-use Rattle.clap.specs.declared.builder.ArgAction.TheVariants.{Set, SetTrue}
+use Rattle.clap.specs.declared.builder.ArgAction.TheVariants.{Append, Set, SetTrue}
 use Rattle.clap.specs.declared.builder.arg.Arg.{Arg}
 use Rattle.clap.specs.declared.builder.command.Command.{Command}
 use Rattle.clap.specs.declared.builder.command.Command.TheViews.{out-Command}
@@ -13,6 +13,10 @@ word_rule id required = record (new_rule id) { value_names = 1; action = Some Se
 -- the option `--ID`, which takes one word
 abbrev pub option_rule : List ℕ → Bool → Rule
 option_rule id required = record (word_rule id required) { long = Some id }
+
+-- the option `--ID`, which may be given more than once, each time with one word
+abbrev pub repeated_rule : List ℕ → Rule
+repeated_rule id = record (new_rule id) { value_names = 1; action = Some Append; long = Some id }
 
 -- the flag `--ID`, which takes none
 abbrev pub flag_rule : List ℕ → Rule
@@ -27,17 +31,17 @@ abbrev pub run_app : App
 run_app = with_rule (with_rule (with_rule (with_rule (with_rule (new_app (codes "run")) (option_rule (codes "memory") false)) (word_rule (codes "first") false)) (word_rule (codes "second") false)) (flag_rule (codes "stop"))) (flag_rule (codes "explain"))
 
 -- `serve`, with a word or without, and with each of `--port P`, `--socket PATH`, `--connections K`, `--idle SECONDS`, `--clients N`,
--- `--wait SECONDS`, `--block SECONDS` and `--at PLACE` or without
+-- `--wait SECONDS`, `--block SECONDS` and `--at PLACE` or without; the last one more than once, too
 abbrev pub serve_app : App
-serve_app = with_rule (with_rule (with_rule (with_rule (with_rule (with_rule (with_rule (with_rule (with_rule (new_app (codes "serve")) (word_rule (codes "file") false)) (option_rule (codes "port") false)) (option_rule (codes "socket") false)) (option_rule (codes "connections") false)) (option_rule (codes "idle") false)) (option_rule (codes "clients") false)) (option_rule (codes "wait") false)) (option_rule (codes "block") false)) (option_rule (codes "at") false)
+serve_app = with_rule (with_rule (with_rule (with_rule (with_rule (with_rule (with_rule (with_rule (with_rule (new_app (codes "serve")) (word_rule (codes "file") false)) (option_rule (codes "port") false)) (option_rule (codes "socket") false)) (option_rule (codes "connections") false)) (option_rule (codes "idle") false)) (option_rule (codes "clients") false)) (option_rule (codes "wait") false)) (option_rule (codes "block") false)) (repeated_rule (codes "at"))
 
 -- `check FILE`
 abbrev pub check_app : App
 check_app = with_rule (new_app (codes "check")) (word_rule (codes "file") true)
 
--- `describe FILE`, with a role or without, and with `--json` or without
+-- `describe FILE`, with a role or without, and with each of `--table T`, `--since OLD`, `--powers` and `--json` or without
 abbrev pub describe_app : App
-describe_app = with_rule (with_rule (with_rule (new_app (codes "describe")) (word_rule (codes "file") true)) (word_rule (codes "role") false)) (flag_rule (codes "json"))
+describe_app = with_rule (with_rule (with_rule (with_rule (with_rule (with_rule (new_app (codes "describe")) (word_rule (codes "file") true)) (word_rule (codes "role") false)) (option_rule (codes "table") false)) (option_rule (codes "since") false)) (flag_rule (codes "powers"))) (flag_rule (codes "json"))
 
 -- `copy FILE NEW --pages N`, with `--journal` or without
 abbrev pub copy_app : App

@@ -1,8 +1,8 @@
 -- What the words of a command line ask for, as `clap` reads them.
-use Rattle.std.specs.Prelude.{◌≡◌, ◌≢◌, ◌⊎◌, ℕ, Bool, true, false, List, [], map, codes, Option, Some, None, Result, Ok, Err}
+use Rattle.std.specs.Prelude.{◌≡◌, ◌≢◌, ◌≤◌, ◌++◌, ◌⊎◌, ℕ, Bool, true, false, List, [], ◌∷◌, length, map, codes, Option, Some, None, Result, Ok, Err}
 use Rattle.std.specs.Option.{option_map}
 use Rattle.std.specs.Borrow.{Bor}
-use Rattle.clap.specs.Words.{IsAmong, Row, first_of, fault_of, kind_of, one_of, subcommand_of}
+use Rattle.clap.specs.Words.{IsAmong, Row, all_of, first_of, fault_of, kind_of, one_of, subcommand_of}
 use Rattle.clap.specs.declared.error.Error.{Error}
 use Rattle.clap.specs.declared.error.kind.ErrorKind.{ErrorKind}
 use Rattle.clap.specs.declared.error.kind.ErrorKind.TheVariants as kind
@@ -15,6 +15,8 @@ use Rattle.cli.specs.declared.number.NumberOption.{NumberOption}
 use Rattle.cli.specs.declared.number.NumberOption.TheVariants.{Pages, Port, Connections, Idle, Clients, Wait, Block}
 use Rattle.cli.specs.CommandGrammar.{program_app}
 use Rattle.cli.specs.Numbers.{IsNumberFor, NoNumberFor}
+use Rattle.cli.specs.declared.describe_words.DescribeAsked.{DescribeAsked}
+use Rattle.cli.specs.declared.describe_words.DescribeAsked.TheVariants as asked
 use Rattle.cli.specs.declared.refusals.OnRefusal.{OnRefusal}
 use Rattle.cli.specs.declared.place_words.PlaceKind.{PlaceKind}
 use Rattle.cli.specs.declared.place_words.PlaceKind.TheVariants as kinds
@@ -22,6 +24,9 @@ use Rattle.cli.specs.declared.serve_clients.ManyClients.{ManyClients}
 use Rattle.cli.specs.declared.serve_words.CountWords.{CountWords}
 use Rattle.cli.specs.declared.served_place.Protocol.TheVariants.{Frames, Postgres}
 use Rattle.cli.specs.declared.served_place.ServedPlace.{ServedPlace}
+use Rattle.cli.specs.declared.served_place.NamedPlace.{NamedPlace}
+use Rattle.systems.specs.declared.place.ListenPlace.{ListenPlace}
+use Rattle.systems.specs.declared.place.ListenPlace.TheVariants as listen
 use Rattle.cli.specs.PlaceWords.{HasNoComma, IsFolderServed, SaysGuard, IsPortServed, IsSocketFolder, IsSocketPath, IsSocketServed, NoOptions, place_word, with_options}
 use Rattle.cli.specs.PasswordCommand.{verifier_asked}
 use Rattle.cli.specs.Refusals.{at_refusal}
@@ -47,6 +52,8 @@ pub data GivenPlace : Type 0 where
   AtPort : TheWord → GivenPlace
   AtSocket : TheWord → GivenPlace
   At : PlaceKind → TheWord → Option TheWord → GivenPlace
+  -- those of `--at`, where it is given more than once or says that no superuser is admitted
+  AtEach : (first : TheWord) (others : List TheWord) → GivenPlace
 
 -- the words for the numbers of a server of many clients
 pub record GivenCounts : Type 0 where
@@ -73,7 +80,7 @@ pub data Given : Type 0 where
   ServeSocket : (file socket connections : TheWord) (idle : Option TheWord) → Given
   ServeClients : (file : TheWord) (place : GivenPlace) (counts : GivenCounts) → Given
   Check : (file : TheWord) → Given
-  Describe : (file : TheWord) (role : Option TheWord) (json : Bool) → Given
+  Describe : (file : TheWord) (role table since : Option TheWord) (powers json : Bool) → Given
   Explain : (file role statement : TheWord) (session : Option TheWord) (json : Bool) → Given
 
 abbrev pub command_of : Given → TheWord
@@ -89,7 +96,7 @@ command_of (Serve file port connections idle) = codes "serve"
 command_of (ServeSocket file socket connections idle) = codes "serve"
 command_of (ServeClients file place counts) = codes "serve"
 command_of (Check file) = codes "check"
-command_of (Describe file role json) = codes "describe"
+command_of (Describe file role table since powers json) = codes "describe"
 command_of (Explain file role statement session json) = codes "explain"
 
 -- whether a flag is given: its value is `true` then, and else `false` or none
@@ -110,11 +117,24 @@ IsAtRefusal rows on = (stop explain : Bool) × AreRunFlags rows stop explain × 
 abbrev pub HasNoClients : List Row → Type 0
 HasNoClients rows = (first_of (codes "clients") rows ≡ None) × (first_of (codes "wait") rows ≡ None) × (first_of (codes "block") rows ≡ None) × (first_of (codes "at") rows ≡ None)
 
+-- the word of a place says at its end that no superuser is admitted there
+abbrev pub BarsSuperusers : TheWord → Type 0
+BarsSuperusers word = (rest : TheWord) × (word ≡ rest ++ codes ",no-superuser")
+
+-- two words of `--at` or more, or one that says so
+abbrev pub IsSeveral : List TheWord → Type 0
+IsSeveral words = (2 ≤ length words) ⊎ ((word : TheWord) × (words ≡ word ∷ []) × BarsSuperusers word)
+
 -- it has a port, a socket, or a place of `--at`
 abbrev pub HasPlaceWord : List Row → GivenPlace → Type 0
 HasPlaceWord rows (AtPort port) = (first_of (codes "port") rows ≡ Some port) × (first_of (codes "socket") rows ≡ None) × (first_of (codes "at") rows ≡ None)
 HasPlaceWord rows (AtSocket socket) = (first_of (codes "port") rows ≡ None) × (first_of (codes "socket") rows ≡ Some socket) × (first_of (codes "at") rows ≡ None)
-HasPlaceWord rows (At kind rest options) = (first_of (codes "port") rows ≡ None) × (first_of (codes "socket") rows ≡ None) × (first_of (codes "at") rows ≡ Some (with_options (place_word kind rest) options)) × HasNoComma (place_word kind rest)
+HasPlaceWord rows (At kind rest options) =
+    let word = with_options (place_word kind rest) options in
+    (first_of (codes "port") rows ≡ None) × (first_of (codes "socket") rows ≡ None) × (first_of (codes "at") rows ≡ Some word) × HasNoComma (place_word kind rest)
+    × (all_of (codes "at") rows ≡ Some (word ∷ [])) × (BarsSuperusers word → ⊥)
+HasPlaceWord rows (AtEach first others) = (first_of (codes "port") rows ≡ None) × (first_of (codes "socket") rows ≡ None) × (first_of (codes "at") rows ≡ Some first)
+    × (all_of (codes "at") rows ≡ Some (first ∷ others)) × IsSeveral (first ∷ others) × (length (first ∷ others) ≤ 8)
 
 -- it has the numbers of a server of many clients
 pub record HasCounts (rows : List Row) (counts : GivenCounts) : Type 0 where
@@ -124,8 +144,20 @@ pub record HasCounts (rows : List Row) (counts : GivenCounts) : Type 0 where
   pub idle : first_of (codes "idle") rows ≡ counts.idle
   pub block : first_of (codes "block") rows ≡ counts.block
 
+-- more than one of a role, a table, an old file and `--powers` is given
+abbrev pub are_mixed : Option TheWord → Option TheWord → Option TheWord → Bool → Bool
+are_mixed None None None powers = false
+are_mixed (Some role) None None powers = powers
+are_mixed None (Some table) None powers = powers
+are_mixed None None (Some old) powers = powers
+are_mixed _ _ _ powers = true
+
+abbrev pub IsMixed : Given → Type 0
+IsMixed (Describe file role table since powers json) = are_mixed role table since powers ≡ true
+IsMixed _ = ⊥
+
 -- the words stand where the command takes them: `format`, `copy` and `restore` have `--journal` or not; `run` has two words without `--memory`, and one with it;
--- `serve` has a port or a socket, and `--idle` or not; `describe` has a role or none, and `--json` or not;
+-- `serve` has a port or a socket, and `--idle` or not; `describe` has a role or none, and `--table`, `--since`, `--powers` and `--json` or not;
 -- `explain` has `--session` or not, and `--json` or not; `password` has `--new` or not, and `--mock` or not
 abbrev pub HasWords : List Row → Given → Type 0
 HasWords rows (Format file pages admin journal) = (first_of (codes "file") rows ≡ Some file) × (first_of (codes "pages") rows ≡ Some pages) × (first_of (codes "admin") rows ≡ Some admin) × IsFlag (one_of (codes "journal") rows) journal
@@ -140,7 +172,7 @@ HasWords rows (Serve file port connections idle) = (first_of (codes "file") rows
 HasWords rows (ServeSocket file socket connections idle) = (first_of (codes "file") rows ≡ Some file) × (first_of (codes "port") rows ≡ None) × (first_of (codes "socket") rows ≡ Some socket) × (first_of (codes "connections") rows ≡ Some connections) × (first_of (codes "idle") rows ≡ idle) × HasNoClients rows
 HasWords rows (ServeClients file place counts) = (first_of (codes "file") rows ≡ Some file) × HasPlaceWord rows place × HasCounts rows counts
 HasWords rows (Check file) = first_of (codes "file") rows ≡ Some file
-HasWords rows (Describe file role json) = (first_of (codes "file") rows ≡ Some file) × (first_of (codes "role") rows ≡ role) × IsFlag (one_of (codes "json") rows) json
+HasWords rows (Describe file role table since powers json) = (first_of (codes "file") rows ≡ Some file) × (first_of (codes "role") rows ≡ role) × (first_of (codes "table") rows ≡ table) × (first_of (codes "since") rows ≡ since) × IsFlag (one_of (codes "powers") rows) powers × IsFlag (one_of (codes "json") rows) json
 HasWords rows (Explain file role statement session json) = (first_of (codes "file") rows ≡ Some file) × (first_of (codes "role") rows ≡ Some role) × (first_of (codes "statement") rows ≡ Some statement) × (first_of (codes "session") rows ≡ session) × IsFlag (one_of (codes "json") rows) json
 
 -- what follows the command of this name gives it these words
@@ -202,20 +234,81 @@ NamesPlace kinds.Socket word served = IsSocketServed word served
 NamesPlace kinds.PostgresPort word served = IsPortServed Postgres word served
 NamesPlace kinds.PostgresFolder word served = IsFolderServed word served
 
--- the place, and whom it lets in
-pub record IsPlaceAs (kind : PlaceKind) (word : TheWord) (options : Option TheWord) (served : ServedPlace) : Type 0 where
+-- the place, and whom it lets in; `at` says whether it is one of `--at`, where it is told of a port that lets in anyone that no passwords are asked for
+pub record IsPlaceBy (at : Bool) (kind : PlaceKind) (word : TheWord) (options : Option TheWord) (served : ServedPlace) : Type 0 where
   pub placed : NamesPlace kind word served
   pub guarded : SaysGuard kind options served.door served.access
+  pub tells : served.tells_open ≡ at
+
+abbrev pub IsPlaceAs : PlaceKind → TheWord → Option TheWord → ServedPlace → Type 0
+IsPlaceAs kind word options served = IsPlaceBy true kind word options served
 
 abbrev pub IsPlaceFor : GivenPlace → ServedPlace → Type 0
-IsPlaceFor (AtPort word) served = IsPlaceAs kinds.Port word None served
-IsPlaceFor (AtSocket word) served = IsPlaceAs kinds.Socket word None served
+IsPlaceFor (AtPort word) served = IsPlaceBy false kinds.Port word None served
+IsPlaceFor (AtSocket word) served = IsPlaceBy false kinds.Socket word None served
 IsPlaceFor (At kind word options) served = IsPlaceAs kind word options served
+IsPlaceFor (AtEach first others) served = ⊥
+
+-- a port of several places is not one that the system chooses
+abbrev pub HasFixedPort : ListenPlace → Type 0
+HasFixedPort (listen.Port port) = port ≢ 0
+HasFixedPort place = Unit {0}
+
+-- a word names one of several places, and whom it lets in
+pub record IsPlaceWord (word : TheWord) (served : ServedPlace) : Type 0 where
+  pub kind : PlaceKind
+  pub rest : TheWord
+  pub options : Option TheWord
+  pub cut : word ≡ with_options (place_word kind rest) options
+  pub is_first : HasNoComma (place_word kind rest)
+  pub named : IsPlaceAs kind rest options served
+  pub fixed : HasFixedPort served.place
+
+-- and whether it admits no superuser
+abbrev pub IsPlaceNamed : TheWord → NamedPlace → Type 0
+IsPlaceNamed word named = ((named.no_superuser ≡ true) × ((rest : TheWord) × (word ≡ rest ++ codes ",no-superuser") × IsPlaceWord rest named.served))
+    ⊎ ((named.no_superuser ≡ false) × (BarsSuperusers word → ⊥) × IsPlaceWord word named.served)
+
+abbrev pub NamesNoPlace : TheWord → Type 0
+NamesNoPlace word = (named : NamedPlace) → IsPlaceNamed word named → ⊥
+
+-- each word names its place, in their order
+abbrev pub ArePlacesNamed : List TheWord → List NamedPlace → Type 0
+ArePlacesNamed [] [] = Unit {0}
+ArePlacesNamed (word ∷ words) (named ∷ places) = IsPlaceNamed word named × ArePlacesNamed words places
+ArePlacesNamed _ _ = ⊥
+
+-- a word that is one of these
+abbrev pub IsAmongWords : TheWord → List TheWord → Type 0
+IsAmongWords word words = (before after : List TheWord) × (words ≡ before ++ word ∷ after)
+
+-- one of these words names no place
+abbrev pub IsNoPlaceOf : List TheWord → UsageFault → Type 0
+IsNoPlaceOf words (usage.Place word) = IsAmongWords word.now words × NamesNoPlace word.now
+IsNoPlaceOf words usage.Memory = Unit {0}
+IsNoPlaceOf words _ = ⊥
 
 -- the role, where one is given: a name that a role can have
 abbrev pub IsRoleName : Option TheWord → Type 0
 IsRoleName None = Unit {0}
 IsRoleName (Some name) = IsName name
+
+-- what `describe` is asked for, as words
+abbrev pub role_asked : DescribeAsked → Option TheWord
+role_asked (asked.Role name) = Some name.now
+role_asked _ = None
+
+abbrev pub table_asked : DescribeAsked → Option TheWord
+table_asked (asked.Table name) = Some name.now
+table_asked _ = None
+
+abbrev pub since_asked : DescribeAsked → Option TheWord
+since_asked (asked.Since old) = Some old.now
+since_asked _ = None
+
+abbrev pub are_powers_asked : DescribeAsked → Bool
+are_powers_asked asked.Powers = true
+are_powers_asked _ = false
 
 -- of what is given the order says the words as they stand, but the numbers as such; names are those that a role can have, and paths of sockets
 -- those that the system takes
@@ -231,8 +324,9 @@ IsOrdered G (order.RunMemory admin script on) = (stop explain : Bool) × G (RunM
 IsOrdered G (order.Serve file port connections idle) = (number count : TheWord) × (limit : Option TheWord) × G (Serve file.now number count limit) × IsNumberFor Port number port × IsNumberFor Connections count connections × IsIdleFor limit idle
 IsOrdered G (order.ServeSocket file socket connections idle) = (count : TheWord) × (limit : Option TheWord) × G (ServeSocket file.now socket.now count limit) × IsSocketPath socket.now × IsNumberFor Connections count connections × IsIdleFor limit idle
 IsOrdered G (order.ServeClients file place many) = (at : GivenPlace) × (counts : GivenCounts) × G (ServeClients file.now at counts) × IsPlaceFor at place × AreCountsGiven counts many
+IsOrdered G (order.ServePlaces file places many) = (first : TheWord) × (others : List TheWord) × (counts : GivenCounts) × G (ServeClients file.now (AtEach first others) counts) × ArePlacesNamed (first ∷ others) places.items × AreCountsGiven counts many
 IsOrdered G (order.Check file) = G (Check file.now)
-IsOrdered G (order.Describe file role json) = G (Describe file.now (lent_word role) json) × IsRoleName (lent_word role)
+IsOrdered G (order.Describe file asked json) = G (Describe file.now (role_asked asked) (table_asked asked) (since_asked asked) (are_powers_asked asked) json) × IsRoleName (role_asked asked)
 IsOrdered G (order.Explain file asked) = G (Explain file.now asked.role.now asked.statement.now (lent_word asked.session) asked.json)
 IsOrdered G order.Help = ⊥
 IsOrdered G order.Version = ⊥
@@ -249,7 +343,7 @@ Asks words o = IsOrdered (Gives words) o
 abbrev pub name_in : Given → Option TheWord
 name_in (Format file pages admin journal) = Some admin
 name_in (RunMemory admin script stop explain) = Some admin
-name_in (Describe file role json) = role
+name_in (Describe file role table since powers json) = role
 name_in _ = None
 
 abbrev pub path_in : Given → Option TheWord
@@ -267,6 +361,11 @@ folder_in _ = None
 abbrev pub options_in : Given → Option (PlaceKind × TheWord)
 options_in (ServeClients file (At kind word (Some options)) counts) = Some (kind, options)
 options_in _ = None
+
+-- the words of several places
+abbrev pub places_in : Given → List TheWord
+places_in (ServeClients file (AtEach first others) counts) = first ∷ others
+places_in _ = []
 
 abbrev pub switch_in : Given → Option TheWord
 switch_in (Journal file state) = Some state
@@ -311,9 +410,13 @@ IsUnfit G (usage.Number option word) = (given : Given) × G given × (number_in 
 IsUnfit G (usage.Path path) = (given : Given) × G given × (path_in given ≡ Some path.now) × (IsSocketPath path.now → ⊥)
 IsUnfit G (usage.Folder folder) = (given : Given) × G given × (folder_in given ≡ Some folder.now) × (IsSocketFolder folder.now → ⊥)
 IsUnfit G (usage.Options words) = (given : Given) × (kind : PlaceKind) × G given × (options_in given ≡ Some (kind, words.now)) × NoOptions kind words.now
+IsUnfit G (usage.Place word) = (given : Given) × G given × IsAmongWords word.now (places_in given) × NamesNoPlace word.now
+IsUnfit G usage.Places = (given : Given) → G given → ⊥
+IsUnfit G usage.Memory = Unit {0}
 IsUnfit G (usage.Name name) = (given : Given) × G given × (name_in given ≡ Some name.now) × (IsName name.now → ⊥)
 IsUnfit G (usage.Switch word) = (given : Given) × G given × (switch_in given ≡ Some word.now) × IsNoSwitch word.now
 IsUnfit G usage.Making = G (Password true true)
+IsUnfit G usage.Describing = (given : Given) × G given × IsMixed given
 IsUnfit G _ = ⊥
 
 -- a word was given to an option, and gives it no number
@@ -369,6 +472,7 @@ Refuses words usage.Form = HasWrongForm words
 Refuses words usage.Serving = HasWrongForm words
 Refuses words usage.ServingClients = HasWrongForm words
 Refuses words usage.ServingAt = HasWrongForm words
+Refuses words usage.Places = HasWrongForm words
 Refuses words usage.Memory = Unit {0}
 Refuses words u = IsUnfit (Gives words) u
 

@@ -141,6 +141,7 @@ ending_message about ending.Served = done_message
 ending_message about ending.ServerStopped = stopped_message
 ending_message about ending.ReaderLeft = []
 ending_message about ending.Refused = []
+ending_message about ending.Differs = []
 ending_message about (ending.Fault f) = fault_message about f
 
 -- an end of which standard error is told nothing
@@ -152,6 +153,7 @@ OwesNothing ending.Served = ⊥
 OwesNothing ending.ServerStopped = ⊥
 OwesNothing ending.ReaderLeft = Unit {0}
 OwesNothing ending.Refused = Unit {0}
+OwesNothing ending.Differs = Unit {0}
 OwesNothing (ending.Fault f) = ⊥
 
 -- the writer was given this text, unless it failed
@@ -172,6 +174,10 @@ caller_status = 2
 abbrev pub refused_status : ℕ
 refused_status = 3
 
+-- two databases that were compared, and differ
+abbrev pub differs_status : ℕ
+differs_status = 3
+
 abbrev pub exit_status : Ending → ℕ
 exit_status ending.Done = 0
 exit_status (ending.BadLine number) = caller_status
@@ -180,6 +186,7 @@ exit_status ending.Served = 0
 exit_status ending.ServerStopped = fault_status
 exit_status ending.ReaderLeft = fault_status
 exit_status ending.Refused = refused_status
+exit_status ending.Differs = differs_status
 exit_status (ending.Fault f) = fault_status
 
 -- the program ended so: this is its status, and standard error was told what it is owed, and else nothing

@@ -18,10 +18,13 @@ pub mod Formatting
 pub mod Migrations
 pub mod Reading
 pub mod Serving
+pub mod OpenPlaces
 pub mod ServingClients
+pub mod SeveralTalks
 pub mod Switching
 pub mod CopyCommand
 pub mod Describing
+pub mod DescribeWords
 pub mod ExplainCommand
 pub mod Ending
 pub mod Printing

@@ -51,18 +51,21 @@ pub record IsSocketFolder (folder : List ℕ) : Type 0 where
 abbrev pub IsPortOf : List ℕ → ListenPlace → Type 0
 IsPortOf word (listen.Port port) = IsNumberFor option.Port word port
 IsPortOf word (listen.Socket path) = ⊥
+IsPortOf word (listen.Each places) = ⊥
 IsPortOf word (listen.PostgresFolder folder) = ⊥
 
 -- the socket of this path
 abbrev pub IsSocketOf : List ℕ → ListenPlace → Type 0
 IsSocketOf word (listen.Port port) = ⊥
 IsSocketOf word (listen.Socket path) = (word ≡ path.now) × IsSocketPath path.now
+IsSocketOf word (listen.Each places) = ⊥
 IsSocketOf word (listen.PostgresFolder folder) = ⊥
 
 -- the socket of this folder
 abbrev pub IsFolderOf : List ℕ → ListenPlace → Type 0
 IsFolderOf word (listen.Port port) = ⊥
 IsFolderOf word (listen.Socket path) = ⊥
+IsFolderOf word (listen.Each places) = ⊥
 IsFolderOf word (listen.PostgresFolder folder) = (word ≡ folder.now) × IsSocketFolder folder.now
 
 -- ---- whom a place lets in

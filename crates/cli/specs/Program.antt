@@ -1,5 +1,5 @@
 -- What the program does for a command: its output, its messages and its exit status.
-use Rattle.std.specs.Prelude.{◌≡◌, ◌⊎◌, ◌++◌, ℕ, Bool, true, false, List, codes, Option, Some, Result, Ok, Err, IsUtf8}
+use Rattle.std.specs.Prelude.{◌≡◌, ◌⊎◌, ◌++◌, ℕ, Bool, true, false, List, [], map, slice_get, codes, Option, Some, Result, Ok, Err, IsUtf8}
 use Rattle.std.specs.Borrow.{Bor}
 use Rattle.std.specs.Option.{option_map}
 use Rattle.sql_types.specs.Name.{IsName}
@@ -27,7 +27,9 @@ use Rattle.cli.specs.Commands.{ChecksFile, RunsFile}
 use Rattle.cli.specs.Formatting.{FormatsFile}
 use Rattle.cli.specs.Serving.{ServesFile}
 use Rattle.systems.specs.declared.place.ListenPlace.{ListenPlace}
-use Rattle.systems.specs.declared.place.ListenPlace.TheVariants.{Port, Socket, PostgresFolder}
+use Rattle.systems.specs.declared.place.ListenPlace.TheVariants.{Port, Socket, PostgresFolder, Each}
+use Rattle.systems.specs.declared.place.OnePlace.{OnePlace}
+use Rattle.systems.specs.Places.{alone}
 use Rattle.systems.specs.Systems.{IsSame, SystemState}
 use Rattle.cli.specs.declared.fault.CommandFault.TheVariants as fault
 use Rattle.cli.specs.declared.ending.Ending.{Ending}
@@ -39,13 +41,20 @@ use Rattle.cli.specs.Ending.{caller_status, ending_of, ending_of_serving, name_m
 use Rattle.cli.specs.CopyCommand.{Copies}
 use Rattle.cli.specs.Restoring.{ChecksOrDump}
 use Rattle.cli.specs.DumpCommands.{Dumps, Restores}
-use Rattle.cli.specs.Describing.{Describes}
+use Rattle.cli.specs.Describing.{DescribesAsked}
 use Rattle.cli.specs.ExplainCommand.{ExplainsStatement}
 use Rattle.cli.specs.Printing.{EndsBy, IsPrinted, Prints}
 use Rattle.cli.specs.Running.{RunsOverNew}
 use Rattle.cli.specs.ScriptNotes.{HasToldNotes}
 use Rattle.channels.specs.declared.attend.Attend.{Ghosts as AttendGhosts}
 use Rattle.doors.specs.declared.door_talk.DoorTalk.{DoorTalk}
+use Rattle.doors.specs.declared.entry_talk.EntryTalk.{EntryTalk}
+use Rattle.placed_talks.specs.declared.placed_talk.PlacedTalk.{PlacedTalk}
+use Rattle.systems.specs.declared.place.OnePlace.TheVariants as one
+use Rattle.systems.specs.declared.place.SocketAccess.{SocketAccess}
+use Rattle.cli.specs.declared.served_place.NamedPlace.{NamedPlace}
+use Rattle.cli.specs.SeveralTalks.{StandsAtOne}
+use Rattle.cli.specs.OpenPlaces.{by_itself, open_lines}
 use Rattle.password_talks.specs.declared.login.PasswordPlace.{PasswordPlace}
 use Rattle.password_talks.specs.declared.password_talk.PasswordTalk.{PasswordTalk}
 use Rattle.postgres_logins.specs.declared.postgres_login_talk.PostgresLoginTalk.{PostgresLoginTalk}
@@ -215,6 +224,12 @@ abbrev pub place_subject : ListenPlace → Subject
 place_subject (Port port) = subject.Port port
 place_subject (Socket path) = subject.Named path
 place_subject (PostgresFolder folder) = subject.PostgresFolder folder
+place_subject (Each places) = subject.Port 0
+
+-- the place that a message is about: of several one of them
+abbrev pub IsAboutPlace : ListenPlace → ListenPlace → Type 0
+IsAboutPlace (Each places) about = ((places.now ≡ []) × (about ≡ Each places)) ⊎ ((n : ℕ) × (p : OnePlace) × (slice_get places.now n ≡ Some p) × (about ≡ alone p))
+IsAboutPlace place about = about ≡ place
 
 -- what a fault of a server is about: the place, once the database is open, where it is not bound
 abbrev pub fault_subject : Subject → ListenPlace → CommandFault → Subject
@@ -247,12 +262,14 @@ outcome_of_clients (Ok end) = Ok (served_by end)
 outcome_of_clients (Err f) = Err f
 
 -- many clients at once were served at a place over the database in a file, or why they were not was told; that the file was migrated was told, where it
--- was. `Made` is said of the conversations that are made there
-pub record ServesMany (X : Type 0) {D L C T P : Type 0} (g : Ghosts D) (a : AttendGhosts L C) (t : TalkGhosts T) (p : ClientsGhosts P T) (Reads : ReadingRelation) (old : SystemState D L) (file : Subject) (path : List ℕ) (place : ListenPlace) (Made : T → Type 0) (many : ManyClients) (exit : Exit) (new : SystemState D L) (err_before err_after : Known) : Type 0 where
+-- was. `open_told` is what is told of open places, and `Made` is said of the conversations that are made there
+pub record ServesMany (X : Type 0) {D L C T P : Type 0} (g : Ghosts D) (a : AttendGhosts L C) (t : TalkGhosts T) (p : ClientsGhosts P T) (Reads : ReadingRelation) (old : SystemState D L) (file : Subject) (path : List ℕ) (place : ListenPlace) (open_told : List ℕ) (Made : T → Type 0) (many : ManyClients) (exit : Exit) (new : SystemState D L) (err_before err_after : Known) : Type 0 where
   pub end : CommandEnd ServeEnd
   pub heard : Known
-  pub serves : ServesClientsFile X g a t p Reads old path place Made many err_before end new heard
-  pub ends : ExitsAfter end.told (server_subject file place (outcome_of_clients end.outcome)) (ending_of_server (outcome_of_clients end.outcome)) exit heard err_after
+  pub serves : ServesClientsFile X g a t p Reads old path place open_told Made many err_before end new heard
+  pub about : ListenPlace
+  pub part : IsAboutPlace place about
+  pub ends : ExitsAfter end.told (server_subject file about (outcome_of_clients end.outcome)) (ending_of_server (outcome_of_clients end.outcome)) exit heard err_after
 
 -- a place asks for passwords
 abbrev pub asks_for_passwords : PlaceDoor → Bool
@@ -263,8 +280,8 @@ asks_for_passwords (Passwords table mock) = true
 -- the same by one protocol, by whom the place lets in: each conversation stands at its door, or each asks for a password whose verifier is in the table
 -- that is named. `t` and `p` are said of the first, `v` and `w` of the others, and `place_of` is the place at which one of those asks
 pub record ServesManyBy (X : Type 0) {D L C T P V W : Type 0} (g : Ghosts D) (a : AttendGhosts L C) (t : TalkGhosts (DoorTalk T)) (p : ClientsGhosts P (DoorTalk T)) (v : TalkGhosts V) (w : ClientsGhosts W V) (place_of : V → PasswordPlace) (Reads : ReadingRelation) (old : SystemState D L) (file : Subject) (path : List ℕ) (place : ServedPlace) (many : ManyClients) (exit : Exit) (new : SystemState D L) (err_before err_after : Known) : Type 0 where
-  pub at_door : asks_for_passwords place.door ≡ false → ServesMany X g a t p Reads old file path place.place (λ talk. IsDoorFor place.door talk.door) many exit new err_before err_after
-  pub with_passwords : (table mock : Bor (List ℕ)) → place.door ≡ Passwords table mock → ServesMany X g a v w Reads old file path place.place (λ talk. place_of talk ≡ password_place table.now mock.now) many exit new err_before err_after
+  pub at_door : asks_for_passwords place.door ≡ false → ServesMany X g a t p Reads old file path place.place (open_lines (by_itself place)) (λ talk. IsDoorFor place.door talk.door) many exit new err_before err_after
+  pub with_passwords : (table mock : Bor (List ℕ)) → place.door ≡ Passwords table mock → ServesMany X g a v w Reads old file path place.place (open_lines (by_itself place)) (λ talk. place_of talk ≡ password_place table.now mock.now) many exit new err_before err_after
 
 -- the same by the protocol of the place: `t` is what is said of conversations in frames, `p` of the clients that have them, and `v` and `w` the same of
 -- those that ask for passwords; `u`, `q`, `m` and `n` are the same of PostgreSQL's protocol
@@ -272,13 +289,49 @@ pub record ServesManyAt (X : Type 0) {D L C T P U Q V W M N : Type 0} (g : Ghost
   pub in_frames : place.protocol ≡ Frames → ServesManyBy X g a t p v w (λ talk. talk.login.place) Reads old file path place many exit new err_before err_after
   pub by_postgres : place.protocol ≡ Postgres → ServesManyBy X g a u q m n (λ talk. talk.login.place) Reads old file path place many exit new err_before err_after
 
+-- one of several places, as it is to be bound; several are not one of them
+abbrev pub bound_at : SocketAccess → ListenPlace → OnePlace
+bound_at access (Port port) = one.Port port
+bound_at access (Socket path) = one.Socket path access
+bound_at access (PostgresFolder folder) = one.PostgresFolder folder access
+bound_at access (Each places) = one.Port 0
+
+abbrev pub bound_place : ServedPlace → OnePlace
+bound_place served = bound_at served.access served.place
+
+-- these places are to be bound
+abbrev pub bound_places : List NamedPlace → List OnePlace
+bound_places places = map (λ named. bound_place named.served) places
+
+-- Many clients at once were served at all of these places over the database in a file, or why they were not was told. The conversation of each client is
+-- one at one of the places, by the words of that place. `t` and `p` are what is said of conversations there and of the clients that have them
+pub record ServesAllPlaces (X : Type 0) {D L C F P V W Q : Type 0} (g : Ghosts D) (a : AttendGhosts L C) {s : TalkGhosts (PlacedTalk (DoorTalk F) (DoorTalk P) (PasswordTalk V) (PostgresLoginTalk W))}
+    (t : TalkGhosts (EntryTalk (PlacedTalk (DoorTalk F) (DoorTalk P) (PasswordTalk V) (PostgresLoginTalk W)) s)) (p : ClientsGhosts Q (EntryTalk (PlacedTalk (DoorTalk F) (DoorTalk P) (PasswordTalk V) (PostgresLoginTalk W)) s))
+    (Reads : ReadingRelation) (old : SystemState D L) (file : Subject) (path : List ℕ) (places : List NamedPlace) (many : ManyClients) (exit : Exit) (new : SystemState D L) (err_before err_after : Known) : Type 0 where
+  pub bound : Bor (List OnePlace)
+  pub are_bound : bound.now ≡ bound_places places
+  pub serves : ServesMany X g a t p Reads old file path (Each bound) (open_lines places) (StandsAtOne places) many exit new err_before err_after
+
+-- memory was refused before anything was done
+pub record ServesNoPlace {D L : Type 0} (old : SystemState D L) (file : Subject) (exit : Exit) (new : SystemState D L) (err_before err_after : Known) : Type 0 where
+  pub ends : Exits file (ending.Fault fault.Memory) exit err_before err_after
+  pub same : StaysSame old new
+
+abbrev pub ServesPlaces : (X : Type 0) {D L C F P V W Q : Type 0} (g : Ghosts D) (a : AttendGhosts L C) {s : TalkGhosts (PlacedTalk (DoorTalk F) (DoorTalk P) (PasswordTalk V) (PostgresLoginTalk W))}
+    (t : TalkGhosts (EntryTalk (PlacedTalk (DoorTalk F) (DoorTalk P) (PasswordTalk V) (PostgresLoginTalk W)) s)) (p : ClientsGhosts Q (EntryTalk (PlacedTalk (DoorTalk F) (DoorTalk P) (PasswordTalk V) (PostgresLoginTalk W)) s))
+    → ReadingRelation → SystemState D L → Subject → List ℕ → List NamedPlace → ManyClients → Exit → SystemState D L → Known → Known → Type 0
+ServesPlaces X g a t p Reads old file path places many exit new err_before err_after =
+    ServesNoPlace old file exit new err_before err_after ⊎ ServesAllPlaces X g a t p Reads old file path places many exit new err_before err_after
+
 -- ---- what a command does
 
 -- `X` decides events, `g` is what is said of the devices of files, `k` of the sink that takes answers, `c` of the sinks of connections,
 -- `listening` of listeners, `a` of those that are polled, `t` of conversations in frames, `p` of clients that come to such a listener and have them, `u` and `q` the same of
--- PostgreSQL's protocol, `v` and `w` of frames that ask for passwords, `m` and `n` of PostgreSQL's protocol that does, and `state` of systems. The script that was named was run over the database that was named, or why not was told; a
+-- PostgreSQL's protocol, `v` and `w` of frames that ask for passwords, `m` and `n` of PostgreSQL's protocol that does, `o` and `r` of conversations at several places, and `state` of systems. The script that was named was run over the database that was named, or why not was told; a
 -- database in a file was made, copied, checked, described or served, a statement over it was explained, or its journal was turned on or off; a verifier was made; or a text was printed
-module _ (X : Type 0) {D L K C S H T P U Q V W M N : Type 0} (g : Ghosts D) (k : SinkGhosts K) (c : SinkGhosts C) (a : AttendGhosts L H) (t : TalkGhosts (DoorTalk T)) (p : ClientsGhosts P (DoorTalk T)) (u : TalkGhosts (DoorTalk U)) (q : ClientsGhosts Q (DoorTalk U)) (v : TalkGhosts (PasswordTalk V)) (w : ClientsGhosts W (PasswordTalk V)) (m : TalkGhosts (PostgresLoginTalk M)) (n : ClientsGhosts N (PostgresLoginTalk M)) (Reads : ReadingRelation) (listening : L → Option Listening) (state : S → SystemState D L) (old : SystemState D L) where
+module _ (X : Type 0) {D L K C S H T P U Q V W M N R : Type 0} (g : Ghosts D) (k : SinkGhosts K) (c : SinkGhosts C) (a : AttendGhosts L H) (t : TalkGhosts (DoorTalk T)) (p : ClientsGhosts P (DoorTalk T)) (u : TalkGhosts (DoorTalk U)) (q : ClientsGhosts Q (DoorTalk U)) (v : TalkGhosts (PasswordTalk V)) (w : ClientsGhosts W (PasswordTalk V)) (m : TalkGhosts (PostgresLoginTalk M)) (n : ClientsGhosts N (PostgresLoginTalk M)) {s : TalkGhosts (PlacedTalk (DoorTalk T) (DoorTalk U) (PasswordTalk V) (PostgresLoginTalk M))}
+    (o : TalkGhosts (EntryTalk (PlacedTalk (DoorTalk T) (DoorTalk U) (PasswordTalk V) (PostgresLoginTalk M)) s)) (r : ClientsGhosts R (EntryTalk (PlacedTalk (DoorTalk T) (DoorTalk U) (PasswordTalk V) (PostgresLoginTalk M)) s))
+    (Reads : ReadingRelation) (listening : L → Option Listening) (state : S → SystemState D L) (old : SystemState D L) where
   abbrev pub IsPerformed : Invocation → Exit → SystemState D L → K → K → Known → Known → Type 0
   IsPerformed (order.Format file pages admin journal) exit new out_before out_after err_before err_after =
       DoesFormat g k old (subject.Named file) file.now pages admin.now journal exit new out_before out_after err_before err_after
@@ -302,10 +355,12 @@ module _ (X : Type 0) {D L K C S H T P U Q V W M N : Type 0} (g : Ghosts D) (k :
       Serves X g c Reads listening old (subject.Named file) file.now (Socket socket) connections exit new err_before err_after × (out_after ≡ out_before)
   IsPerformed (order.ServeClients file place many) exit new out_before out_after err_before err_after =
       ServesManyAt X g a t p u q v w m n Reads old (subject.Named file) file.now place many exit new err_before err_after × (out_after ≡ out_before)
+  IsPerformed (order.ServePlaces file places many) exit new out_before out_after err_before err_after =
+      ServesPlaces X g a o r Reads old (subject.Named file) file.now places.items many exit new err_before err_after × (out_after ≡ out_before)
   IsPerformed (order.Check file) exit new out_before out_after err_before err_after =
       Checks X g state old (subject.Named file) file.now exit new (k.held out_before) (k.held out_after) err_before err_after
-  IsPerformed (order.Describe file role json) exit new out_before out_after err_before err_after =
-      Describes g old file role exit new (k.held out_before) (k.held out_after) err_before err_after
+  IsPerformed (order.Describe file asked json) exit new out_before out_after err_before err_after =
+      DescribesAsked g state old file asked json exit new (k.held out_before) (k.held out_after) err_before err_after
   IsPerformed (order.Explain file asked) exit new out_before out_after err_before err_after =
       ExplainsStatement g old file asked exit new (k.held out_before) (k.held out_after) err_before err_after
   IsPerformed order.Help exit new out_before out_after err_before err_after =

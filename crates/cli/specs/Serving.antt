@@ -1,11 +1,13 @@
 -- What serving the database in a file at a place does.
-use Rattle.std.specs.Prelude.{◌≡◌, ◌≢◌, ◌≤◌, ◌++◌, ℕ, Bool, List, codes, decimal, Option, Result, Ok, Err}
+use Rattle.std.specs.Prelude.{◌≡◌, ◌≢◌, ◌≤◌, ◌++◌, ℕ, Bool, List, [], ◌∷◌, codes, decimal, Option, Result, Ok, Err}
 use Rattle.std.specs.Io.KnownBytes.{Appends}
 use Rattle.sector_device.specs.Device.{IsSynced}
 use Rattle.sector_device.specs.declared.device.Device.{Ghosts}
 use Rattle.systems.specs.declared.place.ListenPlace.{ListenPlace}
-use Rattle.systems.specs.declared.place.ListenPlace.TheVariants.{Port, Socket, PostgresFolder}
-use Rattle.systems.specs.Places.{IsBoundFor, IsOfKind, ThePlace, TheSocket, the_place}
+use Rattle.systems.specs.declared.place.ListenPlace.TheVariants.{Port, Socket, PostgresFolder, Each}
+use Rattle.systems.specs.declared.place.OnePlace.{OnePlace}
+use Rattle.systems.specs.declared.place.OnePlace.TheVariants as one
+use Rattle.systems.specs.Places.{IsPlaceApart, IsBoundFor, IsOfKind, ThePlace, TheSocket, the_place}
 use Rattle.systems.specs.Systems.{HasDevice, Hears, IsSame, IsSameButAt, Rose, SystemState}
 use Rattle.abstract_database.specs.Runs.{ReadingRelation}
 use Rattle.journal_store.specs.declared.device_stores.DeviceStore.{DeviceStore}
@@ -22,11 +24,23 @@ use Rattle.cli.specs.declared.opened.CommandEnd.{CommandEnd}
 use Rattle.cli.specs.Commands.{IsFileOpened, IsFileUnopened}
 use Rattle.cli.specs.Files.{ChangesDevice}
 
+-- at one of several places the server listens
+abbrev pub listening_line : OnePlace → List ℕ
+listening_line (one.Port port) = codes "guarddb: listening on 127.0.0.1:" ++ (decimal port ++ codes "\n")
+listening_line (one.Socket path access) = codes "guarddb: listening on " ++ (path.now ++ codes "\n")
+listening_line (one.PostgresFolder folder access) = codes "guarddb: listening on " ++ (folder.now ++ codes "/.s.PGSQL.5432\n")
+
+-- a line for each, in their order
+abbrev pub listening_lines : List OnePlace → List ℕ
+listening_lines [] = []
+listening_lines (p ∷ places) = listening_line p ++ listening_lines places
+
 -- where the server listens
 abbrev pub listening_text : ListenPlace → List ℕ
 listening_text (Port port) = codes "guarddb: listening on 127.0.0.1:" ++ (decimal port ++ codes "\n")
 listening_text (Socket path) = codes "guarddb: listening on " ++ (path.now ++ codes "\n")
 listening_text (PostgresFolder folder) = codes "guarddb: listening on " ++ (folder.now ++ codes "/.s.PGSQL.5432\n")
+listening_text (Each places) = listening_lines places.now
 
 -- ---- a listener
 
@@ -84,13 +98,13 @@ module _ {D L X C : Type 0} (g : Ghosts D) (c : SinkGhosts C) (Reads : ReadingRe
 
 -- ---- a place and a file
 
--- all is as it was but for what this path names, what this place hears and, of a socket, whether its file is there
+-- all is as it was but for what this path names, what this place and its parts hear and, of a socket, whether its file is there
 pub record IsSameBeside {D L : Type 0} (path : List ℕ) (place : ThePlace) (old new : SystemState D L) : Type 0 where
   pub faithful : old.faithful → new.faithful
   pub devices : (p : List ℕ) → p ≢ path → new.devices p ≡ old.devices p
   pub texts : (p : List ℕ) → p ≢ path → new.texts p ≡ old.texts p
-  pub names : (p : List ℕ) → p ≢ path → TheSocket p ≢ place → new.is_named p ≡ old.is_named p
-  pub listeners : (p : ThePlace) → p ≢ place → new.listeners p ≡ old.listeners p
+  pub names : (p : List ℕ) → p ≢ path → IsPlaceApart (TheSocket p) place → new.is_named p ≡ old.is_named p
+  pub listeners : (p : ThePlace) → IsPlaceApart p place → new.listeners p ≡ old.listeners p
 
 -- the path named this device before and names that one now; who binds the place got this listener before and gets that one now;
 -- and nothing else has changed

@@ -1,5 +1,5 @@
 -- What serving many clients at once at a place, over the database in a file, does.
-use Rattle.std.specs.Prelude.{◌≡◌, ◌==◌, ◌≤◌, ◌⊎◌, ◌*◌, ◌^◌, ◌-◌, ℕ, Bool, true, List, [], codes, Option, Some, None, Result, Ok, Err, if◌then◌else◌}
+use Rattle.std.specs.Prelude.{◌≡◌, ◌==◌, ◌≤◌, ◌++◌, ◌⊎◌, ◌*◌, ◌^◌, ◌-◌, ℕ, Bool, true, List, [], codes, Option, Some, None, Result, Ok, Err, if◌then◌else◌}
 use Rattle.std.specs.Duration.{as_nanos}
 use Rattle.std.specs.Option.{unwrap_or}
 use Rattle.std.specs.declared.time.Duration.{Duration}
@@ -69,7 +69,7 @@ pub record AreLimits (many : ManyClients) (limits : ClientLimits) : Type 0 where
 
 -- nobody holds the writer lock for which another's statement was held back or refused; whether one may only for so long
 abbrev pub uncontended : Bool → Contention
-uncontended limited = record { holder = None; cut_off = None; is_limited = limited }
+uncontended limited = record { holder = None; cut_off = None; is_limited = limited; expelled = None }
 
 -- what one is told who comes while as many are served at once as may be: a refusal of session 0, or the error by which PostgreSQL says so
 abbrev pub crowded_said : Protocol → List ℕ
@@ -115,17 +115,18 @@ module _ {D X L C T P : Type 0} (g : Ghosts D) (a : AttendGhosts L C) (t : TalkG
 
   -- ---- at a listener that is polled
 
-  -- it was told where the server listens, and those that came were served; or that was not taken, or memory was refused, and nobody was
-  module _ (place : ListenPlace) (Made : T → Type 0) (many : ManyClients) (server : Server (DeviceStore D g) X) (listener : L) (told_before : Known) where
+  -- it was told where the server listens, and what is to be told of open places, and those that came were served; or that was not taken, or memory was
+  -- refused, and nobody was
+  module _ (place : ListenPlace) (open_told : List ℕ) (Made : T → Type 0) (many : ManyClients) (server : Server (DeviceStore D g) X) (listener : L) (told_before : Known) where
     abbrev pub ServesClientsOn : Result ServeEnd CommandFault → D → L → Known → Type 0
-    ServesClientsOn (Ok end) left ended told_after = Appends told_before told_after (listening_text place) × ServesComing Made many server listener end left ended
+    ServesClientsOn (Ok end) left ended told_after = Appends told_before told_after (listening_text place ++ open_told) × ServesComing Made many server listener end left ended
     ServesClientsOn (Err Output) left ended told_after = TakesNobody server listener left ended
     ServesClientsOn (Err Memory) left ended told_after = TakesNobody server listener left ended × (told_after ≡ told_before)
     ServesClientsOn (Err fault) left ended told_after = ⊥
 
   -- ---- at a place
 
-  module _ (old : SystemState D L) (place : ListenPlace) (Made : T → Type 0) (many : ManyClients) (server : Server (DeviceStore D g) X) (before : Known) where
+  module _ (old : SystemState D L) (place : ListenPlace) (open_told : List ℕ) (Made : T → Type 0) (many : ManyClients) (server : Server (DeviceStore D g) X) (before : Known) where
     -- it was not bound, and nothing was done
     pub record IsUnboundAt (left : D) (new : SystemState D L) (after : Known) : Type 0 where
       pub left_is : left ≡ device_under server
@@ -134,13 +135,13 @@ module _ {D X L C T P : Type 0} (g : Ghosts D) (a : AttendGhosts L C) (t : TalkG
       pub same : old.faithful → IsSame old new
       pub silent : after ≡ before
 
-    -- it was bound and told, and those that came there were served
+    -- it was bound and told, and those that came there were served. `open_told` is what is told of open places
     pub record AreServedAt (end : ServeEnd) (left : D) (new : SystemState D L) (after : Known) : Type 0 where
       pub bound : ListenPlace
       pub listener : L
       pub ended : L
       pub between : IsBoundBetween old place bound listener ended new
-      pub told : Appends before after (listening_text bound)
+      pub told : Appends before after (listening_text bound ++ open_told)
       pub serves : ServesComing Made many server listener end left ended
 
     -- it was bound, and nobody was taken there
@@ -167,8 +168,8 @@ module _ {D X L C T P : Type 0} (g : Ghosts D) (a : AttendGhosts L C) (t : TalkG
 
 -- ---- a place and a file
 
--- `X` decides events, and `path` is that of the file
-module _ (X : Type 0) {D L C T P : Type 0} (g : Ghosts D) (a : AttendGhosts L C) (t : TalkGhosts T) (p : ClientsGhosts P T) (Reads : ReadingRelation) (old : SystemState D L) (path : List ℕ) (place : ListenPlace) (Made : T → Type 0) (many : ManyClients) where
+-- `X` decides events, `path` is that of the file, and `open_told` is what is told of open places
+module _ (X : Type 0) {D L C T P : Type 0} (g : Ghosts D) (a : AttendGhosts L C) (t : TalkGhosts T) (p : ClientsGhosts P T) (Reads : ReadingRelation) (old : SystemState D L) (path : List ℕ) (place : ListenPlace) (open_told : List ℕ) (Made : T → Type 0) (many : ManyClients) where
   -- the database was opened, of which a stop left each sector as it was read then, and the place bound, it was told where, and those that
   -- came there were served; the file is there as the server has left it
   pub record AreServedOver (told : Bool) (before : Known) (end : ServeEnd) (new : SystemState D L) (after : Known) : Type 0 where
@@ -178,7 +179,7 @@ module _ (X : Type 0) {D L C T P : Type 0} (g : Ghosts D) (a : AttendGhosts L C)
     pub bound : ListenPlace
     pub kind : IsOfKind (the_place place) (the_place bound)
     pub asked_for : old.faithful → IsBoundFor (the_place place) (the_place bound)
-    pub tells : Appends noted after (listening_text bound)
+    pub tells : Appends noted after (listening_text bound ++ open_told)
     pub listener : L
     pub ended : L
     pub left : D

@@ -24,6 +24,10 @@ folder_reason folder = codes "'" ++ (folder ++ codes "' cannot have the file of 
 abbrev pub options_reason : List ℕ → List ℕ
 options_reason words = codes "behind a comma PLACE takes role=NAME, or passwords=TABLE with mock=ROLE, and of a socket mode=600 or mode=660, each once, not '" ++ (words ++ codes "'")
 
+-- why a word for one of several places is refused
+abbrev pub place_reason : List ℕ → List ℕ
+place_reason word = codes "'" ++ (word ++ codes "' is none of several places: PLACE is port:P, with P from 1 to 65535, socket:PATH, pgport:P or pgsocket:FOLDER, and behind a comma it takes role=NAME, or passwords=TABLE with mock=ROLE, and of a socket mode=600 or mode=660, each once, and last no-superuser")
+
 -- why a word for a number is refused
 abbrev pub number_reason : NumberOption → List ℕ → List ℕ
 number_reason option word = number_rule option ++ (codes ", not '" ++ (word ++ codes "'"))
@@ -43,9 +47,12 @@ usage_reason (usage.Number option word) = Some (number_reason option word.now)
 usage_reason (usage.Path path) = Some (path_reason path.now)
 usage_reason (usage.Folder folder) = Some (folder_reason folder.now)
 usage_reason (usage.Options words) = Some (options_reason words.now)
+usage_reason (usage.Place word) = Some (place_reason word.now)
+usage_reason usage.Places = Some (codes "serve takes up to eight places")
 usage_reason (usage.Name name) = Some (name_reason name.now)
 usage_reason (usage.Switch word) = Some (switch_reason word.now)
 usage_reason usage.Making = Some (codes "password takes --new, or --mock, or neither; a password stands on standard input alone")
+usage_reason usage.Describing = Some (codes "describe takes FILE, and at most one of ROLE, --table T, --powers and --since OLD")
 usage_reason usage.Encoding = Some (codes "a word is not UTF-8")
 usage_reason usage.Memory = Some (codes "memory was refused")
 

@@ -2,15 +2,18 @@
 
 ghost use Rattle.cli.specs.CarryingOut.{IsCarriedOut};
 
-use crate::client_talks::{DoorTalks, FrameTalks, PasswordTalks, PostgresLogins, PostgresTalks};
+use crate::client_talks::{
+    DoorTalks, FrameTalks, FramedTalk, PasswordTalks, PostgresLogins, PostgresTalks,
+};
 use crate::command::Invocation;
 use crate::ending::Performed;
 use crate::explained_runs::explain;
 use crate::program::perform;
 use crate::refusals::explained_run;
+use crate::several_talks::{SeveralTalks, SomeTalk};
 use channels::attend::Attend;
 use doors::door_talk::DoorTalk;
-use frame_talks::frame_talk::FrameTalk;
+use doors::entry_talk::EntryTalk;
 use password_talks::password_talk::PasswordTalk;
 use polled_clients::clients::PolledClients;
 use postgres_logins::postgres_login_talk::PostgresLoginTalk;
@@ -38,14 +41,16 @@ pub fn carry_out<'a, Y: System, X: EventHandler + Drop, K: TakesText + Drop, E: 
     err: E,
 ) -> Performed<K, E>
     ensures { IsCarriedOut X Y.Device.Device K.Sink Y.Listener.Sink.Sink Y.Listener.Attend
-        ⟦<DoorTalk<FrameTalk> as Talk>⟧
-        ⟦<PolledClients<DoorTalk<FrameTalk>, Y::Channel, Y::Listener, DoorTalks<'a, FrameTalks>> as ServedClients<DoorTalk<FrameTalk>>>⟧
+        ⟦<DoorTalk<FramedTalk> as Talk>⟧
+        ⟦<PolledClients<DoorTalk<FramedTalk>, Y::Channel, Y::Listener, DoorTalks<'a, FrameTalks>> as ServedClients<DoorTalk<FramedTalk>>>⟧
         ⟦<DoorTalk<PostgresTalk> as Talk>⟧
         ⟦<PolledClients<DoorTalk<PostgresTalk>, Y::Channel, Y::Listener, DoorTalks<'a, PostgresTalks>> as ServedClients<DoorTalk<PostgresTalk>>>⟧
-        ⟦<PasswordTalk<FrameTalk> as Talk>⟧
-        ⟦<PolledClients<PasswordTalk<FrameTalk>, Y::Channel, Y::Listener, PasswordTalks<'a, FrameTalks, Y::Draw>> as ServedClients<PasswordTalk<FrameTalk>>>⟧
+        ⟦<PasswordTalk<FramedTalk> as Talk>⟧
+        ⟦<PolledClients<PasswordTalk<FramedTalk>, Y::Channel, Y::Listener, PasswordTalks<'a, FrameTalks, Y::Draw>> as ServedClients<PasswordTalk<FramedTalk>>>⟧
         ⟦<PostgresLoginTalk<PostgresTalk> as Talk>⟧
         ⟦<PolledClients<PostgresLoginTalk<PostgresTalk>, Y::Channel, Y::Listener, PostgresLogins<'a, PostgresTalks, Y::Draw>> as ServedClients<PostgresLoginTalk<PostgresTalk>>>⟧
+        ⟦<EntryTalk<SomeTalk> as Talk>⟧
+        ⟦<PolledClients<EntryTalk<SomeTalk>, Y::Channel, Y::Listener, SeveralTalks<'a, Y::Draw>> as ServedClients<EntryTalk<SomeTalk>>>⟧
         E.contents X.Reads
         Y.Listener.listening Y.state (Y.state system.old) order.now out err (Y.state system.new)
         result }

@@ -8,6 +8,7 @@ ghost use Rattle.cli.specs.Numbers.{IsNumberFor};
 ghost use Rattle.cli.specs.PlaceWords.{IsSocketPath};
 ghost use Rattle.cli.specs.Usage.{usage_reason};
 
+use crate::describe_words::{DescribeAsked, read_describe};
 use crate::dump_words::{read_dump, read_restore};
 use crate::error_reason::ErrorReason;
 use crate::explain_command::AskedStatement;
@@ -18,7 +19,7 @@ use crate::password_words::{VerifierOf, read_password};
 use crate::refusals::{OnRefusal, at_refusal};
 use crate::serve_clients::ManyClients;
 use crate::serve_words::read_serve;
-use crate::served_place::ServedPlace;
+use crate::served_place::{NamedPlace, ServedPlace};
 use clap::ArgMatches;
 use clap::error::{Error, ErrorKind};
 use sql_types::name::MAX_NAME_LENGTH;
@@ -27,7 +28,7 @@ use std::fmt;
 
 /// What a command line asks for. Words are as they were given; numbers are in the range of their
 /// option.
-#[derive(Clone, Copy)]
+#[derive(Drop)]
 pub enum Invocation<'a> {
     /// `format FILE --pages N --admin NAME`: makes FILE, a database of N pages whose one role is the
     /// superuser NAME. With `--journal` it has a journal.
@@ -111,15 +112,22 @@ pub enum Invocation<'a> {
         place: ServedPlace<'a>,
         many: ManyClients,
     },
+    /// `serve FILE --at PLACE --clients N` with more than one `--at`, or with a place that admits no
+    /// superuser: the same at up to eight places at once, each with its own words.
+    ServePlaces {
+        file: &'a str,
+        places: Vec<NamedPlace<'a>>,
+        many: ManyClients,
+    },
     /// `check FILE`: opens the database in FILE, and says whether it is whole.
     Check {
         file: &'a str,
     },
-    /// `describe FILE`: prints who may do what in the database in FILE. With ROLE it prints what that
-    /// role may do, and with `--json` it prints JSON.
+    /// `describe FILE`: prints who may do what in the database in FILE, or what of that is asked for. With
+    /// `--json` it prints JSON.
     Describe {
         file: &'a str,
-        role: Option<&'a str>,
+        asked: DescribeAsked<'a>,
         json: bool,
     },
     /// `explain FILE ROLE STATEMENT`: prints in which keys STATEMENT looks for rows of the database in FILE
@@ -159,12 +167,19 @@ pub enum UsageFault<'a> {
     /// What stands behind the comma of PLACE is not `role=NAME`, `passwords=TABLE` with `mock=ROLE`, `mode=600` or
     /// `mode=660`, each once at most; a mode is of a socket alone.
     Options(&'a str),
+    /// One of several words of `--at` names no place, or does not say whom it lets in. A port of several places is
+    /// not 0.
+    Place(&'a str),
+    /// More places are named than eight.
+    Places,
     /// NAME is empty, has over 63 bytes or a zero byte.
     Name(&'a str),
     /// The word after FILE of `journal` is neither `on` nor `off`.
     Switch(&'a str),
     /// The words after `password` are more than one of `--new` and `--mock`.
     Making,
+    /// Beside FILE of `describe` there is more than one of ROLE, `--table` T, `--powers` and `--since` OLD.
+    Describing,
     /// A word is not UTF-8.
     Encoding,
     /// Memory was refused.
@@ -212,6 +227,13 @@ impl fmt::Display for UsageFault<'_> {
                     "behind a comma PLACE takes role=NAME, or passwords=TABLE with mock=ROLE, and of a socket mode=600 or mode=660, each once, not '{words}'"
                 )
             }
+            UsageFault::Place(word) => {
+                write!(
+                    f,
+                    "'{word}' is none of several places: PLACE is port:P, with P from 1 to 65535, socket:PATH, pgport:P or pgsocket:FOLDER, and behind a comma it takes role=NAME, or passwords=TABLE with mock=ROLE, and of a socket mode=600 or mode=660, each once, and last no-superuser"
+                )
+            }
+            UsageFault::Places => write!(f, "serve takes up to eight places"),
             UsageFault::Name(name) => {
                 write!(
                     f,
@@ -225,6 +247,12 @@ impl fmt::Display for UsageFault<'_> {
                 f,
                 "password takes --new, or --mock, or neither; a password stands on standard input alone"
             ),
+            UsageFault::Describing => {
+                write!(
+                    f,
+                    "describe takes FILE, and at most one of ROLE, --table T, --powers and --since OLD"
+                )
+            }
             UsageFault::Encoding => write!(f, "a word is not UTF-8"),
             UsageFault::Memory => write!(f, "memory was refused"),
         }
@@ -234,7 +262,7 @@ impl fmt::Display for UsageFault<'_> {
 /// The order that the words after the program's name give, as `clap` reads them: one of the commands
 /// `format`, `copy`, `dump`, `restore`, `journal`, `password`, `run`, `serve`, `check`, `describe` and `explain` with its words and
 /// options, each given once; or a flag for help or the version. Words that give none are refused: by `Grammar`, `Form`, `Serving`,
-/// `ServingClients`, `ServingAt`, `Number`, `Path`, `Folder`, `Options`, `Name`, `Switch` or `Making`.
+/// `ServingClients`, `ServingAt`, `Number`, `Path`, `Folder`, `Options`, `Place`, `Places`, `Name`, `Switch`, `Making` or `Describing`.
 /// `Memory` may come of any words.
 pub fn read_command<'a>(
     alloc: Global,
@@ -251,7 +279,7 @@ pub fn read_command<'a>(
         Err(error) => return read_error(error),
     };
     match matches.subcommand() {
-        Some((name, given)) => read_given(name, given),
+        Some((name, given)) => read_given(alloc, name, given),
         None => Err(UsageFault::Form),
     }
 }
@@ -269,7 +297,11 @@ fn read_error<'a>(error: Error) -> Result<Invocation<'a>, UsageFault<'a>>
 }
 
 /// The order that the words after the command of this name give.
-fn read_given<'a>(name: &str, given: &ArgMatches<'a>) -> Result<Invocation<'a>, UsageFault<'a>>
+fn read_given<'a>(
+    alloc: Global,
+    name: &str,
+    given: &ArgMatches<'a>,
+) -> Result<Invocation<'a>, UsageFault<'a>>
     ensures asked { IfOk result (IsOrdered (GivesAs name.now (rows_of (found_of given.now)))) }
     ensures refused { IfErr result (IsUnfit (GivesAs name.now (rows_of (found_of given.now)))) }
 {
@@ -281,7 +313,7 @@ fn read_given<'a>(name: &str, given: &ArgMatches<'a>) -> Result<Invocation<'a>, 
         "journal" => read_journal(given),
         "password" => read_password(given),
         "run" => read_run(given),
-        "serve" => read_serve(given),
+        "serve" => read_serve(alloc, given),
         "check" => read_check(given),
         "describe" => read_describe(given),
         "explain" => read_explain(given),
@@ -430,24 +462,6 @@ fn read_check<'a>(given: &ArgMatches<'a>) -> Result<Invocation<'a>, UsageFault<'
         Some(file) => Ok(Invocation::Check { file }),
         None => Err(UsageFault::Form),
     }
-}
-
-/// The order that the words after `describe` give.
-fn read_describe<'a>(given: &ArgMatches<'a>) -> Result<Invocation<'a>, UsageFault<'a>>
-    ensures asked { IfOk result (IsOrdered (GivesAs (codes "describe") (rows_of (found_of given.now)))) }
-    ensures refused { IfErr result (IsUnfit (GivesAs (codes "describe") (rows_of (found_of given.now)))) }
-{
-    let Some(file) = given.get_str("file") else {
-        return Err(UsageFault::Form);
-    };
-    let role = given.get_str("role");
-    let json = given.get_flag("json");
-    if let Some(name) = role {
-        if !is_name(name) {
-            return Err(UsageFault::Name(name));
-        }
-    }
-    Ok(Invocation::Describe { file, role, json })
 }
 
 /// Whether a role can have this name: it has 1 to 63 bytes, none of them zero.

@@ -56,6 +56,8 @@ pub enum Ending {
     ServerStopped,
     /// The script was to end at the first refusal, and did.
     Refused,
+    /// Two databases were compared, and differ.
+    Differs,
     /// Nobody reads standard output any more: a pipe was closed at its other end, as `head` does once it
     /// has its lines.
     ReaderLeft,
@@ -111,7 +113,7 @@ pub struct Performed<K, E> {
 /// `guarddb: stopped`. Where a reader has left, nothing is told, and nothing at a refusal at which a script
 /// was to end, since it was told before. The exit status is 0 where the work was done, 1 after a fault,
 /// where the server has stopped and where a reader has left, 2 after an invalid line, and 3 at such a
-/// refusal. An error of `err` changes no status. Where nothing is told, nothing is written.
+/// refusal and where two databases that were compared differ. An error of `err` changes no status. Where nothing is told, nothing is written.
 pub fn exit_with<E: Write>(ending: Ending, about: Subject<'_>, err: &mut E) -> Exit
     ensures status { result.status ≡ exit_status ending }
     ensures told { HasTold result (ending_message about.entry ending)
@@ -128,7 +130,7 @@ pub fn exit_with<E: Write>(ending: Ending, about: Subject<'_>, err: &mut E) -> E
             status: 1,
             told: true,
         },
-        Ending::Refused => Exit {
+        Ending::Refused | Ending::Differs => Exit {
             status: 3,
             told: true,
         },

@@ -2,7 +2,7 @@
 
 ghost use Rattle.std.specs.Prelude.{IfOk};
 ghost use Rattle.clap.specs.Words.{new_app};
-ghost use Rattle.cli.specs.CommandGrammar.{HasBelow, IsArg, IsCommand, word_rule, option_rule, format_app, copy_app, journal_app, run_app, serve_app, check_app, describe_app, explain_app, flag_rule, bare_app, program_app};
+ghost use Rattle.cli.specs.CommandGrammar.{HasBelow, IsArg, IsCommand, word_rule, option_rule, format_app, copy_app, journal_app, run_app, serve_app, check_app, describe_app, explain_app, flag_rule, bare_app, program_app, repeated_rule};
 
 use crate::dump_words::{dump_command, restore_command};
 use crate::password_words::password_command;
@@ -74,8 +74,8 @@ fn run_command<'a>(alloc: Global) -> Result<Command<'a>, AllocError>
 
 /// `serve FILE --port P --connections K` and `serve FILE --socket PATH --connections K`, with `--idle
 /// SECONDS` or without; and both with `--clients N`, and `--wait SECONDS` and `--block SECONDS` or
-/// without; and, in place of a port or a socket, `--at PLACE`. Which of these it is, and what is missing,
-/// is decided once the words are read.
+/// without; and, in place of a port or a socket, `--at PLACE`, once or more often. Which of these it is,
+/// and what is missing, is decided once the words are read.
 fn serve_command<'a>(alloc: Global) -> Result<Command<'a>, AllocError>
     ensures { IfOk result (IsCommand serve_app) }
 {
@@ -88,7 +88,7 @@ fn serve_command<'a>(alloc: Global) -> Result<Command<'a>, AllocError>
         .arg(option(alloc, "clients", "N", false))?
         .arg(option(alloc, "wait", "SECONDS", false))?
         .arg(option(alloc, "block", "SECONDS", false))?
-        .arg(option(alloc, "at", "PLACE", false))
+        .arg(repeated(alloc, "at", "PLACE"))
 }
 
 /// `check FILE`.
@@ -98,13 +98,17 @@ fn check_command<'a>(alloc: Global) -> Result<Command<'a>, AllocError>
     command(alloc, "check").arg(word(alloc, "file", "FILE", true))
 }
 
-/// `describe FILE [ROLE] [--json]`.
+/// `describe FILE [ROLE] [--json]`, and in place of ROLE `--table T`, `--since OLD` or `--powers`: which of
+/// these it is, is decided once the words are read.
 fn describe_command<'a>(alloc: Global) -> Result<Command<'a>, AllocError>
     ensures { IfOk result (IsCommand describe_app) }
 {
     command(alloc, "describe")
         .arg(word(alloc, "file", "FILE", true))?
         .arg(word(alloc, "role", "ROLE", false))?
+        .arg(option(alloc, "table", "T", false))?
+        .arg(option(alloc, "since", "OLD", false))?
+        .arg(flag(alloc, "powers"))?
         .arg(flag(alloc, "json"))
 }
 
@@ -167,6 +171,17 @@ pub(crate) fn option<'a>(alloc: Global, id: &'a str, value: &'a str, required: b
         .value_name(value)
         .required(required)
         .action(ArgAction::Set)
+}
+
+/// The option `--ID`, which may be given more than once, each time with one word, which messages call
+/// `value`.
+fn repeated<'a>(alloc: Global, id: &'a str, value: &'a str) -> Arg<'a>
+    ensures { IsArg (repeated_rule id.entry.now) result }
+{
+    Arg::new(alloc, id)
+        .long(id)
+        .value_name(value)
+        .action(ArgAction::Append)
 }
 
 /// The flag `--ID`, which takes no word.

@@ -4,13 +4,16 @@ ghost use Rattle.systems.specs.MemSystem.{system_state};
 ghost use Rattle.cli.specs.CarryingOut.{IsCarriedOut};
 
 use crate::carrying_out::carry_out;
-use crate::client_talks::{DoorTalks, FrameTalks, PasswordTalks, PostgresLogins, PostgresTalks};
+use crate::client_talks::{
+    DoorTalks, FrameTalks, FramedTalk, PasswordTalks, PostgresLogins, PostgresTalks,
+};
 use crate::command::Invocation;
 use crate::ending::Performed;
+use crate::several_talks::{SeveralTalks, SomeTalk};
 use channels::attend::Attend;
 use channels::memory::MemChannel;
 use doors::door_talk::DoorTalk;
-use frame_talks::frame_talk::FrameTalk;
+use doors::entry_talk::EntryTalk;
 use password_talks::password_talk::PasswordTalk;
 use polled_clients::clients::PolledClients;
 use postgres_logins::postgres_login_talk::PostgresLoginTalk;
@@ -39,14 +42,16 @@ pub fn carry_out_in_memory<'a, X: EventHandler + Drop, K: TakesText + Drop, E: W
 ) -> Performed<K, E>
     ensures faithful { (system_state system.old).faithful }
     ensures carried_out { IsCarriedOut X ⟦<WriteProtected<HistoryDevice> as Device>⟧ K.Sink
-        ⟦<FrameSink<Vec<u8>> as Sink>⟧ ⟦<MemListener as Attend<MemChannel>>⟧ ⟦<DoorTalk<FrameTalk> as Talk>⟧
-        ⟦<PolledClients<DoorTalk<FrameTalk>, MemChannel, MemListener, DoorTalks<'a, FrameTalks>> as ServedClients<DoorTalk<FrameTalk>>>⟧
+        ⟦<FrameSink<Vec<u8>> as Sink>⟧ ⟦<MemListener as Attend<MemChannel>>⟧ ⟦<DoorTalk<FramedTalk> as Talk>⟧
+        ⟦<PolledClients<DoorTalk<FramedTalk>, MemChannel, MemListener, DoorTalks<'a, FrameTalks>> as ServedClients<DoorTalk<FramedTalk>>>⟧
         ⟦<DoorTalk<PostgresTalk> as Talk>⟧
         ⟦<PolledClients<DoorTalk<PostgresTalk>, MemChannel, MemListener, DoorTalks<'a, PostgresTalks>> as ServedClients<DoorTalk<PostgresTalk>>>⟧
-        ⟦<PasswordTalk<FrameTalk> as Talk>⟧
-        ⟦<PolledClients<PasswordTalk<FrameTalk>, MemChannel, MemListener, PasswordTalks<'a, FrameTalks, ZeroDraw>> as ServedClients<PasswordTalk<FrameTalk>>>⟧
+        ⟦<PasswordTalk<FramedTalk> as Talk>⟧
+        ⟦<PolledClients<PasswordTalk<FramedTalk>, MemChannel, MemListener, PasswordTalks<'a, FrameTalks, ZeroDraw>> as ServedClients<PasswordTalk<FramedTalk>>>⟧
         ⟦<PostgresLoginTalk<PostgresTalk> as Talk>⟧
         ⟦<PolledClients<PostgresLoginTalk<PostgresTalk>, MemChannel, MemListener, PostgresLogins<'a, PostgresTalks, ZeroDraw>> as ServedClients<PostgresLoginTalk<PostgresTalk>>>⟧
+        ⟦<EntryTalk<SomeTalk> as Talk>⟧
+        ⟦<PolledClients<EntryTalk<SomeTalk>, MemChannel, MemListener, SeveralTalks<'a, ZeroDraw>> as ServedClients<EntryTalk<SomeTalk>>>⟧
         E.contents X.Reads ⟦<MemListener as Listen>⟧.listening
         system_state (system_state system.old) order.now out err (system_state system.new) result }
 {

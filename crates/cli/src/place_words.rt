@@ -1,8 +1,8 @@
 //! The word of `--at`, which names a place and a protocol.
 
-ghost use Rattle.std.specs.Prelude.{◌≡◌, ◌≢◌, ◌++◌, ◌↔◌, IsTrue, List, ℕ, Some, IfOk, IfErr, MatchOption, codes};
-ghost use Rattle.clap.specs.Words.{first_of, found_of, rows_of};
-ghost use Rattle.cli.specs.CommandLine.{At, GivesAs, IsNoFolder, IsNoNumber, IsNoPath, IsNoPlace, IsNoPlaceAs, IsOrdered, IsPlaceAs, IsUnfit, NamesPlace, ServeClients, given_counts, lent_word};
+ghost use Rattle.std.specs.Prelude.{◌≡◌, ◌≢◌, ◌++◌, ◌↔◌, IsTrue, List, [], ◌∷◌, ℕ, Some, IfOk, IfErr, MatchOption, codes};
+ghost use Rattle.clap.specs.Words.{all_of, first_of, found_of, rows_of};
+ghost use Rattle.cli.specs.CommandLine.{At, BarsSuperusers, GivesAs, IsNoFolder, IsNoNumber, IsNoPath, IsNoPlace, IsNoPlaceAs, IsOrdered, IsPlaceAs, IsUnfit, NamesPlace, ServeClients, given_counts, lent_word};
 ghost use Rattle.cli.specs.PlaceWords.{HasNoComma, IsFolderServed, IsPortServed, IsSocketFolder, IsSocketServed, NoPlaceWord, place_word, with_options};
 
 use crate::command::{Invocation, UsageFault, is_socket_path, read_number};
@@ -36,12 +36,15 @@ pub(crate) struct PlaceWord<'a> {
     options: Option<&'a str>,
 }
 
-/// The order that the words after `serve` give with `--at`, whose word this is.
+/// The order that the words after `serve` give with one `--at`, whose word this is: it does not say that no
+/// superuser is admitted.
 pub(crate) fn read_at<'a>(
     given: &ArgMatches<'a>,
     word: &'a str,
 ) -> Result<Invocation<'a>, UsageFault<'a>>
-    requires { first_of (codes "at") (rows_of (found_of given.now)) ≡ Some word.now }
+    requires at { first_of (codes "at") (rows_of (found_of given.now)) ≡ Some word.now }
+    requires alone { all_of (codes "at") (rows_of (found_of given.now)) ≡ Some (word.now ∷ []) }
+    requires plain { BarsSuperusers word.now → ⊥ }
     ensures asked { IfOk result (IsOrdered (GivesAs (codes "serve") (rows_of (found_of given.now)))) }
     ensures refused { IfErr result (IsUnfit (GivesAs (codes "serve") (rows_of (found_of given.now)))) }
 {
@@ -71,7 +74,7 @@ pub(crate) fn read_at<'a>(
 }
 
 // The kind and the rest of a word for a place, and what stands behind its first comma. `None`: it has none of the kinds.
-fn split_place(word: &str) -> Option<PlaceWord<'_>>
+pub(crate) fn split_place(word: &str) -> Option<PlaceWord<'_>>
     ensures { MatchOption result (NoPlaceWord word.now) (λ place.
         (word.now ≡ with_options (place_word place.kind place.rest.now) (lent_word place.options))
         × HasNoComma (place_word place.kind place.rest.now)) }
@@ -127,7 +130,7 @@ fn many_at<'a>(
 }
 
 // The place that a word names, and whom it lets in.
-fn read_place<'a>(word: PlaceWord<'a>) -> Result<ServedPlace<'a>, UsageFault<'a>>
+pub(crate) fn read_place<'a>(word: PlaceWord<'a>) -> Result<ServedPlace<'a>, UsageFault<'a>>
     ensures read { IfOk result (IsPlaceAs word.entry.kind word.entry.rest.now (lent_word word.entry.options)) }
     ensures refused { IfErr result (IsNoPlaceAs word.entry.kind word.entry.rest.now (lent_word word.entry.options)) }
 {
@@ -143,6 +146,7 @@ fn read_place<'a>(word: PlaceWord<'a>) -> Result<ServedPlace<'a>, UsageFault<'a>
         protocol: served.protocol,
         door: guard.door,
         access: guard.access,
+        tells_open: true,
     })
 }
 
@@ -170,6 +174,7 @@ fn at_port<'a>(protocol: Protocol, word: &'a str) -> Result<ServedPlace<'a>, Usa
         protocol,
         door: PlaceDoor::Anyone,
         access: SocketAccess::Owner,
+        tells_open: true,
     })
 }
 
@@ -186,6 +191,7 @@ fn at_socket<'a>(path: &'a str) -> Result<ServedPlace<'a>, UsageFault<'a>>
         protocol: Protocol::Frames,
         door: PlaceDoor::Anyone,
         access: SocketAccess::Owner,
+        tells_open: true,
     })
 }
 
@@ -202,6 +208,7 @@ fn in_folder<'a>(folder: &'a str) -> Result<ServedPlace<'a>, UsageFault<'a>>
         protocol: Protocol::Postgres,
         door: PlaceDoor::Anyone,
         access: SocketAccess::Owner,
+        tells_open: true,
     })
 }
 

@@ -1,10 +1,12 @@
 //! What the program does for a command: its output, its messages and its exit status.
 
 ghost use Rattle.std.specs.Prelude.{◌≡◌};
-ghost use Rattle.cli.specs.Program.{ending_of_server, place_subject, server_subject, Checks, DoesFormat, Formats, IsAnswered, IsPerformed, Serves, ServesMany, ServesManyAt, ServesManyBy, outcome_of_clients};
+ghost use Rattle.cli.specs.OpenPlaces.{open_lines};
+ghost use Rattle.cli.specs.Program.{Checks, DoesFormat, Formats, IsAnswered, IsPerformed, Serves, ServesMany, ServesManyAt, ServesManyBy, ServesPlaces};
 
 use crate::client_talks::{
-    DoorTalks, FrameTalks, PasswordDoor, PasswordTalks, PostgresLogins, PostgresTalks, Speaker,
+    DoorTalks, FrameTalks, FramedTalk, PasswordDoor, PasswordTalks, PostgresLogins, PostgresTalks,
+    Speaker,
 };
 use crate::command::{Invocation, UsageFault, is_name};
 use crate::command_name::CommandName;
@@ -19,17 +21,20 @@ use crate::format::format_file;
 use crate::journal_command::switch;
 use crate::opened::CommandEnd;
 use crate::password_command::make_verifier;
+use crate::places_bound::{bound_places, by_itself, each_of};
 use crate::printing::{print_for, print_text};
 use crate::run::check_file;
 use crate::runs::{run_over_file, run_read_in_memory};
 use crate::serve::{Limits, serve_file};
 use crate::serve_clients::{ManyClients, serve_clients_file};
-use crate::served_place::{PlaceDoor, Protocol, ServedPlace};
+use crate::served_place::{NamedPlace, PlaceDoor, Protocol, ServedPlace};
+use crate::server_ends::{end_of_server, outcome_of_clients, place_told, subject_of_server};
+use crate::several_talks::{SeveralTalks, SomeTalk};
 use crate::texts::{HELP, VERSION};
 use crate::usage::report_usage;
 use channels::attend::Attend;
 use doors::door_talk::DoorTalk;
-use frame_talks::frame_talk::FrameTalk;
+use doors::entry_talk::EntryTalk;
 use password_talks::password_talk::PasswordTalk;
 use polled_clients::clients::{PolledClients, TalkMaker};
 use postgres_logins::postgres_login_talk::PostgresLoginTalk;
@@ -40,12 +45,10 @@ use sql_types::name::Name;
 use std::alloc::Global;
 use std::io::Write;
 use std::time::Duration;
-use systems::{ListenPlace, System};
-use talks::clients::{Finish, ServedClients};
-use talks::serving::ServeEnd;
+use systems::{ListenPlace, SocketAccess, System};
+use talks::clients::ServedClients;
 use talks::talk::Talk;
 use wire::listen::Listen;
-use wire::listener::Served;
 use wire::sink::Sink;
 use wire::text_sink::TakesText;
 
@@ -81,7 +84,8 @@ const CHECKED: &str = "ok CHECK\n";
 /// `NoPassword` or `ManyLines`.
 ///
 /// `describe` writes nothing to the file. Where the database has no role of the name that is asked
-/// for, the fault is `NoRole`. So it is of `explain`, which writes nothing either; where the statement is
+/// for, the fault is `NoRole`, and of a table `Statement`. With `--since` it reads the old file first, and the
+/// exit status is 3 where there is a difference. So it is of `explain`, which writes nothing either; where the statement is
 /// refused before it reads a row, or is none over rows, the fault is `Statement`.
 ///
 /// A script is run without a word on its refusals, whatever is asked for: `explain` tells of them.
@@ -99,14 +103,16 @@ pub fn perform<'a, Y: System, X: EventHandler + Drop, K: TakesText, E: Write>(
     err: &mut E,
 ) -> Exit
     ensures { IsPerformed X Y.Device.Device K.Sink Y.Listener.Sink.Sink Y.Listener.Attend
-        ⟦<DoorTalk<FrameTalk> as Talk>⟧
-        ⟦<PolledClients<DoorTalk<FrameTalk>, Y::Channel, Y::Listener, DoorTalks<'a, FrameTalks>> as ServedClients<DoorTalk<FrameTalk>>>⟧
+        ⟦<DoorTalk<FramedTalk> as Talk>⟧
+        ⟦<PolledClients<DoorTalk<FramedTalk>, Y::Channel, Y::Listener, DoorTalks<'a, FrameTalks>> as ServedClients<DoorTalk<FramedTalk>>>⟧
         ⟦<DoorTalk<PostgresTalk> as Talk>⟧
         ⟦<PolledClients<DoorTalk<PostgresTalk>, Y::Channel, Y::Listener, DoorTalks<'a, PostgresTalks>> as ServedClients<DoorTalk<PostgresTalk>>>⟧
-        ⟦<PasswordTalk<FrameTalk> as Talk>⟧
-        ⟦<PolledClients<PasswordTalk<FrameTalk>, Y::Channel, Y::Listener, PasswordTalks<'a, FrameTalks, Y::Draw>> as ServedClients<PasswordTalk<FrameTalk>>>⟧
+        ⟦<PasswordTalk<FramedTalk> as Talk>⟧
+        ⟦<PolledClients<PasswordTalk<FramedTalk>, Y::Channel, Y::Listener, PasswordTalks<'a, FrameTalks, Y::Draw>> as ServedClients<PasswordTalk<FramedTalk>>>⟧
         ⟦<PostgresLoginTalk<PostgresTalk> as Talk>⟧
         ⟦<PolledClients<PostgresLoginTalk<PostgresTalk>, Y::Channel, Y::Listener, PostgresLogins<'a, PostgresTalks, Y::Draw>> as ServedClients<PostgresLoginTalk<PostgresTalk>>>⟧
+        ⟦<EntryTalk<SomeTalk> as Talk>⟧
+        ⟦<PolledClients<EntryTalk<SomeTalk>, Y::Channel, Y::Listener, SeveralTalks<'a, Y::Draw>> as ServedClients<EntryTalk<SomeTalk>>>⟧
         X.Reads Y.Listener.listening Y.state (Y.state system.old) order.now result (Y.state system.new) out.old out.new
         (E.contents err.old) (E.contents err.new) }
 {
@@ -173,9 +179,12 @@ pub fn perform<'a, Y: System, X: EventHandler + Drop, K: TakesText, E: Write>(
         Invocation::ServeClients { file, place, many } => {
             serve_at(system, alloc, handler, *file, *place, *many, err)
         }
+        Invocation::ServePlaces { file, places, many } => {
+            serve_places(system, alloc, handler, *file, places.as_slice(), *many, err)
+        }
         Invocation::Check { file } => check(system, alloc, handler, *file, out, err),
-        Invocation::Describe { file, role, json } => {
-            describe(system, alloc, *file, *role, *json, out, err)
+        Invocation::Describe { file, asked, json } => {
+            describe(system, alloc, *file, *asked, *json, out, err)
         }
         Invocation::Explain { file, asked } => {
             explain_statement(system, alloc, *file, *asked, out, err)
@@ -291,12 +300,12 @@ fn serve_at<'a, Y: System, X: EventHandler + Drop, E: Write>(
     many: ManyClients,
     err: &mut E,
 ) -> Exit
-    ensures { ServesManyAt X Y.Device.Device Y.Listener.Attend ⟦<DoorTalk<FrameTalk> as Talk>⟧
-        ⟦<PolledClients<DoorTalk<FrameTalk>, Y::Channel, Y::Listener, DoorTalks<'a, FrameTalks>> as ServedClients<DoorTalk<FrameTalk>>>⟧
+    ensures { ServesManyAt X Y.Device.Device Y.Listener.Attend ⟦<DoorTalk<FramedTalk> as Talk>⟧
+        ⟦<PolledClients<DoorTalk<FramedTalk>, Y::Channel, Y::Listener, DoorTalks<'a, FrameTalks>> as ServedClients<DoorTalk<FramedTalk>>>⟧
         ⟦<DoorTalk<PostgresTalk> as Talk>⟧
         ⟦<PolledClients<DoorTalk<PostgresTalk>, Y::Channel, Y::Listener, DoorTalks<'a, PostgresTalks>> as ServedClients<DoorTalk<PostgresTalk>>>⟧
-        ⟦<PasswordTalk<FrameTalk> as Talk>⟧
-        ⟦<PolledClients<PasswordTalk<FrameTalk>, Y::Channel, Y::Listener, PasswordTalks<'a, FrameTalks, Y::Draw>> as ServedClients<PasswordTalk<FrameTalk>>>⟧
+        ⟦<PasswordTalk<FramedTalk> as Talk>⟧
+        ⟦<PolledClients<PasswordTalk<FramedTalk>, Y::Channel, Y::Listener, PasswordTalks<'a, FrameTalks, Y::Draw>> as ServedClients<PasswordTalk<FramedTalk>>>⟧
         ⟦<PostgresLoginTalk<PostgresTalk> as Talk>⟧
         ⟦<PolledClients<PostgresLoginTalk<PostgresTalk>, Y::Channel, Y::Listener, PostgresLogins<'a, PostgresTalks, Y::Draw>> as ServedClients<PostgresLoginTalk<PostgresTalk>>>⟧
         X.Reads (Y.state system.old) (Subject.Named file.entry) file.now place.entry many
@@ -318,24 +327,29 @@ fn serve_in_frames<'a, Y: System, X: EventHandler + Drop, E: Write>(
     many: ManyClients,
     err: &mut E,
 ) -> Exit
-    ensures { ServesManyBy X Y.Device.Device Y.Listener.Attend ⟦<DoorTalk<FrameTalk> as Talk>⟧
-        ⟦<PolledClients<DoorTalk<FrameTalk>, Y::Channel, Y::Listener, DoorTalks<'a, FrameTalks>> as ServedClients<DoorTalk<FrameTalk>>>⟧
-        ⟦<PasswordTalk<FrameTalk> as Talk>⟧
-        ⟦<PolledClients<PasswordTalk<FrameTalk>, Y::Channel, Y::Listener, PasswordTalks<'a, FrameTalks, Y::Draw>> as ServedClients<PasswordTalk<FrameTalk>>>⟧
+    ensures { ServesManyBy X Y.Device.Device Y.Listener.Attend ⟦<DoorTalk<FramedTalk> as Talk>⟧
+        ⟦<PolledClients<DoorTalk<FramedTalk>, Y::Channel, Y::Listener, DoorTalks<'a, FrameTalks>> as ServedClients<DoorTalk<FramedTalk>>>⟧
+        ⟦<PasswordTalk<FramedTalk> as Talk>⟧
+        ⟦<PolledClients<PasswordTalk<FramedTalk>, Y::Channel, Y::Listener, PasswordTalks<'a, FrameTalks, Y::Draw>> as ServedClients<PasswordTalk<FramedTalk>>>⟧
         (λ talk. talk.login.place)
         X.Reads (Y.state system.old) (Subject.Named file.entry) file.now place.entry many
         result (Y.state system.new) (E.contents err.old) (E.contents err.new) }
 {
-    let speaker = FrameTalks::new(alloc);
+    let speaker = FrameTalks::new(alloc, place.tells_open);
+    let alone = [by_itself(place)];
     match place.door {
         PlaceDoor::Anyone | PlaceDoor::Only(_) => {
             let maker = DoorTalks::new(alloc, place.door, speaker);
-            serve_many(system, alloc, handler, file, place, maker, many, err)
+            serve_many(
+                system, alloc, handler, file, place, &alone, maker, many, err,
+            )
         }
         PlaceDoor::Passwords { table, mock } => {
             let door = PasswordDoor::new(alloc, table, mock, system.drawing());
             let maker = PasswordTalks::new(door, speaker);
-            serve_many(system, alloc, handler, file, place, maker, many, err)
+            serve_many(
+                system, alloc, handler, file, place, &alone, maker, many, err,
+            )
         }
     }
 }
@@ -359,20 +373,26 @@ fn serve_by_postgres<'a, Y: System, X: EventHandler + Drop, E: Write>(
         result (Y.state system.new) (E.contents err.old) (E.contents err.new) }
 {
     let speaker = PostgresTalks::new(alloc);
+    let alone = [by_itself(place)];
     match place.door {
         PlaceDoor::Anyone | PlaceDoor::Only(_) => {
             let maker = DoorTalks::new(alloc, place.door, speaker);
-            serve_many(system, alloc, handler, file, place, maker, many, err)
+            serve_many(
+                system, alloc, handler, file, place, &alone, maker, many, err,
+            )
         }
         PlaceDoor::Passwords { table, mock } => {
             let door = PasswordDoor::new(alloc, table, mock, system.drawing());
             let maker = PostgresLogins::new(door, speaker);
-            serve_many(system, alloc, handler, file, place, maker, many, err)
+            serve_many(
+                system, alloc, handler, file, place, &alone, maker, many, err,
+            )
         }
     }
 }
 
-// Serves many clients at once at a place over the database in a file, and tells how that ended.
+// Serves many clients at once at a place over the database in a file, tells of these places which are open, and
+// tells how that ended.
 fn serve_many<
     Y: System,
     X: EventHandler + Drop,
@@ -385,69 +405,57 @@ fn serve_many<
     handler: X,
     file: &str,
     place: ServedPlace<'_>,
+    told: &[NamedPlace<'_>],
     maker: F,
     many: ManyClients,
     err: &mut E,
 ) -> Exit
     ensures { ServesMany X Y.Device.Device Y.Listener.Attend T.Talk
         ⟦<PolledClients<T, Y::Channel, Y::Listener, F> as ServedClients<T>>⟧
-        X.Reads (Y.state system.old) (Subject.Named file.entry) file.now place.entry.place (F.makes maker) many
+        X.Reads (Y.state system.old) (Subject.Named file.entry) file.now place.entry.place (open_lines told.now) (F.makes maker) many
         result (Y.state system.new) (E.contents err.old) (E.contents err.new) }
 {
-    let CommandEnd { outcome, told } = serve_clients_file(
-        system, alloc, handler, file, place, maker, many, err,
-    );
-    let outcome = outcome_of_clients(outcome);
-    let about = subject_of_server(outcome, file, place.place);
-    exit_after(told, end_of_server(outcome), about, err)
+    let end = serve_clients_file(system, alloc, handler, file, place, told, maker, many, err);
+    let outcome = outcome_of_clients(end.outcome);
+    let told_of = place_told(place.place, system.refused_place());
+    let about = subject_of_server(outcome, file, told_of);
+    exit_after(end.told, end_of_server(outcome), about, err)
 }
 
-// How a server of many clients ended.
-fn outcome_of_clients(outcome: Result<ServeEnd, CommandFault>) -> Result<Served, CommandFault>
-    ensures { result ≡ outcome_of_clients outcome }
+// Serves many clients at once at several places, each by the words of the place where it comes, over the
+// database in a file, and tells how that ended.
+fn serve_places<'a, Y: System, X: EventHandler + Drop, E: Write>(
+    system: &mut Y,
+    alloc: Global,
+    handler: X,
+    file: &str,
+    places: &[NamedPlace<'a>],
+    many: ManyClients,
+    err: &mut E,
+) -> Exit
+    ensures { ServesPlaces X Y.Device.Device Y.Listener.Attend ⟦<EntryTalk<SomeTalk> as Talk>⟧
+        ⟦<PolledClients<EntryTalk<SomeTalk>, Y::Channel, Y::Listener, SeveralTalks<'a, Y::Draw>> as ServedClients<EntryTalk<SomeTalk>>>⟧
+        X.Reads (Y.state system.old) (Subject.Named file.entry) file.now places.now many
+        result (Y.state system.new) (E.contents err.old) (E.contents err.new) }
 {
-    match outcome {
-        Ok(ServeEnd::Ended(Finish::Stopped)) => Ok(Served::Stopped),
-        Ok(ServeEnd::Ended(Finish::Net)) => Ok(Served::Net),
-        Ok(ServeEnd::Ended(Finish::Done | Finish::LookLimit) | ServeEnd::TurnLimit) => {
-            Ok(Served::Done)
-        }
-        Err(fault) => Err(fault),
-    }
-}
-
-// How a server over a file ended.
-fn end_of_server(outcome: Result<Served, CommandFault>) -> Ending
-    ensures { result ≡ ending_of_server outcome }
-{
-    match outcome {
-        Ok(served) => Ending::from(served),
-        Err(fault) => Ending::Fault(fault),
-    }
-}
-
-// What the end of a server is about: the file, where it was not opened, else the place.
-fn subject_of_server<'a>(
-    outcome: Result<Served, CommandFault>,
-    file: &'a str,
-    place: ListenPlace<'a>,
-) -> Subject<'a>
-    ensures { result ≡ server_subject (Subject.Named file.entry) place.entry outcome }
-{
-    match outcome {
-        Ok(_) | Err(CommandFault::Net(_)) => subject_of_place(place),
-        Err(_) => Subject::Named(file),
-    }
-}
-
-fn subject_of_place(place: ListenPlace<'_>) -> Subject<'_>
-    ensures { result ≡ place_subject place.entry }
-{
-    match place {
-        ListenPlace::Port(port) => Subject::Port(port),
-        ListenPlace::Socket(path) => Subject::Named(path),
-        ListenPlace::PostgresFolder(folder) => Subject::PostgresFolder(folder),
-    }
+    let about = Subject::Named(file);
+    let Ok(bound) = bound_places(alloc, places) else {
+        return exit_with(Ending::Fault(CommandFault::Memory), about, err);
+    };
+    let Ok(named) = Vec::from_slice(alloc, places) else {
+        return exit_with(Ending::Fault(CommandFault::Memory), about, err);
+    };
+    let place = ServedPlace {
+        place: each_of(bound.as_slice()),
+        protocol: Protocol::Frames,
+        door: PlaceDoor::Anyone,
+        access: SocketAccess::Owner,
+        tells_open: false,
+    };
+    let maker = SeveralTalks::new(alloc, named, system.drawing());
+    serve_many(
+        system, alloc, handler, file, place, places, maker, many, err,
+    )
 }
 
 // So many connections, each of which may be idle for so many seconds.

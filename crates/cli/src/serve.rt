@@ -2,7 +2,7 @@
 
 ghost use Rattle.std.specs.Prelude.{OnOk};
 ghost use Rattle.std.specs.Io.KnownBytes.{Appends};
-ghost use Rattle.cli.specs.Serving.{ServesFile, ServesAt, ServesOn, listening_text};
+ghost use Rattle.cli.specs.Serving.{ServesFile, ServesAt, ServesOn, listening_line, listening_lines, listening_text};
 
 use crate::fault::CommandFault;
 use crate::opened::{CommandEnd, open_database_in, tell_migration};
@@ -15,7 +15,7 @@ use std::alloc::Global;
 use std::io;
 use std::io::Write;
 use std::time::Duration;
-use systems::{ListenPlace, SocketAccess, System};
+use systems::{ListenPlace, OnePlace, SocketAccess, System};
 use wire::listen::Listen;
 use wire::listener::Served;
 use wire::sink::Sink;
@@ -122,6 +122,34 @@ pub(crate) fn tell_place<E: Write>(place: ListenPlace<'_>, err: &mut E) -> io::R
         ListenPlace::Port(port) => writeln!(err, "guarddb: listening on 127.0.0.1:{port}"),
         ListenPlace::Socket(path) => writeln!(err, "guarddb: listening on {path}"),
         ListenPlace::PostgresFolder(folder) => {
+            writeln!(err, "guarddb: listening on {folder}/.s.PGSQL.5432")
+        }
+        ListenPlace::Each(places) => tell_each(places, err),
+    }
+}
+
+// Tells of each of several places that the server listens there, in their order.
+fn tell_each<E: Write>(places: &[OnePlace<'_>], err: &mut E) -> io::Result<()>
+    ensures { OnOk result (Appends (E.contents err.old) (E.contents err.new)
+        (listening_lines places.now)) }
+{
+    let mut rest = places;
+    while let [place, after @ ..] = rest {
+        tell_one(*place, err)?;
+        rest = after;
+    }
+    Ok(())
+}
+
+// Tells of one of several places that the server listens there.
+fn tell_one<E: Write>(place: OnePlace<'_>, err: &mut E) -> io::Result<()>
+    ensures { OnOk result (Appends (E.contents err.old) (E.contents err.new)
+        (listening_line place.entry)) }
+{
+    match place {
+        OnePlace::Port(port) => writeln!(err, "guarddb: listening on 127.0.0.1:{port}"),
+        OnePlace::Socket(path, _) => writeln!(err, "guarddb: listening on {path}"),
+        OnePlace::PostgresFolder(folder, _) => {
             writeln!(err, "guarddb: listening on {folder}/.s.PGSQL.5432")
         }
     }

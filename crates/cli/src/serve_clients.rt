@@ -1,13 +1,17 @@
 //! A server of many clients at once at a place of a system, over a database in a file.
 
-ghost use Rattle.std.specs.Prelude.{◌≡◌};
+ghost use Rattle.std.specs.Prelude.{◌≡◌, ◌++◌, OnOk};
+ghost use Rattle.std.specs.Io.KnownBytes.{Appends};
+ghost use Rattle.cli.specs.OpenPlaces.{open_lines};
+ghost use Rattle.cli.specs.Serving.{listening_text};
 ghost use Rattle.cli.specs.ServingClients.{asked_wait, AreLimits, IsLimitOf, ServesClientsAt, ServesClientsFile, ServesClientsOn};
 
 use crate::client_talks::Speaker;
 use crate::fault::CommandFault;
+use crate::open_places::tell_open;
 use crate::opened::{CommandEnd, open_database_in, tell_migration};
 use crate::serve::tell_place;
-use crate::served_place::ServedPlace;
+use crate::served_place::{NamedPlace, ServedPlace};
 use channels::attend::Attend;
 use channels::channel::Channel;
 use databases::serve_clients_on;
@@ -17,6 +21,7 @@ use sector_device::Device;
 use server::decide::EventHandler;
 use server::server::Server;
 use std::alloc::Global;
+use std::io;
 use std::io::Write;
 use std::time::Duration;
 use systems::{ListenPlace, System};
@@ -42,14 +47,17 @@ pub struct ManyClients {
 }
 
 impl ManyClients {
-    // The same, as the clients take it. One may be there for so long before a session is opened for it.
-    fn limits(self, login: Option<Duration>) -> ClientLimits
+    // The same, as the clients take it. One may be there for so long before a session is opened for it,
+    // where it has to show a password, and so many of these may be there at once.
+    fn limits(self, login: Option<Duration>, guests: u32) -> ClientLimits
         ensures limits { AreLimits self result }
         ensures login { result.login ≡ login }
+        ensures guests { result.guests ≡ guests }
     {
         ClientLimits {
             connections: self.connections.unwrap_or(u32::MAX),
             at_once: self.at_once as usize,
+            guests: guests as usize,
             wait: limit_of(asked_wait(self.wait)),
             idle: limit_of(self.idle),
             block: limit_of(Some(self.block)),
@@ -79,7 +87,8 @@ fn limit_of(seconds: Option<u32>) -> Option<Duration>
 /// `path`, whose events `handler` decides. `maker` makes the conversation with each, which is told its own
 /// answers alone. Of `place` its door is not looked at: who may come in is for the conversations to say.
 /// Who comes while as many are served at once as may be is told so, and closed.
-/// `err` is told as at `serve_file`. However it ends, the place is given up and the file is closed.
+/// `err` is told as at `serve_file`, and then of each of the places `told` that is a port which lets in
+/// anyone that no passwords are asked for there. However it ends, the place is given up and the file is closed.
 ///
 /// It ends once as many clients came as are served in all, and each of them has gone; once the server
 /// has stopped and each has gone; and where none can be taken any more.
@@ -99,23 +108,36 @@ pub fn serve_clients_file<
     handler: X,
     path: &str,
     place: ServedPlace<'_>,
+    told: &[NamedPlace<'_>],
     maker: F,
     many: ManyClients,
     err: &mut E,
 ) -> CommandEnd<ServeEnd>
     ensures { ServesClientsFile X Y.Device.Device Y.Listener.Attend T.Talk
         ⟦<PolledClients<T, Y::Channel, Y::Listener, F> as ServedClients<T>>⟧
-        X.Reads (Y.state system.old) path.entry.now place.entry.place (F.makes maker) many
+        X.Reads (Y.state system.old) path.entry.now place.entry.place (open_lines told.entry.now) (F.makes maker) many
         (E.contents err.old) result (Y.state system.new) (E.contents err.new) }
 {
     let opened = match open_database_in(system, alloc, handler, path) {
         Ok(opened) => opened,
         Err(fault) => return CommandEnd::unopened(fault),
     };
-    let told = tell_migration(opened.was_migrated, path, err);
-    let (left, outcome) = serve_clients_at(system, alloc, opened.server, place, maker, many, err);
+    let migration_told = tell_migration(opened.was_migrated, path, err);
+    let (left, outcome) = serve_clients_at(
+        system,
+        alloc,
+        opened.server,
+        place,
+        told,
+        maker,
+        many,
+        err,
+    );
     system.close(path, left);
-    CommandEnd { outcome, told }
+    CommandEnd {
+        outcome,
+        told: migration_told,
+    }
 }
 
 // Serves clients at a place, and hands the device back.
@@ -130,13 +152,14 @@ fn serve_clients_at<
     alloc: Global,
     server: Server<DeviceStore<Y::Device>, X>,
     place: ServedPlace<'_>,
+    told: &[NamedPlace<'_>],
     maker: F,
     many: ManyClients,
     err: &mut E,
 ) -> (Y::Device, Result<ServeEnd, CommandFault>)
     ensures { ServesClientsAt Y.Device.Device Y.Listener.Attend T.Talk
         ⟦<PolledClients<T, Y::Channel, Y::Listener, F> as ServedClients<T>>⟧
-        X.Reads (Y.state system.old) place.entry.place (F.makes maker) many server
+        X.Reads (Y.state system.old) place.entry.place (open_lines told.entry.now) (F.makes maker) many server
         (E.contents err.old) result.1 result.0 (Y.state system.new) (E.contents err.new) }
 {
     let (mut listener, bound) = match system.bind(place.place, place.access, None) {
@@ -149,7 +172,7 @@ fn serve_clients_at<
     match system.poll(&mut listener) {
         Ok(()) => {
             let (left, outcome, listener) = serve_clients_on_place(
-                alloc, server, listener, bound, maker, many, err,
+                alloc, server, listener, bound, told, maker, many, err,
             );
             system.unbind(bound, listener);
             (left, outcome)
@@ -177,25 +200,39 @@ fn serve_clients_on_place<
     server: Server<DeviceStore<D>, X>,
     listener: L,
     place: ListenPlace<'_>,
+    told: &[NamedPlace<'_>],
     maker: F,
     many: ManyClients,
     err: &mut E,
 ) -> (D, Result<ServeEnd, CommandFault>, L)
     ensures { ServesClientsOn D.Device L.Attend T.Talk
         ⟦<PolledClients<T, C, L, F> as ServedClients<T>>⟧
-        X.Reads place.entry (F.makes maker) many server listener (E.contents err.old) result.1
+        X.Reads place.entry (open_lines told.entry.now) (F.makes maker) many server listener (E.contents err.old) result.1
         result.0 result.2 (E.contents err.new) }
 {
-    let Ok(refusal) = maker.crowded_refusal(alloc) else {
+    let Ok(refusal) = maker.crowded_refusals(alloc) else {
         let left = server.into_store().into_device();
         return (left, Err(CommandFault::Memory), listener);
     };
-    let Ok(()) = tell_place(place, err) else {
+    let Ok(()) = tell_places(place, told, err) else {
         let left = server.into_store().into_device();
         return (left, Err(CommandFault::Output), listener);
     };
-    let limits = many.limits(maker.login_limit());
+    let limits = many.limits(maker.login_limit(), maker.guests(many.at_once));
     let mut clients = PolledClients::new(alloc, listener, maker, limits, refusal);
     let (left, end) = serve_clients_on(alloc, server, &mut clients);
     (left, Ok(end), clients.into_attend())
+}
+
+// Tells where the server listens, and at which of these places no passwords are asked for.
+fn tell_places<E: Write>(
+    place: ListenPlace<'_>,
+    told: &[NamedPlace<'_>],
+    err: &mut E,
+) -> io::Result<()>
+    ensures { OnOk result (Appends (E.contents err.old) (E.contents err.new)
+        (listening_text place.entry ++ open_lines told.now)) }
+{
+    tell_place(place, err)?;
+    tell_open(told, err)
 }

@@ -9,7 +9,9 @@ use crate::number::NumberOption;
 use crate::place_words::read_at;
 use crate::serve_clients::ManyClients;
 use crate::served_place::{PlaceDoor, Protocol, ServedPlace};
+use crate::several_places::{admits_no_superuser, read_each_at};
 use clap::ArgMatches;
+use std::alloc::Global;
 use systems::{ListenPlace, SocketAccess};
 
 /// The words for the numbers of a server of many clients.
@@ -27,14 +29,23 @@ pub(crate) struct CountWords<'a> {
 const BLOCK_SECONDS: u32 = 30;
 
 /// The order that the words after `serve` give.
-pub(crate) fn read_serve<'a>(given: &ArgMatches<'a>) -> Result<Invocation<'a>, UsageFault<'a>>
+pub(crate) fn read_serve<'a>(
+    alloc: Global,
+    given: &ArgMatches<'a>,
+) -> Result<Invocation<'a>, UsageFault<'a>>
     ensures asked { IfOk result (IsOrdered (GivesAs (codes "serve") (rows_of (found_of given.now)))) }
     ensures refused { IfErr result (IsUnfit (GivesAs (codes "serve") (rows_of (found_of given.now)))) }
 {
-    match given.get_str("at") {
-        Some(place) => read_at(given, place),
-        None => read_there(given),
+    let Some(places) = given.get_strs("at") else {
+        return read_there(given);
+    };
+    let [first, others @ ..] = places else {
+        return read_there(given);
+    };
+    if others.is_empty() && !admits_no_superuser(*first) {
+        return read_at(given, *first);
     }
+    read_each_at(alloc, given, places)
 }
 
 // The order that the words after `serve` give without `--at`.
@@ -198,6 +209,7 @@ fn many_on_port<'a>(
             protocol: Protocol::Frames,
             door: PlaceDoor::Anyone,
             access: SocketAccess::Owner,
+            tells_open: false,
         },
         many,
     })
@@ -225,6 +237,7 @@ fn many_on_socket<'a>(
             protocol: Protocol::Frames,
             door: PlaceDoor::Anyone,
             access: SocketAccess::Owner,
+            tells_open: false,
         },
         many,
     })

@@ -32,4 +32,14 @@ pub struct ServedPlace<'a> {
     pub door: PlaceDoor<'a>,
     /// Whom the file of a socket lets connect.
     pub access: SocketAccess,
+    /// Whether the place is one of `--at`: then it is told of a port that lets in anyone that no passwords are
+    /// asked for there, and a client may ask there in frames what a statement would answer.
+    pub tells_open: bool,
+}
+
+/// One of several places where a server listens, and whether it admits no superuser.
+#[derive(Clone, Copy)]
+pub struct NamedPlace<'a> {
+    pub served: ServedPlace<'a>,
+    pub no_superuser: bool,
 }

@@ -8,9 +8,9 @@ pub const USAGE: &str = "guarddb format FILE --pages N --admin NAME [--journal]
        guarddb serve FILE --socket PATH --connections K [--idle SECONDS]
        guarddb serve FILE --port P --clients N [--connections K] [--wait SECONDS] [--idle SECONDS] [--block SECONDS]
        guarddb serve FILE --socket PATH --clients N [--connections K] [--wait SECONDS] [--idle SECONDS] [--block SECONDS]
-       guarddb serve FILE --at PLACE --clients N [--connections K] [--wait SECONDS] [--idle SECONDS] [--block SECONDS]
+       guarddb serve FILE --at PLACE.. --clients N [--connections K] [--wait SECONDS] [--idle SECONDS] [--block SECONDS]
        guarddb check FILE
-       guarddb describe FILE [ROLE] [--json]
+       guarddb describe FILE [ROLE|--table T|--powers|--since OLD] [--json]
        guarddb explain FILE ROLE STATEMENT [--session LOGIN] [--json]
        guarddb copy FILE NEW --pages N [--journal]
        guarddb dump FILE OUT
@@ -46,13 +46,14 @@ pub const SERVE_USAGE: &str = "guarddb serve FILE --port P --connections K [--id
        guarddb serve FILE --socket PATH --connections K [--idle SECONDS]
        guarddb serve FILE --port P --clients N [--connections K] [--wait SECONDS] [--idle SECONDS] [--block SECONDS]
        guarddb serve FILE --socket PATH --clients N [--connections K] [--wait SECONDS] [--idle SECONDS] [--block SECONDS]
-       guarddb serve FILE --at PLACE --clients N [--connections K] [--wait SECONDS] [--idle SECONDS] [--block SECONDS]";
+       guarddb serve FILE --at PLACE.. --clients N [--connections K] [--wait SECONDS] [--idle SECONDS] [--block SECONDS]";
 
 /// How `check` is called.
 pub const CHECK_USAGE: &str = "guarddb check FILE";
 
 /// How `describe` is called.
-pub const DESCRIBE_USAGE: &str = "guarddb describe FILE [ROLE] [--json]";
+pub const DESCRIBE_USAGE: &str =
+    "guarddb describe FILE [ROLE|--table T|--powers|--since OLD] [--json]";
 
 /// How `explain` is called.
 pub const EXPLAIN_USAGE: &str = "guarddb explain FILE ROLE STATEMENT [--session LOGIN] [--json]";
@@ -67,9 +68,9 @@ Usage: guarddb format FILE --pages N --admin NAME [--journal]
        guarddb serve FILE --socket PATH --connections K [--idle SECONDS]
        guarddb serve FILE --port P --clients N [--connections K] [--wait SECONDS] [--idle SECONDS] [--block SECONDS]
        guarddb serve FILE --socket PATH --clients N [--connections K] [--wait SECONDS] [--idle SECONDS] [--block SECONDS]
-       guarddb serve FILE --at PLACE --clients N [--connections K] [--wait SECONDS] [--idle SECONDS] [--block SECONDS]
+       guarddb serve FILE --at PLACE.. --clients N [--connections K] [--wait SECONDS] [--idle SECONDS] [--block SECONDS]
        guarddb check FILE
-       guarddb describe FILE [ROLE] [--json]
+       guarddb describe FILE [ROLE|--table T|--powers|--since OLD] [--json]
        guarddb explain FILE ROLE STATEMENT [--session LOGIN] [--json]
        guarddb copy FILE NEW --pages N [--journal]
        guarddb dump FILE OUT
@@ -111,25 +112,31 @@ Commands:
           Who keeps another from writing for --block seconds, SECONDS from 1 to 86400, or 30
           where it is left out, is ended: its sessions are closed, blocks rolled back
           Example: guarddb serve shop.db --socket shop.sock --clients 100 --wait 10
-  serve FILE --at PLACE --clients N [--connections K] [--wait SECONDS] [--idle SECONDS] [--block SECONDS]
+  serve FILE --at PLACE.. --clients N [--connections K] [--wait SECONDS] [--idle SECONDS] [--block SECONDS]
           The same at PLACE: port:P or socket:PATH, as above; or pgport:P or pgsocket:FOLDER,
           where psql connects, by PostgreSQL's protocol. In FOLDER, of 1 to 93 bytes, the file
           .s.PGSQL.5432 is made, and taken away at the end. With PLACE,role=NAME one comes in
           as the role NAME and as no other. With PLACE,passwords=TABLE,mock=ROLE one shows the
           password of a role first (SCRAM-SHA-256): TABLE keeps the verifiers, and that of
           ROLE, whose password nobody has, stands in for those that are missing. Else no
-          password is asked for. With PLACE,mode=660 the file of a socket lets its group
-          connect, too
+          password is asked for, which a line on standard error says of a port. With
+          PLACE,mode=660 the file of a socket lets its group connect, too. With --at up to eight
+          times one server listens at each PLACE, by its own words: what ends in ,no-superuser
+          admits no superuser, nor a role that can become one
           Example: guarddb serve shop.db --at pgsocket:/run/shop,role=app --clients 100
   check FILE
           Opens the database in FILE and says whether it is whole. A FILE of format 1 is of
           format 2 then, as after run and serve, and no guarddb of format 1 opens it again. Of
           a FILE that is a dump it says whether that is whole
           Example: guarddb check shop.db
-  describe FILE [ROLE] [--json]
+  describe FILE [ROLE|--table T|--powers|--since OLD] [--json]
           Prints the roles, tables, privileges and policies of the database in FILE, or with
           ROLE what that role may do to each table and column, and which policies apply to it.
-          With --json it prints JSON. FILE is not written, of format 1 neither
+          With --table it prints who may do what with the table T, by itself and by SET ROLE.
+          With --powers it prints who may become whom, and who may grant on. With --since it
+          prints what has changed since the database in OLD, a line each, and the exit status
+          is 3 where something has. With --json it prints JSON. Neither FILE nor OLD is
+          written, of format 1 neither
           Example: guarddb describe shop.db bob
   explain FILE ROLE STATEMENT [--session LOGIN] [--json]
           Prints in which keys of its tables STATEMENT looks for rows as ROLE: a SELECT, INSERT,
@@ -181,7 +188,8 @@ Empty lines and lines that begin with # are skipped.
 
 The exit status is 0 when the command was carried out, 1 after a fault, which standard
 error names, and when the server has stopped, 2 for an invalid line of the script and for
-words that are no command, and 3 when --stop has ended a script.
+words that are no command, and 3 when --stop has ended a script, or --since has found that
+something has changed.
 ";
 
 /// The version of the program.

@@ -4,6 +4,7 @@
 use cli::carrying_out::carry_out;
 use cli::command::{Invocation, UsageFault, read_command};
 use cli::command_name::command_named;
+use cli::describe_words::DescribeAsked;
 use cli::ending::Subject;
 use cli::runs::run_for;
 use cli::usage::{report_fault, report_usage, words_fault};
@@ -157,13 +158,18 @@ fn are_told_to_database(system: &RealSystem<'_, HostRuntime>, order: &Invocation
             place: _,
             many: _,
         }
-        | Invocation::Check { file }
-        | Invocation::Describe {
+        | Invocation::ServePlaces {
             file,
-            role: _,
-            json: _,
+            places: _,
+            many: _,
         }
+        | Invocation::Check { file }
         | Invocation::Explain { file, asked: _ } => system.tells_to(*file),
+        Invocation::Describe {
+            file,
+            asked,
+            json: _,
+        } => system.tells_to(*file) || is_told_to_old(system, asked),
         Invocation::Copy {
             file,
             new,
@@ -185,6 +191,14 @@ fn are_told_to_database(system: &RealSystem<'_, HostRuntime>, order: &Invocation
         | Invocation::Password { whose: _ }
         | Invocation::Help
         | Invocation::Version => false,
+    }
+}
+
+/// Whether they would be written to the old file of a description.
+fn is_told_to_old(system: &RealSystem<'_, HostRuntime>, asked: &DescribeAsked<'_>) -> bool {
+    match asked {
+        DescribeAsked::Since(old) => system.tells_to(*old),
+        _ => false,
     }
 }
 

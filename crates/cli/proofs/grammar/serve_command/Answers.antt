@@ -1,7 +1,7 @@
 use Rattle.std.proofs.Common.{codes, false}
 use Rattle.std.proofs.lemmas.Result.{IfOk-weaker}
 use Rattle.clap.specs.Words.{App, new_app, with_rule}
-use Rattle.cli.specs.CommandGrammar.{IsCommand, option_rule, word_rule}
+use Rattle.cli.specs.CommandGrammar.{IsCommand, option_rule, repeated_rule, word_rule}
 use Rattle.cli.proofs.BuiltCommands.{with_an_arg}
 use Rattle.cli.proofs.grammar.serve_command.Goals as goal
 
@@ -40,4 +40,4 @@ returns c =
     let six : IsCommand with_clients c.in_ok-arg-6.field-0 = with_an_arg with_idle (option_rule (codes "clients") false) c.in_ok-arg-5.field-0 c.option-5.result c.in_ok-arg-6.field-0 five c.option-5.ensures c.in_ok-arg-6.ensures in
     let seven : IsCommand with_wait c.in_ok-arg-7.field-0 = with_an_arg with_clients (option_rule (codes "wait") false) c.in_ok-arg-6.field-0 c.option-6.result c.in_ok-arg-7.field-0 six c.option-6.ensures c.in_ok-arg-7.ensures in
     let eight : IsCommand with_block c.in_ok-arg-8.field-0 = with_an_arg with_wait (option_rule (codes "block") false) c.in_ok-arg-7.field-0 c.option-7.result c.in_ok-arg-8.field-0 seven c.option-7.ensures c.in_ok-arg-8.ensures in
-    IfOk-weaker c.arg-9.result _ _ (λ command h. with_an_arg with_block (option_rule (codes "at") false) c.in_ok-arg-8.field-0 c.option-8.result command eight c.option-8.ensures h) c.arg-9.ensures
+    IfOk-weaker c.arg-9.result _ _ (λ command h. with_an_arg with_block (repeated_rule (codes "at")) c.in_ok-arg-8.field-0 c.repeated.result command eight c.repeated.ensures h) c.arg-9.ensures

@@ -8,17 +8,20 @@ use Rattle.cli.proofs.program.serve_many.Goals as goal
 
 pub returns : goal.returns
 returns g c =
-    let heard = g.E.Write.contents c.serve_clients_file-outcome.new.err in
+    let end = c.serve_clients_file-end.result in
+    let heard = g.E.Write.contents c.serve_clients_file-end.new.err in
     let after = g.E.Write.contents c.exit_after.new.err in
-    let told = c.serve_clients_file-outcome.result.told in
-    let ended = outcome_of_clients c.serve_clients_file-outcome.result.outcome in
+    let place = c.place_told-told_of.result in
+    let ended = outcome_of_clients end.outcome in
     let is = c.outcome_of_clients-outcome.ensures in
-    let about : c.subject_of_server-about.result ≡ server_subject (subject.Named c.args.file) c.args.place.place ended = c.subject_of_server-about.ensures ∙ ap (server_subject (subject.Named c.args.file) c.args.place.place) is in
+    let about : c.subject_of_server-about.result ≡ server_subject (subject.Named c.args.file) place ended = c.subject_of_server-about.ensures ∙ ap (server_subject (subject.Named c.args.file) place) is in
     let ending : c.end_of_server.result ≡ ending_of_server ended = c.end_of_server.ensures ∙ ap ending_of_server is in
     record {
-      end = c.serve_clients_file-outcome.result;
+      end = end;
       heard = heard;
-      serves = c.serve_clients_file-outcome.ensures;
-      ends = subst (λ (a : Subject). ExitsAfter told a (ending_of_server ended) c.exit_after.result heard after) about
-          (subst (λ (e : Ending). ExitsAfter told c.subject_of_server-about.result e c.exit_after.result heard after) ending c.exit_after.ensures);
+      serves = c.serve_clients_file-end.ensures;
+      about = place;
+      part = c.place_told-told_of.ensures;
+      ends = subst (λ (a : Subject). ExitsAfter end.told a (ending_of_server ended) c.exit_after.result heard after) about
+          (subst (λ (e : Ending). ExitsAfter end.told c.subject_of_server-about.result e c.exit_after.result heard after) ending c.exit_after.ensures);
     }

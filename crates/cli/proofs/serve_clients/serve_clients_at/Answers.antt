@@ -1,5 +1,6 @@
 use Rattle.std.proofs.Common.{rules, inl, inr, refl}
 use Rattle.systems.specs.Systems.{Rose}
+use Rattle.cli.specs.OpenPlaces.{open_lines}
 use Rattle.cli.proofs.Changes.{rose_between}
 use Rattle.cli.proofs.ServedClients.{bound_between, clients_served_at, counts_between}
 use Rattle.cli.proofs.serve_clients.serve_clients_at.Goals as goal
@@ -23,7 +24,7 @@ returns-in-Ok-poll g c =
     let listener = c.in-Ok.bound.0 in
     let bound = c.in-Ok.bound.1 in
     let ended = c.serve_clients_on_place-left.result.2 in
-    clients_served_at g.Y.Device.Device g.Y.Listener.Attend _ _ g.X.EventHandler.Reads (g.F.TalkMaker.makes c.args.maker) c.args.many c.args.server listener c.poll.new.listener c.poll.ensures.coming c.poll.ensures.closed old new c.args.place.place bound (g.E.Write.contents c.args.err.now)
+    clients_served_at g.Y.Device.Device g.Y.Listener.Attend _ _ g.X.EventHandler.Reads (open_lines c.args.told.now) (g.F.TalkMaker.makes c.args.maker) c.args.many c.args.server listener c.poll.new.listener c.poll.ensures.coming c.poll.ensures.closed old new c.args.place.place bound (g.E.Write.contents c.args.err.now)
     (g.E.Write.contents c.serve_clients_on_place-left.new.err) ended c.serve_clients_on_place-left.result.0
     (bound_between old mid polled new c.args.place.place bound listener ended bind.kind bind.place bind.heard bind.bound bind.others c.poll.ensures.same c.unbind.ensures.unbound c.unbind.ensures.others) c.serve_clients_on_place-left.result.1
     c.serve_clients_on_place-left.ensures

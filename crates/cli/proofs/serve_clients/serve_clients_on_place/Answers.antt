@@ -1,6 +1,7 @@
-use Rattle.std.proofs.Common.{rules, ◌≡◌, ◌∙◌, ℕ, true, ap, refl, subst, Option, Some, None, is_some}
+use Rattle.std.proofs.Common.{rules, ◌≡◌, ◌∙◌, ◌++◌, ℕ, true, ap, refl, subst, Option, Some, None, is_some}
 use Rattle.std.specs.declared.time.Duration.{Duration}
 use Rattle.std.specs.Io.KnownBytes.{Appends}
+use Rattle.cli.specs.OpenPlaces.{open_lines}
 use Rattle.cli.specs.Serving.{listening_text}
 use Rattle.cli.specs.ServingClients.{IsLimitOf, uncontended}
 use Rattle.cli.proofs.serve_clients.serve_clients_on_place.Goals as goal
@@ -11,7 +12,7 @@ is_limited (Some limit) seconds is = refl
 
 pub returns : goal.returns
 returns g c =
-    let told : Appends (g.E.Write.contents c.args.err.now) (g.E.Write.contents c.tell_place.new.err) (listening_text c.args.place) = search rules in (
+    let told : Appends (g.E.Write.contents c.args.err.now) (g.E.Write.contents c.tell_places.new.err) (listening_text c.args.place ++ open_lines c.args.told.now) = search rules in (
       told,
       record {
         before = c.new-clients.result;

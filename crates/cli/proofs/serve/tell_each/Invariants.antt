@@ -1,0 +1,11 @@
+use Rattle.std.proofs.Common.{length}
+use Rattle.std.specs.Io.KnownBytes.{Keeps, append_known}
+use Rattle.cli.specs.Serving.{listening_lines}
+use Rattle.cli.proofs.serve.tell_each.Given as goal
+
+-- what was told, and the lines of the places that are left, are all
+abbrev pub invariant-loop-rest : goal.invariant-loop-rest
+invariant-loop-rest g l = Keeps (append_known (g.E.Write.contents l.fn.err) (listening_lines l.places)) (append_known (g.E.Write.contents l.err) (listening_lines l.rest))
+
+abbrev pub decreases-loop-rest : goal.decreases-loop-rest
+decreases-loop-rest g l = length l.rest
