@@ -1,0 +1,2 @@
+pub mod AskedOnce
+pub mod Framed
