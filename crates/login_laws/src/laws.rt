@@ -20,7 +20,8 @@ use talks::clients::ServedClients;
 use talks::talk::Talk;
 
 /// At a place that asks for passwords, each session that the server opened for a client which came was opened for a
-/// role whose password the bytes that this client sent had shown. The verifier of that password is the text that the
+/// role whose password the bytes that this client sent had shown; where its connection does not tell which those were,
+/// bytes that its conversation heard. The verifier of that password is the text that the
 /// committed database kept for the role when it was looked up for that, twice, and just before the session: the last
 /// thing that was done for this client is such a look-up, too.
 ///
@@ -29,7 +30,8 @@ use talks::talk::Talk;
 /// of which it is told an answer in them, and which was opened before that answer.
 ///
 /// A password that changes after that last look-up counts for the sessions that are wanted later, and one that is open
-/// goes on. That what is drawn for an exchange is not foretold is trusted.
+/// goes on. That what is drawn for an exchange is not foretold is trusted. That no exchange is a recorded one is said by
+/// `PasswordTalk`, and not here.
 pub fn sessions_are_of_who_showed_the_password<
     S: Store,
     X: EventHandler,
