@@ -8,6 +8,7 @@ import re
 import shlex
 import shutil
 import stat
+import struct
 import subprocess
 import sys
 import tempfile
@@ -24,6 +25,8 @@ PRESENT = [('usr/bin/guarddb', 0o755), ('usr/bin/guarddb-shell', 0o755), ('usr/l
            ('usr/lib/python3/dist-packages/guarddb_syntax.py', 0o644), ('usr/lib/python3/dist-packages/guarddb_layout.py', 0o644),
            ('usr/share/guarddb/shell.py', 0o644), ('usr/share/guarddb/alter.py', 0o644), ('usr/share/guarddb/shell_display.py', 0o644),
            ('usr/share/guarddb/password.py', 0o644), ('usr/share/doc/guarddb/passwords.md', 0o644),
+           ('usr/share/guarddb/ping.py', 0o755), ('usr/share/guarddb/may_open.py', 0o755), ('usr/bin/guarddb-ping', 0o755),
+           ('usr/share/guarddb/backup.py', 0o644), ('usr/bin/guarddb-backup', 0o755),
            ('usr/lib/systemd/system/guarddb@.service', 0o644), ('usr/lib/sysusers.d/guarddb.conf', 0o644),
            ('etc/guarddb/example.conf.sample', 0o644), ('usr/share/man/man1/guarddb.1.gz', 0o644),
            ('usr/share/man/man1/guarddb-shell.1.gz', 0o644), ('usr/share/doc/guarddb/copyright', 0o644),
@@ -115,11 +118,13 @@ class Package(unittest.TestCase):
         self.assertRegex(run('dpkg-query', f'--admindir={root}/var/lib/dpkg', '-W').stdout, r'\Aguarddb\s')
         return root
 
-    def started_by(self, root, place):
-        """The words and the environment with which the unit starts a server, below a folder, on another socket."""
-        unit = self.unit()
-        environment = dict(pair.split('=', 1) for line in re.findall(r'(?m)^Environment=(.*)$', unit) for pair in line.split())
-        line = re.search(r'(?m)^ExecStart=(.*)$', unit)[1].replace('%i', 'shop').replace('/run/guarddb/shop/sock', place)
+    def started_by(self, root, place, name='ExecStart'):
+        """The words and the environment of a line with which the unit starts something, below a folder, for another socket. As in a unit
+        ${NAME} is one word, and $NAME as many as stand in it."""
+        unit = self.unit().replace('%i', 'shop').replace('/run/guarddb/shop/sock', place)
+        environment = dict(pair.split('=', 1) for line in re.findall(r'(?m)^Environment=(.*)$', unit) for pair in shlex.split(line))
+        line = re.search(rf'(?m)^{name}=(.*)$', unit)[1]
+        line = re.sub(r'\$(\w+)', lambda found: environment[found[1]], line)
         words = [re.sub(r'\$\{(\w+)\}', lambda found: environment[found[1]], word) for word in line.split()]
         return [root + words[0], *words[1:]], {**os.environ, **environment}
 
@@ -130,14 +135,19 @@ class Package(unittest.TestCase):
         words, environment = self.started_by(root, place)
         made = run(words[0], 'format', 'shop.db', '--pages', '64', '--admin', 'root', cwd=state)
         self.assertEqual((made.returncode, made.stdout), (0, 'ok FORMAT\n'), made.stderr)
+        before, _ = self.started_by(root, place, 'ExecStartPre')
+        self.assertEqual(run(*before, cwd=state, env=environment).returncode, 0)
         server = subprocess.Popen(words, cwd=state, env=environment, stdout=subprocess.DEVNULL, stderr=subprocess.DEVNULL)
         try:
+            behind, _ = self.started_by(root, place, 'ExecStartPost')
+            environment['PYTHONPATH'] = os.path.join(root, 'usr/lib/python3/dist-packages')
+            environment['PYTHONDONTWRITEBYTECODE'] = '1'
+            said = run(*behind, env=environment)
+            self.assertEqual((said.returncode, said.stdout), (0, 'ok PING\n'), said.stderr)
             with guarddb.connect(place, wait=PATIENCE, timeout=PATIENCE) as connection:
                 connection.open('root').ask('CREATE TABLE t (k BIGINT PRIMARY KEY)')
             with open(os.path.join(root, 'usr/bin/guarddb-shell'), encoding='utf-8') as file:
                 text = file.read().replace('/usr/', f'{root}/usr/')
-            environment['PYTHONPATH'] = os.path.join(root, 'usr/lib/python3/dist-packages')
-            environment['PYTHONDONTWRITEBYTECODE'] = '1'
             said = run('sh', '-c', text, 'guarddb-shell', place, 'root', '-c', 'SELECT current_user, count FROM t', '-c', 'SELECT 1', env=environment)
             self.assertEqual((said.returncode, said.stdout), (3, ''), said.stderr)
             self.assertIn('42703', said.stderr)
@@ -148,6 +158,20 @@ class Package(unittest.TestCase):
             server.terminate()
             server.wait(PATIENCE)
         self.assertEqual(run(words[0], 'check', 'shop.db', cwd=state).stdout, 'ok CHECK\n')
+
+    def test_a_file_of_format_1_is_opened_where_that_was_said(self):
+        path, before = os.path.join(self.folder, 'old.db'), os.path.join(self.root, 'usr/share/guarddb/may_open.py')
+        for formats, may_open in (((1, 1), False), ((2, 1), True), ((1, 2), False), ((3, 2), True), ((4, 3), True)):
+            with self.subTest(formats=formats):
+                # The root of number 3, of sector 1, is newer than that of number 2, of sector 0.
+                sectors = [struct.pack('>8sIIQ', b'GUARDDB1', kind, 64, number).ljust(512, b'\0') for number, kind in zip((2, 3), formats[::-1])]
+                with open(path, 'wb') as file:
+                    file.write(b''.join(sectors))
+                said = run(before, path, 'no')
+                self.assertEqual(said.returncode, 0 if may_open else 4)
+                self.assertEqual('MIGRATE=yes' in said.stderr, not may_open)
+                self.assertEqual(run(before, path, 'yes').returncode, 0)
+        self.assertEqual([run(before, os.path.join(self.folder, 'none'), 'no').returncode, run(before, path).returncode], [0, 2])
 
     def test_what_the_installation_does(self):
         """It makes the user, and the folder for that user alone. Programs that stand in for those that it calls tell of it."""

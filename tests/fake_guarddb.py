@@ -300,6 +300,8 @@ def perform(words):
         os.remove(words[3])
     elif words[:1] == ['serve'] and [words[2], words[4]] == ['--at', '--clients'] and ',passwords=' in words[3]:
         serve_with_passwords(opened(words[1]), words[3])
+    elif words[:1] == ['serve'] and [words[2], words[4]] == ['--at', '--clients'] and words[3].startswith('socket:') and ',' not in words[3]:
+        serve(opened(words[1]), words[3].removeprefix('socket:'), 65535, idle_in(words))      # one after the other
     elif words[:1] == ['describe'] and words[2:] == ['--json']:
         print(json.dumps(description(opened(words[1], fcntl.LOCK_SH).committed)))
     elif words[:1] == ['check']:
