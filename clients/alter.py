@@ -18,14 +18,13 @@ import contextlib
 import fcntl
 import os
 import re
-import struct
 import subprocess
 import sys
 import time
 
 import guarddb
 from guarddb import quoted_name
-from guarddb_layout import NotDescribed, described, folded
+from guarddb_layout import NotDescribed, described, folded, format_of, program
 from guarddb_syntax import tokens_of
 from shell_place import Fault, Place, cause
 
@@ -38,8 +37,7 @@ ROWS, BYTES = 200, 50000        # of one INSERT
 READ = {'BIGINT': int, 'TEXT': str, 'BOOLEAN': guarddb.boolean}
 TRUTHS = {'t': True, 'true': True, 'f': False, 'false': False}
 NUMBER = re.compile('-?[1-9][0-9]*|0')
-ROOT = struct.Struct('>8sIIQ')      # of a root sector: the magic, the format, the pages, the number
-SECTOR, WITH_JOURNAL = 512, 3
+WITH_JOURNAL = 3        # the format of a file with a journal
 
 
 class Stopped(Exception):
@@ -223,13 +221,6 @@ def locked(path):
         time.sleep(0.01)
 
 
-def has_journal(path):
-    """Whether a file is of the format with a journal, by the root of the greater number."""
-    with open(path, 'rb') as file:
-        roots = [ROOT.unpack(file.read(SECTOR)[:ROOT.size]) for _ in range(2)]
-    return max(roots, key=lambda root: root[3])[1] == WITH_JOURNAL
-
-
 def run(program, *words):
     done = subprocess.run([program, *words], stdin=subprocess.DEVNULL, capture_output=True, encoding='utf-8', errors='replace')
     if done.returncode:
@@ -238,7 +229,7 @@ def run(program, *words):
 
 def copy(given):
     pages = given.pages or os.path.getsize(given.file) // PAGE
-    run(given.program, 'copy', given.file, given.new, '--pages', str(pages), *['--journal'] * has_journal(given.file))
+    run(given.program, 'copy', given.file, given.new, '--pages', str(pages), *['--journal'] * (format_of(given.file) == WITH_JOURNAL))
 
 
 def exchange(file, new):
@@ -395,11 +386,6 @@ def read_words():
     given = words.parse_args()
     given.type = [(column, {'BOOL': 'BOOLEAN'}.get(kind.upper(), kind.upper())) for column, kind in given.type]
     return given
-
-
-def program():
-    beside = os.path.join(os.path.dirname(os.path.abspath(__file__)), '..', 'guarddb')
-    return os.environ.get('GUARDDB') or (os.path.normpath(beside) if os.path.exists(beside) else 'guarddb')
 
 
 def main():

@@ -20,6 +20,8 @@ import subprocess
 import sys
 import time
 
+from guarddb_layout import program
+
 FAULT = 1
 LOCK_WAIT = 5           # seconds in which who has the file is looked for
 STILL_WAIT = 5          # seconds in which a server stands still that was told to
@@ -219,11 +221,6 @@ def back_up(path, out, program):
 
 
 # ---- the program
-
-def program():
-    beside = os.path.join(os.path.dirname(os.path.realpath(__file__)), '..', 'guarddb')
-    return os.environ.get('GUARDDB') or (os.path.normpath(beside) if os.path.exists(beside) else 'guarddb')
-
 
 def given_words():
     words = argparse.ArgumentParser(description='Copies the file of a Guarddb database, also while a server has it.')

@@ -8,7 +8,9 @@ An answer has no names of columns. Those of a SELECT's list stand in the stateme
 `--at` tells them, too, where it is asked: `guarddb.connect(5433, names=True)`.
 """
 import json
+import os
 import re
+import struct
 import subprocess
 
 from guarddb_syntax import tokens_of
@@ -18,8 +20,26 @@ COLUMN = re.compile(r'(?!(?:TRUE|FALSE|NULL|CURRENT_USER|SESSION_USER)\Z)(?:"|[^
 APART = re.compile(r"""('[^']*'|"[^"]*")|(?:\s|--[^\n\r]*)+""")
 
 
+ROOT = struct.Struct('>8sIIQ')      # of a root sector: the magic, the format, the pages, the number
+SECTOR, MAGIC = 512, b'GUARDDB1'
+
+
 class NotDescribed(Exception):
     """A file cannot be described; the text says why."""
+
+
+def program():
+    """The program that GUARDDB names, else the one at the top of the repository, else the one on the PATH."""
+    beside = os.path.join(os.path.dirname(os.path.realpath(__file__)), '..', 'guarddb')
+    return os.environ.get('GUARDDB') or (os.path.normpath(beside) if os.path.isfile(beside) else 'guarddb')
+
+
+def format_of(path):
+    """The format of a file, by the root of the greater number; None where it has no root."""
+    with open(path, 'rb') as file:
+        sectors = [file.read(SECTOR) for _ in range(2)]
+    roots = [ROOT.unpack_from(sector) for sector in sectors if len(sector) == SECTOR]
+    return max(((number, kind) for magic, kind, _, number in roots if magic == MAGIC), default=(0, None))[1]
 
 
 def described(file, program='guarddb'):

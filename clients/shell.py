@@ -23,7 +23,7 @@ import threading
 import time
 
 import guarddb
-from guarddb_layout import columns, columns_by_table
+from guarddb_layout import columns, columns_by_table, program
 from guarddb_syntax import pointed
 from shell_copy import copy
 from shell_display import command_at, first_word, heads, in_columns, in_lines, is_blank, names_in, open_quote, shown, split, width
@@ -617,12 +617,6 @@ def seconds(word):
     if not 0 < float(word) <= 1e6:
         raise ValueError
     return float(word)
-
-
-def program():
-    """The program that GUARDDB names, else the one at the top of the repository, else the one on the PATH."""
-    beside = os.path.join(os.path.dirname(os.path.abspath(__file__)), '..', 'guarddb')
-    return os.environ.get('GUARDDB') or (os.path.normpath(beside) if os.path.exists(beside) else 'guarddb')
 
 
 def check_streams(given, closed):

@@ -41,6 +41,11 @@ def run(*words, **how):
     return subprocess.run(words, text=True, capture_output=True, **how)
 
 
+def modules_of(root):
+    """The environment in which the modules that are installed below a folder are found."""
+    return {**os.environ, 'PYTHONPATH': os.path.join(root, 'usr/lib/python3/dist-packages'), 'PYTHONDONTWRITEBYTECODE': '1'}
+
+
 @unittest.skipUnless(shutil.which('dpkg-deb'), 'there is no dpkg-deb')
 class Package(unittest.TestCase):
     @classmethod
@@ -126,7 +131,7 @@ class Package(unittest.TestCase):
         line = re.search(rf'(?m)^{name}=(.*)$', unit)[1]
         line = re.sub(r'\$(\w+)', lambda found: environment[found[1]], line)
         words = [re.sub(r'\$\{(\w+)\}', lambda found: environment[found[1]], word) for word in line.split()]
-        return [root + words[0], *words[1:]], {**os.environ, **environment}
+        return [root + words[0], *words[1:]], {**modules_of(root), **environment}
 
     def test_it_is_installed_and_started(self):
         """As packaging/README.md has it: a database is made, the unit's server started, and the shell run over it."""
@@ -140,8 +145,6 @@ class Package(unittest.TestCase):
         server = subprocess.Popen(words, cwd=state, env=environment, stdout=subprocess.DEVNULL, stderr=subprocess.DEVNULL)
         try:
             behind, _ = self.started_by(root, place, 'ExecStartPost')
-            environment['PYTHONPATH'] = os.path.join(root, 'usr/lib/python3/dist-packages')
-            environment['PYTHONDONTWRITEBYTECODE'] = '1'
             said = run(*behind, env=environment)
             self.assertEqual((said.returncode, said.stdout), (0, 'ok PING\n'), said.stderr)
             with guarddb.connect(place, wait=PATIENCE, timeout=PATIENCE) as connection:
@@ -167,11 +170,12 @@ class Package(unittest.TestCase):
                 sectors = [struct.pack('>8sIIQ', b'GUARDDB1', kind, 64, number).ljust(512, b'\0') for number, kind in zip((2, 3), formats[::-1])]
                 with open(path, 'wb') as file:
                     file.write(b''.join(sectors))
-                said = run(before, path, 'no')
+                said = run(before, path, 'no', env=modules_of(self.root))
                 self.assertEqual(said.returncode, 0 if may_open else 4)
                 self.assertEqual('MIGRATE=yes' in said.stderr, not may_open)
-                self.assertEqual(run(before, path, 'yes').returncode, 0)
-        self.assertEqual([run(before, os.path.join(self.folder, 'none'), 'no').returncode, run(before, path).returncode], [0, 2])
+                self.assertEqual(run(before, path, 'yes', env=modules_of(self.root)).returncode, 0)
+        none = os.path.join(self.folder, 'none')
+        self.assertEqual([run(before, *words, env=modules_of(self.root)).returncode for words in ((none, 'no'), (path,))], [0, 2])
 
     def test_what_the_installation_does(self):
         """It makes the user, and the folder for that user alone. Programs that stand in for those that it calls tell of it."""

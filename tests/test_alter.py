@@ -224,7 +224,7 @@ class Alter(unittest.TestCase):
         self.assertEqual((status, messages), (0, ''))
         self.assertEqual(out.split('\n')[1], f'{self.file} is the new one, and {self.file}.before the old one.')
         self.assertEqual((self.read(f'{self.file}.before'), os.path.exists(self.new)), (self.bytes, False))
-        self.assertEqual((stat.S_IMODE(os.stat(self.file).st_mode), alter.has_journal(self.file)), (0o640, True))
+        self.assertEqual((stat.S_IMODE(os.stat(self.file).st_mode), alter.format_of(self.file)), (0o640, alter.WITH_JOURNAL))
         self.assertEqual(self.rows(self.file, 'notes'), [[*row, ''] for row in ROWS])
         self.bytes = self.read(self.file)
         self.stops(2, '.before is there already.', '--replace')

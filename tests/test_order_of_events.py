@@ -4,7 +4,8 @@
 The program is the one in the environment variable GUARDDB. Each client asks random statements in sessions of its own, over the same
 tables and roles, and goes on when it is answered. In which order the server took the events is seen by strace (Debian's package): it is
 that in which the answers begin to go out. The model in scripts/ then answers the events in this order, and each client is to have been
-told that. Where there is no strace, nothing is tried, and a line says so.
+told that. A client that has a session of a role which is dropped is to be ended by the server, and no other is. Where there is no strace,
+nothing is tried, and a line says so.
 """
 import os
 import random
@@ -26,6 +27,7 @@ import random_script
 CLIENTS = 32
 EVENTS = 6000           # of all clients, where no other number is said
 BLOCK = 8               # events of a session after which it ends its block
+SEED = int(os.environ.get('SEED', '1'))
 LOGINS = {'r': 'root', 'a': 'ann', 'b': 'bob', 'c': 'cid', 'd': 'dan'}
 NUMBERS = {name: number for number, name in enumerate(LOGINS, 1)}
 TAKEN = re.compile(r'accept4\(.*sin_port=htons\((\d+)\).*\)\s*= (\d+)')
@@ -49,7 +51,7 @@ class Asker(threading.Thread):
         self.connection = Counted(guarddb.connect(port, wait=PATIENCE, timeout=PATIENCE).socket)
         self.port = self.connection.socket.getsockname()[1]
         self.script, self.count = random_script.Script(seed), count
-        self.made, self.since, self.fault = [], {}, None
+        self.made, self.since, self.was_ended, self.fault = [], {}, False, None
 
     def ask(self, event):
         """Asks an event, as a script has it, and gives its answer."""
@@ -82,6 +84,8 @@ class Asker(threading.Thread):
             while len(self.made) < self.count:
                 who, answer = self.ask(wanted.pop(0) if wanted else self.script.event())
                 wanted = wanted or self.repaired(who, answer)
+        except ConnectionError:
+            self.was_ended = True
         except BaseException as fault:      # whatever it is, it fails the test
             self.fault = fault
 
@@ -101,6 +105,14 @@ def order_of(trace, askers):
                 order.append((client, left[client].pop(0)))
             sent[client] = end
     return order
+
+
+def expelled(answering):
+    """The clients that have a session of a role which is there no more. All their sessions end."""
+    lost = {int(name.split('.')[0]) for name, session in answering.sessions.items() if session.login not in answering.committed.roles}
+    for name in [name for name in answering.sessions if int(name.split('.')[0]) in lost]:
+        answering.close(name)
+    return lost
 
 
 @unittest.skipIf(IS_FAKE, 'GUARDDB names no program')
@@ -156,16 +168,23 @@ class Order(unittest.TestCase):
     def test_each_client_is_told_what_the_model_says(self):
         if not HAS_STRACE:
             self.skipTest('there is no strace: the order of events is left out')
-        order, askers, answering = self.asked(seed=1)
+        order, askers, answering = self.asked(SEED)
         self.assertEqual(len(order), sum(len(asker.made) for asker in askers))
+        lost = set()
         for place, (client, (_, event, answer)) in enumerate(order, 1):
+            where = f'event {place}, client {client}: {event}'
+            self.assertNotIn(client, lost, where)
             words = event.split(' ', 2)
             name = words[1] if words[0] in ('open', 'close') else words[0][:-1]
             session = f'{client}.{name}'
             said = answering.open(session, words[2]) if words[0] == 'open' else \
                 answering.close(session) if words[0] == 'close' else answering.execute(session, event.split(': ', 1)[1])
-            self.assertEqual(answer, said + '\n', f'event {place}, client {client}: {event}')
-        print(f'{len(order)} events of {CLIENTS} clients')
+            self.assertEqual(answer, said + '\n', where)
+            lost |= expelled(answering)
+        for client, asker in enumerate(askers):
+            self.assertTrue(client in lost and (asker.was_ended or len(asker.made) == asker.count) or client not in lost and not asker.was_ended,
+                            f'client {client} of {sorted(lost)}, which lost their roles')
+        print(f'{len(order)} events of {CLIENTS} clients, of which {len(lost)} lost a role')
 
 
 if __name__ == '__main__':
